@@ -10,10 +10,10 @@ from collections.abc import Mapping
 from typing import TYPE_CHECKING
 
 from bpfhost.numbers import SLOT_SIZE
-from bpfhost.objects import ObjectFile, ObjectMap
 
 if TYPE_CHECKING:
     from bpfhost.lowering import Lowered
+    from bpfhost.objects import ObjectFile, ObjectMap
 
 FORMAT, VERSION = "bpfhost program", 1
 

@@ -7,11 +7,12 @@ from collections.abc import Iterable, Iterator
 from typing import TYPE_CHECKING
 
 from bpfhost import frames
+from bpfhost.classic import ClassicProgram, Length, Semantics
 from bpfhost.errors import Refused, ReplyError
 from bpfhost.frames import NO_CONTEXT, Context
 from bpfhost.maps import Map
 from bpfhost.numbers import Errno, MapType, Update
-from bpfhost.packets import Packets
+from bpfhost.packets import ETHERNET, Packets
 from bpfhost.prog import Prog
 from bpfhost.program import MapShape
 from bpfhost.runs import TestRuns
@@ -65,6 +66,16 @@ class Tenant:
     def prog_load(self, slots: bytes, name: str = "") -> Prog:
         """Loads a socket filter, under a name of the caller's; a ProgramRefused tells the slot and the reason."""
         return Prog.of(self, self._done(frames.prog_load(self.number, slots)).status, name)
+
+    def load_filter(
+        self, expression: str, link_type: int = ETHERNET, semantics: Semantics = Semantics.LIBPCAP, length: Length = Length.PACKET
+    ) -> Prog:
+        """Loads a filter as tcpdump writes it, for packets of a link type as captures number it, under the expression for its name.
+
+        A ClassicError or an ExpressionError where it is refused, and a MissingLibrary without libpcap. docs/FILTERS.md says what
+        `semantics` and `length` choose. Classic programs of another source are loaded by `prog_load(program.translated().slots)`.
+        """
+        return self.prog_load(ClassicProgram.of_expression(expression, link_type).translated(semantics, length).slots, expression)
 
     def prog_test_run(self, descriptor: int, packet: bytes = b"", context: Context = NO_CONTEXT) -> int:
         """Runs a program on a packet, and gives its result."""

@@ -1,4 +1,4 @@
-"""What the pages show is what happens: the tutorial's commands and outputs, and the programs of the tutorial and the README."""
+"""What the pages show is what happens: the tutorial's commands and outputs, and the programs of it, of the README and of FILTERS.md."""
 
 from __future__ import annotations
 
@@ -9,10 +9,12 @@ import subprocess
 import sys
 
 from bpfhost import hex_lines
+from tests.classic.common import needs_libpcap
 from tests.common import ONE, PROGRAM, HostTest
 from tests.test_command import EXAMPLE, PACKAGE, needs_packages
 
 TUTORIAL = PACKAGE.parents[1] / "docs/TUTORIAL.md"
+FILTERS = PACKAGE.parents[1] / "docs/FILTERS.md"
 CLANG = shutil.which("clang-14")
 # The time of a run is another one each time.
 TIME = re.compile(r"time a packet: [0-9.]+ us")
@@ -49,6 +51,7 @@ class Pages(HostTest):
                 os.symlink(os.path.realpath(target), self.scratch / "bin" / name)
 
     @needs_packages
+    @needs_libpcap
     def test_tutorial(self) -> None:
         if not CLANG:
             self.skipTest("clang 14 is missing")
@@ -63,6 +66,13 @@ class Pages(HostTest):
             self.assertEqual(TIME.sub("", told), TIME.sub("", block))
         (self.scratch / "flows.py").write_text(blocks(page, "python")[0])
         self.assertEqual(self.shell("python3 flows.py"), blocks(page, "text")[0])
+
+    @needs_libpcap
+    def test_filters(self) -> None:
+        self.set_up()
+        page = FILTERS.read_text()
+        (self.scratch / "shown.py").write_text(blocks(page, "python")[0])
+        self.assertEqual(self.shell("python3 shown.py"), blocks(page, "text")[0])
 
     def test_readme(self) -> None:
         self.set_up()

@@ -55,7 +55,8 @@ class PcapCapture(Capture):
             raise self.error(f"it has version {read.v_major} of pcap, and only 2 is known")
         self.bytes_read = len(header)
         self.has_nanoseconds = number in _NANOSECONDS
-        self._link_type = read.linktype & _LINK_TYPE
+        self._link_type = self.link_type = read.linktype & _LINK_TYPE
+        self.longest = read.snaplen
         self._order = order
         self._length = struct.Struct(f"{order}8xII").unpack_from
         self._layout = _Layout(kind.__hdr_len__, struct.Struct(f"{order}II4xI"), 1 if self.has_nanoseconds else 1000)

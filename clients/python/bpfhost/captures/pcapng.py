@@ -175,6 +175,8 @@ class PcapngCapture(Capture):
         if kind == pcapng.PCAPNG_BT_IDB:
             self._interfaces.append(self._interface(data[at:end]))
             self._link_types.append(self._interfaces[-1].link_type)
+            if self.link_type is None:
+                self.link_type, self.longest = self._interfaces[0].link_type, self._interfaces[0].longest
         if kind == pcapng.PCAPNG_BT_SPB:
             return self._simple_packet(data, at, end)
         if kind in (pcapng.PCAPNG_BT_EPB, pcapng.PCAPNG_BT_PB):

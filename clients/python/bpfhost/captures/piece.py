@@ -105,6 +105,9 @@ class Capture(ABC):
     seconds: float | None = None
     # Whether times have more digits than microseconds have.
     has_nanoseconds = False
+    # The link type that the capture names first, once it is read, and how many bytes of a packet it says that it has at most.
+    link_type: int | None = None
+    longest = LONGEST_PACKET
 
     def __init__(self, name: str, file: BufferedReader | GzipFile, begun: bytes) -> None:
         """Reads nothing; `begun` is what was read of the file."""

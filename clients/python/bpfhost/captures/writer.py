@@ -42,14 +42,15 @@ class _Format(ABC):
 
 
 class _Pcap(_Format):
-    def __init__(self, has_nanoseconds: bool) -> None:
+    def __init__(self, has_nanoseconds: bool, longest: int) -> None:
+        self._longest = longest
         self._magic = pcap.TCPDUMP_MAGIC_NANO if has_nanoseconds else pcap.TCPDUMP_MAGIC
         self._part = 1 if has_nanoseconds else 1000
         self._link_type = -1
 
     def begun(self, link_type: int) -> bytes:
         self._link_type = link_type
-        return bytes(pcap.LEFileHdr(magic=self._magic, snaplen=LONGEST_CAPTURED, linktype=link_type))
+        return bytes(pcap.LEFileHdr(magic=self._magic, snaplen=self._longest, linktype=link_type))
 
     def has_room(self, link_type: int) -> bool:
         return link_type == self._link_type
@@ -61,7 +62,8 @@ class _Pcap(_Format):
 class _Pcapng(_Format):
     """Each link type is an interface, which is described before its first packet."""
 
-    def __init__(self, has_nanoseconds: bool) -> None:
+    def __init__(self, has_nanoseconds: bool, longest: int) -> None:
+        self._longest = longest
         self._digits = _NANOSECONDS if has_nanoseconds else _MICROSECONDS
         self._interfaces: dict[int, int] = {}
 
@@ -83,21 +85,30 @@ class _Pcapng(_Format):
         self._interfaces[link_type] = len(self._interfaces)
         digits = pcapng.PcapngOptionLE(code=pcapng.PCAPNG_OPT_IF_TSRESOL, data=bytes([self._digits]))
         options = [digits, pcapng.PcapngOptionLE(code=pcapng.PCAPNG_OPT_ENDOFOPT)]
-        return bytes(pcapng.InterfaceDescriptionBlockLE(linktype=link_type, snaplen=LONGEST_CAPTURED, opts=options))
+        return bytes(pcapng.InterfaceDescriptionBlockLE(linktype=link_type, snaplen=self._longest, opts=options))
 
 
 class CaptureWriter:
     """A little-endian capture of packets, with their times and with the lengths that they had on the wire.
 
-    It is a pcapng file where its name ends with `.pcapng`, and else a pcap file, whose link type is that of the first packet. What is wrong
-    in the middle ends no run: `fault` tells it, a packet of another link type or a time that has no room, which is left out and counted,
+    It is a pcapng file where its name ends with `.pcapng`, and else a pcap file, whose link type is that of the first packet, or without one
+    the one that it is given; `longest` is what the file says of how many bytes a packet has at most. What is wrong in the middle ends no run: `fault` tells it, a packet of another link type or a time that has no room, which is left out and counted,
     or a file that can't be written, which nothing is written to any more. As a context manager it raises that at its end.
     """
 
-    def __init__(self, path: str | os.PathLike[str], has_nanoseconds: bool, file: BinaryIO | None = None) -> None:
+    def __init__(
+        self,
+        path: str | os.PathLike[str],
+        has_nanoseconds: bool,
+        file: BinaryIO | None = None,
+        *,
+        link_type: int = ETHERNET,
+        longest: int = LONGEST_CAPTURED,
+    ) -> None:
         """Begins the file, over what it had; a CaptureError where that can't be. A `file` that is given is written to in its place."""
         self.name = os.fspath(path)
-        self._format: _Format = (_Pcapng if self.name.endswith(_PCAPNG) else _Pcap)(has_nanoseconds)
+        self._format: _Format = (_Pcapng if self.name.endswith(_PCAPNG) else _Pcap)(has_nanoseconds, longest)
+        self._link_type = link_type
         self._has_begun = False
         self._is_own = file is None
         self._failed: CaptureError | None = None
@@ -119,7 +130,7 @@ class CaptureWriter:
     def end(self) -> None:
         """Writes what is left, and closes the file."""
         if not self._has_begun:
-            self._write(self._begun(ETHERNET))
+            self._write(self._begun(self._link_type))
         with self._faults():
             if self._is_own:
                 self._file.close()

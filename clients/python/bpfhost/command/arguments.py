@@ -4,10 +4,12 @@ from __future__ import annotations
 
 import argparse
 import contextlib
+import sys
 from collections.abc import Callable, Sequence
 from typing import TypeAlias
 
-from bpfhost.command import build, check, frames, run, texts
+from bpfhost.command import build, check, filters, frames, run, texts
+from bpfhost.command.filter_words import add_filter_words
 from bpfhost.command.words import seconds, setting
 from bpfhost.numbers import MOST_TENANTS
 from bpfhost.command.version import Version
@@ -26,10 +28,13 @@ _tenants = in_range(int, f"number from 1 to {MOST_TENANTS}", 1, MOST_TENANTS)
 _hex = named(bytes.fromhex, "bytes in hexadecimal digits")
 
 
-def _parser() -> Parser:
+def _parser(is_about_filters: bool) -> Parser:
     parser = Parser(prog="python3 -m bpfhost", description=_ABOUT)
     parser.add_argument("--version", action=Version, nargs=0, help="tell the version, and which program is used, and whether it is proved")
     words = parser.add_subparsers(metavar="WORD", required=True, parser_class=Parser)
+    if is_about_filters:
+        add_filter_words(words)
+        return parser
     _add_run(words)
     _add_check(words)
     _add_build(words)
@@ -125,9 +130,10 @@ def parse(words: Sequence[str] | None) -> argparse.Namespace:
 
     Shells are given what completes them by argcomplete, where it is there (Debian: python3-argcomplete).
     """
-    parser = _parser()
+    said = sys.argv[1:] if words is None else words
+    parser = _parser(filters.is_about_filters(said))
     with contextlib.suppress(ModuleNotFoundError):
         import argcomplete
 
         argcomplete.autocomplete(parser)
-    return parser.parse_args(words)
+    return parser.parse_args(said)

@@ -24,12 +24,12 @@ def run(said: argparse.Namespace) -> int:
         raise refused_at(program, object_file, lowered, *lowered.refused)
     if os.path.exists(said.output) and os.path.samefile(said.output, said.object):
         raise InputError(f"{said.output}: the program can't be written over its object")
-    _write(Path(said.output), built(object_file, lowered))
+    write(Path(said.output), built(object_file, lowered))
     tell_changes(chosen.name, lowered.changes)
     return 0
 
 
-def _write(path: Path, text: str) -> None:
+def write(path: Path, text: str) -> None:
     """Writes a file whole, or leaves the one that was there."""
     if path.exists() and not path.is_file():
         path.write_text(text)

@@ -27,12 +27,12 @@ if TYPE_CHECKING:
 
 _STANDARD_INPUT = "/dev/stdin"
 # The status of a process that a signal ended, as a shell has it, is this and the signal's number: 130 of Ctrl-C.
-_BY_SIGNAL = 128
+BY_SIGNAL = 128
 
 
 def run(said: argparse.Namespace) -> int:
     """Loads the filter, runs it, and shows what came of it; the status is 1 where the capture is wrong behind some packet."""
-    path = _input_of(said)
+    path = input_of(said)
     object_file = read_object(said, said.object)
     from bpfhost.command.show import demand_map
     from bpfhost.filtering import Filter, Long, Short, Treatment, accept_none, accept_to
@@ -43,9 +43,9 @@ def run(said: argparse.Namespace) -> int:
     program = choose_program(object_file, said.section)
     if said.csv is not None:
         demand_map(object_file, said.csv)
-    _refuse_loss(said.accepted, (said.object, "object that is run"), (path, "capture that they are read from"))
+    refuse_loss(said.accepted, (said.object, "object that is run"), (path, "capture that they are read from"))
     treatment = Treatment(Short(said.short), Long(said.long))
-    with _opened(said, path) as capture, Host(program_of(said), said.tenants) as host:
+    with opened(said, path) as capture, Host(program_of(said), said.tenants) as host:
         lowered = lowered_program(host.program, object_file, program)
         loaded = [load_program(host.tenant(number), object_file, lowered) for number in range(said.tenants)]
         tell_changes(program.name, lowered.changes)
@@ -60,7 +60,7 @@ def run(said: argparse.Namespace) -> int:
     return _noted(shown.name, treatment, outcome, dropped, writer.fault if writer else None)
 
 
-def _input_of(said: argparse.Namespace) -> str:
+def input_of(said: argparse.Namespace) -> str:
     """The path of the capture, or the name of the interface; the words are wrong where not one of them is named."""
     if (said.capture is None) == (said.interface is None):
         said.wrong("the following arguments are required: CAPTURE, or --interface IF in its place")
@@ -69,7 +69,7 @@ def _input_of(said: argparse.Namespace) -> str:
     return _STANDARD_INPUT if said.capture == "-" else str(said.capture)
 
 
-def _opened(said: argparse.Namespace, path: str) -> contextlib.AbstractContextManager[Capture]:
+def opened(said: argparse.Namespace, path: str) -> contextlib.AbstractContextManager[Capture]:
     if said.interface is None:
         return open_capture(path)
     from bpfhost.captures.interface import open_interface
@@ -77,7 +77,7 @@ def _opened(said: argparse.Namespace, path: str) -> contextlib.AbstractContextMa
     return open_interface(path)
 
 
-def _refuse_loss(accepted: str | None, *read: tuple[str, str]) -> None:
+def refuse_loss(accepted: str | None, *read: tuple[str, str]) -> None:
     """An InputError where the packets that are kept would be written over one of the files that are read, each told with what it is."""
     for path, what in read:
         if accepted is not None and os.path.exists(accepted) and os.path.exists(path) and os.path.samefile(accepted, path):
@@ -112,7 +112,7 @@ def _noted(name: str, treatment: Treatment, outcome: Outcome, dropped: int, unwr
             print(f"bpfhost: {fault}", file=sys.stderr)
     if outcome.signal is not None:
         print(f"bpfhost: interrupted after {outcome.packets:,} packets", file=sys.stderr)
-        return _BY_SIGNAL + outcome.signal
+        return BY_SIGNAL + outcome.signal
     return REFUSED if outcome.fault or unwritten else GOOD
 
 

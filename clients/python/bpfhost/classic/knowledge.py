@@ -1,0 +1,212 @@
+"""What is known of the steps of a graph: what is read later, how large numbers are, and which stay in the packet's byte order."""
+
+from __future__ import annotations
+
+from collections.abc import Mapping
+from dataclasses import dataclass
+
+from bpfhost.classic.instructions import Operator, Test
+from bpfhost.classic.steps import (
+    CONTEXT,
+    Branch,
+    Copy,
+    Fetch,
+    Graph,
+    LoadContext,
+    LoadHeader,
+    LoadPacket,
+    LoadScratch,
+    Operate,
+    Operand,
+    Pass,
+    Place,
+    Register,
+    SetNumber,
+    Step,
+    Storage,
+    StoreScratch,
+    reads,
+    written,
+)
+
+_WORD = 2**32 - 1
+_START = "start"
+Known = Mapping[Storage, int]
+
+
+@dataclass(frozen=True)
+class Live:
+    """What is read later, before and after each step: what is not, need not be written."""
+
+    before: Mapping[Place, frozenset[Storage]]
+    after: Mapping[Place, frozenset[Storage]]
+
+    def needs(self, place: Place, step: Step) -> bool:
+        """Whether a step does anything that is seen later: a load of the packet does, since the packet may end before it."""
+        target = written(step)
+        if target is None:
+            return not isinstance(step, Pass)
+        return isinstance(step, LoadPacket) or target in self.after[place]
+
+
+def live(graph: Graph, order: list[Place]) -> Live:
+    """What is read later, of the steps in an order in which each stands before its followers."""
+    before: dict[Place, frozenset[Storage]] = {}
+    after: dict[Place, frozenset[Storage]] = {}
+    found = Live(before, after)
+    for place in reversed(order):
+        step = graph.steps[place]
+        after[place] = frozenset[Storage]().union(*(before[follower] for follower in graph.followers[place]))
+        read = {*reads(step), *([CONTEXT] if uses_context(step) else [])}
+        overwritten = {each for each in (written(step),) if each is not None}
+        before[place] = after[place] - overwritten | read if found.needs(place, step) else after[place]
+    return found
+
+
+def uses_context(step: Step) -> bool:
+    """Whether a step reads the context, or hands it to a call."""
+    return isinstance(step, LoadContext | LoadPacket | Fetch)
+
+
+def after_calls(graph: Graph, order: list[Place]) -> set[Place]:
+    """The steps before which some path has a call."""
+    found: set[Place] = set()
+    for place in order:
+        if place in found or isinstance(graph.steps[place], Fetch | LoadPacket):
+            found.update(graph.followers[place])
+    return found
+
+
+def behind_calls_that_went_well(graph: Graph, order: list[Place]) -> set[Place]:
+    """The steps before which each path has a call, the last of which went well: so it has left 0 as its result."""
+    found = set(order) - {graph.entry}
+    for place in order:
+        is_call = isinstance(graph.steps[place], Fetch | LoadPacket)
+        for number, follower in enumerate(graph.followers[place]):
+            if number > 0 if is_call else place not in found:
+                found.discard(follower)
+    return found
+
+
+def greatest(graph: Graph, order: list[Place]) -> dict[Place, Known]:
+    """The greatest number that each register and each word of scratch memory may have before each step; both registers begin with 0."""
+    before: dict[Place, dict[Storage, int]] = {graph.entry: {Register.A: 0, Register.X: 0}}
+    for place in order:
+        step, known = graph.steps[place], before[place]
+        target = written(step)
+        behind = known if target is None else {**known, target: _greatest_of(step, known)}
+        for follower in graph.followers[place]:
+            met = before.setdefault(follower, dict(behind))
+            for storage in {*met, *behind}:
+                met[storage] = max(met.get(storage, _WORD), behind.get(storage, _WORD))
+    return dict(before)
+
+
+def _greatest_of(step: Step, known: Known) -> int:
+    """The greatest number that a step writes."""
+    match step:
+        case SetNumber(number=number):
+            return number
+        case Copy(source=source):
+            return known[source]
+        case LoadScratch(word=word):
+            return known.get(word, _WORD)
+        case StoreScratch(value=value):
+            return _of(value, known)
+        case LoadHeader(size=size) | LoadPacket(size=size):
+            return int(2 ** (8 * size) - 1)
+        case Operate(to=to, operator=operator, operand=operand):
+            return _greatest_result(operator, known[to], _of(operand, known), isinstance(operand, int))
+    return _WORD
+
+
+def _of(operand: Operand, known: Known) -> int:
+    return operand if isinstance(operand, int) else known[operand]
+
+
+def _greatest_result(operator: Operator, a: int, b: int, is_number: bool) -> int:
+    """The greatest result of numbers up to a and up to b; of b alone, if it is a number."""
+    match operator:
+        case Operator.ADD:
+            found = a + b
+        case Operator.MUL:
+            found = a * b
+        case Operator.AND:
+            found = min(a, b)
+        case Operator.OR | Operator.XOR:
+            found = 2 ** max(a, b).bit_length() - 1
+        case Operator.RSH:
+            found = a >> b if is_number else a
+        case Operator.LSH if is_number:
+            found = a << b
+        case Operator.DIV:
+            found = a // b if is_number else a
+        case Operator.MOD:
+            found = min(a, b - 1) if is_number else a
+        case _:
+            return _WORD
+    return found if found <= _WORD else _WORD
+
+
+def in_packet_order(graph: Graph, order: list[Place], needed: Live) -> dict[Place, int]:
+    """Loads of the packet into A, and the tests of what they load, for which the packet's byte order does as well; each with the size.
+
+    Such a number is tested for equality and for common bits with numbers alone, and each of its tests sees loads of one size alone.
+    """
+    groups = _Groups()
+    # The step that wrote A last, or where ways meet one of those that did, which then have one group if A is read later.
+    sources: dict[Place, Place | str] = {graph.entry: _START}
+    for place in order:
+        step, source = graph.steps[place], sources[place]
+        is_needed = needed.needs(place, step)
+        if is_needed and Register.A in reads(step):
+            groups.join(place, source)
+        behind = place if is_needed and written(step) is Register.A else source
+        for follower in graph.followers[place]:
+            met = sources.setdefault(follower, behind)
+            if met != behind and Register.A in needed.before[follower]:
+                groups.join(met, behind)
+    return groups.of_one_size(graph)
+
+
+class _Groups:
+    """Steps that have to agree on the byte order of A, each led by one of them."""
+
+    def __init__(self) -> None:
+        self._leaders: dict[Place | str, Place | str] = {}
+
+    def _leader(self, each: Place | str) -> Place | str:
+        while (above := self._leaders.setdefault(each, each)) != each:
+            self._leaders[each] = self._leaders[above]
+            each = above
+        return each
+
+    def join(self, one: Place | str, other: Place | str) -> None:
+        """Makes one group of those of both."""
+        self._leaders[self._leader(one)] = self._leader(other)
+
+    def of_one_size(self, graph: Graph) -> dict[Place, int]:
+        """The members of the groups in which all loads have one size of more than a byte, and nothing needs the number itself."""
+        sizes: dict[Place | str, set[int]] = {}
+        members = [(each, self._leader(each)) for each in list(self._leaders)]
+        for each, leader in members:
+            if not _is_test_of_bytes(graph, each):
+                sizes.setdefault(leader, set()).add(_loaded_size(graph, each))
+        agreed = {leader: size for leader, (size, *others) in sizes.items() if size > 1 and not others}
+        return {each: agreed[leader] for each, leader in members if leader in agreed and isinstance(each, Place)}
+
+
+def _is_test_of_bytes(graph: Graph, each: Place | str) -> bool:
+    """Whether this is a test that does as well with the bytes of A and of a number in another order."""
+    match graph.steps[each] if isinstance(each, Place) else None:
+        case Branch(register=Register.A, test=Test.EQ | Test.SET, operand=int()):
+            return True
+    return False
+
+
+def _loaded_size(graph: Graph, each: Place | str) -> int:
+    """The size of a load of the packet into A; 0 of all else, which needs the number itself or makes one."""
+    match graph.steps[each] if isinstance(each, Place) else None:
+        case LoadHeader(to=Register.A, size=size) | LoadPacket(to=Register.A, size=size):
+            return size
+    return 0

@@ -1,0 +1,93 @@
+"""Classic programs as objects: made of numbers, of texts and of expressions, checked, shown, and translated."""
+
+from __future__ import annotations
+
+from collections.abc import Iterable, Sequence
+from dataclasses import dataclass
+
+from bpfhost.classic import libpcap, listing, texts
+from bpfhost.classic.ancillary import context_word
+from bpfhost.classic.checking import check
+from bpfhost.classic.errors import ClassicError
+from bpfhost.classic.instructions import ANCILLARY, FORMS, Instruction, Kind
+from bpfhost.classic.semantics import Length, Meaning, Semantics
+from bpfhost.classic.translation import Translation, translate
+from bpfhost.packets import ETHERNET
+
+
+@dataclass(frozen=True)
+class ClassicProgram:
+    """A classic BPF program that the kernel's checks let pass; `name` is its expression, or where it was read.
+
+    A ClassicError names the instruction that breaks a rule.
+    """
+
+    instructions: tuple[Instruction, ...]
+    name: str = "the classic program"
+
+    def __post_init__(self) -> None:
+        try:
+            check(self.instructions)
+        except ClassicError as error:
+            raise ClassicError(f"{self.name}: {error}") from error
+
+    @classmethod
+    def of(cls, instructions: Iterable[Sequence[int]]) -> ClassicProgram:
+        """The program of these codes, each with jt, jf and k; a ValueError where one has not these four numbers."""
+        made = []
+        for each in instructions:
+            code, jt, jf, k = each
+            made.append(Instruction(code, jt, jf, k))
+        return cls(tuple(made))
+
+    @classmethod
+    def of_text(cls, text: str, name: str = "standard input") -> ClassicProgram:
+        """The program of a text as `tcpdump -dd`, `tcpdump -ddd` or iptables' bytecode has it; a ClassicError where it is damaged."""
+        return cls(tuple(texts.read(text, name)), name)
+
+    @classmethod
+    def of_expression(cls, expression: str, link_type: int = ETHERNET, *, netmask: int = 0, optimized: bool = True) -> ClassicProgram:
+        """The program that libpcap makes of an expression for a link type, as captures number it (pcap-filter(7)).
+
+        An ExpressionError with libpcap's sentence where it refuses, and a MissingLibrary without libpcap. Names of hosts are looked up.
+        """
+        made = libpcap.compile_expression(expression, link_type, netmask=netmask, optimized=optimized)
+        return cls(tuple(made), f"the expression '{libpcap.shown(expression)}'")
+
+    def listing(self) -> str:
+        """The program as `tcpdump -d` shows it."""
+        return listing.listing(self.instructions)
+
+    def elements(self) -> str:
+        """The program as `tcpdump -dd` shows it."""
+        return texts.elements(self.instructions)
+
+    def decimals(self) -> str:
+        """The program as `tcpdump -ddd` shows it."""
+        return texts.decimals(self.instructions)
+
+    def bytecode(self) -> str:
+        """The program as iptables' match `bpf` takes it."""
+        return texts.bytecode(self.instructions)
+
+    def reads_length(self) -> bool:
+        """Whether it reads the packet's length."""
+        return any(FORMS[each.code].kind is Kind.LENGTH for each in self.instructions)
+
+    def context_words(self) -> list[str]:
+        """The words of a run's context that its ancillary loads read, by their names."""
+        loads = [each.k for each in self.instructions if FORMS[each.code].kind is Kind.ABSOLUTE and each.k >= ANCILLARY]
+        return sorted({word.name for word in map(context_word, loads) if word})
+
+    def translated(
+        self, semantics: Semantics = Semantics.LIBPCAP, length: Length = Length.PACKET, *, fast: bool = True
+    ) -> Translation:
+        """The program as slots with the same result on every packet; a ClassicError where it has none.
+
+        `semantics` says whose results they are where libpcap's interpreter and the kernel differ, and `length` what a load of the length
+        reads. Without `fast` each load of the packet is a call.
+        """
+        try:
+            return translate(self.instructions, Meaning(semantics, length), fast=fast)
+        except ClassicError as error:
+            raise ClassicError(f"{self.name}: {error}") from error

@@ -1,0 +1,238 @@
+"""A classic program as a graph of small steps, from which slots are written: what each step reads and writes, and what follows it."""
+
+from __future__ import annotations
+
+from collections.abc import Iterator, Mapping
+from dataclasses import dataclass, field
+from enum import Enum
+
+from bpfhost.classic.ancillary import ContextWord
+from bpfhost.classic.instructions import Operator, Test
+
+
+class Register(Enum):
+    """The registers of a classic program."""
+
+    A = "A"
+    X = "X"
+
+
+# What steps read and write: a register, a word of scratch memory by its number, or the run's context.
+CONTEXT = "context"
+Storage = Register | int | str
+# An operand: a register, or a number of 32 bits.
+Operand = Register | int
+
+
+@dataclass(frozen=True)
+class Headers:
+    """Bytes of the packet that one call copies to the stack: so many from an offset on."""
+
+    first: int
+    count: int
+
+    def has(self, offset: int, size: int) -> bool:
+        """Whether these bytes of the packet are among them."""
+        return self.first <= offset and offset + size <= self.first + self.count
+
+
+@dataclass(frozen=True)
+class Pass:
+    """Nothing: what follows goes on."""
+
+
+@dataclass(frozen=True)
+class SetNumber:
+    """The register becomes a number."""
+
+    to: Register
+    number: int
+
+
+@dataclass(frozen=True)
+class Copy:
+    """A register becomes the other one."""
+
+    to: Register
+    source: Register
+
+
+@dataclass(frozen=True)
+class LoadContext:
+    """The register becomes a word of the context."""
+
+    to: Register
+    word: ContextWord
+
+
+@dataclass(frozen=True)
+class LoadScratch:
+    """The register becomes a word of scratch memory."""
+
+    to: Register
+    word: int
+
+
+@dataclass(frozen=True)
+class StoreScratch:
+    """A word of scratch memory becomes the operand."""
+
+    word: int
+    value: Operand
+
+
+@dataclass(frozen=True)
+class LoadHeader:
+    """The register becomes bytes of the packet that lie on the stack."""
+
+    to: Register
+    offset: int
+    size: int
+
+
+@dataclass(frozen=True)
+class LoadPacket:
+    """The register becomes bytes of the packet, by a call; the second follower is where the packet ends before them.
+
+    They stand at an offset, or at X and the offset together, whose sum has 32 bits where it wraps, and else as many as it needs.
+    """
+
+    to: Register
+    offset: int
+    size: int
+    is_behind_x: bool = False
+    wraps: bool = False
+
+
+@dataclass(frozen=True)
+class Operate:
+    """A register becomes the result of an operator on it and an operand."""
+
+    to: Register
+    operator: Operator
+    operand: Operand
+
+
+@dataclass(frozen=True)
+class Negate:
+    """A becomes its negation."""
+
+
+@dataclass(frozen=True)
+class Branch:
+    """The first follower is where the test of a register with an operand holds, and the second is where it does not."""
+
+    register: Register
+    test: Test
+    operand: Operand
+
+
+@dataclass(frozen=True)
+class Fetch:
+    """Headers come to the stack; the second follower is where the packet ends before them."""
+
+    headers: Headers
+
+
+@dataclass(frozen=True)
+class Return:
+    """The program's result."""
+
+    value: Operand
+
+
+Step = (
+    Pass | SetNumber | Copy | LoadContext | LoadScratch | StoreScratch | LoadHeader | LoadPacket | Operate | Negate | Branch | Fetch | Return
+)
+
+
+@dataclass(frozen=True)
+class View:
+    """What is known where an instruction stands: which headers lie on the stack, and what their first bytes of IPv4 are.
+
+    `usual` is the offset of a byte that was seen to be 0x45, as IPv4 without options begins; `is_x_usual` is whether X is the header's
+    length that this byte tells, and so no register is needed for it.
+    """
+
+    headers: Headers | None = None
+    usual: int | None = None
+    is_x_usual: bool = False
+
+
+@dataclass(frozen=True)
+class Place:
+    """A step by its instruction, the view there, and its number among the steps of that instruction."""
+
+    at: int
+    view: View
+    part: int = 0
+
+
+@dataclass
+class Graph:
+    """Steps by their places, with those that follow; no step follows itself."""
+
+    entry: Place
+    steps: dict[Place, Step] = field(default_factory=dict)
+    followers: dict[Place, tuple[Place, ...]] = field(default_factory=dict)
+
+    def order(self) -> list[Place]:
+        """The places that a path leads to, each before its followers.
+
+        Right behind a step stands, where it can be, the follower that it goes on to without a jump: of a test the second one.
+        """
+        order: list[Place] = []
+        seen, open_places = {self.entry}, [(self.entry, self._farthest_first(self.entry))]
+        while open_places:
+            place, left = open_places[-1]
+            follower = next((each for each in left if each not in seen), None)
+            if follower is None:
+                order.append(place)
+                open_places.pop()
+            else:
+                seen.add(follower)
+                open_places.append((follower, self._farthest_first(follower)))
+        return order[::-1]
+
+    def _farthest_first(self, place: Place) -> Iterator[Place]:
+        """The followers of a step, the one last that is to stand right behind it."""
+        followers = self.followers[place]
+        return iter(followers if isinstance(self.steps[place], Branch) else followers[::-1])
+
+
+def reads(step: Step) -> tuple[Storage, ...]:
+    """What a step reads, the context left aside."""
+    match step:
+        case Copy(source=source):
+            return (source,)
+        case LoadScratch(word=word):
+            return (word,)
+        case StoreScratch(value=Register() as value):
+            return (value,)
+        case LoadPacket(is_behind_x=True):
+            return (Register.X,)
+        case Operate(to=to, operand=Register() as operand):
+            return (to, operand)
+        case Operate(to=to):
+            return (to,)
+        case Negate():
+            return (Register.A,)
+        case Branch(register=register, operand=Register() as operand):
+            return (register, operand)
+        case Branch(register=register):
+            return (register,)
+        case Return(value=Register() as value):
+            return (value,)
+    return ()
+
+
+def written(step: Step) -> Storage | None:
+    """What a step writes."""
+    match step:
+        case StoreScratch(word=word):
+            return word
+        case Negate():
+            return Register.A
+        case Pass() | Branch() | Fetch() | Return():
+            return None
+    return step.to

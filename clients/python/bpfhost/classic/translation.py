@@ -1,0 +1,82 @@
+"""Classic programs as programs of this host, with the same result on every packet. docs/FILTERS.md has the table by code."""
+
+from __future__ import annotations
+
+from collections.abc import Iterator, Sequence
+from dataclasses import dataclass
+
+from bpfhost.classic.checking import check
+from bpfhost.classic.errors import ClassicError
+from bpfhost.classic.instructions import Instruction
+from bpfhost.classic.semantics import Meaning
+from bpfhost.classic.stack import MOST_HEADERS
+from bpfhost.classic.steps import Graph, Headers, LoadHeader
+from bpfhost.classic.unfolding import Plan, unfolded
+from bpfhost.classic.writing import written_slots
+from bpfhost.numbers import MOST_SLOTS, SLOT_SIZE
+
+# Where no load ends within so many bytes, packets that end there are common enough for a bound of their own: the headers of IPv4 are so
+# much shorter than those of IPv6.
+_GAP = 16
+_PLAIN = Plan()
+
+
+@dataclass(frozen=True)
+class Translation:
+    """The slots of a program, and whether they read headers from the stack.
+
+    `lines` has the slots at which others of the classic instructions begin, each with the instruction's number; -1 is the end that a load
+    out of the packet leads to.
+    """
+
+    slots: bytes
+    lines: tuple[tuple[int, int], ...]
+    is_fast: bool
+
+    @property
+    def count(self) -> int:
+        """How many slots there are."""
+        return len(self.slots) // SLOT_SIZE
+
+
+def translate(instructions: Sequence[Instruction], meaning: Meaning = Meaning(), *, fast: bool = True) -> Translation:
+    """The program with the same result on every packet; a ClassicError where there is none.
+
+    The kernel's checks come first. With `fast` the packet's headers come to the stack by one call, where the program has room for that
+    beside the way for shorter packets; without it each load is a call.
+    """
+    check(instructions)
+    count = 0
+    for plan in _plans(instructions, meaning) if fast else iter((_PLAIN,)):
+        graph = unfolded(instructions, plan, meaning)
+        if graph is None:
+            continue
+        written = written_slots(graph)
+        if written.slots is not None:
+            return Translation(written.slots, written.lines, plan != _PLAIN)
+        count = written.count
+    raise ClassicError(f"its {len(instructions):,} instructions take {count:,} slots, and {MOST_SLOTS:,} are the most")
+
+
+def _plans(instructions: Sequence[Instruction], meaning: Meaning) -> Iterator[Plan]:
+    """Ways to bring headers to the stack, the one with the most slots first, and the one without headers last."""
+    all_loads = unfolded(instructions, Plan((Headers(0, MOST_HEADERS),), has_usual=True), meaning)
+    headers = _bounds(all_loads) if all_loads else ()
+    if headers:
+        yield Plan(headers, has_usual=True)
+        if len(headers) > 1:
+            yield Plan(headers[:1], has_usual=True)
+        yield Plan(headers[:1])
+    yield _PLAIN
+
+
+def _bounds(graph: Graph) -> tuple[Headers, ...]:
+    """The headers that loads need: all of them, and those below the widest gap, where one is wide. None where one load is all there is."""
+    loads = sorted((step.offset + step.size, step.offset) for step in graph.steps.values() if isinstance(step, LoadHeader))
+    if len(loads) < 2:
+        return ()
+    first, ends = min(offset for _, offset in loads), [end for end, _ in loads]
+    # Below a gap there are two loads at least: for one a call of its own is as good.
+    gap, end = max(((above - below, below) for below, above in zip(ends[1:], ends[2:])), default=(0, 0))
+    whole = Headers(first, ends[-1] - first)
+    return (whole, Headers(first, end - first)) if gap >= _GAP else (whole,)

@@ -1,0 +1,264 @@
+"""A classic program as a graph of steps: each instruction by what is known where it stands."""
+
+from __future__ import annotations
+
+from collections.abc import Sequence
+from dataclasses import dataclass, replace
+
+from bpfhost.classic.ancillary import LENGTH, WIRE_LENGTH, context_word, is_exclusive_or, without_word
+from bpfhost.classic.checking import refused_at
+from bpfhost.classic.instructions import (
+    ANCILLARY,
+    FORMS,
+    LINK_HEADER,
+    MOST_INSTRUCTIONS,
+    NETWORK_HEADER,
+    Form,
+    Instruction,
+    Kind,
+    Operator,
+    Test,
+)
+from bpfhost.classic.semantics import Length, Meaning, Semantics
+from bpfhost.classic.steps import (
+    Branch,
+    Copy,
+    Fetch,
+    Graph,
+    Headers,
+    LoadContext,
+    LoadHeader,
+    LoadPacket,
+    LoadScratch,
+    Negate,
+    Operand,
+    Operate,
+    Pass,
+    Place,
+    Register,
+    Return,
+    SetNumber,
+    Step,
+    StoreScratch,
+    View,
+)
+
+A, X = Register.A, Register.X
+# The first byte of an IPv4 header without options, and its length.
+USUAL_BYTE, USUAL_LENGTH = 0x45, 20
+# The greatest offset that the helper takes.
+_FARTHEST = 2**31 - 1
+_SHIFTS = (Operator.LSH, Operator.RSH)
+_DIVISIONS = (Operator.DIV, Operator.MOD)
+_SHORT = View()
+# Behind the last instruction: the end that a load out of the packet leads to.
+_DROP = -1
+# A graph with more steps would have more slots than a program may have, or take too long to look at: a program can be made so that each
+# of its instructions stands for hundreds of views.
+_MOST_STEPS = 8 * MOST_INSTRUCTIONS
+
+
+@dataclass(frozen=True)
+class Plan:
+    """How headers come to the stack: which are tried first, second and so on, and whether the usual IPv4 header is a case of its own."""
+
+    headers: tuple[Headers, ...] = ()
+    has_usual: bool = False
+
+
+def unfolded(instructions: Sequence[Instruction], plan: Plan, meaning: Meaning) -> Graph | None:
+    """The steps of a program that was checked, or None where they are too many; those without headers never are.
+
+    A ClassicError names a load that no run has an answer for.
+    """
+    return _Unfolding(instructions, plan, meaning).graph()
+
+
+class _Unfolding:
+    def __init__(self, instructions: Sequence[Instruction], plan: Plan, meaning: Meaning) -> None:
+        self._instructions = instructions
+        self._plan = plan
+        self._meaning = meaning
+        first = Place(0, View(plan.headers[0]), -1) if plan.headers else Place(0, _SHORT)
+        self._graph = Graph(first)
+        self._place = first
+        self._left: list[Place] = []
+
+    def graph(self) -> Graph | None:
+        """All steps that a path leads to, if they are not too many."""
+        for headers, following in zip(self._plan.headers, (*self._plan.headers[1:], None)):
+            shorter = Place(0, View(following), -1) if following else Place(0, _SHORT)
+            self._place = Place(0, View(headers), -1)
+            self._end(Fetch(headers), Place(0, View(headers)), shorter)
+        self._left.append(self._graph.entry)
+        while self._left:
+            if len(self._graph.steps) > _MOST_STEPS:
+                return None
+            place = self._left.pop()
+            if place not in self._graph.steps:
+                self._place = place
+                self._unfold(place)
+        return self._graph
+
+    # Steps of an instruction are added one behind the other.
+
+    def _add(self, step: Step, *others: Place) -> None:
+        """A step that the next one of this instruction follows, and these where it fails."""
+        following = self._next_part()
+        self._put(step, (following, *others))
+        self._place = following
+
+    def _end(self, step: Step, *followers: Place) -> None:
+        """A step that no other one of this instruction follows in the order."""
+        self._put(step, followers)
+        self._place = self._next_part()
+
+    def _put(self, step: Step, followers: tuple[Place, ...]) -> None:
+        self._graph.steps[self._place] = step
+        self._graph.followers[self._place] = followers
+        self._left += followers
+
+    def _next_part(self) -> Place:
+        return replace(self._place, part=self._place.part + 1)
+
+    def _drop(self) -> Place:
+        """The end with the result 0."""
+        place = Place(_DROP, _SHORT)
+        self._graph.steps.setdefault(place, Return(0))
+        self._graph.followers.setdefault(place, ())
+        return place
+
+    def _unfold(self, place: Place) -> None:
+        at, view = place.at, place.view
+        instruction = self._instructions[at]
+        form, k = FORMS[instruction.code], instruction.k
+        following = Place(at + 1, self._view_behind(view, form))
+        to = X if form.is_x else A
+        match form.kind:
+            case Kind.ABSOLUTE:
+                self._load_at(at, k, form.size, following)
+            case Kind.INDIRECT:
+                self._load_behind_x(view, k, form.size, following)
+            case Kind.HEADER_LENGTH:
+                self._load_header_length(view, k, Place(at + 1, view))
+            case Kind.LENGTH:
+                self._end(LoadContext(to, LENGTH if self._meaning.length is Length.PACKET else WIRE_LENGTH), following)
+            case Kind.NUMBER:
+                self._end(SetNumber(to, k), following)
+            case Kind.SCRATCH:
+                self._end(LoadScratch(to, k), following)
+            case Kind.STORE:
+                self._end(StoreScratch(k, self._x(view) if form.is_x else A), following)
+            case Kind.OPERATE:
+                self._operate(form, self._x(view) if form.is_x else k, following)
+            case Kind.NEGATE:
+                self._end(Negate(), following)
+            case Kind.JUMP:
+                self._end(Pass(), Place(at + 1 + k, view))
+            case Kind.BRANCH:
+                self._branch(form, self._x(view) if form.is_x else k, *(Place(at + 1 + far, view) for far in instruction[1:3]))
+            case Kind.RETURN:
+                self._end(Return(A if form.is_x else k))
+            case Kind.MOVE:
+                self._move(form, view, following)
+
+    @staticmethod
+    def _view_behind(view: View, form: Form) -> View:
+        """The view behind an instruction that is no jump: whether it writes X."""
+        writes_x = form.mnemonic == "tax" or (form.is_x and form.kind in (Kind.NUMBER, Kind.SCRATCH, Kind.LENGTH))
+        return replace(view, is_x_usual=False) if writes_x else view
+
+    @staticmethod
+    def _x(view: View) -> Operand:
+        return USUAL_LENGTH if view.is_x_usual else X
+
+    def _move(self, form: Form, view: View, following: Place) -> None:
+        if not form.is_x:
+            self._end(Copy(X, A), following)
+        else:
+            self._end(SetNumber(A, USUAL_LENGTH) if view.is_x_usual else Copy(A, X), following)
+
+    def _branch(self, form: Form, operand: Operand, yes: Place, no: Place) -> None:
+        assert form.test
+        if yes == no:
+            self._end(Pass(), yes)
+        else:
+            self._end(Branch(A, form.test, operand), yes, no)
+
+    def _operate(self, form: Form, operand: Operand, following: Place) -> None:
+        operator = form.operator
+        assert operator
+        if operand is X and operator in _DIVISIONS:
+            self._add_branch(Branch(X, Test.EQ, 0), self._drop())
+        elif operand is X and operator in _SHIFTS and self._meaning.semantics is Semantics.LIBPCAP:
+            far = replace(self._place, part=self._place.part + 2)
+            self._graph.steps[far], self._graph.followers[far] = SetNumber(A, 0), (following,)
+            self._add_branch(Branch(X, Test.GT, 31), far)
+        self._end(Operate(A, operator, operand), following)
+
+    def _add_branch(self, branch: Branch, yes: Place) -> None:
+        """A test of this instruction, whose next step follows where it does not hold."""
+        following = self._next_part()
+        self._put(branch, (yes, following))
+        self._place = following
+
+    # Loads of the packet.
+
+    def _load_at(self, at: int, k: int, size: int, following: Place) -> None:
+        """A load at k, or an ancillary one."""
+        if k >= LINK_HEADER:
+            self._load_ancillary(at, k, following)
+        else:
+            self._load(A, k, size, following)
+
+    def _load(self, to: Register, offset: int, size: int, following: Place) -> None:
+        """A load at an offset that is known: from the stack where it lies there."""
+        headers = following.view.headers
+        if offset > _FARTHEST:
+            self._end(Pass(), self._drop())
+        elif headers and headers.has(offset, size):
+            self._end(LoadHeader(to, offset, size), following)
+        else:
+            self._end(LoadPacket(to, offset, size), following, self._drop())
+
+    def _load_ancillary(self, at: int, k: int, following: Place) -> None:
+        word = context_word(k) if k >= ANCILLARY else None
+        if word:
+            self._end(LoadContext(A, word), following)
+        elif is_exclusive_or(k):
+            self._end(Operate(A, Operator.XOR, self._x(following.view)), following)
+        else:
+            area = "the link header (SKF_LL_OFF)" if k < NETWORK_HEADER else "the network header (SKF_NET_OFF)"
+            what = without_word(k) if k >= ANCILLARY else f"bytes behind {area}"
+            raise refused_at(at, self._instructions[at], f"a run's context does not have {what}")
+
+    def _load_behind_x(self, view: View, k: int, size: int, following: Place) -> None:
+        is_kernel = self._meaning.semantics is Semantics.KERNEL
+        if view.is_x_usual:
+            self._load(A, (k + USUAL_LENGTH) % 2**32 if is_kernel else k + USUAL_LENGTH, size, following)
+        elif k > _FARTHEST and not is_kernel:
+            self._end(Pass(), self._drop())
+        else:
+            self._end(LoadPacket(A, k, size, is_behind_x=True, wraps=is_kernel), following, self._drop())
+
+    def _load_header_length(self, view: View, k: int, following: Place) -> None:
+        """Four times the low half of a byte: 20 where the byte is that of an IPv4 header without options, else by arithmetic."""
+        usual = replace(following, view=replace(view, usual=k, is_x_usual=True))
+        other = replace(following, view=replace(view, is_x_usual=False))
+        has_usual = self._plan.has_usual and view.headers is not None and view.headers.has(k, 1)
+        if has_usual and view.usual == k:
+            self._end(Pass(), usual)
+            return
+        if has_usual:
+            self._add(LoadHeader(X, k, 1))
+            other = replace(other, view=_SHORT)
+            self._add_branch(Branch(X, Test.EQ, USUAL_BYTE), usual)
+        elif view.headers and view.headers.has(k, 1):
+            self._add(LoadHeader(X, k, 1))
+        elif k > _FARTHEST:
+            self._end(Pass(), self._drop())
+            return
+        else:
+            self._add(LoadPacket(X, k, 1), self._drop())
+        self._add(Operate(X, Operator.AND, 0x0F))
+        self._end(Operate(X, Operator.LSH, 2), other)

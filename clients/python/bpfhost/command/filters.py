@@ -1,0 +1,128 @@
+"""Filters as tcpdump writes them, for the words `run`, `check`, `dis` and `build`: expressions, and classic programs as texts."""
+
+from __future__ import annotations
+
+import argparse
+import sys
+from collections.abc import Sequence
+from pathlib import Path
+
+from bpfhost.classic import ClassicError, ClassicProgram, Semantics, Translation
+from bpfhost.classic.listing import shown
+from bpfhost.command.version import program_of
+from bpfhost.errors import BpfhostError, InputError
+from bpfhost.program import disassemble, log_or_fault, verify
+from bpfhost.words import reason_words
+
+# The words that name a filter in place of an object.
+EXPRESSION, FILE = "--filter", "--classic"
+_STANDARD_INPUT = "-"
+# A classic program has some 60 KB of text at most, and what is longer is none.
+_LONGEST_TEXT = 1 << 20
+
+
+def is_about_filters(words: Sequence[str]) -> bool:
+    """Whether these words of the command name filters."""
+    return any(word.partition("=")[0] in (EXPRESSION, FILE) for word in words)
+
+
+def read_filters(said: argparse.Namespace, link_type: int) -> list[ClassicProgram]:
+    """The filters in their order; a BpfhostError for the first that is refused."""
+    return [ClassicProgram.of_expression(of, link_type) if kind == EXPRESSION else _read(of) for kind, of in said.filters]
+
+
+def files_of(said: argparse.Namespace) -> list[str]:
+    """The files that filters are read from, standard input too."""
+    return [of for kind, of in said.filters if kind == FILE]
+
+
+def _read(file: str) -> ClassicProgram:
+    if file == _STANDARD_INPUT:
+        given, name = sys.stdin.buffer.read(_LONGEST_TEXT + 1), "standard input"
+    else:
+        name = file
+        with open(file, "rb") as opened:
+            given = opened.read(_LONGEST_TEXT + 1)
+    if len(given) > _LONGEST_TEXT:
+        raise ClassicError(f"{name}: a text of a classic program has {_LONGEST_TEXT:,} bytes at most")
+    return ClassicProgram.of_text(given.decode("ascii", errors="replace"), name)
+
+
+def _translated(said: argparse.Namespace, program: ClassicProgram) -> Translation:
+    return program.translated(Semantics(said.semantics))
+
+
+def check(said: argparse.Namespace) -> int:
+    """Translates and verifies each filter; the status is 1 where one is refused."""
+    bpfhost, status = program_of(said), 0
+    for kind, of in said.filters:
+        try:
+            one = argparse.Namespace(**{**vars(said), "filters": [(kind, of)]})
+            program = read_filters(one, said.link_type)[0]
+            translation = _translated(said, program)
+        except InputError as error:
+            print(f"refused: {error}")
+            status = 1
+            continue
+        refused = verify(bpfhost, translation.slots, {}).refused
+        verdict = f"refused at slot {refused[0]}: {reason_words(refused[1])}, reason {refused[1]}" if refused else "accepted"
+        print(f"{program.name} is {verdict}{_sizes(program, translation)}")
+        print(log_or_fault(bpfhost, translation.slots, {}) or "", end="")
+        status = 1 if refused else status
+    return status
+
+
+def _sizes(program: ClassicProgram, translation: Translation) -> str:
+    """How large a filter is, in both forms."""
+    way = "" if translation.is_fast else ", with a call for each load"
+    return f": {_many(len(program.instructions), 'instruction')} of classic BPF, {_many(translation.count, 'slot')}{way}"
+
+
+def _many(count: int, what: str) -> str:
+    return f"{count:,} {what}{'' if count == 1 else 's'}"
+
+
+def dis(said: argparse.Namespace) -> int:
+    """Writes each filter as slots in text, between the classic instructions that they come from; or the classic program itself."""
+    bpfhost = None if said.form else program_of(said)
+    for program in read_filters(said, said.link_type):
+        forms = {"d": program.listing, "dd": program.elements, "ddd": program.decimals, "bytecode": program.bytecode}
+        print(forms[said.form]() if said.form else _text(bpfhost or "", program, _translated(said, program)), end="")
+    return 0
+
+
+def _text(bpfhost: str, program: ClassicProgram, translation: Translation) -> str:
+    slots = disassemble(bpfhost, translation.slots).splitlines(keepends=True)
+    sources = dict(translation.lines)
+    parts = [f"// {program.name}{_sizes(program, translation)}\n"]
+    for slot, line in enumerate(slots):
+        if slot in sources:
+            parts.append(_source(program, sources[slot]))
+        parts.append(line)
+    return "".join(parts)
+
+
+def _source(program: ClassicProgram, number: int) -> str:
+    """The classic instruction that slots come from, as a comment."""
+    if number < 0:
+        return "// a load that the packet has no bytes for ends here\n"
+    return f"// {shown(number, program.instructions[number]).expandtabs(1).rstrip()}\n"
+
+
+def build(said: argparse.Namespace) -> int:
+    """Writes a filter as a file that is loaded without Python."""
+    from bpfhost.classic.building import built_filter
+    from bpfhost.command.build import write
+
+    programs = read_filters(said, said.link_type)
+    if len(programs) > 1:
+        raise InputError("a file has one filter, and more are named")
+    for file in files_of(said):
+        if Path(said.output).exists() and Path(file).exists() and Path(said.output).samefile(file):
+            raise InputError(f"{said.output}: the program can't be written over the file that it is read from")
+    translation = _translated(said, programs[0])
+    refused = verify(program_of(said), translation.slots, {}).refused
+    if refused:
+        raise BpfhostError(f"{programs[0].name} is refused at slot {refused[0]}: {reason_words(refused[1])}, reason {refused[1]}")
+    write(Path(said.output), built_filter(programs[0], translation))
+    return 0

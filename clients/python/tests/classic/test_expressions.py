@@ -1,0 +1,142 @@
+"""Expressions as people write them: this host beside libpcap's interpreter, on the repository's captures, for each link type."""
+
+from __future__ import annotations
+
+import contextlib
+import random
+import time
+from collections.abc import Iterator
+from pathlib import Path
+
+from bpfhost import Context, Host, Packets
+from bpfhost.classic import ClassicError, ClassicProgram, ExpressionError, Instruction, Length
+from tests.classic.common import MANY, BpfFilter, needs_libpcap, on_host
+from tests.classic.traffic import ethernet, of_link
+from tests.common import PROGRAM, HostTest
+
+EXPRESSIONS = (Path(__file__).parent / "expressions.txt").read_text().splitlines()
+# Of the issue of this: what the bench measures as well.
+HOSTS = " or ".join(f"host 10.0.0.{host}" for host in range(1, 17))
+# What is asked for each link type that libpcap compiles it for.
+OF_LINKS = [
+    "ip", "ip6", "tcp port 443", "host 192.0.2.1 and port 53", "len > 60 and udp", "tcp[tcpflags] & tcp-syn != 0",
+    "tcp[((tcp[12] & 0xf0) >> 2):4] = 0x47455420", "ip[2:2] > 100", "not ip", "link[1] & 1 = 0 or link[2:2] > 5", "ip6[6] = 17",
+]  # fmt: skip
+OF_802_11 = ["type data", "type mgt subtype beacon", "subtype qos-data", "wlan addr1 02:00:00:00:00:35", "dir fromds and tcp", "link[0] = 8"]
+
+
+def compiled(expressions: list[str], link_type: int = 1) -> Iterator[ClassicProgram]:
+    """The programs of those that libpcap compiles: it has no names of ports and protocols where the system has no list of them."""
+    for expression in expressions:
+        try:
+            yield ClassicProgram.of_expression(expression, link_type)
+        except (ExpressionError, ClassicError):
+            continue
+
+
+@needs_libpcap
+class Expressions(HostTest):
+    def setUp(self) -> None:
+        super().setUp()
+        host = Host(PROGRAM)
+        self.addCleanup(host.close)
+        self.tenant = host.tenant()
+
+    def same(self, program: ClassicProgram, packets: list[bytes]) -> None:
+        """This host has libpcap's result on each packet, with and without headers on the stack."""
+        reference = BpfFilter(program.instructions)
+        wanted = [reference.run(packet) for packet in packets]
+        for fast in (True, False):
+            found = on_host(self.tenant, program.translated(fast=fast).slots, Packets.of(packets, 0))
+            differs = next((at for at, pair in enumerate(zip(found, wanted)) if pair[0] != pair[1]), None)
+            self.assertIsNone(differs, f"{program.name}, fast {fast}, packet {differs}: {packets[differs or 0].hex()}")
+
+    def test_on_ethernet(self) -> None:
+        programs = list(compiled([*EXPRESSIONS, HOSTS]))
+        # Some have names that libpcap asks the system for.
+        self.assertGreater(len(programs), len(EXPRESSIONS) - 10)
+        for at, program in enumerate(programs):
+            self.same(program, ethernet()[at % 4 :: 4] if MANY == 1 else ethernet())
+
+    def test_combinations(self) -> None:
+        draw, sizes = random.Random("combinations"), []
+        for _ in range(30 * MANY):
+            parts = [draw.choice(["", "not "]) + f"({draw.choice(EXPRESSIONS)})" for _ in range(draw.choice((2, 3, 4, 12)))]
+            expression = parts[0] + "".join(draw.choice([" and ", " or "]) + part for part in parts[1:])
+            for program in compiled([expression]):
+                self.same(program, ethernet()[:: 8 // min(MANY, 8)])
+                sizes.append(len(program.instructions))
+        self.assertGreater(max(sizes), 100)
+
+    def test_each_link_type(self) -> None:
+        tried = 0
+        for link_type in range(300):
+            programs = list(compiled([*OF_LINKS, *OF_802_11], link_type))
+            packets = of_link(link_type) if programs else []
+            tried += bool(programs)
+            for program in programs:
+                self.same(program, packets)
+        self.assertGreater(tried, 40, "libpcap compiles for more link types than that")
+
+    def test_without_the_optimizer(self) -> None:
+        for expression in EXPRESSIONS[::5]:
+            try:
+                program = ClassicProgram.of_expression(expression, optimized=False)
+            except (ExpressionError, ClassicError):
+                continue
+            self.same(program, ethernet()[::6])
+
+    def test_lengths_on_the_wire(self) -> None:
+        """Packets that a capture has cut, with the length that each had in the word that no ancillary load reads."""
+        packets = ethernet()[::7]
+        for expression in ("greater 500", "len & 1 = 1", "len > 200 and udp", "ether[len - 20:4] != 0", "less 100 or ip[2:2] = len - 14"):
+            program = ClassicProgram.of_expression(expression)
+            reference = BpfFilter(program.instructions)
+            slots = program.translated(length=Length.WIRE).slots
+            for length in (0, 99, 499, 501, 1514):
+                wanted = [reference.run(packet, length) for packet in packets]
+                self.assertEqual(on_host(self.tenant, slots, Packets.of(packets), Context(priority=length)), wanted, expression)
+
+
+@needs_libpcap
+class Sizes(HostTest):
+    """How large translations are, and what is left out where there is no room."""
+
+    def test_headers_are_left_out_where_there_is_no_room(self) -> None:
+        """Many loads: with the headers on the stack the program stands twice, and that is more than a host takes."""
+        for many, is_fast in ((180, True), (250, False)):
+            program = ClassicProgram.of_expression(" or ".join(f"tcp[{at}] = {at % 256}" for at in range(many)))
+            translation, plain = program.translated(), program.translated(fast=False)
+            self.assertEqual((translation.is_fast, plain.is_fast), (is_fast, False))
+            self.assertTrue(plain.count < translation.count <= 4096 if is_fast else translation == plain)
+
+    def test_ways_for_shorter_packets(self) -> None:
+        """The numbers of bytes that calls for headers ask for: a second one where the ends of the loads leave a wide gap."""
+        for expression, sizes in {
+            "tcp port 443": [46, 26],
+            "host 10.0.0.1 and port 53": [26],
+            HOSTS: [30],
+            "tcp[((tcp[12] & 0xf0) >> 2):4] = 0x47455420": [35, 12],
+            "ip": [],
+        }.items():
+            slots = ClassicProgram.of_expression(expression).translated().slots
+            numbers = [int.from_bytes(slots[at + 4 : at + 8], "little") for at in range(0, len(slots), 8) if slots[at : at + 2] == b"\xb4\x04"]
+            self.assertEqual([number for number in numbers if number > 4], sizes, expression)
+
+    def test_programs_that_are_made_to_take_long(self) -> None:
+        """Each instruction behind tests of many first bytes of IPv4 has a view for each of them; and sums of many loads meet."""
+        lengths = [Instruction(0xB1, 0, 0, at % 120) for at in range(700)]
+        mixed = [each for at in range(600) for each in (Instruction(0xB1, 0, 0, at % 120), Instruction(0x2D, at % 7, 1, 0))]
+        loads = [each for at in range(600) for each in (Instruction(0x30, 0, 0, at % 120), Instruction(0x25, 250, 250 - at % 250, at))]
+        far = [each for at in range(1800) for each in (Instruction(0x30, 0, 0, at), Instruction(0x25, 250, 1, at))]
+        for instructions in (lengths, mixed, loads, far):
+            begun = time.process_time()
+            with contextlib.suppress(ClassicError):
+                ClassicProgram((*instructions, *[Instruction(0x87, 0, 0, 0)] * 250, Instruction(0x16, 0, 0, 0))).translated()
+            self.assertLess(time.process_time() - begun, 5)
+
+    def test_too_many_slots(self) -> None:
+        expression = " or ".join(f"ether[{at}] = {at % 251}" for at in range(700, 1400))
+        program = ClassicProgram.of_expression(expression)
+        with self.assertRaisesRegex(ClassicError, r"its 1,\d\d\d instructions take 6,\d\d\d slots, and 4,096 are the most"):
+            program.translated()

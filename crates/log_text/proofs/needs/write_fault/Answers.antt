@@ -1,5 +1,8 @@
-use Rattle.std.proofs.Common.{rules, sym}
+use Rattle.std.proofs.Common.{◌≡◌, ap, rules}
+use Rattle.verifier.specs.Judgement.{refusal_of_program, refusal_text}
 use Rattle.log_text.proofs.needs.write_fault.Goals as goal
 
 pub returns : goal.returns
-returns c = rw (sym c.from-refusal.ensures) (search rules)
+returns c =
+    let same : refusal_text c.from-refusal.result ≡ refusal_text (refusal_of_program c.args.fault) = ap refusal_text c.from-refusal.ensures in
+    search rules

@@ -37,6 +37,10 @@ class QuickBuild(unittest.TestCase):
             path = self.scratch / "kit" / name
             path.write_text(text)
             path.chmod(0o755)
+        heap = self.scratch / "heap.pic.o"
+        heap.write_text("the heap\n")
+        archived = subprocess.run(["ar", "rc", self.scratch / "kit/c/liblibc_c.a", heap], check=False, capture_output=True)
+        self.assertEqual(archived.returncode, 0)
 
     def build(self, *words: str, path: str | None = None) -> subprocess.CompletedProcess[str]:
         """Calls the script with the kit first in PATH."""
@@ -48,9 +52,9 @@ class QuickBuild(unittest.TestCase):
     def test_what_it_leaves(self) -> None:
         ended = self.build("out")
         self.assertEqual((ended.returncode, ended.stderr), (0, ""))
-        self.assertEqual({path.name for path in (self.scratch / "out").iterdir()}, {"bpfhost", "verifier_log", "UNPROVED"})
-        self.assertIn("without their proofs", (self.scratch / "out/UNPROVED").read_text())
-        self.assertEqual(ended.stdout.count("is built WITHOUT proofs"), 2)
+        self.assertEqual({path.name for path in (self.scratch / "out").iterdir()}, {"bpfhost", "verifier_log", "libbpfhost.a", "bpfhost.h", "UNPROVED"})
+        self.assertIn("without its proofs", (self.scratch / "out/UNPROVED").read_text())
+        self.assertEqual(ended.stdout.count("is built WITHOUT proofs"), 3)
 
     def test_what_it_compiles(self) -> None:
         """The words of the kit's own call, on the whole kit's toolchain, and no sanitizer."""
@@ -59,6 +63,15 @@ class QuickBuild(unittest.TestCase):
         self.assertIn(f"--sysroot={self.scratch}/kit/toolchain -x ir -fPIE -O1 -c", compiled)
         self.assertNotIn("sanitize", compiled)
         self.assertIn(f"-o {self.scratch}/out/bpfhost", linked)
+
+    def test_the_library(self) -> None:
+        """It is made of the repository's sources in a copy, and of code that any program may be linked with."""
+        self.assertEqual(self.build("out", "library").returncode, 0)
+        shown, compiled = (self.scratch / "calls").read_text().splitlines()
+        self.assertIn("-S -emit-llvm", shown)
+        self.assertIn("-O1 -fPIC -c", compiled)
+        listed = subprocess.run(["ar", "t", self.scratch / "out/libbpfhost.a"], check=True, capture_output=True, text=True)
+        self.assertEqual(listed.stdout.split(), ["bpfhost.o", "heap.pic.o"])
 
     def test_what_is_wrong(self) -> None:
         self.assertEqual((self.build().returncode, self.build("--help").returncode), (2, 2))

@@ -5,7 +5,7 @@ use Rattle.std.proofs.lemmas.Bool.{ltb-false}
 use Rattle.std.proofs.lemmas.Bool.Decides.{nat_tests}
 use Rattle.std.proofs.lemmas.List.{length-take}
 use Rattle.fd_table.specs.Table.{named}
-use Rattle.flat_machine.specs.Batch.{packets_from, with_length, ArePackets, RunsOnEach}
+use Rattle.flat_machine.specs.Batch.{packets_from, ArePackets, RunsOnEach}
 use Rattle.flat_machine.specs.Runs.{Standing}
 use Rattle.insn_set.specs.declared.insn.Insn.{Insn}
 use Rattle.verifier.specs.Laws.{MapsAreListed}
@@ -96,13 +96,13 @@ module _ (bytes : List ℕ) where
       let short = first.short in
       (omega (arith, length-take (end - start) (drop start bytes)), are_short end ends first.rest)
 
-pub are_packets : (many start : ℕ) (ends : List ℕ) → ends_refusal many start ends ≡ None → ArePackets true many start ends
+pub are_packets : (many start : ℕ) (ends : List ℕ) → ends_refusal many start ends ≡ None → ArePackets many start ends
 unfolding ArePackets
 are_packets many start [] none = tt
 are_packets many start (end ∷ ends) none =
     let first = fits_first many start end ends none in
     let short = first.short in
-    (record { ordered = first.ordered; within = first.within; short = λ counted. omega arith }, are_packets many end ends first.rest)
+    (record { ordered = first.ordered; within = first.within; short = omega arith }, are_packets many end ends first.rest)
 
 -- a batch that is not refused
 pub record FitsBatch (o : Option OpenObject) (many : ℕ) (ends : List ℕ) (room : ℕ) : Type 0 where
@@ -127,7 +127,7 @@ module _ (listed : MapsAreListed) (fd : ℕ) (words : List ℕ) (k : KeptTenant)
   stood_for s = state_in s.part (with_live k s.maps)
 
   -- are the test runs of the machine of tagged values
-  pub runs_in_order : (packets : List (List ℕ)) (results : List ℕ) (before after : Standing) → IsWellFormedTenant (with_live k before.maps) → AreShort packets → RunsOnEach code bind (with_length words) before packets results after
+  pub runs_in_order : (packets : List (List ℕ)) (results : List ℕ) (before after : Standing) → IsWellFormedTenant (with_live k before.maps) → AreShort packets → RunsOnEach code bind words before packets results after
       → RunsInOrder fd words (stood_for before) packets results (stood_for after)
   unfolding RunsInOrder RunsOnEach AreShort
   runs_in_order [] [] before after kept short none = ap stood_for none

@@ -23,4 +23,3 @@ pub mod Values
 pub mod Stays
 pub mod InPart
 pub mod Called
-pub mod NextEntries

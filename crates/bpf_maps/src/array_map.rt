@@ -1,12 +1,11 @@
 //! An array map.
 
-ghost use Rattle.std.specs.Prelude.{◌≡◌, ◌<◌, ◌⊎◌, ℕ, false, [], IfOk, IfSome, Some, None, nat_lt, if◌then◌else◌, length, option_map, slice_get};
-ghost use Rattle.ordered_keys.specs.Orders.{IsNextIndex, HasNextIndex};
+ghost use Rattle.std.specs.Prelude.{◌≡◌, ◌<◌, ◌⊎◌, false, [], IfOk, IfSome, Some, None, nat_lt, if◌then◌else◌, length, option_map};
 ghost use Rattle.tagged_model.specs.declared.shape.MapKind.TheVariants.{Array};
 ghost use Rattle.tagged_model.specs.Table.{look_up, verdict, next_of, index_key};
 ghost use Rattle.bpf_maps.specs.Places.{PlaceTable, table_of, IsSound, Claims, new_places};
 ghost use Rattle.bpf_maps.specs.Live.{is_memory};
-ghost use Rattle.bpf_maps.specs.KeyRef.{key_bytes, shown_entry};
+ghost use Rattle.bpf_maps.specs.KeyRef.{key_bytes};
 
 use crate::key_ref::{KeyRef, ShortKey};
 use crate::value_map::{EXIST, NOEXIST, ValueMap};
@@ -134,33 +133,6 @@ impl ArrayMap {
             Some(index) => index + 1,
             None => 0,
         }
-    }
-
-    /// The index that follows a place, which may be one past the last; 0 if no place is given.
-    fn index_behind(&self, place: Option<u32>) -> u32
-        requires { HasNextIndex place self.now.entries }
-        ensures { IsNextIndex place self.now.entries result }
-    {
-        self.keys_are_its_indices();
-        match place {
-            Some(place) => place + 1,
-            None => 0,
-        }
-    }
-
-    /// The key that follows the one of a place, or the first key if no place is given, with its place. `None` if there is none.
-    pub(crate) fn entry_after(&self, place: Option<u32>) -> Option<(KeyRef<'_>, u32)>
-        requires { HasNextIndex place self.now.entries }
-        ensures { (at : ℕ) → IsNextIndex place self.now.entries at
-            → option_map shown_entry result ≡ slice_get self.now.entries at }
-    {
-        self.keys_are_its_indices();
-        let index = self.index_behind(place);
-        if index >= self.shape.max_entries {
-            return None;
-        }
-        let key = ShortKey::of_word(u64::from(index), INDEX_SIZE);
-        Some((KeyRef::Short(key), index))
     }
 }
 

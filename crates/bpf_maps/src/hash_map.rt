@@ -1,10 +1,8 @@
 //! A hash map.
 
-ghost use Rattle.std.specs.Prelude.{◌≡◌, ℕ, ◌<◌, ◌≤◌, None, IfOk, IfSome, nat_lt, if◌then◌else◌, vec_len, vec_capacity, length, option_map, slice_get};
-ghost use Rattle.ordered_keys.specs.Orders.{IsNextIndex, HasNextIndex};
+ghost use Rattle.std.specs.Prelude.{◌≡◌, ℕ, ◌<◌, ◌≤◌, None, IfOk, IfSome, nat_lt, if◌then◌else◌, vec_len, vec_capacity, length};
 ghost use Rattle.tagged_model.specs.declared.shape.MapKind.TheVariants.{Hash};
 ghost use Rattle.tagged_model.specs.Table.{look_up, of_absent, is_full, verdict, removal, next_of};
-ghost use Rattle.bpf_maps.specs.KeyRef.{shown_entry};
 ghost use Rattle.bpf_maps.specs.Places.{PlaceTable, table_of, IsSound, Claims, Removes, new_places, after_run, occurrences};
 
 use crate::key_index::KeyIndex;
@@ -80,15 +78,6 @@ impl HashMapIx {
         ensures within { IfSome result (λ place. place < self.now.shape.max_entries) }
     {
         self.index.get(key)
-    }
-
-    /// The key that follows the one of a place, or the first key if no place is given, with its place. `None` if there is none.
-    pub(crate) fn entry_after(&self, place: Option<u32>) -> Option<(KeyRef<'_>, u32)>
-        requires { HasNextIndex place self.now.entries }
-        ensures { (at : ℕ) → IsNextIndex place self.now.entries at
-            → option_map shown_entry result ≡ slice_get self.now.entries at }
-    {
-        self.index.entry_after(place)
     }
 
     /// Claims a free place for a new key, which goes to the end. `TooBig` if no place is free, else `Memory` if out of memory. Then

@@ -1,10 +1,9 @@
 //! The index of a hash map: the places of keys of one size.
 
-ghost use Rattle.std.specs.Prelude.{◌≡◌, ◌<◌, ℕ, None, IfOk, OnOk, OnErr, [], length, option_map, slice_get};
+ghost use Rattle.std.specs.Prelude.{◌≡◌, ◌<◌, None, IfOk, OnOk, OnErr, [], length, option_map};
 ghost use Rattle.std.specs.Map.{values_of};
-ghost use Rattle.ordered_keys.specs.Orders.{IsNextIndex, HasNextIndex};
 ghost use Rattle.tagged_model.specs.Table.{found, with_key, without, key_after};
-ghost use Rattle.bpf_maps.specs.KeyRef.{key_bytes, shown_entry};
+ghost use Rattle.bpf_maps.specs.KeyRef.{key_bytes};
 ghost use Rattle.bpf_maps.specs.Places.{occurrences};
 ghost use Rattle.bpf_maps.specs.Index.{entries_of, bound_of, TakesKeys};
 
@@ -60,24 +59,6 @@ impl KeyIndex {
         match self {
             KeyIndex::Words(words) => Some(KeyRef::Short(words.key_after(key)?)),
             KeyIndex::Bytes(bytes) => Some(KeyRef::Lent(bytes.key_after(key)?)),
-        }
-    }
-
-    /// The key that follows the one of a place, or the first key if no place is given, with its place. `None` if there is none.
-    pub(crate) fn entry_after(&self, place: Option<u32>) -> Option<(KeyRef<'_>, u32)>
-        requires { HasNextIndex place (entries_of self.now) }
-        ensures { (at : ℕ) → IsNextIndex place (entries_of self.now) at
-            → option_map shown_entry result ≡ slice_get (entries_of self.now) at }
-    {
-        match self {
-            KeyIndex::Words(words) => {
-                let (key, place) = words.entry_after(place)?;
-                Some((KeyRef::Short(key), place))
-            }
-            KeyIndex::Bytes(bytes) => {
-                let (key, place) = bytes.entry_after(place)?;
-                Some((KeyRef::Lent(key), place))
-            }
         }
     }
 

@@ -1,9 +1,8 @@
 //! The places of keys of at most eight bytes.
 
-ghost use Rattle.std.specs.Prelude.{◌≡◌, ◌<◌, ◌≤◌, ℕ, None, IfOk, OnOk, OnErr, [], length, slice_get};
+ghost use Rattle.std.specs.Prelude.{◌≡◌, ◌<◌, ◌≤◌, None, IfOk, OnOk, OnErr, [], length};
 ghost use Rattle.std.specs.Map.{values_of};
 ghost use Rattle.words.specs.Bytes.{number_of};
-ghost use Rattle.ordered_keys.specs.Orders.{IsNextIndex, HasNextIndex};
 ghost use Rattle.tagged_model.specs.Table.{found, with_key, without, key_after};
 ghost use Rattle.bpf_maps.specs.Places.{occurrences};
 
@@ -72,16 +71,6 @@ impl WordIndex {
         }
         let word = self.map.key_after(&word_of(key))?;
         Some(ShortKey::of_word(*word, self.size))
-    }
-
-    /// The key that follows the one of a place, or the first key if no place is given, with its place. `None` if there is none.
-    pub(crate) fn entry_after(&self, place: Option<u32>) -> Option<(ShortKey, u32)>
-        requires { HasNextIndex place self.now.entries }
-        ensures { (at : ℕ) → IsNextIndex place self.now.entries at
-            → result ≡ slice_get self.now.entries at }
-    {
-        let (word, place) = self.map.entry_after(place)?;
-        Some((ShortKey::of_word(*word, self.size), place))
     }
 
     /// Adds a new key at the end. `AllocError`: out of memory. Then nothing has changed.

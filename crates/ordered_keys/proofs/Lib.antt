@@ -2,4 +2,3 @@ pub mod Rings
 pub mod Links
 pub mod Ordered
 pub mod Tables
-pub mod Behind

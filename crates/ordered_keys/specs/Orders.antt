@@ -1,6 +1,5 @@
 -- Places and keys in an order. This project's own.
-use Rattle.std.specs.Prelude.{◌≡◌, ℕ, ◌+◌, Bool, true, nat_eq, if◌then◌else◌, List, [], ◌∷◌, Option, Some, None, is_some, slice_get, refl}
-use Rattle.std.specs.Borrow.{Bor}
+use Rattle.std.specs.Prelude.{◌≡◌, ℕ, ◌+◌, Bool, true, nat_eq, if◌then◌else◌, List, [], ◌∷◌, Option, Some, None, is_some, refl}
 use Rattle.std.specs.Coded.{Coded, code_by, coded×, coded_list, coded_ℕ}
 use Rattle.std.specs.Map.{lookup}
 
@@ -61,16 +60,3 @@ module _ {K : Type 0} where
     -- if no key passes, it is the first
     abbrev pub key_following : List (K × ℕ) → Option K
     key_following es = if is_some (lookup test es) then key_behind_passing es else first_key_of es
-
-  -- a borrowed key, with its place
-  abbrev pub lent_entry : Bor K × ℕ → K × ℕ
-  lent_entry e = (e.0.now, e.1)
-
-  -- the index of the entry that follows the one of a place; without a place, of the first
-  abbrev pub IsNextIndex : Option ℕ → List (K × ℕ) → ℕ → Type 0
-  IsNextIndex None es at = at ≡ 0
-  IsNextIndex (Some p) es at = (i : ℕ) × (key : K) × (slice_get es i ≡ Some (key, p)) × (at ≡ i + 1)
-
-  -- there is one: no place is given, or an entry has it
-  abbrev pub HasNextIndex : Option ℕ → List (K × ℕ) → Type 0
-  HasNextIndex place es = (at : ℕ) × IsNextIndex place es at

@@ -3,8 +3,8 @@
 ghost use Rattle.std.specs.Prelude.{◌≡◌, ℕ, ◌<◌, true, [], ◌∷◌, ◌++◌, length, option_map, slice_get, None, IfSome, IfOk, OnOk, OnErr};
 ghost use Rattle.std.specs.Option.{option_map_or};
 ghost use Rattle.std.specs.Map.{lookup, remove_entry, values_of};
-ghost use Rattle.ordered_keys.specs.Orders.{occurrences, IsSole, first_key_of, key_following, lent_entry, IsNextIndex, HasNextIndex};
-ghost use Rattle.ordered_keys.specs.inside.Ordered.{key_of, next_of_places};
+ghost use Rattle.ordered_keys.specs.Orders.{occurrences, IsSole, first_key_of, key_following};
+ghost use Rattle.ordered_keys.specs.inside.Ordered.{key_of};
 
 use crate::place_order::PlaceOrder;
 use indexmap::{Equivalent, IndexMap};
@@ -91,17 +91,6 @@ impl<K: Eq + Hash, S: BuildHasher> OrderedMap<K, S> {
         key_at(&self.table, &self.indices, self.order.first())
     }
 
-    /// The key that follows the one of a place, or the first key if no place is given, with its place. `None` if there is none.
-    pub fn entry_after(&self, place: Option<u32>) -> Option<(&K, u32)>
-        requires { HasNextIndex place self.now.entries }
-        ensures { (at : ℕ) → IsNextIndex place self.now.entries at
-            → option_map lent_entry result ≡ slice_get self.now.entries at }
-    {
-        let next = next_place(&self.order, place)?;
-        let key = key_at(&self.table, &self.indices, Some(next))?;
-        Some((key, next))
-    }
-
     /// Adds a new key at the end. `AllocError`: out of memory. Then nothing has changed.
     pub fn insert(&mut self, key: K, place: u32) -> Result<(), AllocError>
     where
@@ -138,17 +127,6 @@ impl<K: Eq + Hash, S: BuildHasher> OrderedMap<K, S> {
         self.indices[moved as usize] = index as u32;
         self.order.remove(place);
         Some(place)
-    }
-}
-
-/// The place that follows one, if one is given, or the first, if there is one.
-fn next_place(order: &PlaceOrder, place: Option<u32>) -> Option<u32>
-    requires { IfSome place (λ p. 0 < occurrences p order.now.places) }
-    ensures { result ≡ next_of_places place order.now.places }
-{
-    match place {
-        Some(place) => order.after(place),
-        None => order.first(),
     }
 }
 

@@ -1,12 +1,7 @@
 -- A table of keys in any order, and the order of their places. This project's own.
 use Rattle.std.specs.Prelude.{◌≡◌, ℕ, ◌<◌, ◌≤◌, ◌^◌, List, [], ◌∷◌, ◌++◌, length, Option, Some, None, option_map, slice_get, slice_index_or, option_to_list}
-use Rattle.ordered_keys.specs.Orders.{Order, occurrences, first_place, following}
+use Rattle.ordered_keys.specs.Orders.{Order, occurrences}
 use Rattle.ordered_keys.specs.inside.Links.{AreWithin}
-
--- the place that follows one, if one is given, or the first
-abbrev pub next_of_places : Option ℕ → List ℕ → Option ℕ
-next_of_places None ps = first_place ps
-next_of_places (Some p) ps = following p ps
 
 module _ {K : Type 0} where
   -- the entry of a place

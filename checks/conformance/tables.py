@@ -1,4 +1,4 @@
-"""The tables of docs/CONFORMANCE.md that the sources alone give."""
+"""The tables of checks/conformance/README.md that the sources alone give."""
 
 from __future__ import annotations
 

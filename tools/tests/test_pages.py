@@ -90,6 +90,20 @@ class Pages(unittest.TestCase):
     def test_names_of_a_crate_itself(self) -> None:
         self.assertEqual(self.wrong_names("`lower_call` of `upper`"), ["1: upper does not have lower_call"])
 
+    def test_heads(self) -> None:
+        sources = self.crates()
+        head = self.top / "crates/lower/src/head.rt"
+        head.write_text("//! # What is proved\n//!\n//! `lower_call`, and\n//! `upper_call`; `lower_body` of `lower_call`.\npub fn upper_call() {}\n")
+        wrong = [line for unit in self.pages.units(head, sources) for line in self.pages.names_of_other_crates(unit, sources) + self.pages.misplaced_names(unit, sources)]
+        self.assertEqual(wrong, ["crates/lower/src/head.rt:3: upper_call does not stand in lower, nor below",
+                                 "crates/lower/src/head.rt:3: lower_call does not have lower_body"])
+
+    def test_words_of_a_head(self) -> None:
+        self.assertEqual(self.pages.head_of("//! One.\n//!\n//!  two\nmod x;\n//! no\n"), "One.\n\n two\n")
+        path = self.top / "head.rt"
+        path.write_text("//! `only_here`\nfn call() {}\n")
+        self.assertEqual(self.pages.Sources([path]).words[path], {"fn", "call", "head"})
+
     def test_name_that_is_no_crate(self) -> None:
         self.have("NO_CRATE", {("page.md", "upper"): "a word"})
         self.assertEqual(self.wrong_names("`upper` and `other_call`"), [])

@@ -1,6 +1,5 @@
-//! The memory of all tenants: one list of bytes, in parts of one size, one for each tenant.
-//!
-//! Addresses begin at 2^32, and the parts follow one another.
+//! The memory of all tenants: one list of bytes, in parts of one size, one for each tenant. Addresses begin at 2^32, and the
+//! parts follow one another.
 #![tactic(auto)]
 
 mod contract_clients;

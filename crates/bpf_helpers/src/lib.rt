@@ -1,4 +1,24 @@
-//! The helpers, on words and bytes.
+//! The four helpers that a program may call, on words and bytes.
+//!
+//! One relation (`Simulates`) says which words and bytes of the machine (`FlatState`: slot, registers, memory and live maps)
+//! simulate a state of the tagged machine, for the inputs of a run (`Environment`) and a layout that gives each object its
+//! address. A number is its word, a pointer an address, a map its position among the program's maps, from 1 on; a spilled
+//! pointer is its word; bytes of the stack, of values and of the context that are present are equal. The relation is for
+//! proofs: no reply depends on it.
+//!
+//! # Decisions
+//!
+//! - A word represents a pointer only within 2^29 bytes of its object (`IsWord`), as every pointer of a run is: the tagged
+//!   machine moves none farther (`moved`). So the word of a pointer is the sum of the address and the offset, is never 0, and
+//!   never wraps.
+//! - A call returns a word whatever its arguments name: null, EINVAL or EFAULT if they name no map or bytes outside the part,
+//!   which does not happen in an accepted program (`NamesNothing`, `unnamed_answer`); then nothing changes. The tests of the
+//!   words remain, but no `Option` or `Result` is built and taken apart for the result, and a run has no arm for a call that
+//!   faults. A look-up returns its address at once (`address_of`). bench/FIGURES.md has the cost of calls.
+//! - A call tests a word and an address once: the number of the map and the offset in the tenant's part are each one wrapping
+//!   difference and one comparison, since a key and a value of a map are never longer than a part (`sizes_fit_in_parts`). That
+//!   memory was refused to a new key is recorded after a test of its own: combined with the flag it took nine instructions of
+//!   each update. What `put` copies is known to be in the part (`copy_inside` of `arena`), and eight bytes are one number.
 #![tactic(auto)]
 
 mod caller;

@@ -1,7 +1,48 @@
 //! The two kinds of map, and a tenant's live maps. A map finds the place of a key; it does not look at the value there.
 //!
-//! Both kinds follow one definition of a map, with places as the objects. The values of a tenant's live maps lie in its part of
-//! the memory, where each place of a map has bytes of its own.
+//! A map is an ordered list of keys with their objects (`Table` of `tagged_model`), whatever an object is; here it is a place
+//! for a value. Both kinds of map have this one definition. The values of a tenant's live maps are in its part of the memory,
+//! where each place of a map has bytes of its own.
+//!
+//! # Decisions
+//!
+//! - An array is a map that has all its indices from the start, so an index out of range is a key that is not there.
+//! - Keys of at most eight bytes are stored as numbers, the lowest byte first, in an index of their own (`WordIndex`): such a
+//!   key is hashed and compared as one number, and takes no memory but its entry. Keys of four and of eight bytes are one load;
+//!   others are padded with zeros out of line. Contracts see the bytes of keys. A look-up takes half the machine instructions
+//!   that it took with all keys as bytes.
+//! - A longer key is hashed in one write of all its bytes, which the hasher takes sixteen at a time; a `Vec<u8>` is hashed byte
+//!   by byte. So such a key has a type of its own (`LongKey`), and is looked up by borrowed bytes (`KeyBytes`). The look-up of
+//!   a key of 64 bytes took 598 machine instructions before and 218 after this change.
+//! - A look-up in a hash map is three functions in the machine code: one that checks how the keys are stored and ends in a jump
+//!   to one for numbers or one for longer keys. As one function, a look-up of a number saved and restored the registers that
+//!   only longer keys need. The map's part of an update is inlined: its `Result` went through memory. bench/FIGURES.md has the
+//!   cost before and after. A separate end of the hash function for keys of at most sixteen bytes was tried with it, and took
+//!   five machine instructions more.
+//! - The next key is borrowed or returned by value (`KeyRef`): a key that is stored as a number is spelled in eight bytes, a
+//!   longer one is borrowed from the map. So no request clears and fills room for the longest key, 512 bytes.
+//! - Memory is allocated in advance: a hash map allocates its lists of places and their order when it is created, and `Maps`
+//!   room for sixteen entries, so a delete and the end of a run allocate nothing.
+//! - The place of a deleted key stays in a list of its own until the run ends, and counts as an entry.
+//! - The refinement between a map of objects and the map of what they represent is one record for any two kinds of object. No
+//!   clause can range over all kinds, so `calls_refine_values` states it for numbers that represent numbers and bytes.
+//! - A tenant's maps keep the allocator with which they were created, so `create` takes none: a new map uses it as a new key
+//!   does.
+//! - The areas of a tenant's maps follow one another after the stack and the context, in order of creation, without a gap. So a
+//!   part takes 262,720 bytes; an area of the largest size for each of sixteen maps would take 1,049,152. When a map is freed,
+//!   the bytes of all later maps move down by its area: at most 262,136 bytes, by at most 65,536. A program's run closes
+//!   nothing, so no map moves between looking up an address and using it; addresses of a later run may differ, and no reply
+//!   shows one.
+//! - An entry stores where its area begins, so an access needs no sum over earlier maps. When a map is freed, those of the
+//!   later maps are reduced.
+//! - A map of a tenant has one name, its place, 0 to 15, and a new map gets the lowest free one. Descriptors, programs and runs
+//!   use it (`MapKey`). The slab that stores the maps chooses keys of its own, about which nothing is known; they stay inside
+//!   `Maps`.
+//! - What a call needs of a map is in a list by place (`Layouts`): its shape, where its area begins and the distance of its
+//!   values, 32 bytes for each map. It is kept with the maps and not built in each run, so a run without calls pays nothing for
+//!   it, and a call has all with one load of the list's address. An array is only its shape, so a look-up or an update in one
+//!   reads nothing else (`arrays_have_their_indices`). The map itself stores where its area begins too: that both agree is a
+//!   clause of the invariant (`AreLaidOut`).
 #![tactic(auto)]
 
 mod array_map;

@@ -1,4 +1,39 @@
-//! The host as a library for C: a handle, frames in, replies out. `clients/c/include/bpfhost.h` is the header.
+//! The host as a library for C: six functions, and a handle that is one pointer. The header is `clients/c/include/bpfhost.h`.
+//!
+//! A session (`Session`) is a host with its last reply; a `Handle` owns one or is empty, and contracts see which. The header
+//! declares these functions and adds others in C, which are tested and not proved; so is the crate for Rust, `clients/rust`.
+//!
+//! # Decisions
+//!
+//! - A handle is one pointer, and empty if it is null. So a second `new` can keep the first host, a second `free` does nothing,
+//!   and a call on an empty handle returns a code. The type defines what a handle owns (`handle_owns`), in terms of the kit's
+//!   `Box`.
+//! - Each call takes the session out of the handle, works on it as on any box, and puts it back. Only three functions touch the
+//!   raw pointer, and only their proofs are by hand. It costs moves of a pointer.
+//! - A lent reply is an address. Three forms were tried. A `&` returned through a parameter, with a lifetime from the handle's
+//!   `&mut`: the handle has no value after the call, and a function that stores the reference would need a proof of ownership
+//!   by hand. A `&` to a handle that shares its session (`also_shares`): the kit exports no function over such a type. So the
+//!   contract gives the address of the bytes, that of the session's vector; that they stay there until the next call follows
+//!   from the caller's ownership of the handle. For this the session keeps a vector, and lends its capacity to a `ReplyBuf`
+//!   while it handles a frame.
+//! - The library uses `host_core`, tenants and streams without the command line, so it contains nothing of `clap` or of the
+//!   text of programs.
+//! - The caller passes the seed of the hash maps: so the archive needs nothing of the system except memory, and an embedder may
+//!   have a better source. The header reads one from /dev/urandom; the crate for Rust uses the standard library.
+//! - A batch is run or rejected as a whole: everything is checked before the first packet runs, so there is no count of packets
+//!   that ran. The order of errors is that of PROG_TEST_RUN, with those that a frame cannot have in between: the tenant is not
+//!   served (-1); the descriptor is not open (-9), or names a map (-22); there is room for fewer results than packets (-22);
+//!   then packet by packet, its end is before the previous one or after the bytes (-22), or it is too long (-7). An empty batch
+//!   of what is no program is rejected too.
+//! - Packets are consecutive in one buffer, and each has its end, a number of machine size, since a batch may have more than 4
+//!   GiB. All have the same ten words of context; the length is that of each packet.
+//! - Whether memory was refused is a call of its own, for each tenant, and no part of each reply: replies are those of the
+//!   protocol, and the flag is never cleared.
+//! - Codes are the library's, statuses the protocol's: the code says whether there is a reply, the status in the reply is the
+//!   result of the command.
+//! - The archive `libbpfhost.a` has this crate and the kit's three calls of malloc, realloc and free (`tools/library`). `rt ci`
+//!   builds no static library, and `rt lib` would prove all crates again, so the gate builds the archive once more over the
+//!   libraries that it has proved (`checks/library/run`).
 #![tactic(auto)]
 
 mod codes;

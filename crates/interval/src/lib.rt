@@ -1,4 +1,9 @@
 //! The interval domain: ranges of unsigned numbers, and how operators and comparisons on words transform them.
+//!
+//! # Decisions
+//!
+//! Ranges in definitions are total: `span lo hi` is only `lo` if `hi` is below it, so a line of a table needs no proof inside.
+//! The code never constructs such a range.
 #![tactic(auto)]
 
 mod alu;

@@ -1,4 +1,15 @@
 //! The abstract domain of the verifier: what it knows of a program's registers and stack before an instruction.
+//!
+//! # Decisions
+//!
+//! - Stack accesses have no precondition. `read_stack` and `write_stack` return the reason themselves if an access leaves the
+//!   stack or is not aligned, so the order of the reasons is defined in one place.
+//! - Only its slot identifies a look-up, so `settle` takes no map; each copy keeps its own. The slot is a whole number: it
+//!   makes a kind no larger than a range does, and `apply` of `transfer` has no precondition on it.
+//! - A helper's write takes any two counts: if the least is above the most, no write has such a length, so there is no
+//!   precondition on the two, and the facts after it describe no run.
+//! - Alignment is that of a byte's offset in the stack; 512 is a multiple of each size, so it is that of the offset from the
+//!   frame pointer.
 #![tactic(auto)]
 
 mod facts;

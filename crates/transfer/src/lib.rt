@@ -1,5 +1,5 @@
-//! The transfer function of each instruction: from the facts before it, those on the edges out of it, or
-//! the reason why it may not be run.
+//! The transfer function of each instruction: from the facts before it to those on the edges out of it, or the reason why it is
+//! rejected.
 #![tactic(auto)]
 
 mod arithmetic;

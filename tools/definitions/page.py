@@ -1,7 +1,7 @@
-"""The pages that show the definitions: docs/DEFINITIONS.md, and the quotations and figures of docs/TRUST.md.
+"""The page that shows the definitions: the tables, quotations and counts of docs/TRUST.md.
 
-Names, files and lines are made; what is written by hand stays: headings, the last column, the order of rows, and all that stands
-between tables.
+Names, files and lines are generated. What is written by hand stays: headings, the last column, the order of rows, and everything between
+the tables.
 """
 
 from __future__ import annotations
@@ -12,7 +12,7 @@ from dataclasses import dataclass, field
 from definitions.sources import CRATES, DEFINES, TOP, Name, Place, file_of
 from definitions.tiers import Tier, lines_of, of_kit, of_verifier, read_for_no_fault
 
-DEFINITIONS, TRUST = TOP / "docs/DEFINITIONS.md", TOP / "docs/TRUST.md"
+TRUST = TOP / "docs/TRUST.md"
 ROW = re.compile(r"\| *(?:\[`([\w/]+\.\w+)`\]\(.*?\))? *\| *\d* *\| (`.*?`) \| (.*) \|")
 TABLE_HEAD = ["| File | Lines | Definitions | In the field's words |", "|---|---|---|---|"]
 QUOTED = re.compile(r"(<!-- quoted: ([\w/.]+) (\w+) -->\n```\w*\n)(.*?)(^```$)", re.M | re.S)
@@ -100,12 +100,12 @@ def shown(section: Section) -> list[str]:
     return [*text, ""]
 
 
-def definitions_page(found: list[Tier], page: str) -> str:
-    """docs/DEFINITIONS.md with its tables filled: below each heading of a tier, those of the tier."""
-    parts = re.split(r"^(?=## )", page, flags=re.M)
+def with_definitions(found: list[Tier], page: str) -> str:
+    """The page with its tables of definitions: below each heading of a tier, those of the tier."""
+    parts = re.split(r"^(?=###? )", page, flags=re.M)
     made = []
     for part in parts:
-        tier = next((tier for tier in found if part.startswith(f"## {tier.title}\n")), None)
+        tier = next((tier for tier in found if part.startswith(f"### {tier.title}\n")), None)
         if tier:
             sections = sections_of(part.rstrip("\n").split("\n"))
             fill(sections, tier)
@@ -113,9 +113,9 @@ def definitions_page(found: list[Tier], page: str) -> str:
             stops = ", ".join(f"`{stop.word}`" for stop in sorted(tier.stops, key=lambda stop: stop.word))
             part = filled(part, "stops", f"{stops}\n")
         made.append(part)
-    missing = [tier.title for tier in found if not any(part.startswith(f"## {tier.title}\n") for part in parts)]
+    missing = [tier.title for tier in found if not any(part.startswith(f"### {tier.title}\n") for part in parts)]
     if missing:
-        raise ValueError(f"docs/DEFINITIONS.md has no heading {missing[0]!r}")
+        raise ValueError(f"docs/TRUST.md has no heading {missing[0]!r}")
     return filled("".join(made).rstrip("\n") + "\n", "of the kit", kit_table())
 
 
@@ -141,7 +141,7 @@ def counts(found: list[Tier]) -> str:
     rows = ["| To believe | Read | Files | Definitions | Lines |", "|---|---|---|---|---|"]
     for tier in found:
         anchor = tier.title.lower().replace(" ", "-")
-        link = f"[{tier.title}](DEFINITIONS.md#{anchor})"
+        link = f"[{tier.title}](#{anchor})"
         rows.append(f"| {tier.title.removeprefix('For ')} | {link} | {len(tier.files)} | {len(tier.names)} | {tier.lines} |")
     names = read_for_no_fault()
     files = len({name.place for name in names})
@@ -150,7 +150,8 @@ def counts(found: list[Tier]) -> str:
 
 
 def trust_page(found: list[Tier], page: str) -> str:
-    """docs/TRUST.md with its quotations and its figures."""
+    """docs/TRUST.md with its definitions, quotations and counts."""
+    page = with_definitions(found, page)
     page = QUOTED.sub(lambda match: match[1] + quotation(match[2], match[3]) + match[5], page)
     page = filled(page, "counted", counts(found))
     rows = [f"| `{crate}` | {', '.join(f'`{word}`' for word in words)} |" for crate, words in of_verifier(found[1]).items()]

@@ -135,5 +135,5 @@ def shown(block: Block) -> str:
         return table(block.rows()[1:])
     if block.kind == "list":
         return "".join(f".IP \\(bu 2\n{inline(text)}\n" for text in re.split(r"(?m)^- ", block.text)[1:])
-    kept = [one for one in SENTENCE_END.split(re.sub(r"\s+", " ", block.text)) if not re.search(r"crates/|README|PROOF\.md", one)]
+    kept = [one for one in SENTENCE_END.split(re.sub(r"\s+", " ", block.text)) if not re.search(r"crates/|README", one)]
     return paragraph(" ".join(kept)) if kept else ""

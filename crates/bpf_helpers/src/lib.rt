@@ -6,6 +6,24 @@
 //! pointer is its word; bytes of the stack, of values and of the context that are present are equal. The relation is for
 //! proofs: no reply depends on it.
 //!
+//! # What is proved
+//!
+//! - A call simulates the call on tagged values, if its words simulate values for which that is defined. Memory is refused only
+//!   to an update that adds a key, and the flag of the live maps says so. All maps keep their areas and reference counts, those
+//!   that the run does not name their keys and values, and the other parts all bytes: `follows` of `call`.
+//! - If a word names no map of the run, or bytes that are not in the tenant's part, a look-up returns null, an update and a
+//!   delete EINVAL, a load of bytes EFAULT, and nothing changes: `unnamed` of `call`.
+//! - Each range that a call requests is in the tenant's part: `asks` of `call`.
+//! - When the machine loads or stores a value, the address of the access is in the part; the bytes there are a word that
+//!   simulates the loaded value, and with the word of the stored value they simulate the next state: `loads_give_words`,
+//!   `stores_keep_simulation`.
+//! - Objects begin at addresses from 2^32 on, and within 2^28 of it: `pointers_are_low`.
+//! - When a run begins, on live maps with the bytes of their values, words and bytes simulate the machine's first state. When
+//!   it ends, its maps have the pairs that the machine leaves, and the values of all other maps their bytes: `runs_begin`,
+//!   `runs_end`, `others_stay`.
+//!
+//! That a call records each range that it borrows is read in the code, not proved.
+//!
 //! # Decisions
 //!
 //! - A word represents a pointer only within 2^29 bytes of its object (`IsWord`), as every pointer of a run is: the tagged

@@ -4,6 +4,57 @@
 //! for a value. Both kinds of map have this one definition. The values of a tenant's live maps are in its part of the memory,
 //! where each place of a map has bytes of its own.
 //!
+//! # What is proved
+//!
+//! Calls of one map:
+//!
+//! - A look-up, an update, a delete and a request for the next key return and leave what the definition says, with errors in
+//!   its order. Only a new key of a hash map can be out of memory, and then nothing changes. This holds for the calls of
+//!   `ValueMap`, for `ArrayMap` and `HashMapIx`.
+//! - The address of a key's value is that of its place in the part, modulo 2^64, where the whole value is, and 0 if the map has
+//!   no such key: `address`, `inside` of `address_of`.
+//! - A key is the list of its bytes, whether it is stored as a number or as bytes: `entries_of`, in the calls of `KeyIndex` and
+//!   the model of `HashMapIx`.
+//! - The next key is the one of the definition, and has the size of the map's keys: `given`, `size` of `key_after`. Or it is
+//!   written at the front of a buffer for the longest key, with nothing changed after it; nothing is written if no key follows:
+//!   `given` of `next_key`.
+//! - Seen as maps, new maps, new keys, deletes and ends of runs are those of the definition: `calls_are_those_of_a_map`.
+//! - Writing a value at a key's place gives the key that value; values that agree on the places in use give one map:
+//!   `writes_refine_values`, `values_agree`.
+//! - No two keys have the same place, an array has all its indices, and the place of a deleted key is given to no key before
+//!   the run ends: `sound` or `rest` of each call, `claimed` of `claim`.
+//!
+//! The live maps of a tenant:
+//!
+//! - A tenant has sixteen places for live maps, and at most 262,144 bytes of values. A new map is at the lowest free place; if
+//!   there is none, or there are too many bytes, no map is created; out of memory, only the flag changes: `created` of
+//!   `Maps::create`, `maps`, `bytes` of `maps_are_laid`.
+//! - A new map adds its area to the sum of their bytes, its last release subtracts it, and no other call changes the sum:
+//!   `more` of `create`, `freed`, `room` of `release`, `room` or `rest` of the other calls, `maps`, `bytes` of `new`.
+//! - The values of all live maps are in the tenant's part after the stack and the context, begin at multiples of eight and do
+//!   not overlap: `laid` or `rest` of each call, `inside` of `value_at`.
+//! - The bytes of a value, written at the place of a key, are the value of that key, and of no other key of any live map:
+//!   `values_are_written`.
+//! - With the bytes of its values a live map changes as its places do: a delete, the end of a run, and a claim with the write
+//!   of its value are those of the definition: `live_maps_refine_values`.
+//! - A new hash map has no key, and the values of a new array are zero; every other live map keeps its keys and values:
+//!   `fresh`, `cleared`, `values`, `maps` of `create`, `values`, `maps`, `kept` of `release`.
+//! - A claim, a delete and the end of a run only change the keys of one map: it keeps its shape, its area and its references,
+//!   and the other maps are unchanged: `rest` of `claim`, `remove` and `end_run` (`OnlyKeysChange`).
+//! - The areas of live maps do not overlap and leave no gap: they take as many bytes after the stack and the context as all
+//!   their values, each rounded up to a multiple of eight: `packed` of `maps_are_laid`.
+//! - A new map comes after the others and leaves them unchanged. The last release of a map moves each later map down by its
+//!   area, with its values, and changes nothing else of the others. No other call moves an area: `last`, `older` of `create`,
+//!   `moved`, `values`, `areas` of `release`, `areas` or `rest` of the other calls.
+//! - The values of live maps do not overlap and no two keys of a map have one place; the same areas keep where each value is; a
+//!   delete keeps the other places: `maps_are_laid`, `areas_keep_places`, `deletes_keep_places`.
+//! - A key and a value of any map are no longer than a part: `sizes_fit_in_parts`.
+//! - A map is freed at its last release, and no other map: `less`, `gone`, `others` of `release`.
+//!
+//! What a caller can derive from these alone, such as a whole update, a whole delete, or a map in the area of another, is
+//! proved in `contract_clients.rt`. The keys of a hash map are in an `OrderedMap` of `ordered_keys`, and hashed with a seed
+//! that no clause names.
+//!
 //! # Decisions
 //!
 //! - An array is a map that has all its indices from the start, so an index out of range is a key that is not there.

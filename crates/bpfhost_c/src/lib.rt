@@ -3,6 +3,40 @@
 //! A session (`Session`) is a host with its last reply; a `Handle` owns one or is empty, and contracts see which. The header
 //! declares these functions and adds others in C, which are tested and not proved; so is the crate for Rust, `clients/rust`.
 //!
+//! # What is proved
+//!
+//! - A host with this number of new tenants is created if the number is in range, the handle is empty and there is memory.
+//!   Otherwise the code names the first of these conditions that fails, and the handle is unchanged. No clause names the seed:
+//!   `made`, `otherwise`, `code`, `memory` of `bpfhost_c_new`.
+//! - A frame is handled as `Host::handle` promises (`Handles`): the reply is that of its tenant's machine, no other tenant
+//!   changes, no reply has the status of a fault. The reply is at the front of the room, with nothing changed after it: `done`
+//!   of `bpfhost_c_handle`.
+//! - The same, and the reply is at the returned address, with the returned length: `done` of `bpfhost_c_handle_lent`.
+//! - A reply has at most 4,108 bytes: `bound` of both.
+//! - The code says whether the room is too small or the handle empty; then host, room and length are unchanged: `code`,
+//!   `otherwise`, `room`, `written`, `lent` of both.
+//! - Many packets are run as `Host::run_packets` promises (`RunsPackets`): the status is 0 and the results are at the front of
+//!   the room, or the status is that of the rejection, and states and room are unchanged. No other tenant changes: `done` of
+//!   `bpfhost_c_run_packets`.
+//! - The code says whether the handle is empty; then host, room and status are unchanged: `code`, `otherwise`, `results`,
+//!   `status` of `bpfhost_c_run_packets`.
+//! - The result of asking whether memory was refused to a tenant is that of the headline (`IsUnrefused`), and nothing changes:
+//!   `refused`, `unrefused`, `code`, `host`, `otherwise` of `bpfhost_c_memory_refused`.
+//! - A host that is freed leaves an empty handle: `bpfhost_c_free`.
+//! - A handle may be sent from thread to thread: `Send` for `Handle`.
+//!
+//! From `Handles` of each call and `calls_are_told_alone` of `host_core` follows what the headline says of a stream;
+//! `batch_is_its_calls` replaces a call with many packets by its frames.
+//!
+//! An empty handle owns nothing, any other what a box of a session owns (`handle_owns`). So the library frees what it
+//! allocated, and an empty handle keeps no memory. For a lent reply a contract only gives the address: the vector of the
+//! session has its bytes there (`StandsAt`), the handle owns the session, and the owner of the handle may read them until the
+//! next call changes it.
+//!
+//! The caller's obligations in C, which no contract can check: a pointer points to what its type says; a frame, a room and a
+//! handle do not overlap; a handle is in one call at a time. The header tests for null, lengths and overlaps, and documents the
+//! rest.
+//!
 //! # Decisions
 //!
 //! - A handle is one pointer, and empty if it is null. So a second `new` can keep the first host, a second `free` does nothing,

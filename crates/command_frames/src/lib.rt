@@ -1,5 +1,20 @@
 //! Frames: the tenant of a frame, the command that it carries, and the bytes of replies.
 //!
+//! # What is proved
+//!
+//! - The head of a frame is the two numbers in its first four bytes; fewer bytes have no head: `head`.
+//! - The command of a frame, with its fields, is that of the table (`specs/Command.antt`, a definition by command number).
+//!   Otherwise the error is the first that applies: the frame is too long, no command has its number, its body has another
+//!   length: `parse`.
+//! - After that the buffer holds the bytes of the reply, whatever it held before: `write_reply`, `write_number`, `bytes` of
+//!   `ReplyBuf`.
+//! - A reply has at most 4,108 bytes: `bound` of `bytes` and of `into_vec` of `ReplyBuf`.
+//! - Bytes split in exactly one way into a list of frames and a rest that is no whole frame; whole frames in front are the
+//!   first of these: `each_is_stream`, `one_stream`, `frames_in_front`.
+//! - Bytes begin with at most one reply: they determine its tenant, command, status and payload: `one_reply_in_front`.
+//!
+//! `command_tests` has cases of each command, accepted and rejected. The expected results were written from the protocol.
+//!
 //! # Decisions
 //!
 //! - The grammar of streams and replies is defined here, next to the code that reads and writes them; the definitions of the

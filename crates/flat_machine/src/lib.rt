@@ -2,6 +2,34 @@
 //! time, as the slots spell it. A load or a store accesses the arena at an address, without checking the bounds of the object
 //! there.
 //!
+//! # What is proved
+//!
+//! - A run of an accepted program returns what the tagged machine returns on the same maps, context and packet, and leaves the
+//!   same pairs in the maps that are bound to it, whatever else is in memory. If memory is refused to new keys, it does what
+//!   the tagged machine does with these refusals, and the flag of the live maps says so: `runs` of `run`.
+//! - It never faults, whatever memory is refused: `no_fault` of `run`.
+//! - It takes as many steps as the tagged machine, which are at most as many as the program has slots: `runs`, `few` of `run`.
+//! - Each range of addresses that it requests is in its tenant's part: `ranges` of `run`.
+//! - All live maps stay, with their areas and reference counts. Maps that are not bound keep their keys and all bytes of their
+//!   values; those that are bound have no deleted place left at the end: `maps`, `values` of `run`.
+//! - Every other part is unchanged, and so are the sizes: `memory` of `run`.
+//! - If the flag of the live maps is clear after a run, memory was refused to no new key, and the run is the one without
+//!   refusals: `clear_runs_have_no_refusal`.
+//! - Runs on many packets are those of `run` one after another, each on the maps that the previous one leaves (`RunsOnEach`).
+//!   The results are at the front of the room, whose rest is unchanged; the statements above on steps, ranges, memory and maps
+//!   hold for all of them together: `runs`, `few`, `ranges`, `memory`, `maps` of `run_packets`.
+//!
+//! Preconditions of a call: the tenant is one of the arena's parts, which have the size that live maps need; and for each
+//! descriptor that the program loads, in order, the key of a live map of the verified shape is bound, no map twice, and none
+//! with a deleted place.
+//!
+//! A definition of `bpf_helpers` says which words and bytes simulate a tagged state. It is for proofs, and no contract of `run`
+//! names it.
+//!
+//! A step is one executed instruction. `Trace` (of `arena`), a type without bytes that exists for proofs, counts steps: its
+//! data is what its calls say. That the loop counts a step when it takes one is read in the code; that the counts add up to
+//! those of the tagged run is proved.
+//!
 //! # Decisions
 //!
 //! - A step is defined by instruction (`flat_act`), so nothing above this crate knows slots. The loop executes the slots as

@@ -1,5 +1,27 @@
 //! The command line of the host: its subcommands, their arguments and texts. It re-exports `host_core`, the host itself.
 //!
+//! # What is proved
+//!
+//! - Arguments that cannot be read end the program with the status of out of memory or of wrong arguments, depending on the
+//!   error: `memory`, `wrong` of `refuse_unread_words`.
+//! - An argument names a map exactly if it has five fields joined by colons: a descriptor from 3 to 66 and the shape of a map,
+//!   with numbers taken by value: `read_shape`.
+//! - The exit status is 0 to 4. It is 2 only if the arguments are wrong, which includes an argument that names no map. Wrong
+//!   arguments end with 2, or with 4 if memory is refused: `range`, `wrong`, `refused` of `run_words`.
+//! - If the bytes of the input are known, `verify` exits with 0 only if they are hex lines of a program that is accepted with
+//!   the maps of the arguments: `accepted` of `run_words`.
+//! - `serve`: the private `serve_frames`, over readers and writers, serves the frames with a new host and the public `serve`,
+//!   at most `most_frames` of them, and the exit status is that of the stream.
+//! - `asm` and `dis`: the private `rewrite`, over readers and writers whose bytes contracts see, writes the hex lines of the
+//!   program whose text it reads, or the text of the program whose hex lines it reads; its contract defines the failure for
+//!   each other input. `run_words` consumes the streams, so its own contract cannot describe the output. That it calls
+//!   `rewrite` is read in the code, and worked cases show it.
+//! - `verify`: the private `judge` writes `accepted` if the program is accepted with the maps, and otherwise `refused: slot S
+//!   reason R` with the first fault of the codec, plus 100, or the reason of the verdict. If the input is too long or is no hex
+//!   lines, it writes nothing. Each input has exactly one such line by the contract of `refusal_of_input` and the law
+//!   `one_judgement` of `verifier`. `named_maps` returns the number of the first wrong argument, or the maps of all arguments,
+//!   no two with the same descriptor.
+//!
 //! # Decisions
 //!
 //! - Decimal digits are taken by value, leading zeros included; a sign is wrong. One parser (`decimal`) serves `--tenants` and

@@ -1,5 +1,62 @@
 //! The host of all tenants: frames in, replies out.
 //!
+//! # What is proved
+//!
+//! Contracts see a `Host` as the list of its tenants' states (`states_in`). The clauses of `serve` are the fields of
+//! `ServesStream`.
+//!
+//! Replies:
+//!
+//! - A frame gets the reply of one step of its tenant's machine, or the error of a frame without a head or of a tenant that is
+//!   not served: `own` of `Host::handle`.
+//! - Every other tenant is unchanged: `others`, `count` of `Host::handle`.
+//! - No reply has the status of a fault: `no_fault` of `Host::handle`.
+//! - While no memory is refused to a tenant, the replies to it are exactly those of its own machine on its own frames, in their
+//!   order, and no test run faults. This holds if the input ends after a whole frame or inside one, and for every other fault
+//!   except a fault of the writer, which cuts a reply: `alone`, `alone_before` of `serve`.
+//! - Over a whole stream, or the part of it that was read, the replies to each tenant are ones that its own machine may give to
+//!   its own frames, whatever memory is refused: `done`, `fault` of `serve`. For each tenant whose flag is clear they are those
+//!   of its machine without refusals: `unrefused_are_told_alone`.
+//! - Up to the first reply with which a tenant's flag is set, its replies are those of its machine without refusals; the
+//!   machine may give that reply: `each_is_told_alone_until_refused`.
+//! - Both also hold for a sequence of calls of `Host::handle` without a stream, and no test run faults: `calls_are_told_alone`.
+//! - A caller can ask whether a tenant's flag is set: `refused`, `unrefused` of `Host::memory_was_refused`.
+//! - Two streams that agree on a tenant's initial state and on its frames give it the same replies, if neither refuses memory
+//!   to it: `same_frames_same_replies`.
+//! - Two streams with the same frames have the same replies, and the same bytes are written, whatever hosts serve them, if each
+//!   tenant of these frames starts in the same state in both and neither refuses memory to it: `same_frames_same_output`.
+//!   Replaying a recorded stream relies on this.
+//! - No content of a frame ends a stream. If the bytes of the reader are known, no call fails and there is memory for the
+//!   buffers, the end of the call depends only on the number of frames and on whether bytes follow them:
+//!   `no_content_ends_a_stream`.
+//!
+//! Input and output:
+//!
+//! - What was written is flushed before more is read: at each end of a call except a fault of the writer, all replies are
+//!   flushed. See `flushed`, `flushed_before` of `serve`; `flushed` of `write_whole`.
+//! - The replies are written in the order of the frames. If a write fails, whole replies and a prefix of the next were written,
+//!   and nothing after the frame of that reply was read, whichever call of the writer failed; so each reply is written whole
+//!   before the next frame is read: `fault` of `serve`.
+//! - Ok means that the input ended before a frame, and has the number of replies: `done` of `serve`.
+//! - Read and Write mean that a call of the reader or the writer failed; Truncated, that the input ended inside a frame, before
+//!   the limit; TooManyFrames, that the limit was reached and one further byte was read; Memory, that nothing was read:
+//!   `fault`, `cut_before`, `too_many` of `serve`.
+//! - A buffer is filled unless the input ends or a call fails; bytes are written whole unless a call fails. A failure leaves a
+//!   prefix of them: `fill`, `write_whole`.
+//!
+//! Statements about bytes concern readers and writers whose bytes contracts see, such as those over memory. For a file or a
+//! pipe, a contract only sees counts.
+//!
+//! Batches:
+//!
+//! - `Host::run_packets` runs a program of one tenant on many packets, one after another, with the same context words. Results
+//!   and state are those of the test-run commands in this order; the rest of the result buffer and the states of the other
+//!   tenants are unchanged: `runs`, `tenant` of `Host::run_packets`.
+//! - Or the batch is rejected before its first packet, with the first error that applies: the tenant is not served, or an error
+//!   of the tenant. Then nothing has changed: `refusal`, `unchanged` of `Host::run_packets`.
+//! - The runs of a batch are calls of `Host::handle` on the test-run frames of its packets. So what holds for a sequence of
+//!   calls holds if some of them are batches, and no run of a batch faults: `batch_is_its_calls`.
+//!
 //! # Decisions
 //!
 //! - A host is seen as the list of its tenants' states. Each state is made of what is kept of the tenant and of the bytes of

@@ -3,6 +3,29 @@
 //! `decode` and `encode` read and write one instruction, `read_program` and `write_program` a whole program. Each instruction
 //! has one spelling, and no spelling is a prefix of another. The instructions are those of `insn_set`, which is re-exported.
 //!
+//! # What is proved
+//!
+//! - `decode` returns an instruction exactly if the bytes begin with its spelling: `found`, `only` of `decode`. Otherwise it
+//!   returns the one fault at the front, at slot 0, by the grammar (`HasFault`): Opcode, if no instruction has this first byte;
+//!   Reserved, if none has this first slot, whatever its registers; Register, if one above 10 is named; SecondSlot, if another
+//!   slot follows or none: `fault`, `faulty` of `decode`.
+//! - `encode` writes the spelling and leaves the bytes after it unchanged: `length`, `room`, `bytes` of `encode`.
+//! - No two instructions have the same spelling, and no spelling is a prefix of another: `encoding_is_prefix_free`.
+//! - A program is read exactly if the bytes spell it, unless memory is refused: `found`, `only` of `read_program`. Otherwise
+//!   the fault is that of the length, or that of the lowest slot at which no instruction begins: `fault`, `faulty` of
+//!   `read_program`, `one_fault`.
+//! - `write_program` writes the program's bytes, so they are read as the same program: `bytes`, `program` of `write_program`,
+//!   `only` of `read_program`.
+//! - Instructions are lent by slot number, and first slots are distinguished from second ones: `code`, `get`, `is_first`,
+//!   `slots` of `Program`.
+//! - The slots that a program lends are those of its instructions in their order; from the slot of an instruction on, they
+//!   begin with its own: `length`, `slots`, `first` of `raw_slots` of `Program`, `slots_of_spelled`.
+//! - The opcode and the fields of its first slot determine an instruction, form by form; a register field that the form does
+//!   not use is zero: `arithmetic_by_opcode`, `moves_by_opcode`, `one_operand_by_opcode`, `jumps_by_opcode`,
+//!   `accesses_by_opcode`, `atomics_by_opcode`, `wide_by_opcode`.
+//! - No first slot has an opcode that is not in the table of 119, and each of these is an instruction's; its registers are 0 to
+//!   10: `fields_of_first`.
+//!
 //! # Decisions
 //!
 //! - The order of the codec's faults is this project's own: the RFC does not define what a machine does with bytes that are no

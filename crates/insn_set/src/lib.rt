@@ -4,6 +4,21 @@
 //! A table has a row for each instruction, [`Profile`], with the properties that no register value affects. `insn_codec` reads
 //! and writes the slots.
 //!
+//! # What is proved
+//!
+//! - An instruction's row of the table: what it reads, writes and names, its successors and its number of slots: `profile`,
+//!   `slots`, `is_wide` of `Insn`.
+//! - Whether control may pass to the next instruction or to a jump target, at which distance, and to which slot: `falls`,
+//!   `jumps`, `offset`, `target` of `Successors`.
+//! - The descriptor of the map that it names: `descriptor` of `Reference`.
+//! - Its numbers are in the ranges of its fields, and a register's number is at most 10: `in_range` of `Insn`, `number` of
+//!   `Reg`.
+//! - A slot's fields are read from eight bytes, and written as these; a slot is created from its fields: `first`, `dst`, `src`,
+//!   `bytes`, `new` of `RawSlot`.
+//! - The code and the symbol of an operator, a condition or an atomic operation, the opcode and the size name of a load, and
+//!   the names of conversions are those of the definitions; a look-up by code or name finds what has it: `alu_number`,
+//!   `alu_symbol`, `alu_by_number`, `alu_by_symbol`, and similar.
+//!
 //! # Decisions
 //!
 //! - This crate is below the codec: the meaning of a run, the facts and the lines of a text need instructions, but not how

@@ -1,6 +1,17 @@
 //! The facts of the verifier as text: the log of a program, line by line, and its control flow as a graph. The program
 //! `verifier_log` writes what `log_of` returns.
 //!
+//! # What is proved
+//!
+//! - The log says that a program is accepted exactly if it is, by the definition of the verdict: `verdict` of `log_of`.
+//! - The facts of the log are those of the definition (`reached`), before each instruction that a run may reach, in the order
+//!   of the slots and no others: for an accepted program before all of them; for one that is rejected for its safety up to the
+//!   slot of the fault; for one that is rejected for its shape none: `facts` of `log_of`.
+//! - As lines, it ends with the verdict: the line `accepted`, or the line of the rejection, with the slot and the number of the
+//!   reason of the definition, and some text after it. Before it are whole lines: `said` of `log_of`.
+//!
+//! How the facts are written, the text after a rejection, and the graph are only tested.
+//!
 //! # Decisions
 //!
 //! - The log is a program of its own, so the subcommands and statuses of `bpfhost` stay. The facts are stored as the pass

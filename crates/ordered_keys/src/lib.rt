@@ -4,6 +4,19 @@
 //! The implementation has a table of the keys in any order, the index of each place's key in it, and the order of the places
 //! (`PlaceOrder`), a ring of links. That they agree is the invariant of the type.
 //!
+//! # What is proved
+//!
+//! - A key's place is found, and none for an absent key: `get` of `OrderedMap`.
+//! - The key after a key is the next one of the order, and after an absent key the first: `key_after`, `first` of `OrderedMap`.
+//! - A new key goes to the end with its place; or memory is refused, and nothing changes: `added`, `refused` of `insert`.
+//! - A removal returns the place of the key, and the others keep their order: `place`, `left` of `remove`.
+//! - For an order of places: the first, the next one, appending one, removing one: `first`, `after`, `push` and `remove` of
+//!   `PlaceOrder`.
+//!
+//! A caller may look up with another type than that of the keys; it shows that any two keys which pass its test are equal
+//! (`IsSole`). That a removal costs as much as an insertion is seen in the code, which has no loop over a list, and is
+//! measured; no contract is about steps.
+//!
 //! # Decisions
 //!
 //! - The order of the keys is a ring of links over places, and not the order of the index map. The keys of a map already have

@@ -1,5 +1,14 @@
 //! The abstract domain of the verifier: what it knows of a program's registers and stack before an instruction.
 //!
+//! # What is proved
+//!
+//! - Joins of kinds, slots and facts are those of the definition: `Kind::join`, `Slot::join`, `join`, `join_into`. They are
+//!   commutative and associative: `joins_commute`, `joins_associate`.
+//! - A load from the stack gives the kind of the definition, a store the facts, or each the first reason against it:
+//!   `read_stack`, `write_stack`. The same holds for what a helper reads and writes over many slots: `read_many`, `fill_stack`.
+//! - The facts after a call are those of the definition: `facts_after_call`.
+//! - A null test settles each copy of the result of one look-up and no other: `settle`.
+//!
 //! # Decisions
 //!
 //! - Stack accesses have no precondition. `read_stack` and `write_stack` return the reason themselves if an access leaves the

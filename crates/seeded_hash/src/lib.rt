@@ -1,5 +1,15 @@
 //! A hash function with a seed, so that nobody who does not know the seed can choose keys that collide.
 //!
+//! # What is proved
+//!
+//! - The hash of bytes by a seed is that of the definition (`started`, `written` and `finished` in `specs/Hashing.antt`):
+//!   `build_hasher` of `HashSeed`; `write` and `finish` of `SeededHasher`.
+//! - The two halves of a product are combined, and four, eight or at most eight bytes are read as a number, by their equations:
+//!   the private `folded_product`, `half_at`, `word_at`, `short_word`.
+//!
+//! That `HashSeed::random` fills both words from its source is read in the code. That the source is random, and that this
+//! function distributes keys chosen without knowledge of the seed, is an assumption (docs/TRUST.md).
+//!
 //! # Decisions
 //!
 //! - The seed is two words for all maps of a host. The earlier function had none: with 4,096 keys of 16 bytes that all collide,

@@ -17,6 +17,25 @@
 //! `AdmitsBy` says which states facts admit: each register and each cell is what its kind says, and the result of a look-up is
 //! one value in all its copies.
 //!
+//! # What is proved
+//!
+//! - The join of the facts on two edges admits what the facts on either admit: `join_admits`.
+//! - A load from the stack that the facts allow gives a value of the kind that they say; a store that they allow leaves a state
+//!   that the facts after it admit: `stack_read_admits`, `stack_write_admits`.
+//! - Bytes that a helper may read are present. Bytes that it writes, a load and a store within a value, a change of a map and
+//!   the result of a call leave what the facts after them admit: `stack_input_admits`, `stack_output_admits`,
+//!   `object_read_admits`, `object_write_admits`, `value_load_admits`, `value_store_admits`, `map_calls_keep`,
+//!   `map_change_admits`, `call_admits`, `site_admits`.
+//! - After a null test of a look-up's result, the settled facts admit the state: `null_test_admits`.
+//! - A run in which memory was refused to a new key says so in its final state; any other run is the run without refusals:
+//!   `refusals_are_told`.
+//! - Whatever the objects of a map represent, as their places or their bytes, the replies are those of the map of what they
+//!   represent, which changes as the definition says: `calls_refine_values`.
+//! - A key that an update finds present is in the map, a new one is not, and no verdict is out of memory:
+//!   `map_verdicts_match_look_ups`.
+//! - A map's shape is created exactly if its fields are in their limits and its values take at most 65,536 bytes; otherwise the
+//!   fault is returned: `made`, `listed`, `fault` of `MapShape::new`.
+//!
 //! # Decisions
 //!
 //! - An object is named by its map and a number in that map, given once in a run, so a new object of one map touches no other

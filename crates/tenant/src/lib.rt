@@ -5,6 +5,29 @@
 //! bytes of their values, and whether memory was ever refused to the tenant. Memory may be refused to a command; otherwise the
 //! machine is deterministic.
 //!
+//! # What is proved
+//!
+//! - A frame gets the reply of one step of the machine, from the state that the tenant and its part of the arena represent to
+//!   the next one; the result bytes of a test run are those of the tagged machine: `told` of `Tenant::handle`.
+//! - No test run faults: `no_fault` of `Tenant::handle`.
+//! - Every other part of the arena is unchanged: `others` of `Tenant::handle`.
+//! - A new tenant has nothing open: `Tenant::new`.
+//! - With the same refusals a command has one result and a frame one reply; without refusals a tenant's frames have one list of
+//!   replies and lead to one state: `one_answer`, `one_reply`, `one_alone`.
+//! - If a tenant's flag is clear, no memory was refused, and its replies are those of its machine without refusals:
+//!   `clear_flag_means_no_refusal`, `clear_flag_means_alone`. Until the flag is set, its replies are those:
+//!   `alone_until_refused`.
+//! - A reply with the status of a fault has no payload: `faults_have_no_payload`.
+//! - A program is run on many packets: the machine carries out the test-run command of each, one after another, with its
+//!   result, and memory may be refused to each (`RunsInOrder`). The results are at the front of the room, whose rest is
+//!   unchanged: `runs` of `Tenant::run_packets`.
+//! - Or the batch is rejected before its first packet, by the first of these: the descriptor names no program; there is room
+//!   for fewer results than packets; or, packet by packet, one is outside the bytes or is too long. Then nothing has changed:
+//!   `refusal`, `unchanged` of `Tenant::run_packets`.
+//! - The runs of a batch are the test-run frames of its packets, with replies that have its results; memory refused to a run is
+//!   refused to its frame; there are as many results as packets: `batch_is_its_frames`, `refused_as_its_frame`,
+//!   `one_result_each`.
+//!
 //! # Decisions
 //!
 //! - That no test run faults is a statement about replies: none has the status -14, which the machine gives only for a fault.

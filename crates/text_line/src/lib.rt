@@ -1,5 +1,17 @@
 //! One line of a program's text: its tokens, the forms that it may have, and the instruction that it represents.
 //!
+//! # What is proved
+//!
+//! - A line of a text is parsed as what its tokens spell in the table of forms; it has none of the forms exactly if they spell
+//!   none: `read_line`.
+//! - A line has one reading; each of its tokens is the longest with which the rest of the line begins (`BeginsWith`):
+//!   `one_reading`, `read_line`.
+//! - The instruction of a form is the one with this written form, with a distance in place of a label; there is none exactly if
+//!   a number is out of its range: `found`, `fits`, `none` of `Form::insn`.
+//! - Instructions with the same written form are equal: `one_instruction`.
+//! - The written form of an instruction has its numbers in their ranges and names no label: `written_in_range`.
+//! - Its text is one line, which is parsed as this instruction: `printed_is_read`.
+//!
 //! # Decisions
 //!
 //! - A token is the longest with which the text begins. So the order in which the parser tries symbols, names and numbers is no

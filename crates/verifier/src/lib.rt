@@ -7,6 +7,39 @@
 //! The definitions are `Shape` (the shape of a program), `Before` (the facts before each slot, a recursion over the slots
 //! below), `Maps` (the maps that a program loads), `Verdict`, and `Told` (the facts that a watcher gets).
 //!
+//! # What is proved
+//!
+//! - A program is accepted, or rejected at the first slot and reason of the written rules, shape before safety. The only other
+//!   result is out of memory: `accepted`, `refused` of `verify`.
+//! - Slots are an accepted program, or are rejected: as no program, with the fault of the codec, or as a program that breaks a
+//!   rule, with the reason of the verdict. The slot is one of theirs or the one after them. The only other result is out of
+//!   memory, and only for as many slots as a program may have: `accepted`, `refused`, `slot`, `memory` of `verify_slots`.
+//! - Slots have one judgement: one accepted program, or one rejection: `one_judgement`.
+//! - A rejection has one number, that of the reason, or 100 plus that of the codec's fault, and one text: `Cause::number`; the
+//!   output of `Refusal`.
+//! - A watcher gets the facts of the definition before each slot that a run may reach, each slot once and in order (`reached`):
+//!   for an accepted program before all of them; up to the slot of a fault of safety; for a fault of shape before none; out of
+//!   memory, up to some slot. The verdict is that of `verify`: `told`, `told_refused`, `accepted`, `refused` of
+//!   `verify_watched`.
+//! - A `Verified` is an accepted program, the one that was passed in, with the shapes that its descriptors named: `accepted` of
+//!   `verify`; `accepted`, `entries` of `verify_slots`; `verified` of `Verified::program`.
+//! - It lists the descriptors of its loads of maps and of values of maps, in the order of first use, each once:
+//!   `Verified::maps`.
+//! - A program has at most one rejection, an accepted program has none, and no rule has out of memory as its reason:
+//!   `one_refusal`, `accepted_is_not_refused`, `refused_by_a_rule`.
+//! - Safety follows shape: in a program without a fault of shape, no instruction is rejected for safety because its helper is
+//!   unknown, its descriptor is no map, or the map does not have the value that it loads directly: `safety_follows_shape`.
+//! - Each map that an accepted program loads, itself or a value of it, has a shape: `loaded_maps_have_shapes`.
+//! - The maps of a program are those that its instructions load, each once; no other descriptor has a shape: `maps_are_listed`.
+//! - Soundness of one step: take a program without a fault of shape, and a state at a slot that has a map of each shape, such
+//!   that the facts before the slot admit the state and allow the instruction. Then the machine has a step, the next state has
+//!   a map of each shape, and the facts on the edge that is taken admit it: `step_is_sound`.
+//! - Each step of an accepted program preserves this: the facts before the next slot admit the state after it: `steps_go_on`.
+//! - Every successor of an instruction of an accepted program is the beginning of an instruction at a higher slot: the next
+//!   one, unless the instruction is an exit or always jumps, and the target of its jump: `Verified::goes_ahead`.
+//! - No run of an accepted program faults, on any maps of the shapes, any context and packet, whatever memory is refused in it:
+//!   `accepted_programs_never_fault`, `Verified::never_faults`.
+//!
 //! # Decisions
 //!
 //! - `transfer` has one instruction, `verifier` a program: the verdict, and why no run of an accepted program faults. Each is

@@ -1,6 +1,14 @@
 //! The operators and the conditions of RFC 9669 on words, and their meaning on whole numbers; numbers as bytes; the sizes of
 //! loads and stores, and their position in the stack.
 //!
+//! # What is proved
+//!
+//! - Each operator and condition on words is its equation on whole numbers: each function of `words64` and `words32`.
+//! - The number of bytes of a load or a store, which takes a whole slot of the stack if it has eight: `AccessSize::bytes`,
+//!   `AccessSize::is_double`.
+//! - The number of bits that a change of byte order keeps, and that a sign extension starts from: `KeptBits::count`,
+//!   `ExtendedBits::count`.
+//!
 //! # Decisions
 //!
 //! As LLVM compiles them, sums, shifts, sign extensions, byte swaps and comparisons are one to three machine instructions, and

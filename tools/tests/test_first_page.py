@@ -24,11 +24,9 @@ third
 
     tools/two
 
-## Ways in
+## Pages
 
-| [a](a.md) | [b](b.md#c), [d](d.md) |
-
-[no way](in.md)
+| [a](docs/A.md) | [b](docs/B.md), ![c](docs/C.md) |
 """
 GATE = '#!/usr/bin/env bash\nexec "$(dirname "$0")/../tools/two"\n'
 
@@ -56,7 +54,6 @@ class FirstPage(unittest.TestCase):
     def test_wrong_pages(self) -> None:
         for page, gate, word in (
             (PAGE + "\n" * 120, GATE, "120"),
-            (PAGE.replace("## Ways in\n", "## Ways in\n" + "| [x](x.md) |\n" * 6), GATE, "9 ways"),
             (PAGE.replace("    tools/two\n", "tools/two\n"), GATE, "1 commands"),
             (PAGE, GATE.replace("two", "three"), "which is not tools/two"),
             (PAGE, GATE + "echo done\n", "which is not tools/two"),
@@ -67,10 +64,9 @@ class FirstPage(unittest.TestCase):
                 self.assertIn(word, wrong[0])
 
     def test_index(self) -> None:
-        names = ["README.md", "ONE.md", "TWO.md"]
-        self.assertEqual(self.script.wrong_index("[one](ONE.md) [two](TWO.md)\n", names), [])
-        self.assertEqual(self.script.wrong_index("[one](ONE.md) ![two](TWO.md)\n", names), ["docs/README.md has no link to TWO.md"])
-        self.assertEqual(len(self.script.wrong_index("[one](ONE.md) [two](TWO.md)\n" * 41, names)), 1)
+        self.assertEqual(self.script.wrong_index(PAGE, ["docs/A.md", "docs/B.md"]), [])
+        self.assertEqual(self.script.wrong_index(PAGE, ["docs/C.md"]), ['README.md has no link to docs/C.md in the section "Pages"'])
+        self.assertEqual(len(self.script.wrong_index("[a](docs/A.md)\n" + PAGE.replace("docs/A.md", "A.md"), ["docs/A.md"])), 1)
 
     def test_what_is_no_compiler(self) -> None:
         taken = ["cc", "gcc", "gcc-12", "clang-14", "c++", "x86_64-linux-gnu-gcc-12", "clang++"]

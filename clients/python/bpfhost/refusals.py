@@ -13,7 +13,7 @@ from bpfhost.helpers import helper_name
 from bpfhost.numbers import SLOT_SIZE
 from bpfhost.slots import WIDE_LOAD, first_slots
 
-PAGE = "docs/REFUSED.md"
+PAGE = "docs/VERIFIER.md"
 _BACKWARD = 2
 _LOOP = "loop"
 

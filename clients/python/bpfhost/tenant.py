@@ -72,7 +72,7 @@ class Tenant:
     ) -> Prog:
         """Loads a filter as tcpdump writes it, for packets of a link type as captures number it, under the expression for its name.
 
-        A ClassicError or an ExpressionError where it is refused, and a MissingLibrary without libpcap. docs/FILTERS.md says what
+        A ClassicError or an ExpressionError where it is refused, and a MissingLibrary without libpcap. clients/python/FILTERS.md says what
         `semantics` and `length` choose. Classic programs of another source are loaded by `prog_load(program.translated().slots)`.
         """
         return self.prog_load(ClassicProgram.of_expression(expression, link_type).translated(semantics, length).slots, expression)

@@ -14,7 +14,7 @@ from tests.common import ONE, PROGRAM, HostTest
 from tests.test_command import EXAMPLE, PACKAGE, needs_packages
 
 TUTORIAL = PACKAGE.parents[1] / "docs/TUTORIAL.md"
-FILTERS = PACKAGE.parents[1] / "docs/FILTERS.md"
+FILTERS = PACKAGE / "FILTERS.md"
 CLANG = shutil.which("clang-14")
 # The time of a run is another one each time.
 TIME = re.compile(r"time a packet: [0-9.]+ us")

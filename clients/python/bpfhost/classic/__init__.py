@@ -1,6 +1,6 @@
 """Filters as tcpdump writes them: classic BPF programs, from expressions, numbers and texts, as programs of this host.
 
-docs/FILTERS.md of the repository says what is translated how, and where libpcap and the kernel differ.
+FILTERS.md of clients/python has the translation, and how libpcap and the kernel differ.
 """
 
 from bpfhost.classic.errors import ClassicError, ExpressionError, MissingLibrary

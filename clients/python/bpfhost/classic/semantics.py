@@ -1,4 +1,4 @@
-"""Words that choose where libpcap's interpreter and the kernel differ. docs/FILTERS.md tells the differences."""
+"""Words that choose where libpcap's interpreter and the kernel differ. FILTERS.md of clients/python has the differences."""
 
 from __future__ import annotations
 

@@ -1,4 +1,4 @@
-"""Classic programs as programs of this host, with the same result on every packet. docs/FILTERS.md has the table by code."""
+"""Classic programs as programs of this host, with the same result on every packet. clients/python/FILTERS.md has the table by code."""
 
 from __future__ import annotations
 

@@ -1,4 +1,4 @@
 """A gateway: customers speak frames over TCP or a Unix socket, and it alone says which customer they are.
 
-docs/GATEWAY.md of the repository has its protocol and how it is run. It wants redis and greenlet.
+docs/SCALING.md of the repository has its protocol and how to run it ("Gateways"). It wants redis and greenlet.
 """

@@ -1,5 +1,5 @@
 """What a customer and a gateway say to each other: the customer's frames and their replies, and beside them the gateway's own frames,
-which name a tenant that no host has. docs/GATEWAY.md describes them.
+which name a tenant that no host has. docs/SCALING.md describes them ("The protocol").
 """
 
 from __future__ import annotations

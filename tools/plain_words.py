@@ -1,0 +1,75 @@
+"""Words that make a page slow to read, and how often each page may have them at most."""
+
+from __future__ import annotations
+
+import re
+from collections import Counter
+from collections.abc import Iterable
+
+# Each word with what to write in its place.
+PLAIN = {
+    "where": "if, when; or the place by its name",
+    "alone": "only",
+    "stand": "is, has",
+    "told": "says, returns, prints",
+    "behind": "after",
+    "says so": "prints a notice",
+    "answer": "returns, replies with",
+    "want": "needs",
+    "whoever": "who",
+    "beside": "next to, besides",
+}
+# The forms that count, where a word has others than its own.
+FORMS = {
+    "where": "where|wherever",
+    "stand": "stands?|stood|standing",
+    "told": "told|tells?|telling",
+    "says so": "says? so|said so",
+    "answer": "answers?|answered|answering",
+    "want": "wants?|wanted|wanting",
+}
+WORD = {name: re.compile(rf"\b(?:{FORMS.get(name, name)})\b", re.I) for name in PLAIN}
+# What is no prose: blocks of code, code in a sentence, and where a link leads.
+NO_PROSE = re.compile(r"^(```|~~~).*?^\1$|^(?: {4}|\t)[^\n]*$|`[^`\n]*`|\]\([^)\s]*\)", re.M | re.S)
+# The most that a page may have of these words together. A page that is not here may have none.
+MOST: dict[str, int] = {
+    "CHANGELOG.md": 9,
+    "CONTRIBUTING.md": 14,
+    "README.md": 3,
+    "SECURITY.md": 1,
+    "bench/FIGURES.md": 10,
+    "checks/conformance/README.md": 13,
+    "clients/c/DECISIONS.md": 1,
+    "clients/python/DECISIONS.md": 9,
+    "clients/python/FILTERS.md": 1,
+    "clients/python/README.md": 1,
+    "clients/rust/DECISIONS.md": 2,
+    "clients/rust/README.md": 1,
+    "docs/DECISIONS.md": 2,
+    "docs/EMBEDDING.md": 2,
+    "docs/GUIDE.md": 4,
+    "docs/SCALING.md": 3,
+    "docs/TRUST.md": 40,
+    "examples/filters/table.md": 1,
+}
+
+
+def count(text: str) -> Counter[str]:
+    """How often the prose of a page has each of the words."""
+    prose = NO_PROSE.sub(" ", text)
+    return Counter({name: found for name, pattern in WORD.items() if (found := len(pattern.findall(prose)))})
+
+
+def bounds(pages: Iterable[tuple[str, str]]) -> str:
+    """The lines of `MOST` for pages with these names and texts, as they are now."""
+    counts = ((page, count(text).total()) for page, text in pages)
+    return "".join(f'    "{page}": {total},\n' for page, total in counts if total)
+
+
+def too_many(page: str, text: str) -> list[str]:
+    """What is wrong with a page that has more of these words than it may have."""
+    found = count(text)
+    if found.total() <= (most := MOST.get(page, 0)):
+        return []
+    words = ", ".join(f"{number} '{name}' ({PLAIN[name]})" for name, number in found.most_common())
+    return [f"{page}: {found.total()} slow words, and {most} are the most: {words}"]

@@ -17,11 +17,19 @@ Value = TypeVar("Value")
 Number = TypeVar("Number", int, float)
 
 
+_AS_MODULE = "python3 -m "
+
+
 class Parser(argparse.ArgumentParser):
-    """The words of a command `python3 -m NAME`, which tells wrong ones in one sentence, with the status 2."""
+    """The words of a command `python3 -m NAME`, or of an installed script; wrong ones are one sentence, with the status 2."""
 
     def error(self, message: str) -> NoReturn:
-        self.exit(WRONG_WORDS, f"{self.prog.split()[2]}: {message}\n")
+        self.exit(WRONG_WORDS, f"{self.prog.removeprefix(_AS_MODULE).split()[0]}: {message}\n")
+
+
+def called(script: str, module: str) -> str:
+    """How this process was called: by the name of the installed script, or else as a module."""
+    return script if os.path.basename(sys.argv[0]) == script else f"{_AS_MODULE}{module}"
 
 
 def named(read: Callable[[str], Value], name: str) -> Callable[[str], Value]:

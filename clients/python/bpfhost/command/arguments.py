@@ -11,9 +11,9 @@ from typing import TypeAlias
 from bpfhost.command import build, check, filters, frames, run, texts
 from bpfhost.command.filter_words import add_filter_words
 from bpfhost.command.words import seconds, setting
-from bpfhost.numbers import MOST_TENANTS
 from bpfhost.command.version import Version
-from bpfhost.telling import Parser, add_program, in_range, named
+from bpfhost.numbers import MOST_TENANTS
+from bpfhost.telling import Parser, add_program, called, in_range, named
 
 _ABOUT = "Runs filters that clang compiled on captures, by a bpfhost; checks them; reads and writes programs and frames as text."
 
@@ -29,7 +29,7 @@ _hex = named(bytes.fromhex, "bytes in hexadecimal digits")
 
 
 def _parser(is_about_filters: bool) -> Parser:
-    parser = Parser(prog="python3 -m bpfhost", description=_ABOUT)
+    parser = Parser(prog=called("bpfhost-py", "bpfhost"), description=_ABOUT)
     parser.add_argument("--version", action=Version, nargs=0, help="tell the version, and which program is used, and whether it is proved")
     words = parser.add_subparsers(metavar="WORD", required=True, parser_class=Parser)
     if is_about_filters:

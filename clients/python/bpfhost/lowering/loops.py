@@ -240,4 +240,3 @@ class _Unrolling:
             if header in self._nest.headers[number] and block.jump is not None and not all(inside):
                 return self._where(block.jump.origin)
         return self._where(self._graph[header].origin)
-

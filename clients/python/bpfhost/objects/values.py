@@ -258,5 +258,3 @@ def _string(data: bytes) -> Leaf | None:
 
 def _escaped(written: str, quote: str) -> str:
     return written.replace("\\", "\\\\").replace(quote, f"\\{quote}")
-
-

@@ -80,4 +80,3 @@ class LoweringTest(HostTest):
     def text(self, lowered: Lowered) -> str:
         """The text of a form."""
         return disassemble(PROGRAM, lowered.program.slots)
-

@@ -231,9 +231,9 @@ class OtherBuilds(AsideTest):
         self.addCleanup(strict.stop)
         strict.wait()
         customer = self.client.customer("acme")
-        if (seat := self.client.directory.place("acme")).shard:
+        if self.client.directory.place("acme").shard:
             self.client.directory.place("other")
-            seat = move(self.client, "acme", 0)
+            move(self.client, "acme", 0)
         self.assertEqual([reply.status for reply in customer.ask_all([CREATE, LONGER, put(7)])], [3, 4, 0])
         with self.assertRaisesRegex(MoveError, "customer acme stays on shard 0: what arrives at shard 1 is refused"):
             move(self.client, "acme", 1)

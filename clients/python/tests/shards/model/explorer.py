@@ -194,4 +194,3 @@ def _shown(words: Words) -> str:
         name = words[0].text.strip().splitlines()[1][:60]
         return f"[{name}..] {words[1]} {words[2]}"
     return " ".join(map(str, words))
-

@@ -50,28 +50,32 @@ static inline const char *bpfhost_version(void)
     return BPFHOST_VERSION;
 }
 
-/* ---- limits: docs/PROTOCOL.md has the others. tools/header compares these numbers with the library's. */
+/* ---- limits: docs/PROTOCOL.md has the others. */
 
-#define BPFHOST_MOST_TENANTS 64
-#define BPFHOST_LONGEST_FRAME 131072 /* of a frame that is looked at; a longer one is answered -7 (E2BIG) */
-#define BPFHOST_LONGEST_REPLY 4108
-#define BPFHOST_LONGEST_PAYLOAD 4096
+/* limits: written by tools/generate */
+#define BPFHOST_MOST_TENANTS 64 /* the most tenants of a host */
+#define BPFHOST_LONGEST_FRAME 131072 /* the most bytes of a frame, without its length field; the reply to a longer one is E2BIG */
+#define BPFHOST_LONGEST_REPLY 4108 /* the most bytes of a reply, its length field included */
+#define BPFHOST_LONGEST_PAYLOAD 4096 /* the most bytes of a reply's payload */
 #define BPFHOST_TEST_RUN_HEAD 48 /* the bytes of a PROG_TEST_RUN frame before its packet */
+/* end of limits */
 
 /* ---- codes of calls. Each call answers one; a status in a reply is another thing. */
 
 enum bpfhost_code {
-    BPFHOST_DONE = 0,      /* the call did what it says */
+    /* codes: written by tools/generate */
+    BPFHOST_DONE = 0,      /* the call succeeded */
     BPFHOST_NO_HOST = -1,  /* the handle is empty */
     BPFHOST_HAS_HOST = -2, /* the handle has a host already */
-    BPFHOST_TENANTS = -3,  /* a host has 1 to BPFHOST_MOST_TENANTS tenants */
-    BPFHOST_MEMORY = -4,   /* there is no memory for the host */
-    BPFHOST_ROOM = -5,     /* the room has less than BPFHOST_LONGEST_REPLY bytes */
-    /* of this header alone; if more than one of them holds, the answer is one that does */
-    BPFHOST_NULL = -16,     /* a pointer is null */
-    BPFHOST_LENGTH = -17,   /* no object has so many bytes: the length is above PTRDIFF_MAX */
-    BPFHOST_OVERLAP = -18,  /* what the call may write, its handle included, overlaps something else that it is given */
-    BPFHOST_NO_REPLY = -19  /* the bytes are not one whole reply */
+    BPFHOST_TENANTS = -3,  /* a host has 1 to 64 tenants */
+    BPFHOST_MEMORY = -4,   /* out of memory for the host */
+    BPFHOST_ROOM = -5,     /* the buffer is smaller than the longest reply */
+    /* of this header alone; if more than one of them holds, the call returns one that does */
+    BPFHOST_NULL = -16,    /* a pointer is null */
+    BPFHOST_LENGTH = -17,  /* a length is above PTRDIFF_MAX */
+    BPFHOST_OVERLAP = -18, /* an object that the call may write, the handle included, overlaps another one */
+    BPFHOST_NO_REPLY = -19 /* the bytes are not one whole reply */
+    /* end of codes */
 };
 
 /* ---- a host */
@@ -324,6 +328,7 @@ static inline void bpfhost_free(bpfhost *handle)
  * of a tenant, a descriptor or a size need not be right: the host says so in its reply. */
 
 enum bpfhost_command {
+    /* commands: written by tools/generate */
     BPFHOST_MAP_CREATE = 0,
     BPFHOST_MAP_LOOKUP = 1,
     BPFHOST_MAP_UPDATE = 2,
@@ -332,11 +337,14 @@ enum bpfhost_command {
     BPFHOST_PROG_LOAD = 5,
     BPFHOST_PROG_TEST_RUN = 10,
     BPFHOST_CLOSE = 256
+    /* end of commands */
 };
 
+/* types: written by tools/generate */
 enum bpfhost_map_type { BPFHOST_HASH = 1, BPFHOST_ARRAY = 2 };
 enum bpfhost_prog_type { BPFHOST_SOCKET_FILTER = 1 };
 enum bpfhost_update_flags { BPFHOST_ANY = 0, BPFHOST_NOEXIST = 1, BPFHOST_EXIST = 2 };
+/* end of types */
 
 /* Numbers and bytes of frames and replies. These test nothing: there is room, and each `put` returns where it ends. */
 static inline uint8_t *bpfhost_put16(uint8_t *at, uint16_t number)
@@ -546,16 +554,18 @@ static inline int bpfhost_ask(bpfhost *handle, const void *frame, size_t frame_l
 static inline const char *bpfhost_code_text(int code)
 {
     switch (code) {
-    case BPFHOST_DONE: return "done";
+    /* texts of codes: written by tools/generate */
+    case BPFHOST_DONE: return "the call succeeded";
     case BPFHOST_NO_HOST: return "the handle is empty";
     case BPFHOST_HAS_HOST: return "the handle has a host already";
     case BPFHOST_TENANTS: return "a host has 1 to 64 tenants";
-    case BPFHOST_MEMORY: return "there is no memory for the host";
-    case BPFHOST_ROOM: return "the room is smaller than the longest reply";
+    case BPFHOST_MEMORY: return "out of memory for the host";
+    case BPFHOST_ROOM: return "the buffer is smaller than the longest reply";
     case BPFHOST_NULL: return "a pointer is null";
-    case BPFHOST_LENGTH: return "no object is so long";
-    case BPFHOST_OVERLAP: return "two objects overlap";
-    case BPFHOST_NO_REPLY: return "not one whole reply";
+    case BPFHOST_LENGTH: return "a length is above PTRDIFF_MAX";
+    case BPFHOST_OVERLAP: return "an object that the call may write, the handle included, overlaps another one";
+    case BPFHOST_NO_REPLY: return "the bytes are not one whole reply";
+    /* end of texts of codes */
     default: return "no code of bpfhost";
     }
 }

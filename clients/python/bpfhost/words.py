@@ -3,19 +3,22 @@
 from bpfhost.numbers import Command, Errno
 
 ERRNO_WORDS = {
-    Errno.EPERM: "not permitted",
-    Errno.ENOENT: "no such key, or none behind it",
-    Errno.E2BIG: "too large, or full",
+    # errors: written by tools/generate
+    Errno.EPERM: "the host does not serve this tenant",
+    Errno.ENOENT: "no such key, or no key after it",
+    Errno.E2BIG: "too large, or the map is full",
     Errno.EBADF: "the descriptor is not open",
-    Errno.ENOMEM: "memory was refused",
-    Errno.EACCES: "not allowed",
-    Errno.EEXIST: "the key is there",
-    Errno.EINVAL: "a field or a size is wrong",
+    Errno.ENOMEM: "out of memory",
+    Errno.EACCES: "the program is not allowed to do this",
+    Errno.EEXIST: "the key exists",
+    Errno.EINVAL: "a field or a size is invalid",
     Errno.EMFILE: "no descriptor is free",
-    Errno.ENOSPC: "no room for a map",
+    Errno.ENOSPC: "no room for another map",
+    # end of errors
 }
 
 REASONS = {
+    # reasons: written by tools/generate
     1: "a jump out of the program, or into the second half of a wide instruction",
     2: "a jump to the same or an earlier slot",
     3: "the last instruction can go on past the end",
@@ -50,17 +53,20 @@ REASONS = {
     105: "the bytes are no whole slots",
     106: "there is no slot",
     107: "there are more than 4,096 slots",
-    108: "memory was refused to the program",
+    108: "out of memory for the program",
+    # end of reasons
 }
 
 TEXT_FAULTS = {
+    # text faults: written by tools/generate
     1: "it is none of the forms",
     2: "a number is out of its range",
     3: "its jump names a label that no line defines",
     4: "it defines a label that an earlier line defines",
     5: "its slots are the first past 4,096",
     6: "there is no instruction",
-    7: "memory was refused",
+    7: "out of memory",
+    # end of text faults
 }
 
 

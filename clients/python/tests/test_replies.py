@@ -24,13 +24,13 @@ class Replies(unittest.TestCase):
     def test_words(self) -> None:
         told = {
             "08000000 0100 0000 03000000": "tenant 1, MAP_CREATE: descriptor 3",
-            "08000000 0000 0000 e4ffffff": "tenant 0, MAP_CREATE: ENOSPC (-28): no room for a map",
+            "08000000 0000 0000 e4ffffff": "tenant 0, MAP_CREATE: ENOSPC (-28): no room for another map",
             "0c000000 0100 0a00 00000000 05000000": "tenant 1, PROG_TEST_RUN: result 5",
             "0a000000 0000 0100 00000000 abcd": "tenant 0, MAP_LOOKUP_ELEM: value abcd",
             "09000000 0000 0400 00000000 6b": "tenant 0, MAP_GET_NEXT_KEY: key 6b",
             "08000000 0000 0001 00000000": "tenant 0, CLOSE: done",
-            "08000000 0000 0700 eaffffff": "tenant 0, command 7: EINVAL (-22): a field or a size is wrong",
-            "08000000 ffff ffff eaffffff": "no tenant, no command: EINVAL (-22): a field or a size is wrong",
+            "08000000 0000 0700 eaffffff": "tenant 0, command 7: EINVAL (-22): a field or a size is invalid",
+            "08000000 ffff ffff eaffffff": "no tenant, no command: EINVAL (-22): a field or a size is invalid",
             "0e000000 0000 0500 f3ffffff 02000000 1d00": "tenant 0, PROG_LOAD: EACCES (-13), slot 2, reason 29: outside a map's value",
             "0e000000 0000 0500 f9ffffff 00100000 6b00": "tenant 0, PROG_LOAD: E2BIG (-7), slot 4096, reason 107: "
             "there are more than 4,096 slots",

@@ -1,34 +1,40 @@
 use std::fmt;
 
 /// The error numbers that a reply may have: those of bpf(2), by their names in errno(3).
+///
+/// A command that is refused has changed nothing. After ENOMEM [`Host::memory_was_refused`](crate::Host::memory_was_refused) returns
+/// true for the tenant.
 #[derive(Debug, Clone, Copy, PartialEq, Eq, Hash)]
 #[non_exhaustive]
 #[repr(i32)]
 pub enum Errno {
-    /// The tenant is not served by this host.
+    // errors: written by tools/generate
+    /// The host does not serve this tenant.
     EPERM = 1,
-    /// The key is not there, or none follows it.
+    /// No such key, or no key after it.
     ENOENT = 2,
-    /// Something is too long or too large, or a hash map is full.
+    /// Too large, or the map is full.
     E2BIG = 7,
     /// The descriptor is not open.
     EBADF = 9,
-    /// Memory was refused. Nothing has changed but that [`Host::memory_was_refused`](crate::Host::memory_was_refused) tells it.
+    /// Out of memory.
     ENOMEM = 12,
-    /// The program does what it may not.
+    /// The program is not allowed to do this.
     EACCES = 13,
-    /// The key is there already.
+    /// The key exists.
     EEXIST = 17,
-    /// A field or a size is wrong.
+    /// A field or a size is invalid.
     EINVAL = 22,
-    /// All 64 descriptors of the tenant are open.
+    /// No descriptor is free.
     EMFILE = 24,
-    /// The tenant has 16 live maps, or no room for the values of one more.
+    /// No room for another map.
     ENOSPC = 28,
+    // end of errors
 }
 
 impl Errno {
     const ALL: [Errno; 10] = [
+        // all errors: written by tools/generate
         Errno::EPERM,
         Errno::ENOENT,
         Errno::E2BIG,
@@ -39,6 +45,7 @@ impl Errno {
         Errno::EINVAL,
         Errno::EMFILE,
         Errno::ENOSPC,
+        // end of all errors
     ];
 
     /// The number of errno(3), above 0.
@@ -54,16 +61,18 @@ impl Errno {
 
     fn words(self) -> &'static str {
         match self {
+            // texts of errors: written by tools/generate
             Errno::EPERM => "the host does not serve this tenant",
-            Errno::ENOENT => "the key is not there, or none follows it",
-            Errno::E2BIG => "something is too large, or the map is full",
+            Errno::ENOENT => "no such key, or no key after it",
+            Errno::E2BIG => "too large, or the map is full",
             Errno::EBADF => "the descriptor is not open",
-            Errno::ENOMEM => "memory was refused",
-            Errno::EACCES => "the program does what it may not",
-            Errno::EEXIST => "the key is there already",
-            Errno::EINVAL => "a field or a size is wrong",
+            Errno::ENOMEM => "out of memory",
+            Errno::EACCES => "the program is not allowed to do this",
+            Errno::EEXIST => "the key exists",
+            Errno::EINVAL => "a field or a size is invalid",
             Errno::EMFILE => "no descriptor is free",
-            Errno::ENOSPC => "there is no room for one more map",
+            Errno::ENOSPC => "no room for another map",
+            // end of texts of errors
         }
     }
 }

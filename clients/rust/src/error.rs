@@ -56,9 +56,10 @@ impl fmt::Display for Error {
 
 impl std::error::Error for Error {}
 
-/// The rule that a program breaks. `tools/header` of the repository compares these words with those of its other client.
+/// The rule that a program breaks.
 fn reason_words(reason: u16) -> &'static str {
     match reason {
+        // reasons: written by tools/generate
         1 => "a jump out of the program, or into the second half of a wide instruction",
         2 => "a jump to the same or an earlier slot",
         3 => "the last instruction can go on past the end",
@@ -85,6 +86,7 @@ fn reason_words(reason: u16) -> &'static str {
         34 => "a helper's argument of the wrong kind",
         35 => "a helper's length may be zero or too large",
         36 => "an atomic operation in a map's value at an offset that is not known to be a multiple of its size",
+        40 => "the verifier got no memory",
         101 => "no instruction begins with this byte",
         102 => "a field has a value that no instruction has there",
         103 => "a register's number is above 10",
@@ -92,6 +94,8 @@ fn reason_words(reason: u16) -> &'static str {
         105 => "the bytes are no whole slots",
         106 => "there is no slot",
         107 => "there are more than 4,096 slots",
+        108 => "out of memory for the program",
+        // end of reasons
         _ => "a rule that this version does not name",
     }
 }

@@ -1,21 +1,23 @@
-//! The numbers of the library and of its protocol. `tools/header` of the repository compares each with `bpfhost.h`, where it
-//! has the same name behind `BPFHOST_`.
+//! The numbers of the library and of its protocol. `bpfhost.h` has the same names with `BPFHOST_` in front.
 
+// limits: written by tools/generate
 /// The most tenants of a host.
 pub const MOST_TENANTS: usize = 64;
 
-/// The most bytes of a frame that is looked at; a longer one is answered E2BIG.
+/// The most bytes of a frame, without its length field; the reply to a longer one is E2BIG.
 pub const LONGEST_FRAME: usize = 131_072;
 
-/// The most bytes of a reply, its length field among them.
-pub const LONGEST_REPLY: usize = 4_108;
+/// The most bytes of a reply, its length field included.
+pub const LONGEST_REPLY: usize = 4108;
 
 /// The most bytes of a reply's payload.
-pub const LONGEST_PAYLOAD: usize = 4_096;
+pub const LONGEST_PAYLOAD: usize = 4096;
 
 /// The bytes of a PROG_TEST_RUN frame before its packet.
 pub const TEST_RUN_HEAD: usize = 48;
+// end of limits
 
+// numbers: written by tools/generate
 pub(crate) const DONE: i32 = 0;
 pub(crate) const TENANTS: i32 = -3;
 pub(crate) const MEMORY: i32 = -4;
@@ -36,3 +38,4 @@ pub(crate) const SOCKET_FILTER: u32 = 1;
 pub(crate) const ANY: u64 = 0;
 pub(crate) const NOEXIST: u64 = 1;
 pub(crate) const EXIST: u64 = 2;
+// end of numbers

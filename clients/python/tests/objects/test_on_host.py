@@ -96,7 +96,7 @@ class OnHost(ClangTest):
         for _ in range(16):
             tenant.map_create(MapType.ARRAY, 4, 8, 1)
         found = self.source("maps.c")
-        with self.assertRaisesRegex(InputError, r"\Athe map flows is refused: ENOSPC \(-28\): no room for a map\Z"):
+        with self.assertRaisesRegex(InputError, r"\Athe map flows is refused: ENOSPC \(-28\): no room for another map\Z"):
             load_program(tenant, found, found.programs[0])
         for _ in range(48):
             tenant.prog_load(LENGTH)

@@ -7,13 +7,14 @@ from dataclasses import dataclass
 from itertools import accumulate
 
 from bpfhost.errors import InputError, ProgramRefused, Refused, SourceRefused
+from bpfhost.graphs import annotated
 from bpfhost.lowering import Lowered, as_is, lower
 from bpfhost.maps import Map
 from bpfhost.numbers import FIRST_DESCRIPTOR
 from bpfhost.objects import Form, ObjectFile, ObjectMap, ObjectProgram
 from bpfhost.prog import Prog
 from bpfhost.program import MapShape, Program, log_or_fault, verify
-from bpfhost.refusals import PAGE, folded, hint, need_of, with_names
+from bpfhost.refusals import PAGE, hint, need_of, with_names
 from bpfhost.runs import TestRuns
 from bpfhost.tenant import Tenant
 from bpfhost.words import reason_words
@@ -84,9 +85,12 @@ def log_of(bpfhost: Program, object_file: ObjectFile, lowered: Lowered) -> str |
 
 
 def graph_of(bpfhost: Program, object_file: ObjectFile, lowered: Lowered) -> str | None:
-    """The control-flow graph of a program, for Graphviz, with long blocks folded; None where there is no program to write it."""
+    """The control-flow graph of a program, for Graphviz; None if there is no program to write it.
+
+    Each block has its lines of the source and the names of maps and helpers. Long blocks are folded.
+    """
     graph = _raw_log(bpfhost, object_file, lowered, "--dot")
-    return None if graph is None else folded(graph)
+    return None if graph is None else annotated(graph, lambda slot: _source(lowered, slot), _map_names(object_file))
 
 
 def _raw_log(bpfhost: Program, object_file: ObjectFile, lowered: Lowered, *words: str) -> str | None:
@@ -113,7 +117,7 @@ def with_sources(text: str, lowered: Lowered) -> str:
     parts, last = [], ""
     for line, slot in zip(lines, _slots_of(lines)):
         source = last if slot is None else _source(lowered, slot) or last
-        parts += [source if source != last else "", f"{line}\n"]
+        parts += [f"{source}\n" if source != last else "", f"{line}\n"]
         last = source
     return "".join(parts)
 
@@ -131,7 +135,7 @@ def _source(lowered: Lowered, slot: int) -> str:
     line, (copy, count) = lowered.program.line_of(slot), lowered.copy_of(slot)
     if line is None or lowered.is_added(slot):
         return ""
-    return f"// {line}{f' (copy {copy} of {count})' if count > 1 else ''}\n"
+    return f"// {line}{f' (copy {copy} of {count})' if count > 1 else ''}"
 
 
 def choose_program(object_file: ObjectFile, named: str | None = None) -> ObjectProgram:

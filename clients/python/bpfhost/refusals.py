@@ -97,10 +97,11 @@ _COLUMN = 40
 
 def with_names(log: str, maps: Mapping[int, str]) -> str:
     """A log with the names of maps, by their descriptors, and of helpers, and with large numbers in hexadecimal digits."""
-    return "".join(f"{_line_with_names(line, maps)}\n" for line in log.splitlines())
+    return "".join(f"{line_with_names(line, maps)}\n" for line in log.splitlines())
 
 
-def _line_with_names(line: str, maps: Mapping[int, str]) -> str:
+def line_with_names(line: str, maps: Mapping[int, str]) -> str:
+    """A line of a log with names."""
     found = _LINE.fullmatch(line)
     if found is None:
         return told_with_names(line, maps)
@@ -124,26 +125,3 @@ def need_of(log: str, maps: Mapping[int, str]) -> str | None:
     if len(lines) < 2 or not lines[-2].startswith("refused: slot "):
         return None
     return told_with_names(lines[-1].partition(": ")[2], maps) or None
-
-
-# Graphs.
-
-_BLOCK = re.compile(r'(\s*block_\d+ \[label=")((?:[^"\\]|\\.)*)(".*)')
-_ENDS = 2
-
-
-def folded(graph: str) -> str:
-    """A control-flow graph whose long blocks have their first and last instructions alone, and how many are between them."""
-    return "".join(f"{_folded_block(line)}\n" for line in graph.splitlines())
-
-
-def _folded_block(line: str) -> str:
-    found = _BLOCK.fullmatch(line)
-    if found is None:
-        return line
-    inside = found[2].split("\\l")
-    lines, rest = inside[:-1], inside[-1]
-    if len(lines) <= 2 * _ENDS + 1:
-        return line
-    kept = [*lines[:_ENDS], f"... {len(lines) - 2 * _ENDS} more", *lines[-_ENDS:], rest]
-    return found[1] + "\\l".join(kept) + found[3]

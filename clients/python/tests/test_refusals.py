@@ -2,19 +2,20 @@
 
 from __future__ import annotations
 
-import os
 import re
 import unittest
 
 from bpfhost import assemble
+from bpfhost.graphs import annotated
 from bpfhost.helpers import HELPERS, helper_name, the_helpers
-from bpfhost.refusals import PAGE, folded, hint, is_loop, need_of, with_names
+from bpfhost.program import find_verifier_log
+from bpfhost.refusals import PAGE, hint, is_loop, need_of, with_names
 from bpfhost.words import REASONS
 from tests.common import PROGRAM, HostTest
 from tests.objects.common import ClangTest
 from tests.test_command import PACKAGE, CommandTest, needs_packages
 
-LOG = os.environ.get("VERIFIER_LOG") or ""
+LOG = str((find_verifier_log(PROGRAM) if PROGRAM else None) or "")
 # The reasons below this one are the verifier's rules.
 NO_MEMORY = 40
 # The log of docs/VERIFIER.md.
@@ -56,13 +57,41 @@ outside a map's value: it changes bytes 8 to 15 of a value of 8 bytes (map sizes
         self.assertEqual((need_of("accepted\n", {}), need_of("there is no log: gone\n", {})), (None, None))
 
     def test_a_graph_is_folded(self) -> None:
-        lines = [f"{at}: r0 = {at}" for at in range(578)]
-        graph = f'digraph program {{\n    block_0 [label="{"".join(f"{line}{chr(92)}l" for line in lines)}", style=dashed];\n    block_0 -> block_9;\n}}\n'
-        told = folded(graph)
-        self.assertIn('label="0: r0 = 0\\l1: r0 = 1\\l... 574 more\\l576: r0 = 576\\l577: r0 = 577\\l", style=dashed];', told)
-        self.assertEqual(told.count("\n"), 4)
-        short = 'digraph program {\n    block_0 [label="0: r0 = 0\\l1: exit\\l"];\n}\n'
-        self.assertEqual(folded(short), short)
+        told = annotated(graph_of_lines([f"{at}: r0 = {at}" for at in range(578)]), no_source, {})
+        self.assertEqual(labels(told), [["0: r0 = 0", "1: r0 = 1", "... 574 more", "576: r0 = 576", "577: r0 = 577"]])
+        self.assertTrue(told.endswith('", style=dashed];\n    block_0 -> block_9;\n}\n'))
+        short = graph_of_lines([f"{at}: r0 = 1" for at in range(5)])
+        self.assertEqual(annotated(short, no_source, {}), short)
+
+    def test_the_refused_instruction_of_a_long_block_is_shown(self) -> None:
+        lines = [f"{at}: r0 = {at}" for at in range(12)]
+        lines[6:6] = ["refused: slot 5 reason 30", "the pointer may be null:", "r0 may be null: test it first"]
+        told = annotated(graph_of_lines(lines), no_source, {})
+        self.assertEqual(labels(told), [[*lines[:2], "... 3 more", *lines[5:9], "... 4 more", *lines[-2:]]])
+
+    def test_a_graph_has_the_lines_of_the_source(self) -> None:
+        """Each block begins with its line, also where the block above ends with the same one."""
+        source = {0: '// a.c:1: f("\\n");', 1: "// a.c:2: g();", 3: "// a.c:2: g();"}
+        graph = graph_of_lines(["0: r0 = 1", "1: r1 = map_fd 3 ll"], ["3: call 1", "4: exit"], edge=' [label="taken:\\nr1 = map 3; r2 = 4294967295"]')
+        told = annotated(graph, lambda slot: source.get(slot, ""), {3: "sizes"})
+        self.assertIn('    block_0 -> block_9 [label="taken:\\nr1 = map sizes; r2 = 0xffffffff"];\n', told)
+        first = ['// a.c:1: f(\\"\\\\n\\");', "0: r0 = 1", "// a.c:2: g();", "1: r1 = map_fd 3 ll  # sizes"]
+        self.assertEqual(labels(told), [first, ["// a.c:2: g();", "3: call bpf_map_lookup_elem (1)", "4: exit"]])
+
+
+def graph_of_lines(*blocks: list[str], edge: str = "") -> str:
+    """A graph with the lines of its blocks, and an edge."""
+    shown = "".join(f'    block_{at} [label="{"".join(f"{line}{chr(92)}l" for line in lines)}", style=dashed];\n' for at, lines in enumerate(blocks))
+    return f"digraph program {{\n{shown}    block_0 -> block_9{edge};\n}}\n"
+
+
+def labels(graph: str) -> list[list[str]]:
+    """The lines of each block of a graph."""
+    return [label.split("\\l")[:-1] for label in re.findall(r'block_\d+ \[label="(.*?)", style', graph)]
+
+
+def no_source(_slot: int) -> str:
+    return ""
 
 
 class Hints(HostTest):
@@ -102,7 +131,7 @@ class Messages(CommandTest, ClangTest):
         told = self.told("int sum = 0;\nfor (unsigned i = 0; i < skb->len; i++) sum += i * skb->mark ^ sum;\nreturn sum;", "--as-is", log="")
         self.assertIn("reason 2); give the loop a bound of constants", told)
 
-    @unittest.skipUnless(LOG, "the variable VERIFIER_LOG names no program")
+    @unittest.skipUnless(LOG, "the program verifier_log is missing")
     def test_with_a_log(self) -> None:
         cases = {
             "return table[skb->len & 31];": "it reads bytes 0 to 127 of a value of 64 bytes","return table[skb->len];": "offsets stay from .*; compare the number before","return table[skb->mark & 31];": "it reads bytes .* of a value of 64 bytes \\(map .bss\\); compare the index before",
@@ -112,6 +141,17 @@ class Messages(CommandTest, ClangTest):
         }
         for body, wanted in cases.items():
             self.assertRegex(self.told(body), wanted)
+
+    @unittest.skipUnless(LOG, "the program verifier_log is missing")
+    def test_a_graph(self) -> None:
+        """Each block has its line in C, and so has the refused instruction."""
+        self.told("int key = skb->len;\nif (key > 9)\nreturn 0;\nlong *value = bpf_map_lookup_elem(&m, &key);\nreturn *value;")
+        graph = self.command("check", "filter.o", "--dot", VERIFIER_LOG=LOG).stdout.decode()
+        blocks = labels(graph.replace(", color", ", style"))
+        self.assertEqual({bool(re.match(r"// \S*filter\.c:\d+: ", block[0])) for block in blocks}, {True}, graph)
+        refused = next(block for block in blocks if any(line.startswith("refused: ") for line in block))
+        source = max(at for at, line in enumerate(refused[: refused.index("the pointer may be null:")]) if line.startswith("// "))
+        self.assertRegex(refused[source], r"filter\.c:\d+: return \*value;")
 
 
 class Page(unittest.TestCase):

@@ -10,10 +10,9 @@ from generating.shared import Shared, Worded
 
 # How a comment of a file begins and ends, by the file's suffix.
 COMMENTS = {".md": ("<!-- ", " -->"), ".h": ("/* ", " */"), ".py": ("# ", ""), ".rs": ("// ", "")}
-PYTHON, RUST, HEADER = "clients/python/bpfhost/", "clients/rust/src/", "clients/c/include/bpfhost.h"
+PYTHON, RUST, HEADER = "clients/python/bpfhost/", "clients/rust/", "clients/c/include/bpfhost.h"
 # The limits that the header and the crates for Rust have.
 OF_LIBRARY = ("MOST_TENANTS", "LONGEST_FRAME", "LONGEST_REPLY", "LONGEST_PAYLOAD", "TEST_RUN_HEAD")
-RUST_TYPES = {"command": "u16", "flag": "u64", "type": "u32", "code": "i32"}
 
 
 @dataclass(frozen=True)
@@ -120,22 +119,30 @@ def _cases(shared: Shared) -> list[str]:
 # The crates for Rust.
 
 
+def _rust_constant(name: str, kind: str, number: int, text: str) -> list[str]:
+    return [f"/// {text}", f"pub const {name}: {kind} = {_grouped(number)};"]
+
+
 def _rust_limits(shared: Shared) -> list[str]:
-    lines = []
-    for each in map(shared.limit, OF_LIBRARY):
-        lines += [f"/// {_sentence(each.text)}", f"pub const {each.name}: usize = {_grouped(each.number)};", ""]
-    return lines[:-1]
+    return [line for each in map(shared.limit, OF_LIBRARY) for line in _rust_constant(each.name, "usize", each.number, _sentence(each.text))]
 
 
-def _rust_numbers(shared: Shared) -> list[str]:
-    def constants(kind: str, members: dict[str, int]) -> list[str]:
-        return [f"pub(crate) const {name}: {RUST_TYPES[kind]} = {number};" for name, number in members.items()]
+def _rust_codes(shared: Shared) -> list[str]:
+    return [line for each in shared.codes for line in _rust_constant(each.name, "i32", each.number, f"A code: {each.text}.")]
 
-    codes = {each.name: each.number for each in shared.codes if each.name in ("DONE", "TENANTS", "MEMORY")}
-    commands = {each.name.upper(): each.number for each in shared.commands}
-    types = {**shared.map_types, "SOCKET_FILTER": shared.limit("SOCKET_FILTER").number}
-    flags = shared.update_flags
-    return [*constants("code", codes), "", *constants("command", commands), "", *constants("type", types), "", *constants("flag", flags)]
+
+def _rust_commands(shared: Shared) -> list[str]:
+    return [line for each in shared.commands for line in _rust_constant(each.name.upper(), "u16", each.number, f"The command {each.text}.")]
+
+
+def _rust_types(shared: Shared) -> list[str]:
+    types = {name: f"The type of a map: {name.lower()}." for name in shared.map_types}
+    numbers = {**shared.map_types, "SOCKET_FILTER": shared.limit("SOCKET_FILTER").number}
+    texts = {**types, "SOCKET_FILTER": _sentence(shared.limit("SOCKET_FILTER").text)}
+    flags = {name: f"The flag BPF_{name} of an update." for name in shared.update_flags}
+    lines = [_rust_constant(name, "u32", number, texts[name]) for name, number in numbers.items()]
+    lines += [_rust_constant(name, "u64", number, flags[name]) for name, number in shared.update_flags.items()]
+    return [line for constant in lines for line in constant]
 
 
 def _rust_errors(shared: Shared) -> list[str]:
@@ -161,10 +168,12 @@ PLACES = [
     Place(HEADER, "commands", lambda shared: _members({each.name.upper(): (each.number, "") for each in shared.commands})),
     Place(HEADER, "types", _header_types),
     Place(HEADER, "texts of codes", _cases),
-    Place(RUST + "numbers.rs", "limits", _rust_limits),
-    Place(RUST + "numbers.rs", "numbers", _rust_numbers),
-    Place(RUST + "errno.rs", "errors", _rust_errors),
-    Place(RUST + "errno.rs", "all errors", lambda shared: [f"Errno::{each.name}," for each in shared.errors]),
-    Place(RUST + "errno.rs", "texts of errors", lambda shared: [f"Errno::{each.name} => {_literal(each.text)}," for each in shared.errors]),
-    Place(RUST + "error.rs", "reasons", lambda shared: [f"{each.number} => {_literal(each.text)}," for each in _all_reasons(shared)]),
+    Place(RUST + "bpfhost-sys/src/numbers.rs", "limits", _rust_limits),
+    Place(RUST + "bpfhost-sys/src/numbers.rs", "codes", _rust_codes),
+    Place(RUST + "bpfhost-sys/src/numbers.rs", "commands", _rust_commands),
+    Place(RUST + "bpfhost-sys/src/numbers.rs", "types", _rust_types),
+    Place(RUST + "src/errno.rs", "errors", _rust_errors),
+    Place(RUST + "src/errno.rs", "all errors", lambda shared: [f"Errno::{each.name}," for each in shared.errors]),
+    Place(RUST + "src/errno.rs", "texts of errors", lambda shared: [f"Errno::{each.name} => {_literal(each.text)}," for each in shared.errors]),
+    Place(RUST + "src/error.rs", "reasons", lambda shared: [f"{each.number} => {_literal(each.text)}," for each in _all_reasons(shared)]),
 ]

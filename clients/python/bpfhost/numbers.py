@@ -71,7 +71,7 @@ LONGEST_PACKET = 65_536  # the most bytes of a packet
 LONGEST_FRAME = 131_072  # the most bytes of a frame, without its length field; the reply to a longer one is E2BIG
 LONGEST_PAYLOAD = 4096  # the most bytes of a reply's payload
 REPLY_HEAD = 12  # the bytes of a reply before its payload, its length field included
-SOCKET_FILTER = 1  # the type of a program
+SOCKET_FILTER = 1  # the type of a program: a socket filter
 # end of limits
 
 # A reply to a frame that is too short to have a tenant and a command has this number in both places.

@@ -1,5 +1,5 @@
 use crate::Error;
-use crate::numbers::LONGEST_FRAME;
+use bpfhost_sys::LONGEST_FRAME;
 
 /// Packets one behind another. Their memory is kept for those of the next batch.
 #[derive(Default)]

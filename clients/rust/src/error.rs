@@ -44,7 +44,7 @@ impl fmt::Display for Error {
     fn fmt(&self, f: &mut fmt::Formatter<'_>) -> fmt::Result {
         match *self {
             Error::Tenants { asked } => write!(f, "a host has 1 to {MOST_TENANTS} tenants, not {asked}"),
-            Error::NoMemory => f.write_str("there is no memory for the host"),
+            Error::NoMemory => f.write_str("out of memory for the host"),
             Error::Room { results } => write!(f, "there is room for {results} results, and there are more packets"),
             Error::Status(errno) => errno.fmt(f),
             Error::Refused { errno, slot, reason } => {

@@ -1,13 +1,10 @@
 use crate::batch::Batch;
-use crate::library::{
-    Handle, Lent, bpfhost_c_free, bpfhost_c_handle_lent, bpfhost_c_memory_refused, bpfhost_c_new, bpfhost_c_run_packets,
-};
-use crate::numbers::{DONE, LONGEST_FRAME, MEMORY, TENANTS};
+use crate::library::{Handle, unexpected};
 use crate::{Context, Errno, Error, Reply, Tenant};
+use bpfhost_sys::{LONGEST_FRAME, MEMORY, TENANTS};
 use std::collections::hash_map::RandomState;
 use std::fmt;
 use std::hash::{BuildHasher, Hasher};
-use std::ptr::NonNull;
 
 /// A host of 1 to [`MOST_TENANTS`](crate::MOST_TENANTS) tenants, numbered from 0.
 ///
@@ -42,12 +39,11 @@ impl Host {
     ///
     /// [`Error::Tenants`] where their number is not 1 to [`MOST_TENANTS`](crate::MOST_TENANTS), [`Error::NoMemory`].
     pub fn new(tenants: usize) -> Result<Host, Error> {
-        let mut handle = Handle::empty();
-        match bpfhost_c_new(&mut handle, tenants, random_word(), random_word()) {
-            DONE => Ok(Host { handle, frame: Vec::new(), batch: Batch::default() }),
-            TENANTS => Err(Error::Tenants { asked: tenants }),
-            MEMORY => Err(Error::NoMemory),
-            code => panic!("{}", unexpected(code)),
+        match Handle::new(tenants, [random_word(), random_word()]) {
+            Ok(handle) => Ok(Host { handle, frame: Vec::new(), batch: Batch::default() }),
+            Err(TENANTS) => Err(Error::Tenants { asked: tenants }),
+            Err(MEMORY) => Err(Error::NoMemory),
+            Err(code) => panic!("{}", unexpected(code)),
         }
     }
 
@@ -59,7 +55,7 @@ impl Host {
     /// Handles a frame of any length and content, which is what follows the length field in a stream. The reply is lent where it
     /// stands; nothing is copied.
     pub fn handle(&mut self, frame: &[u8]) -> Reply<'_> {
-        handle(&mut self.handle, frame)
+        Reply::new(self.handle.handle(frame))
     }
 
     /// Handles a frame of a tenant, a command and its fields. A frame that is too long is cut behind one byte too many: it is answered
@@ -72,7 +68,7 @@ impl Host {
             let left = LONGEST_FRAME + 1 - self.frame.len();
             self.frame.extend_from_slice(&field[..field.len().min(left)]);
         }
-        handle(&mut self.handle, &self.frame)
+        Reply::new(self.handle.handle(&self.frame))
     }
 
     /// Copies packets one behind another, and runs a program of a tenant on them. Returns how many there were.
@@ -106,10 +102,7 @@ impl Host {
     /// Whether memory was ever refused to a tenant. While it was not, the tenant's replies are those that it would be given alone.
     /// False for a number that is not served.
     pub fn memory_was_refused(&mut self, tenant: u16) -> bool {
-        let mut refused = false;
-        let code = bpfhost_c_memory_refused(&mut self.handle, tenant, &mut refused);
-        assert_eq!(code, DONE, "{}", unexpected(code));
-        refused
+        self.handle.memory_was_refused(tenant)
     }
 }
 
@@ -117,25 +110,6 @@ impl fmt::Debug for Host {
     fn fmt(&self, f: &mut fmt::Formatter<'_>) -> fmt::Result {
         f.debug_struct("Host").finish_non_exhaustive()
     }
-}
-
-impl Drop for Host {
-    fn drop(&mut self) {
-        bpfhost_c_free(&mut self.handle);
-    }
-}
-
-/// The reply to a frame, lent as long as the handle.
-fn handle<'a>(handle: &'a mut Handle, frame: &[u8]) -> Reply<'a> {
-    let mut lent = Lent { at: NonNull::dangling().as_ptr(), length: 0 };
-    // SAFETY: the contract of `bpfhost_c_handle_lent` requires nothing but its types. The address and the length are those of a slice:
-    // the address is not null and leads to so many bytes, isize::MAX at most, and no `&mut` overlaps them, neither the handle's nor
-    // that of `lent`.
-    let code = unsafe { bpfhost_c_handle_lent(handle, frame.as_ptr(), frame.len(), &mut lent) };
-    assert_eq!(code, DONE, "{}", unexpected(code));
-    // SAFETY: by `done` of the same contract the reply stands there (`StandsAt`): these are the bytes of a vector that the handle
-    // owns. They change at the next call with the handle, and none can come while the reply is used, which borrows the handle for 'a.
-    Reply::new(unsafe { std::slice::from_raw_parts(lent.at, lent.length) })
 }
 
 /// Runs a program of a tenant on packets that lie one behind another in `bytes`, and end where `ends` says.
@@ -151,30 +125,6 @@ fn run_packets(
     if results.len() < ends.len() {
         return Err(Error::Room { results: results.len() });
     }
-    let mut status = 0;
-    // SAFETY: the contract of `bpfhost_c_run_packets` requires nothing but its types. Each address with its length is that of a slice:
-    // it is not null, is aligned and leads to so many items, of isize::MAX bytes at most, that outlive the call. What may be written is
-    // the handle, `results` and `status`: each is behind a `&mut`, which overlaps no other parameter.
-    let code = unsafe {
-        bpfhost_c_run_packets(
-            handle,
-            tenant,
-            prog,
-            &context.words(),
-            bytes.as_ptr(),
-            bytes.len(),
-            ends.as_ptr(),
-            ends.len(),
-            results.as_mut_ptr(),
-            results.len(),
-            &mut status,
-        )
-    };
-    assert_eq!(code, DONE, "{}", unexpected(code));
+    let status = handle.run_packets(tenant, prog, &context.words(), bytes, ends, results);
     if status == 0 { Ok(()) } else { Err(Error::Status(Errno::of_status(status))) }
-}
-
-/// By `code` of the contracts no other code comes: a `Host` has a host behind its handle from its first moment to its last.
-fn unexpected(code: i32) -> String {
-    format!("the code {code} of bpfhost comes here from no library of this version")
 }

@@ -1,5 +1,5 @@
 #![doc = include_str!("../README.md")]
-#![deny(missing_docs, unsafe_op_in_unsafe_fn, clippy::undocumented_unsafe_blocks)]
+#![deny(missing_docs, unsafe_code, unsafe_op_in_unsafe_fn, clippy::undocumented_unsafe_blocks)]
 
 mod batch;
 mod built;
@@ -7,20 +7,22 @@ mod errno;
 mod error;
 mod host;
 mod json;
+#[allow(unsafe_code)]
 mod library;
-mod numbers;
 mod packet;
+mod program;
 mod reply;
 mod tenant;
 
 /// The version of this crate, which is the library's too.
 pub const VERSION: &str = env!("CARGO_PKG_VERSION");
 
+pub use bpfhost_sys::{LONGEST_FRAME, LONGEST_PAYLOAD, LONGEST_REPLY, MOST_TENANTS, TEST_RUN_HEAD};
 pub use built::{BuiltMap, BuiltProgram, LoadedProgram, NotBuilt};
 pub use errno::Errno;
 pub use error::Error;
 pub use host::Host;
-pub use numbers::{LONGEST_FRAME, LONGEST_PAYLOAD, LONGEST_REPLY, MOST_TENANTS, TEST_RUN_HEAD};
 pub use packet::{Context, Packet};
+pub use program::AsProgram;
 pub use reply::Reply;
 pub use tenant::{Fd, MapShape, MapType, Tenant, Update};

@@ -1,58 +1,99 @@
-//! The proved functions, as `bpfhost.h` declares them. Their contracts stand in `crates/bpfhost_c/src/lib.rt`.
+//! A host of the library, by safe functions over those of `bpfhost-sys`. All `unsafe` code of this crate is here.
+//!
+//! No contract of the library's functions has a `requires`, so all that a call owes are its parameters' types (crates/bpfhost_c). A `&mut`
+//! and a slice are not null, are aligned, lead to a whole value, and outlive the call; what is behind a `&mut` overlaps no other parameter.
 
-use std::ffi::c_void;
-use std::ptr::null_mut;
+use bpfhost_sys::{
+    DONE, bpfhost, bpfhost_bytes, bpfhost_c_free, bpfhost_c_handle_lent, bpfhost_c_memory_refused, bpfhost_c_new,
+    bpfhost_c_run_packets,
+};
+use std::ptr::{NonNull, null_mut};
 
-/// What holds a host, or nothing. It begins empty, and only the library writes it.
-#[repr(C)]
-pub(crate) struct Handle {
-    at: *mut c_void,
-}
+/// A handle with a host, from its first moment to its last.
+pub(crate) struct Handle(bpfhost);
 
-/// Where a reply stands, and how many bytes it has.
-#[repr(C)]
-pub(crate) struct Lent {
-    pub(crate) at: *const u8,
-    pub(crate) length: usize,
-}
+// SAFETY: the library proves it: `unsafe impl Send for Handle` in `crates/bpfhost_c/src/handle.rt`, with its proof. A handle is the only
+// owner of its host, and two hosts share nothing.
+unsafe impl Send for Handle {}
 
 impl Handle {
-    /// A handle without a host.
-    pub(crate) fn empty() -> Handle {
-        Handle { at: null_mut() }
+    /// Makes a host with a seed of two words, or tells by a code why not.
+    pub(crate) fn new(tenants: usize, seed: [u64; 2]) -> Result<Handle, i32> {
+        let mut handle = Handle(bpfhost { at: null_mut() });
+        // SAFETY: the handle is empty, as the library wants it, and behind a `&mut`.
+        match unsafe { bpfhost_c_new(&mut handle.0, tenants, seed[0], seed[1]) } {
+            DONE => Ok(handle),
+            code => Err(code),
+        }
+    }
+
+    /// The reply to a frame, lent until the next call.
+    pub(crate) fn handle(&mut self, frame: &[u8]) -> &[u8] {
+        let mut lent = bpfhost_bytes { at: NonNull::dangling().as_ptr(), length: 0 };
+        // SAFETY: the address and the length are those of a slice; the handle and `lent` are behind a `&mut` each.
+        done(unsafe { bpfhost_c_handle_lent(&mut self.0, frame.as_ptr(), frame.len(), &mut lent) });
+        // SAFETY: by `done` of the contract the reply stands there (`StandsAt`): these are bytes of a vector that the handle owns. They
+        // change at the next call with the handle, which can't come while they are used, since they borrow it.
+        unsafe { std::slice::from_raw_parts(lent.at, lent.length) }
+    }
+
+    /// Runs a program of a tenant on packets that lie one after another in `bytes`, and end where `ends` says. Returns the status.
+    ///
+    /// # Panics
+    ///
+    /// If there are more packets than results.
+    pub(crate) fn run_packets(
+        &mut self,
+        tenant: u16,
+        prog: u32,
+        words: &[u32; 10],
+        bytes: &[u8],
+        ends: &[usize],
+        results: &mut [u32],
+    ) -> i32 {
+        assert!(ends.len() <= results.len(), "there is a result for each packet");
+        let mut status = 0;
+        // SAFETY: each address with its length is that of a slice or an array. What may be written is the handle, `results` and
+        // `status`, each behind a `&mut`.
+        done(unsafe {
+            bpfhost_c_run_packets(
+                &mut self.0,
+                tenant,
+                prog,
+                words.as_ptr(),
+                bytes.as_ptr(),
+                bytes.len(),
+                ends.as_ptr(),
+                ends.len(),
+                results.as_mut_ptr(),
+                results.len(),
+                &mut status,
+            )
+        });
+        status
+    }
+
+    /// Whether memory was ever refused to a tenant.
+    pub(crate) fn memory_was_refused(&mut self, tenant: u16) -> bool {
+        let mut refused = false;
+        // SAFETY: the handle and `refused`, which is a whole `bool`, are behind a `&mut` each.
+        done(unsafe { bpfhost_c_memory_refused(&mut self.0, tenant, &mut refused) });
+        refused
     }
 }
 
-// SAFETY: the library proves it: `unsafe impl Send for Handle` in `crates/bpfhost_c/src/handle.rt`, with its proof. A handle owns
-// its host alone, and two hosts share nothing.
-unsafe impl Send for Handle {}
+impl Drop for Handle {
+    fn drop(&mut self) {
+        // SAFETY: the handle is behind a `&mut`, and is empty or as the library left it.
+        unsafe { bpfhost_c_free(&mut self.0) }
+    }
+}
 
-// SAFETY: these are the symbols and the types of `bpfhost.h`. No contract of these functions has a `requires`, so all that a call
-// owes are its parameters' types. A `Handle` is empty or as the library left it, since its field is private; a `&mut` is aligned, leads
-// to a whole value and overlaps no other parameter. So three of the functions are safe. The two that are not take addresses and
-// lengths of C, and their caller owes that each address with its length is that of a slice, which outlives the call, and that no
-// other parameter overlaps what is written.
-unsafe extern "C" {
-    pub(crate) safe fn bpfhost_c_new(handle: &mut Handle, tenants: usize, first: u64, second: u64) -> i32;
-    pub(crate) fn bpfhost_c_handle_lent(
-        handle: &mut Handle,
-        frame: *const u8,
-        frame_length: usize,
-        lent: &mut Lent,
-    ) -> i32;
-    pub(crate) fn bpfhost_c_run_packets(
-        handle: &mut Handle,
-        tenant: u16,
-        fd: u32,
-        words: &[u32; 10],
-        bytes: *const u8,
-        byte_count: usize,
-        ends: *const usize,
-        packets: usize,
-        results: *mut u32,
-        room: usize,
-        status: &mut i32,
-    ) -> i32;
-    pub(crate) safe fn bpfhost_c_memory_refused(handle: &mut Handle, tenant: u16, refused: &mut bool) -> i32;
-    pub(crate) safe fn bpfhost_c_free(handle: &mut Handle);
+/// By `code` of the contracts a call on a handle with a host returns no other code.
+fn done(code: i32) {
+    assert_eq!(code, DONE, "{}", unexpected(code));
+}
+
+pub(crate) fn unexpected(code: i32) -> String {
+    format!("the code {code} of bpfhost comes here from no library of this version")
 }

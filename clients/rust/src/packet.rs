@@ -1,4 +1,4 @@
-use crate::numbers::{PROG_TEST_RUN, TEST_RUN_HEAD};
+use bpfhost_sys::{PROG_TEST_RUN, TEST_RUN_HEAD};
 
 /// What a test run finds in its context behind the packet's length: the fields of the kernel's `__sk_buff`, with any values.
 #[derive(Debug, Clone, Copy, Default, PartialEq, Eq)]

@@ -1,5 +1,5 @@
-use crate::numbers::PROG_LOAD;
 use crate::{Errno, Error};
+use bpfhost_sys::PROG_LOAD;
 
 /// A reply, lent by the host until its next call:
 ///

@@ -1,8 +1,8 @@
-use crate::numbers::{
+use crate::{AsProgram, Context, Errno, Error, Host, Reply};
+use bpfhost_sys::{
     ANY, ARRAY, CLOSE, EXIST, HASH, MAP_CREATE, MAP_DELETE, MAP_LOOKUP, MAP_NEXT_KEY, MAP_UPDATE, NOEXIST, PROG_LOAD,
     PROG_TEST_RUN, SOCKET_FILTER, TEST_RUN_HEAD,
 };
-use crate::{Context, Errno, Error, Host, Reply};
 
 /// A descriptor: what names a map or a program to the tenant that opened it. The host gives 3 to 66; another number is answered
 /// [`EBADF`](Errno::EBADF).
@@ -119,14 +119,27 @@ impl<'a> Tenant<'a> {
         reply.done().map(|_| reply.payload())
     }
 
-    /// Loads a socket filter of 1 to 4,096 slots, in the bytes of RFC 9669 as a little-endian machine has them. It keeps the maps that
-    /// its slots name. The descriptor is the lowest that is free.
+    /// Loads a socket filter of 1 to 4,096 slots, in the bytes of RFC 9669 as a little-endian machine has them: as slots of eight bytes
+    /// each, or as plain bytes. It keeps the maps that its slots name. The descriptor is the lowest that is free.
+    ///
+    /// ```
+    /// # use bpfhost::{Context, Error, Host};
+    /// # let mut host = Host::new(1)?;
+    /// # let mut tenant = host.tenant(0);
+    /// // r0 = the packet's length; exit
+    /// let bytes: &[u8] = &[0x61, 0x10, 0, 0, 0, 0, 0, 0, 0x95, 0, 0, 0, 0, 0, 0, 0];
+    /// let slots = [[0x61, 0x10, 0, 0, 0, 0, 0, 0], [0x95, 0, 0, 0, 0, 0, 0, 0]];
+    /// for prog in [tenant.prog_load(bytes)?, tenant.prog_load(&slots)?] {
+    ///     assert_eq!(tenant.prog_test_run(prog, &Context::default(), b"a packet")?, 8);
+    /// }
+    /// # Ok::<(), Error>(())
+    /// ```
     ///
     /// # Errors
     ///
-    /// [`Error::Refused`] tells the first slot that breaks a rule, and the rule. EMFILE, ENOMEM.
-    pub fn prog_load(&mut self, slots: &[[u8; 8]]) -> Result<Fd, Error> {
-        self.ask(PROG_LOAD, &[&SOCKET_FILTER.to_le_bytes(), slots.as_flattened()]).done().map(Fd)
+    /// [`Error::Refused`] tells the first slot that breaks a rule, and the rule; bytes that are no whole slots break one. EMFILE, ENOMEM.
+    pub fn prog_load(&mut self, program: &(impl AsProgram + ?Sized)) -> Result<Fd, Error> {
+        self.ask(PROG_LOAD, &[&SOCKET_FILTER.to_le_bytes(), program.as_program()]).done().map(Fd)
     }
 
     /// Runs a program on a packet of 65,536 bytes at most, and gives the low 32 bits of its result. The packet is copied into the frame;

@@ -149,6 +149,19 @@ fn programs_that_are_refused() {
 }
 
 #[test]
+fn bytes_that_are_no_whole_slots() {
+    let mut host = host(1);
+    let mut tenant = host.tenant(0);
+    let bytes = slots(&LENGTH).as_flattened().to_vec();
+    let refused = |slot, reason| Err(Error::Refused { errno: Errno::EINVAL, slot, reason });
+    assert_eq!(tenant.prog_load(&bytes[..15]), refused(1, 105));
+    assert_eq!(tenant.prog_load(&bytes[..7]), refused(0, 105));
+    assert_eq!(tenant.prog_load(&[&bytes[..], &[0]].concat()), refused(2, 105));
+    assert_eq!(tenant.prog_load(&bytes), Ok(Fd(3)));
+    assert_eq!(tenant.prog_load(&&bytes[..]), Ok(Fd(4)));
+}
+
+#[test]
 fn errors_are_said_in_words() {
     let refused = Error::Refused { errno: Errno::EACCES, slot: 12, reason: 29 };
     assert_eq!(refused.to_string(), "slot 12 is refused: outside a map's value (reason 29, EACCES)");
@@ -156,7 +169,7 @@ fn errors_are_said_in_words() {
     assert_eq!(Error::Status(Errno::EBADF).to_string(), "the descriptor is not open (EBADF)");
     assert_eq!(Error::Status(Errno::EBADF).errno().map(Errno::number), Some(9));
     assert_eq!(Error::Tenants { asked: 65 }.to_string(), "a host has 1 to 64 tenants, not 65");
-    assert_eq!(Error::NoMemory.to_string(), "there is no memory for the host");
+    assert_eq!(Error::NoMemory.to_string(), "out of memory for the host");
     assert_eq!(Error::NoMemory.errno(), None);
     let _: Box<dyn std::error::Error + Send + Sync> = Box::new(refused);
 }

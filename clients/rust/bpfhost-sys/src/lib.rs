@@ -1,0 +1,73 @@
+#![doc = include_str!("../README.md")]
+#![deny(missing_docs)]
+#![no_std]
+#![allow(non_camel_case_types)]
+
+mod numbers;
+
+pub use numbers::*;
+
+use core::ffi::c_void;
+
+/// What holds a host, or nothing: empty if `at` is null. Only the library writes it, and it is not copied.
+#[derive(Debug)]
+#[repr(C)]
+pub struct bpfhost {
+    /// The host.
+    pub at: *mut c_void,
+}
+
+/// Bytes that the library lends.
+#[derive(Debug)]
+#[repr(C)]
+pub struct bpfhost_bytes {
+    /// Where they begin.
+    pub at: *const u8,
+    /// How many there are.
+    pub length: usize,
+}
+
+unsafe extern "C" {
+    /// Makes a host for so many tenants, with the two words of its seed, in an empty handle. Returns a code.
+    pub fn bpfhost_c_new(handle: *mut bpfhost, tenants: usize, first: u64, second: u64) -> i32;
+
+    /// Handles a frame, and copies the reply to the front of a buffer; `written` gets its length. Returns a code.
+    pub fn bpfhost_c_handle(
+        handle: *mut bpfhost,
+        frame: *const u8,
+        frame_length: usize,
+        room: *mut u8,
+        room_length: usize,
+        written: *mut usize,
+    ) -> i32;
+
+    /// Handles a frame, and lends the reply until the next call on the handle. Returns a code.
+    pub fn bpfhost_c_handle_lent(
+        handle: *mut bpfhost,
+        frame: *const u8,
+        frame_length: usize,
+        reply: *mut bpfhost_bytes,
+    ) -> i32;
+
+    /// Runs a program of a tenant on many packets, with ten words of context; packet i ends before byte `ends[i]`. `status` gets 0, or why
+    /// no packet was run. Returns a code.
+    pub fn bpfhost_c_run_packets(
+        handle: *mut bpfhost,
+        tenant: u16,
+        fd: u32,
+        words: *const u32,
+        bytes: *const u8,
+        byte_count: usize,
+        ends: *const usize,
+        packets: usize,
+        results: *mut u32,
+        room: usize,
+        status: *mut i32,
+    ) -> i32;
+
+    /// Tells whether memory was ever refused to a tenant. Returns a code.
+    pub fn bpfhost_c_memory_refused(handle: *mut bpfhost, tenant: u16, refused: *mut bool) -> i32;
+
+    /// Frees the host of a handle, which is empty then. An empty handle is left alone.
+    pub fn bpfhost_c_free(handle: *mut bpfhost);
+}

@@ -1,0 +1,63 @@
+//! The numbers of the library and of its protocol. `bpfhost.h` has the same names with `BPFHOST_` in front.
+
+// limits: written by tools/generate
+/// The most tenants of a host.
+pub const MOST_TENANTS: usize = 64;
+/// The most bytes of a frame, without its length field; the reply to a longer one is E2BIG.
+pub const LONGEST_FRAME: usize = 131_072;
+/// The most bytes of a reply, its length field included.
+pub const LONGEST_REPLY: usize = 4108;
+/// The most bytes of a reply's payload.
+pub const LONGEST_PAYLOAD: usize = 4096;
+/// The bytes of a PROG_TEST_RUN frame before its packet.
+pub const TEST_RUN_HEAD: usize = 48;
+// end of limits
+
+// codes: written by tools/generate
+/// A code: the call succeeded.
+pub const DONE: i32 = 0;
+/// A code: the handle is empty.
+pub const NO_HOST: i32 = -1;
+/// A code: the handle has a host already.
+pub const HAS_HOST: i32 = -2;
+/// A code: a host has 1 to 64 tenants.
+pub const TENANTS: i32 = -3;
+/// A code: out of memory for the host.
+pub const MEMORY: i32 = -4;
+/// A code: the buffer is smaller than the longest reply.
+pub const ROOM: i32 = -5;
+// end of codes
+
+// commands: written by tools/generate
+/// The command MAP_CREATE.
+pub const MAP_CREATE: u16 = 0;
+/// The command MAP_LOOKUP_ELEM.
+pub const MAP_LOOKUP: u16 = 1;
+/// The command MAP_UPDATE_ELEM.
+pub const MAP_UPDATE: u16 = 2;
+/// The command MAP_DELETE_ELEM.
+pub const MAP_DELETE: u16 = 3;
+/// The command MAP_GET_NEXT_KEY.
+pub const MAP_NEXT_KEY: u16 = 4;
+/// The command PROG_LOAD.
+pub const PROG_LOAD: u16 = 5;
+/// The command PROG_TEST_RUN.
+pub const PROG_TEST_RUN: u16 = 10;
+/// The command CLOSE.
+pub const CLOSE: u16 = 256;
+// end of commands
+
+// types: written by tools/generate
+/// The type of a map: hash.
+pub const HASH: u32 = 1;
+/// The type of a map: array.
+pub const ARRAY: u32 = 2;
+/// The type of a program: a socket filter.
+pub const SOCKET_FILTER: u32 = 1;
+/// The flag BPF_ANY of an update.
+pub const ANY: u64 = 0;
+/// The flag BPF_NOEXIST of an update.
+pub const NOEXIST: u64 = 1;
+/// The flag BPF_EXIST of an update.
+pub const EXIST: u64 = 2;
+// end of types

@@ -21,7 +21,7 @@ size_of m = length m.bytes
 abbrev pub base : ℕ
 base = 4294967296
 
--- the place (offset from base) of n bytes at an address; None where they don't lie in a memory of that size
+-- the place (offset from base) of n bytes at an address; None if they are not in a memory of that size
 abbrev pub place_of : ℕ → ℕ → ℕ → Option ℕ
 place_of size n address = if nat_le base address && nat_le (address + n) (base + size) then Some (address - base) else None
 

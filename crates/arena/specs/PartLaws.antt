@@ -14,7 +14,7 @@ part_within m t is =
     let size = is.0 in
     omega arith
 
--- where n bytes at a place lie in the memory, the place of the address base + place is that place
+-- if n bytes at a place are in the memory, the place of the address base + place is that place
 pub place_is : (size n place address : ℕ) → address ≡ base + place → place + n ≤ size → place_of size n address ≡ Some place
 place_is size n place address e h =
     let from : base ≤ address = omega arith in

@@ -1,4 +1,4 @@
-//! What a caller can prove of a tenant's part from the contracts alone.
+//! What a caller can prove of a tenant's part only from the contracts.
 
 ghost use Rattle.std.specs.Prelude.{◌+◌, ◌<◌, ◌≤◌};
 ghost use Rattle.words.specs.Bytes.{low_bytes};

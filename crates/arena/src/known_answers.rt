@@ -1,4 +1,4 @@
-//! Answers that were worked out by hand. Each follows from the contracts alone.
+//! Answers that were worked out by hand. Each follows only from the contracts.
 
 use crate::memory::{Arena, BASE};
 use crate::trace::Trace;
@@ -21,7 +21,7 @@ fn number_stored_and_loaded(alloc: Global) -> Result<(), AllocError> {
     Ok(())
 }
 
-/// The same where the bytes are known to lie in the memory.
+/// The same if the bytes are known to be in the memory.
 fn number_stored_and_loaded_inside(alloc: Global) -> Result<(), AllocError> {
     let mut arena = Arena::new(alloc, 2, 16)?;
     let mut trace = Trace::new();

@@ -164,7 +164,7 @@ impl Arena {
         Some(())
     }
 
-    /// Loads like `load`, where the bytes are known to lie in the memory.
+    /// Loads like `load`; the bytes are known to be in the memory.
     #[inline(always)]
     pub fn load_inside(&self, address: u64, size: usize, trace: &mut Trace) -> u64
         requires size { IsSize size }
@@ -179,7 +179,7 @@ impl Arena {
         read(&self.bytes, start, size)
     }
 
-    /// Stores like `store`, where the bytes are known to lie in the memory.
+    /// Stores like `store`; the bytes are known to be in the memory.
     #[inline(always)]
     pub fn store_inside(&mut self, address: u64, size: usize, value: u64, trace: &mut Trace)
         requires size { IsSize size }
@@ -215,7 +215,7 @@ impl Arena {
         Some(())
     }
 
-    /// Copies like `copy`, where both ranges are known to lie in the memory.
+    /// Copies like `copy`; both ranges are known to be in the memory.
     #[inline(always)]
     pub fn copy_inside(&mut self, to: u64, from: u64, length: usize, trace: &mut Trace)
         requires some { 1 ≤ length }

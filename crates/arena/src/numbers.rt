@@ -47,7 +47,7 @@ fn read_double(bytes: &[u8], at: usize) -> u64
     ])
 }
 
-/// The number whose eight bytes, little-endian, stand at offset `at`.
+/// The number whose eight bytes, little-endian, are at offset `at`.
 #[inline(always)]
 fn spelled_double(bytes: &[u8], at: usize) -> u64
     requires { at + 8 ≤ length bytes.now }

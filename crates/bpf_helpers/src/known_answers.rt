@@ -1,4 +1,4 @@
-//! Known answers, worked out by hand and proved from the contracts alone.
+//! Known answers, worked out by hand and proved only from the contracts.
 
 use crate::output::OUTSIDE;
 use crate::update::refusal;

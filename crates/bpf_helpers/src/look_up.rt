@@ -27,7 +27,7 @@ pub(crate) fn bound(bind: &[MapKey], word: u64) -> Option<MapKey>
     Some(bind[index as usize])
 }
 
-/// The offset, in the part of `tenant`, of `size` bytes at an address, where `size` is at most `PART`; `None`
+/// The offset, in the part of `tenant`, of `size` bytes at an address; `size` is at most `PART`; `None`
 /// if they don't lie in the part.
 #[inline(always)]
 pub(crate) fn place_in(arena: &Arena, tenant: usize, size: usize, address: u64) -> Option<usize>

@@ -1,4 +1,4 @@
-//! What follows for a caller from the contracts alone, of live maps with the bytes of their values.
+//! What follows for a caller only from the contracts, about live maps with the bytes of their values.
 
 ghost use Rattle.std.specs.Prelude.{◌≡◌, ◌≢◌, ◌+◌, ◌-◌, ◌^◌, ◌<◌, ◌≤◌, length, Err, IfOk, OnErr, IsSome};
 ghost use Rattle.tagged_model.specs.Table.{after_run, with_deleted};
@@ -13,7 +13,7 @@ use seeded_hash::HashSeed;
 use std::alloc::Global;
 use tagged_model::{MapFault, MapShape};
 
-/// An update changes the map as the verdict on it says, and no other map. A refused update changes no map.
+/// An update changes the map as the verdict on it says, and no other map. A rejected update changes no map.
 fn update(
     maps: &mut Maps,
     map: MapKey,
@@ -40,7 +40,7 @@ fn update(
     Ok(())
 }
 
-/// A deletion outside a run removes the key from the map, and changes no other map. A refused deletion changes no map.
+/// A deletion outside a run removes the key from the map, and changes no other map. A rejected deletion changes no map.
 fn delete(maps: &mut Maps, map: MapKey, key: &[u8], part: &[u8]) -> Result<(), MapFault>
     requires live { IsSome (live_at maps.old map) }
     requires key { length key.now ≡ (shape_at maps.old map).key_size }

@@ -43,7 +43,7 @@ impl ShortKey {
     }
 }
 
-/// A key that a map returns: a short one by value, a longer one borrowed from where the map keeps it.
+/// A key that a map returns: a short one by value, a longer one borrowed from the map.
 #[derive(Drop)]
 pub enum KeyRef<'a> {
     Short(ShortKey),

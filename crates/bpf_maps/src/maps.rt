@@ -328,7 +328,7 @@ impl Maps {
         }
     }
 
-    /// Claims a place for a key, where the caller then writes the value. A present key keeps its place. A new key goes to the end,
+    /// Claims a place for a key; the caller then writes the value there. A present key keeps its place. A new key goes to the end,
     /// and gets any place that is not in use.
     ///
     /// # Errors

@@ -32,7 +32,7 @@ pub trait ValueMap {
         ensures within { IfSome result (λ place. place < (places self.now).shape.max_entries) }
         ensures sound { IsSound (places self.now) };
 
-    /// Claims a place for a key, where the caller then writes the value. A present key keeps its place. A new key goes to the end,
+    /// Claims a place for a key; the caller then writes the value there. A present key keeps its place. A new key goes to the end,
     /// and gets any place that is not in use.
     ///
     /// # Errors

@@ -27,7 +27,7 @@ hex_line line = hex_digits (stripped line)
 abbrev pub hex_bytes : List (List ℕ) → List ℕ
 hex_bytes lines = flat_map (λ line. unwrap_or (hex_line line) []) lines
 
--- the fault of a line with these bytes, where the lines before it have `before` bytes
+-- the fault of a line with these bytes, after lines of `before` bytes
 abbrev pub hex_fault : ℕ → Option (List ℕ) → Option TextFaultKind
 hex_fault before None = Some Syntax
 hex_fault before (Some bytes) = if nat_le before (8 * most_slots) && nat_lt (8 * most_slots) (before + length bytes) then Some TooLong else None

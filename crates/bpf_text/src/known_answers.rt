@@ -1,4 +1,4 @@
-//! Known answers of the public calls, proved from their contracts alone. Nothing calls these functions.
+//! Known answers of the public calls, proved only from their contracts. Nothing calls these functions.
 
 use crate::TextFaultKind;
 

@@ -8,7 +8,7 @@ use Rattle.host_core.specs.Limits.{most_tenants}
 use Rattle.bpfhost_c.specs.declared.codes.TheConstants.{DONE, NO_HOST, HAS_HOST, TENANTS, ROOM}
 use Rattle.bpfhost_c.specs.declared.session.Session.{Session}
 
--- the states of the tenants of the host behind a handle; an empty one has none
+-- the states of the tenants of a handle's host; an empty handle has none
 abbrev pub states : Option Session → List TenantState
 states None = []
 states (Some s) = s.host

@@ -86,5 +86,5 @@ impl Drop for Handle {
     }
 }
 
-// The handle owns the box behind it, and a session may be sent to another thread.
+// The handle owns its box, and a session may be sent to another thread.
 unsafe impl Send for Handle {}

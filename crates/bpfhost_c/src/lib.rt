@@ -98,7 +98,7 @@ pub struct Lent {
     pub length: usize,
 }
 
-/// Creates a host for 1 to `MOST_TENANTS` tenants, and puts it behind an empty handle. The two words are the seed of its hash maps:
+/// Creates a host for 1 to `MOST_TENANTS` tenants, and stores it in an empty handle. The two words are the seed of its hash maps:
 /// random ones, which no tenant knows.
 ///
 /// Returns `DONE`; else `TENANTS`, `HAS_HOST` or `MEMORY`, and the handle is unchanged.
@@ -206,7 +206,7 @@ pub extern "C" fn bpfhost_c_handle_lent(
 
 /// Runs the program at a descriptor of a tenant on many packets, one after another, on the same ten words of context. The packets
 /// lie one after another in `bytes`, and each ends at its number in `ends`. Writes the result of each to the front of `results`, and
-/// 0 to `status`; or, if the batch is refused, the status with which its frames would be, and then no packet was run.
+/// 0 to `status`; or, if the batch is rejected, the status of the error that its frames would get, and then no packet was run.
 ///
 /// Returns `DONE`; else `NO_HOST`, and the host, `results` and `status` are unchanged.
 #[unsafe(no_mangle)]
@@ -263,7 +263,7 @@ pub extern "C" fn bpfhost_c_memory_refused(
     DONE
 }
 
-/// Frees the host behind a handle, which is empty afterwards; an empty handle stays empty.
+/// Frees the host of a handle, which is empty afterwards; an empty handle stays empty.
 #[unsafe(no_mangle)]
 pub extern "C" fn bpfhost_c_free(alloc: Global, handle: &mut Handle)
     ensures { handle.new.session ≡ None }

@@ -25,7 +25,7 @@ pub fn first_word(text: &str) -> (&str, &str)
     text.split_once(' ').unwrap_or((text, ""))
 }
 
-/// The lines of a program's text, where `;` ends a line and `COUNT times LINE` is `COUNT` such lines.
+/// The lines of a program's text: `;` ends a line and `COUNT times LINE` is `COUNT` such lines.
 pub fn program_lines(alloc: Global, text: &str) -> Result<String, LineFault> {
     let mut lines = String::new(alloc);
     for part in text.split(';') {

@@ -27,11 +27,11 @@ head_length = 4
 abbrev pub head_of : List ℕ → Option Head
 head_of frame = if nat_lt (length frame) head_length then None else Some (record { tenant = little_number 2 frame; command = little_number 2 (drop 2 frame) })
 
--- the tenant of a frame, and 65535 where it is too short for a head
+-- the tenant of a frame, and 65535 if it is too short for a head
 abbrev pub owner : List ℕ → ℕ
 owner frame = if nat_lt (length frame) head_length then 65535 else little_number 2 frame
 
--- the number of its command, and 65535 where it is too short for a head
+-- the number of its command, and 65535 if it is too short for a head
 abbrev pub command_number : List ℕ → ℕ
 command_number frame = if nat_lt (length frame) head_length then 65535 else little_number 2 (drop 2 frame)
 

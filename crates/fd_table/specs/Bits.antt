@@ -3,6 +3,6 @@ use Rattle.std.specs.Prelude.{◌≡◌, ℕ, ◌<◌, is_none, List, Option, No
 use Rattle.std.specs.Int.{bit_at}
 use Rattle.fd_table.specs.Table.{most}
 
--- a bit is 0 where its place is free, and 1 where it is taken
+-- a bit is 0 if its place is free, and 1 if it is taken
 abbrev pub TellsTaken : {A : Type 0} → ℕ → List (Option A) → Type 0
 TellsTaken word places = (place : ℕ) → place < most → bit_at word place ≡ (if is_none (slice_index_or places place None) then 0 else 1)

@@ -18,7 +18,7 @@ pub const MOST: usize = 64;
 #[derive(Drop)]
 pub struct FdTable<T> {
     places: Vec<Option<T>>,
-    /// Bit k is set where place k is taken.
+    /// Bit k is set if place k is taken.
     taken: u64,
 }
 

@@ -1,4 +1,4 @@
-//! Worked cases over frames: writes the answer of the host to each line of standard input.
+//! Worked cases over frames: writes the reply of the host to each line of standard input.
 //!
 //! - `new TENANTS`: a new host, for the lines that follow.
 //! - `frame HEX`: the reply to a frame, which is what follows the length field.
@@ -7,7 +7,7 @@
 //!   MAP_DELETE_ELEM and MAP_GET_NEXT_KEY with this key, which may be left out.
 //! - `update TENANT FD FLAGS HEX`: the reply to MAP_UPDATE_ELEM with this key and value.
 //! - `close TENANT FD`: the reply to CLOSE.
-//! - `load TENANT TEXT`: the reply to PROG_LOAD of a program's text, where `;` ends a line and `COUNT times LINE` is
+//! - `load TENANT TEXT`: the reply to PROG_LOAD of a program's text: `;` ends a line and `COUNT times LINE` is
 //!   `COUNT` such lines.
 //! - `slots TENANT HEX`: the reply to PROG_LOAD of these slots.
 //! - `words HEX`: the context words of the runs that follow; zeros at first.

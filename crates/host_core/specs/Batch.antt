@@ -16,7 +16,7 @@ RunsFor fd words None packets room written after = ⊥
 RunsFor fd words (Some s) packets room written after =
     (last : TenantState) × RunsBatch fd words s packets room written last × (after ≡ Some last)
 
--- why a batch is refused: its tenant is not served, or as the tenant refuses it
+-- why a batch is rejected: its tenant is not served, or the error of the tenant
 abbrev pub refusal_for : Option TenantState → ℕ → ℕ → List ℕ → ℕ → Option Errno
 refusal_for None fd many ends room = Some NotPermitted
 refusal_for (Some s) fd many ends room = batch_refusal (named s.objects fd) many ends room

@@ -10,12 +10,12 @@ use Rattle.host_core.specs.declared.server.ServeFault.{ServeFault}
 use Rattle.host_core.specs.declared.server.ServeFaultKind.TheVariants.{Truncated, TooManyFrames, Memory}
 use Rattle.host_core.specs.Served.{EachIsToldByItsMachine, IsUnrefused, Noninterference, StreamState, ServesAlone, ServesStream, NoCallFailed}
 
--- a tenant to which no memory was refused gets the replies of its machine alone, whatever was refused to others
+-- a tenant to which no memory was refused gets exactly the replies of its own machine, whatever was refused to others
 abbrev pub UnrefusedAreToldAlone : Type 0
 UnrefusedAreToldAlone =
     (before after : List TenantState) (frames replies : List (List ℕ)) → EachIsToldByItsMachine before frames replies after → Noninterference before frames replies after
 
--- each tenant gets the replies of its machine alone until memory is refused to it
+-- each tenant gets exactly the replies of its own machine until memory is refused to it
 abbrev pub EachIsToldAloneUntilRefused : Type 0
 EachIsToldAloneUntilRefused =
     (before after : List TenantState) (frames replies : List (List ℕ)) → EachIsToldByItsMachine before frames replies after
@@ -57,8 +57,8 @@ stream_result limit many rest =
     (if length rest == 0 then Ok many else
     (if many == limit then Err (record { kind = TooManyFrames; frames = limit }) else Err (record { kind = Truncated; frames = many })))
 
--- No content of a frame ends a stream: where the bytes of the reader are known, no call of the reader or the writer fails, and there is
--- memory for the buffers, the end of a call depends only on how many frames there are, and on whether bytes follow them.
+-- No content of a frame ends a stream: if the bytes of the reader are known, no call of the reader or the writer fails, and there is
+-- memory for the buffers, the end of a call depends only on the number of frames, and on whether bytes follow them.
 abbrev pub NoContentEndsAStream : Type 0
 NoContentEndsAStream =
     (limit : ℕ) (result : Result ℕ ServeFault) (old new : StreamState) (bytes : List ℕ) (frames : List (List ℕ)) (rest : List ℕ)

@@ -36,7 +36,7 @@ NoneFaults replies = AllByRecursion (λ reply. ¬ IsFault reply) replies
 
 -- ---- calls of `serve`
 
--- the tenants' states; the bytes that the reader has left and those that the writer holds, where they are known; whether all that
+-- the tenants' states; the bytes that the reader has left and those that the writer holds, if they are known; whether all that
 -- was written is flushed; and how many calls of each failed so far
 pub record StreamState : Type 0 where
   pub states : List TenantState
@@ -61,7 +61,7 @@ stream_state source sink states reader writer = record {
 abbrev pub NoCallFailed : StreamState → StreamState → Type 0
 NoCallFailed old new = (new.read_failures ≡ old.read_failures) × (new.write_failures ≡ old.write_failures)
 
--- frames were read and answered, and then the bytes `rest` were read; of the replies, `out` was written
+-- frames were read and got replies, and then the bytes `rest` were read; of the replies, `out` was written
 pub record Serves (old new : StreamState) (frames replies : List (List ℕ)) (rest out : List ℕ) : Type 0 where
   pub each : AllByRecursion IsFrame frames
   pub paired : length replies ≡ length frames
@@ -74,14 +74,14 @@ pub record Serves (old new : StreamState) (frames replies : List (List ℕ)) (re
 abbrev pub joined_replies : List (List ℕ) → List ℕ
 joined_replies replies = flat_map (λ reply. reply) replies
 
--- `count` frames were answered, and each reply was written whole
+-- `count` frames got replies, and each reply was written whole
 abbrev pub AnswersFrames : StreamState → StreamState → ℕ → List ℕ → Type 0
 AnswersFrames old new count rest =
     (frames : List (List ℕ)) × (replies : List (List ℕ)) × (length frames ≡ count)
     × Serves old new frames replies rest (joined_replies replies)
 
 -- `count` frames were read, and then bytes that are no whole frame; the replies to the frames were written, one after another.
--- Each tenant to which no memory was refused got those of its machine alone, and no test run faulted.
+-- Each tenant to which no memory was refused got exactly those of its own machine, and no test run faulted.
 pub record ServesAlone (old new : StreamState) (count : ℕ) (rest : List ℕ) : Type 0 where
   pub frames : List (List ℕ)
   pub replies : List (List ℕ)
@@ -93,13 +93,13 @@ pub record ServesAlone (old new : StreamState) (count : ℕ) (rest : List ℕ) :
   pub alone : Noninterference old.states frames replies new.states
   pub no_fault : NoneFaults replies
 
--- one more frame was answered, and its reply was not written whole, or not flushed
+-- one more frame got a reply, which was not written whole, or not flushed
 abbrev pub CutsLastReply : StreamState → StreamState → ℕ → Type 0
 CutsLastReply old new count =
     (frames : List (List ℕ)) × (replies : List (List ℕ)) × (last : List ℕ) × (n : ℕ) × (length frames ≡ count + 1)
     × (length replies ≡ count) × Serves old new frames (replies ++ last ∷ []) [] (joined_replies replies ++ take n last)
 
--- the end of a call that answers `count` frames: the input is at its end
+-- the end of a call that replies to `count` frames: the input is at its end
 abbrev pub ServesToEnd : StreamState → StreamState → ℕ → Type 0
 ServesToEnd old new count = AnswersFrames old new count [] × IsAtEnd new.input × NoCallFailed old new
 
@@ -113,11 +113,11 @@ StopsWithFault old new Truncated count =
 StopsWithFault old new TooManyFrames count = (byte : ℕ) × AnswersFrames old new count (byte ∷ []) × NoCallFailed old new
 StopsWithFault old new Memory count = (count ≡ 0) × (new ≡ old)
 
--- at any fault but Write, the frames answered until then are served like those of a whole stream
+-- at any fault but Write, the frames before it are served like those of a whole stream
 abbrev pub StopsAlone : StreamState → StreamState → ServeFaultKind → ℕ → Type 0
 StopsAlone old new kind count = kind ≢ Write → (rest : List ℕ) × ServesAlone old new count rest
 
--- where all was flushed at first, all is flushed again: the replies too that were written since
+-- if everything was flushed before, everything is flushed again, including the replies that were written since
 pub record IsFlushedAgain (old new : StreamState) : Type 0 where
   pub again : old.flushed ≡ true → new.flushed ≡ true
 

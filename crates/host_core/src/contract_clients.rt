@@ -1,4 +1,4 @@
-//! What a caller can prove of a stream from the contracts alone.
+//! What a caller can prove of a stream only from the contracts.
 
 ghost use Rattle.std.specs.Prelude.{◌≡◌, ◌≤◌, ◌<◌, ◌-◌, ◌^◌, List, [], replicate, IfSome};
 ghost use Rattle.tenant.specs.State.{TenantState, new_tenant};
@@ -11,8 +11,8 @@ use crate::stream::{Sink, Source};
 use seeded_hash::HashSeed;
 use std::alloc::Global;
 
-/// Where a new host serves a stream to its end, each tenant to which no memory was refused gets the replies that the machine
-/// of a new tenant alone gives.
+/// If a new host serves a stream to its end, each tenant to which no memory was refused gets exactly the replies that the machine
+/// of a new tenant gives.
 fn serve_from_the_beginning<R: Source, W: Sink>(
     alloc: Global,
     tenants: usize,

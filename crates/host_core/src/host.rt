@@ -84,7 +84,7 @@ impl Host {
         })
     }
 
-    /// Whether memory was ever refused to `tenant`, so that its replies may differ from those of its machine alone. False
+    /// Whether memory was ever refused to `tenant`, so that its replies may differ from those of its own machine. False
     /// for a number that is not served.
     pub fn memory_was_refused(&self, tenant: usize) -> bool
         ensures refused { result ≡ true → ¬ IsUnrefused (slice_get self.now tenant) }
@@ -131,7 +131,7 @@ impl Host {
     ///
     /// # Errors
     ///
-    /// `NotPermitted` if the tenant is not served; else those of `Tenant::run_packets`, with which the frames would be refused. Then
+    /// `NotPermitted` if the tenant is not served; else those of `Tenant::run_packets`, which the frames would get. Then
     /// no packet was run, and nothing has changed.
     pub fn run_packets(
         &mut self,

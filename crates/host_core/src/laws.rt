@@ -4,14 +4,14 @@ ghost use Rattle.host_core.specs.Batch.{BatchIsItsCalls};
 ghost use Rattle.host_core.specs.Handled.{CallsAreToldAlone};
 ghost use Rattle.host_core.specs.Laws.{UnrefusedAreToldAlone, EachIsToldAloneUntilRefused, SameFramesSameReplies, SameFramesSameOutput, NoContentEndsAStream};
 
-/// Each tenant to which no memory was refused gets the replies of its machine alone, whatever was refused to others.
+/// Each tenant to which no memory was refused gets exactly the replies of its own machine, whatever was refused to others.
 pub fn unrefused_are_told_alone()
     ensures { UnrefusedAreToldAlone }
 {
     tenant::laws::clear_flag_means_alone();
 }
 
-/// Each tenant gets the replies of its machine alone up to the first reply with which its flag of refused memory is set, whatever
+/// Each tenant gets exactly the replies of its own machine up to the first reply with which its flag of refused memory is set, whatever
 /// was refused to others.
 pub fn each_is_told_alone_until_refused()
     ensures { EachIsToldAloneUntilRefused }
@@ -36,7 +36,7 @@ pub fn same_frames_same_replies()
 }
 
 /// Two streams with the same frames have the same output, whatever hosts serve them, if each tenant of these frames has the same
-/// state at the beginning of both, and neither refuses memory to it. A replay of a recorded stream rests on this.
+/// state at the beginning of both, and neither refuses memory to it. Replaying a recorded stream relies on this.
 pub fn same_frames_same_output()
     ensures { SameFramesSameOutput }
 {
@@ -44,7 +44,7 @@ pub fn same_frames_same_output()
 }
 
 /// No content of a frame ends a stream: `serve` ends early only by a fault of the reader or the writer, an input that is cut inside a
-/// frame, want of memory for its buffers, or the limit of frames.
+/// frame, no memory for its buffers, or the limit of frames.
 pub fn no_content_ends_a_stream()
     ensures { NoContentEndsAStream }
 {
@@ -52,7 +52,7 @@ pub fn no_content_ends_a_stream()
 }
 
 /// The runs of a batch are the calls of `Host::handle` on the test-run frames of its packets, one after another. So what follows for
-/// the tenants over a sequence of calls follows where some of them are batches.
+/// the tenants over a sequence of calls also follows if some of them are batches.
 pub fn batch_is_its_calls()
     ensures { BatchIsItsCalls }
 {}

@@ -29,7 +29,7 @@ pub enum ServeFaultKind {
     Write,
     /// The input ended inside a frame, which has no reply and no effect.
     Truncated,
-    /// As many frames as the limit allows are answered, and another byte follows.
+    /// As many frames as the limit allows got replies, and another byte follows.
     TooManyFrames,
     /// Out of memory for the buffers. Nothing was read or written.
     Memory,
@@ -101,7 +101,7 @@ fn is_at_end<R: Source>(reader: &mut R) -> Result<bool, ServeFaultKind>
 }
 
 /// Serves a stream: reads a frame, handles it, writes and flushes its reply, and so on until the input ends or `limit` frames
-/// are answered. Returns how many were. `limit` is at most 16,777,216. Fewer than 2^64 - 1 calls of the reader, and of the
+/// got replies. Returns their number. `limit` is at most 16,777,216. Fewer than 2^64 - 1 calls of the reader, and of the
 /// writer, have failed before.
 ///
 /// # Errors

@@ -7,9 +7,9 @@ ghost use Rattle.host_core.specs.Stream.{read_failures, write_failures, flush_fa
 
 use std::io::{self, Read, Write};
 
-/// A reader of frames. Contracts see the bytes that come, where they are known, and how many calls failed.
+/// A reader of frames. Contracts see the bytes that come, if they are known, and how many calls failed.
 pub trait Source {
-    // The bytes that are still to be read, where they are known.
+    // The bytes that are still to be read, if they are known.
     ghost remaining: { Self → Option (List ℕ) } = { λ _. None };
 
     // How many calls failed so far.
@@ -24,10 +24,10 @@ pub trait Source {
         ensures failures { failures self.new ≡ failures self.old + read_failures result };
 }
 
-/// A writer of replies. Contracts see the bytes that were written, where they are known, whether they are flushed, and how many
+/// A writer of replies. Contracts see the bytes that were written, if they are known, whether they are flushed, and how many
 /// calls failed; a write that takes none of at least one byte counts as failed.
 pub trait Sink {
-    // The bytes written so far, where they are known.
+    // The bytes written so far, if they are known.
     ghost contents: { Self → Option (List ℕ) } = { λ _. None };
 
     // Whether all that was written is flushed.

@@ -1,4 +1,4 @@
-//! The form of an instruction: what its opcode alone determines, and which fields it may have.
+//! The form of an instruction: what its opcode determines, and which fields it may have.
 
 ghost use Rattle.std.specs.Prelude.{◌≡◌, ◌≢◌, ◌+◌, ◌%◌, ◌≤◌, [], ◌∷◌, IfSome, IsTrue};
 
@@ -9,7 +9,7 @@ use insn_set::{
 };
 use words::{AccessSize, AluOp, ByteOrder, Condition, ExtendedBits, KeptBits};
 
-/// The form of an opcode: what it alone determines of its instruction.
+/// The form of an opcode: what the opcode determines of its instruction.
 #[derive(Clone, Copy, Debug, PartialEq, Eq)]
 pub enum OpcodeForm {
     /// Of two operators with one opcode, the unsigned one.

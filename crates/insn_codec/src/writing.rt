@@ -33,7 +33,7 @@ fn end_opcode(how: ByteOrder) -> u8
     }
 }
 
-/// The source bit that tells a constant from a register (RFC 9669, section 4).
+/// The source bit that distinguishes a constant from a register (RFC 9669, section 4).
 fn source_bit(operand: Operand) -> u8
     ensures value { result ≡ source_bit operand }
     ensures bound { result ≤ 1 }
@@ -44,7 +44,7 @@ fn source_bit(operand: Operand) -> u8
     }
 }
 
-/// The source register's field, which is 0 beside a constant (RFC 9669, section 3.1).
+/// The source register's field, which is 0 with a constant (RFC 9669, section 3.1).
 fn src_field(operand: Operand) -> u8
     ensures value { result ≡ src_field operand }
     ensures bound { result < 16 }
@@ -55,7 +55,7 @@ fn src_field(operand: Operand) -> u8
     }
 }
 
-/// The immediate, which is 0 beside a register (RFC 9669, section 3.1).
+/// The immediate, which is 0 with a register (RFC 9669, section 3.1).
 fn imm_field(operand: Operand) -> u32
     ensures { result ≡ imm_field operand }
 {

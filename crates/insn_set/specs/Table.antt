@@ -1,4 +1,4 @@
--- Tables: a row for each value of a family, with its number and its symbol, or with its name alone. This project's own.
+-- Tables: a row for each value of a family, with its number and its symbol, or only with its name. This project's own.
 use Rattle.std.specs.Prelude.{ℕ, ◌==◌, List, [], ◌∷◌, map, Option, Some, None, if◌then◌else◌}
 use Rattle.std.specs.Str.{bytes_eq}
 use Rattle.std.specs.Map.{lookup}
@@ -22,7 +22,7 @@ abbrev pub by_symbol : {A : Type 0} → List (Row A) → List ℕ → Option A
 by_symbol [] s = None
 by_symbol (row ∷ rows) s = if bytes_eq s row.2 then Some row.0 else by_symbol rows s
 
--- ---- with names alone
+-- ---- only with names
 
 -- the rows of a table of the code
 abbrev pub names : {A : Type 0} → List (Bor (List ℕ) × A) → List (List ℕ × A)

@@ -1,4 +1,4 @@
-//! Known answers of the public calls, proved from their contracts alone. Nothing calls these functions.
+//! Known answers of the public calls, proved only from their contracts. Nothing calls these functions.
 
 ghost use Rattle.std.specs.Prelude.{◌≡◌};
 ghost use Rattle.insn_set.specs.Program.{most_slots};

@@ -8,7 +8,7 @@ use crate::table::{by_number, by_symbol};
 use words::AluOp;
 
 /// Each operator in the order of its variants, its code (RFC 9669, section 4.1), and the symbol that a line of text has for it. Where
-/// two share a code, the unsigned one stands first: the offset distinguishes them.
+/// two share a code, the unsigned one comes first: the offset distinguishes them.
 const OPERATORS: [(AluOp, u32, &str); 14] = [
     (AluOp::Add, 0, "+="),
     (AluOp::Sub, 1, "-="),

@@ -10,7 +10,7 @@ use words::AluOp;
 /// The possible successors of an instruction in the control flow graph (RFC 9669, section 4.3).
 #[derive(Clone, Copy, Debug, PartialEq, Eq)]
 pub enum Successors {
-    /// The next instruction alone.
+    /// Only the next instruction.
     Next,
     /// The instruction at this distance from the next one, in slots.
     Jump(i32),

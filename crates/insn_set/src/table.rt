@@ -1,4 +1,4 @@
-//! Tables: a row for each value of a family, with its number and its symbol, or with its name alone.
+//! Tables: a row for each value of a family, with its number and its symbol, or only with its name.
 
 ghost use Rattle.std.specs.Prelude.{◌≡◌};
 ghost use Rattle.insn_set.specs.Table.{shown, by_number, by_symbol, names, named};

@@ -8,11 +8,11 @@ pub record IsMember (x : ℕ) (r : Range) : Type 0 where
   pub from : r.lo ≤ x
   pub to : x ≤ r.hi
 
--- the numbers from lo to hi, or lo alone where hi is below it
+-- the numbers from lo to hi, or only lo if hi is below it
 abbrev pub span : ℕ → ℕ → Range
 span lo hi = record { lo = lo; hi = max lo hi; ordered = at_most_max lo hi }
 
--- the range of v alone
+-- the range of only v
 abbrev pub constant : ℕ → Range
 constant v = record { lo = v; hi = v; ordered = at_most_itself v }
 

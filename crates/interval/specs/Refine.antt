@@ -15,7 +15,7 @@ abbrev pub swapped : Option RangePair → Option RangePair
 swapped None = None
 swapped (Some p) = Some (p.1, p.0)
 
--- r without v, where the rest is still one range, else r; None if no member is left
+-- r without v, if the rest is still one range, else r; None if no member is left
 abbrev pub except : Range → ℕ → Option Range
 except r v =
     if (r.lo == v) && (r.hi == v) then None else
@@ -43,7 +43,7 @@ abbrev pub where_at_most : Range → Range → Option RangePair
 where_at_most a b =
     if nat_lt b.hi a.lo then None else Some (span a.lo (min a.hi b.hi), span (max a.lo b.lo) b.hi)
 
--- ---- both edges: where the comparison holds, and where it fails
+-- ---- both edges: if the comparison holds, and if it fails
 
 abbrev pub EdgePairs : Type 0
 EdgePairs = Option RangePair × Option RangePair
@@ -64,7 +64,7 @@ edges SignedBelow a b = unchanged a b
 edges SignedBelowOrEqual a b = unchanged a b
 edges CommonBit a b = unchanged a b
 
--- a comparison on n bits reads the low n bits alone, so ranges with greater members stay as they are
+-- a comparison on n bits reads only the low n bits, so ranges with greater members stay as they are
 abbrev pub refined : ℕ → Condition → Range → Range → EdgePairs
 refined n condition a b =
     if nat_lt a.hi (2 ^ n) && nat_lt b.hi (2 ^ n) then edges condition a b else unchanged a b

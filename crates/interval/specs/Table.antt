@@ -88,7 +88,7 @@ general_range n (End how kept) a b = full (kept_bits kept)
 
 -- ---- the table
 
--- each operand that the operator reads is one number: a move reads the second alone
+-- each operand that the operator reads is one number: a move only reads the second
 abbrev pub are_alu_constants : AluOp → Range → Range → Bool
 are_alu_constants Mov a b = is_constant b
 are_alu_constants op a b = is_constant a && is_constant b
@@ -103,7 +103,7 @@ are_constants (End how kept) a b = is_constant a
 abbrev pub result_range : ℕ → Operator → Range → Range → Range
 result_range n op a b = if are_constants op a b then constant (combined n op a.lo b.lo) else general_range n op a b
 
--- the range of the members modulo 2 ^ n: all numbers of n bits where a member is truncated, unless there is only one member
+-- the range of the members modulo 2 ^ n: all numbers of n bits if a member is truncated, unless there is only one member
 abbrev pub range_modulo : ℕ → Range → Range
 range_modulo n r = if nat_lt r.hi (2 ^ n) then r else (if is_constant r then constant (r.lo % 2 ^ n) else full n)
 

@@ -69,7 +69,7 @@ pub fn alu32(op: Operator, a: Range, b: Range) -> Range
     }
 }
 
-/// The range of the members' low 32 bits: all 32-bit numbers where a member is truncated, unless there is only one member.
+/// The range of the members' low 32 bits: all 32-bit numbers if a member is truncated, unless there is only one member.
 fn low_half(r: Range) -> Range
     ensures value { result ≡ operand_range 32 r }
     ensures bound { result.hi < 2 ^ 32 }
@@ -94,7 +94,7 @@ fn are_constants(op: Operator, a: Range, b: Range) -> bool
     }
 }
 
-/// The same of an operator with two operands: a move reads the second alone.
+/// The same for an operator with two operands: a move only reads the second.
 fn are_alu_constants(op: AluOp, a: Range, b: Range) -> bool
     ensures { result ≡ are_alu_constants op a b }
 {
@@ -104,7 +104,7 @@ fn are_alu_constants(op: AluOp, a: Range, b: Range) -> bool
     }
 }
 
-/// The range of the results where the operands are not all constants.
+/// The range of the results if the operands are not all constants.
 fn general_range(wide: bool, op: Operator, a: Range, b: Range) -> Range
     requires first { a.hi < 2 ^ width wide }
     requires second { b.hi < 2 ^ width wide }

@@ -38,7 +38,7 @@ pub(crate) fn difference(wide: bool, a: Range, b: Range) -> Range
     }
 }
 
-/// The products of members; all numbers where the greatest wraps.
+/// The products of members; all numbers if the greatest wraps.
 pub(crate) fn product(wide: bool, a: Range, b: Range) -> Range
     requires first { a.hi < 2 ^ width wide }
     requires second { b.hi < 2 ^ width wide }
@@ -50,7 +50,7 @@ pub(crate) fn product(wide: bool, a: Range, b: Range) -> Range
     }
 }
 
-/// The quotients of members: from 0 to the greatest dividend where the divisor may be 0.
+/// The quotients of members: from 0 to the greatest dividend if the divisor may be 0.
 pub(crate) fn quotient(a: Range, b: Range) -> Range
     ensures { result ≡ quotient_range a b }
 {
@@ -61,7 +61,7 @@ pub(crate) fn quotient(a: Range, b: Range) -> Range
     }
 }
 
-/// The remainders of members: from 0 to the greatest dividend, and below the greatest divisor where no divisor is 0.
+/// The remainders of members: from 0 to the greatest dividend, and below the greatest divisor if no divisor is 0.
 pub(crate) fn remainder(a: Range, b: Range) -> Range
     ensures { result ≡ remainder_range a b }
 {

@@ -9,12 +9,12 @@ ghost use Rattle.interval.specs.Refine.{except, where_equal, where_different, wh
 use crate::range::{Range, greatest};
 use words::Condition;
 
-/// The ranges of both operands on an edge; `None` where the edge can't be taken.
+/// The ranges of both operands on an edge; `None` if the edge can't be taken.
 pub type Edge = Option<(Range, Range)>;
 
 /// Refines the ranges of both operands of a conditional jump, on the edge that jumps and on the one that falls through.
-/// The ranges on an edge hold every two members that take it. They stay as they are where the condition is signed or
-/// a test of common bits, and on 32 bits where an operand may be 2^32 or more.
+/// The ranges on an edge hold every two members that take it. They stay as they are if the condition is signed or
+/// a test of common bits, and on 32 bits if an operand may be 2^32 or more.
 pub fn refine(condition: Condition, wide: bool, a: Range, b: Range) -> (Edge, Edge)
     ensures exact { result ≡ refined (width wide) condition a b }
 
@@ -80,7 +80,7 @@ fn where_different(a: Range, b: Range) -> Edge
     }
 }
 
-/// `r` without `value`, where the rest is still one range, else `r`; `None` if no member is left.
+/// `r` without `value`, if the rest is still one range, else `r`; `None` if no member is left.
 fn except(r: Range, value: u64) -> Option<Range>
     ensures { result ≡ except r value }
 {

@@ -1,4 +1,4 @@
-//! Known answers, proved from the contracts alone.
+//! Known answers, proved only from the contracts.
 
 use crate::{Range, alu32, alu64, hull, refine};
 use words::{AluOp, Condition, Operator};

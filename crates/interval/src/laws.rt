@@ -1,4 +1,4 @@
-//! Laws of the definitions, for proofs that stand on them. Each is the contract of a function that does nothing.
+//! Laws of the definitions, for proofs that use them. Each is the contract of a function that does nothing.
 
 ghost use Rattle.interval.specs.Laws.{ResultsAreMembers, ResultsAreWords, EdgesKeepMembers, EdgesAreWords, HullHoldsBoth, HullIsLeast, HullCommutes, HullAssociates};
 

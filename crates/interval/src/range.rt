@@ -25,7 +25,7 @@ impl Range {
         Range { lo, hi }
     }
 
-    /// The range of `value` alone.
+    /// The range of only `value`.
     pub fn constant(value: u64) -> Range
         ensures { result ≡ constant value }
     {

@@ -16,7 +16,7 @@ fn places(wide: bool, by: u64) -> u64
     if wide { by % 64 } else { by % 32 }
 }
 
-/// The members shifted left by `places`; all numbers where the greatest loses a bit.
+/// The members shifted left by `places`; all numbers if the greatest loses a bit.
 fn scaled(wide: bool, a: Range, places: u64) -> Range
     requires first { a.hi < 2 ^ width wide }
     requires bound { places < 64 }
@@ -41,7 +41,7 @@ pub(crate) fn shift_left(wide: bool, a: Range, b: Range) -> Range
     }
 }
 
-/// The range of logical right shifts: from 0 to the greatest member where the count is not constant.
+/// The range of logical right shifts: from 0 to the greatest member if the count is not constant.
 pub(crate) fn shift_right(wide: bool, a: Range, b: Range) -> Range
     ensures { result ≡ shift_right_range (width wide) a b }
 {
@@ -53,7 +53,7 @@ pub(crate) fn shift_right(wide: bool, a: Range, b: Range) -> Range
     }
 }
 
-/// The range of arithmetic right shifts: that of logical ones where all sign bits are 0, else all numbers.
+/// The range of arithmetic right shifts: that of logical ones if all sign bits are 0, else all numbers.
 pub(crate) fn signed_shift_right(wide: bool, a: Range, b: Range) -> Range
     ensures { result ≡ signed_shift_right_range (width wide) a b }
 {
@@ -64,7 +64,7 @@ pub(crate) fn signed_shift_right(wide: bool, a: Range, b: Range) -> Range
     }
 }
 
-/// The range of sign extensions from `from` bits: the members themselves where all fit with sign bit 0, else all numbers.
+/// The range of sign extensions from `from` bits: the members themselves if all fit with sign bit 0, else all numbers.
 pub(crate) fn sign_extend(wide: bool, from: ExtendedBits, b: Range) -> Range
     ensures { result ≡ sign_extend_range (width wide) (extended_bits from) b }
 {

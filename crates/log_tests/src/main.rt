@@ -2,7 +2,7 @@
 //!
 //! | Line | What is written after it |
 //! |---|---|
-//! | `log TEXT` | the log of a program's text, where `;` ends a line and `COUNT times LINE` is `COUNT` such lines |
+//! | `log TEXT` | the log of a program's text: `;` ends a line and `COUNT times LINE` is `COUNT` such lines |
 //! | `all TEXT` | the same, with all that is known before each instruction |
 //! | `dot TEXT` | its control flow, for Graphviz |
 //! | `run ARGUMENTS <TEXT` | what the program `verifier_log` writes for the lines of this input, and its status |

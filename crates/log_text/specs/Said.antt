@@ -18,7 +18,7 @@ accepted_line = codes "accepted" ++ 10 ∷ []
 abbrev pub refusal_line : VerifyFault → List ℕ
 refusal_line fault = refusal_text (refusal_of_program fault) ++ 10 ∷ []
 
--- the verdict is added: the line of an acceptance, or that of a refusal with more behind it
+-- the verdict is added: the line of an acceptance, or that of a refusal with more text after it
 abbrev pub AddsVerdict : Option VerifyFault → List ℕ → List ℕ → Type 0
 AddsVerdict None old new = new ≡ old ++ accepted_line
 AddsVerdict (Some fault) old new = (more : List ℕ) × (new ≡ old ++ refusal_line fault ++ more)
@@ -27,7 +27,7 @@ AddsVerdict (Some fault) old new = (more : List ℕ) × (new ≡ old ++ refusal_
 abbrev pub EndsInVerdict : Option VerifyFault → List ℕ → Type 0
 EndsInVerdict fault text = (lines : List ℕ) × AreLines lines × AddsVerdict fault lines text
 
--- the text says whether the program is accepted, and if not, at which slot and for which reason it is refused
+-- the text says whether the program is accepted, and if not, at which slot and for which reason it is rejected
 abbrev pub SaysVerdict : List Insn → List Named → Bool → List ℕ → Type 0
 SaysVerdict code named true text = EndsInVerdict None text
 SaysVerdict code named false text = (fault : VerifyFault) × IsRefused code named fault.slot fault.reason × EndsInVerdict (Some fault) text

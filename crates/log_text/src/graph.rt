@@ -43,7 +43,7 @@ struct Block {
     first: usize,
     /// Whether a run may reach it.
     is_reached: bool,
-    /// Whether its last instruction is refused.
+    /// Whether its last instruction is rejected.
     is_refused: bool,
 }
 
@@ -151,7 +151,7 @@ impl<'a> Graph<'a> {
         write!(text, "    block_{slot} [label=\"")
     }
 
-    /// Writes the verdict into the label, if this is the instruction that is refused.
+    /// Writes the verdict into the label, if this is the instruction that is rejected.
     fn write_fault(&mut self, text: &mut String, slot: usize) -> Result<(), AllocError> {
         match self.refusal {
             Some(refusal) if refusal.fault.slot == slot => {
@@ -221,7 +221,7 @@ fn write_blocks(text: &mut String, mut graph: Graph<'_>) -> Result<(), AllocErro
 }
 
 /// Writes the graph of a program: its basic blocks with their instructions, and the edges between them with what is new on each.
-/// Those that no run reaches, as far as the pass went, are dashed; the block with the refused instruction is red.
+/// Those that no run reaches, as far as the pass went, are dashed; the block with the rejected instruction is red.
 pub(crate) fn write_graph(
     text: &mut String,
     alloc: Global,

@@ -91,7 +91,7 @@ fn write_sources(
     }
 }
 
-/// Writes which edges of a conditional jump can be taken, and what is new on the jumping one. A refused one has no edges.
+/// Writes which edges of a conditional jump can be taken, and what is new on the jumping one. A rejected one has no edges.
 fn write_edges(
     text: &mut String,
     line: Line,

@@ -39,7 +39,7 @@ pub struct Log {
     /// The verdict.
     pub is_accepted: bool,
     /// The facts from which its lines are written: those before each instruction that a run may reach, in order. Of a program that
-    /// is refused for its safety, those up to the refused instruction; of one that is refused for its shape, none.
+    /// is rejected for its safety, those up to the rejected instruction; of one that is rejected for its shape, none.
     pub facts: Vec<KnownFacts>,
 }
 
@@ -54,7 +54,7 @@ fn write_verdict(text: &mut String, refusal: Option<&RefusedProgram<'_>>) -> Res
     }
 }
 
-/// The log as lines: those of the instructions up to the refused one, and the verdict.
+/// The log as lines: those of the instructions up to the rejected one, and the verdict.
 fn lines_of(
     alloc: Global,
     story: &Story<'_>,
@@ -88,7 +88,7 @@ fn last_facts(known: &[KnownFacts]) -> Facts {
     }
 }
 
-/// The refusal of a program with this verdict, if it is refused.
+/// The refusal of a program with this verdict, if it is rejected.
 fn refusal_of<'a>(
     alloc: Global,
     program: &'a Program,
@@ -140,7 +140,7 @@ fn text_of(
     }
 }
 
-/// The log of a program, where descriptors name these objects. As lines it ends with the verdict: the line `accepted`, or the line
+/// The log of a program, if descriptors name these objects. As lines it ends with the verdict: the line `accepted`, or the line
 /// of the refusal and another that says why.
 ///
 /// # Errors

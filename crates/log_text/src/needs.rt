@@ -1,4 +1,4 @@
-//! Why a program is refused: what was known against what was needed.
+//! Why a program is rejected: what is known, and what is required.
 
 pub(crate) mod access;
 pub(crate) mod arithmetic;
@@ -18,7 +18,7 @@ use std::fmt::Write;
 use tagged_model::Named;
 use verifier::{Refusal, VerifyFault};
 
-/// A refused program, with what is known before each instruction that the pass reached, and the facts before the last of them.
+/// A rejected program, with what is known before each instruction that the pass reached, and the facts before the last of them.
 #[derive(Clone, Copy)]
 pub(crate) struct RefusedProgram<'a> {
     pub alloc: Global,
@@ -58,7 +58,7 @@ fn write_need(
     }
 }
 
-/// The line that says why a program is refused: the reason in words, and what was known against what was needed, with `between`
+/// The line that says why a program is rejected: the text of the reason, and what is known and what is required, with `between`
 /// between the two.
 fn reason_line(refusal: &RefusedProgram<'_>, between: &str) -> Result<String, AllocError> {
     let mut line = String::from_str(refusal.alloc, reason_words(refusal.fault.reason))?;

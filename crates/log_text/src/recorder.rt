@@ -42,11 +42,11 @@ impl Watcher for Recorder {
 pub(crate) struct Judged {
     /// What is known before each instruction that the pass reached, in order.
     pub known: Vec<KnownFacts>,
-    /// Why the program is refused; `None` if it is accepted.
+    /// Why the program is rejected; `None` if it is accepted.
     pub fault: Option<VerifyFault>,
 }
 
-/// Verifies a program, where descriptors name these objects, and keeps what is known before each instruction that the pass reaches.
+/// Verifies a program, if descriptors name these objects, and keeps what is known before each instruction that the pass reaches.
 ///
 /// # Errors
 ///

@@ -49,7 +49,7 @@ fn program_in(
     }
 }
 
-/// The answer to an input whose slots are no program: the line that `verify` writes.
+/// The output for an input whose slots are no program: the line that `verify` writes.
 fn refused(alloc: Global, refusal: Refusal) -> Result<Answer, AllocError> {
     Ok(Answer {
         text: format!(in alloc; "{refusal}\n")?,
@@ -87,7 +87,7 @@ fn log_answer<I: Read + Drop>(
     }
 }
 
-/// The answer to the arguments: the log, or help, or the version.
+/// The output for the arguments: the log, or help, or the version.
 fn answer_of<I: Read + Drop>(
     alloc: Global,
     arguments: &[&str],
@@ -111,7 +111,7 @@ fn write_out<O: Write>(output: &mut O, text: &str) -> Result<(), Failure> {
     Ok(())
 }
 
-/// Writes the answer to the arguments, and returns the exit status.
+/// Writes the output for the arguments, and returns the exit status.
 fn run<I: Read + Drop, O: Write + Drop>(
     alloc: Global,
     arguments: &[&str],
@@ -124,7 +124,7 @@ fn run<I: Read + Drop, O: Write + Drop>(
 }
 
 /// Runs the program on its arguments, those after its name, and returns its exit status: 0 if the input's program is accepted,
-/// or help or the version is asked for, 1 if it or the input is refused, 2 if arguments are wrong, 3 if input or output failed,
+/// or help or the version is asked for, 1 if it or the input is rejected, 2 if arguments are wrong, 3 if input or output failed,
 /// 4 if out of memory. A fault is one line on `faults`, that of `bpfhost verify`; if that line can't be written, the status is
 /// the same. The log is written only once it is complete.
 pub fn run_log_words<I: Read + Drop, O: Write + Drop, F: Write + Drop>(

@@ -167,7 +167,7 @@ fn first_arrivals(alloc: Global, slots: usize) -> Result<Vec<Arrival>, AllocErro
     Ok(arrivals)
 }
 
-/// Why something is missing before the refused instruction.
+/// Why something is missing before the rejected instruction.
 fn cause_of(refusal: &RefusedProgram<'_>, wanted: Wanted) -> Result<Option<Cause>, AllocError> {
     let (alloc, program, named) = (refusal.alloc, refusal.program, refusal.named);
     let mut finder = Finder {
@@ -207,7 +207,7 @@ fn verbs_of(wanted: Wanted) -> Verbs {
     }
 }
 
-/// Writes why something is missing before the refused instruction.
+/// Writes why something is missing before the rejected instruction.
 pub(crate) fn write_way(
     text: &mut String,
     refusal: &RefusedProgram<'_>,

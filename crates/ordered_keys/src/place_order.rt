@@ -13,7 +13,7 @@ pub struct Link {
     pub(crate) after: u32,
 }
 
-/// Places less than a bound, each at most once, in an order. They are a ring of links, in which the bound stands where the order
+/// Places less than a bound, each at most once, in an order. They are a ring of links, in which the bound is where the order
 /// begins and ends.
 #[derive(Drop)]
 pub struct PlaceOrder {

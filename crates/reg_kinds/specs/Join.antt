@@ -1,4 +1,4 @@
--- The joins of kinds, stack slots and facts, for where two edges meet. This project's own.
+-- The joins of kinds, stack slots and facts, for edges that merge. This project's own.
 use Rattle.std.specs.Prelude.{◌==◌, ◌&&◌, bit_and, if◌then◌else◌}
 use Rattle.std.specs.Ordering.{int_eq}
 use Rattle.interval.specs.Ranges.{hull}

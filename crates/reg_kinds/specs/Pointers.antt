@@ -4,7 +4,7 @@ use Rattle.std.specs.Int.{int_min, int_max}
 use Rattle.reg_kinds.specs.declared.kind.ValuePointer.{ValuePointer}
 use Rattle.reg_kinds.specs.inside.Offsets.{at_most_max, offsets_ordered}
 
--- at an offset from lo to hi, or at lo alone where hi is below it
+-- at an offset from lo to hi, or only at lo if hi is below it
 abbrev pub value_span : ℕ → ℤ → ℤ → ValuePointer
 value_span m lo hi = record { map = m; lo = lo; hi = int_max lo hi; ordered = at_most_max lo hi }
 

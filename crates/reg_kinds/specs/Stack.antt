@@ -45,7 +45,7 @@ abbrev pub bytes_over : Slot → ℕ → Slot
 bytes_over (Bytes mask) bits = Bytes (bit_or mask bits)
 bytes_over (Spill k) bits = Bytes bits
 
--- the slot after a store; a pointer is spilled whole, or the store is refused
+-- the slot after a store; a pointer is spilled whole, or the store is rejected
 abbrev pub slot_written : Slot → ℕ → AccessSize → Kind → Result Slot Reason
 slot_written s bits size k =
     if is_pointer k then (if is_double size then Ok (Spill k) else Err PartOfSpill) else Ok (bytes_over s bits)

@@ -1,4 +1,4 @@
-//! The joins of kinds, stack slots and facts, for where two edges meet.
+//! The joins of kinds, stack slots and facts, for edges that merge.
 
 ghost use Rattle.std.specs.Prelude.{◌≡◌};
 ghost use Rattle.reg_kinds.specs.Kinds.{kind_at, slot_at, with_registers, with_slots};
@@ -85,7 +85,7 @@ fn join_other_kinds(known: &mut Kind, edge: &Kind)
     *known = known.join(*edge);
 }
 
-/// Joins the kind `edge` into `known` in place: where both are the context, the same stack offset or the same map, nothing
+/// Joins the kind `edge` into `known` in place: if both are the context, the same stack offset or the same map, nothing
 /// is written.
 #[inline(always)]
 fn join_kind(known: &mut Kind, edge: &Kind)
@@ -109,7 +109,7 @@ fn join_registers(facts: &mut Facts, edge: &Facts)
     }
 }
 
-/// Joins the stack slot `edge` into `known`, in place where both are written bytes, or both are spills whose join is not
+/// Joins the stack slot `edge` into `known`, in place if both are written bytes, or both are spills whose join is not
 /// `Unreadable`.
 fn join_slot(known: &mut Slot, edge: &Slot)
     ensures { known.new ≡ slot_join known.old edge.now }

@@ -1,4 +1,4 @@
-//! Known answers, proved from the contracts alone.
+//! Known answers, proved only from the contracts.
 
 use crate::{Facts, Kind, Reason, Slot, join, read_stack, settle, write_stack};
 use interval::Range;

@@ -1,4 +1,4 @@
-//! Laws of the joins, for proofs that stand on them. Each is the contract of a function that does nothing.
+//! Laws of the joins, for proofs that use them. Each is the contract of a function that does nothing.
 
 ghost use Rattle.reg_kinds.specs.Laws.{KindsCommute, KindsAssociate, SlotsCommute, SlotsAssociate, FactsCommute, FactsAssociate};
 

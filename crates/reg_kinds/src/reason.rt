@@ -1,4 +1,4 @@
-//! Why a program is refused.
+//! Why a program is rejected.
 
 /// The first rule that a program breaks. Each has a number, which a refusal reports.
 #[derive(Clone, Copy, Debug, PartialEq, Eq)]

@@ -1,4 +1,4 @@
--- States of the machine of one tenant that no command tells apart: they differ in the places of their maps, and in whether memory
+-- States of the machine of one tenant that no command distinguishes: they differ in the places of their maps, and in whether memory
 -- was ever refused. This project's own.
 use Rattle.std.specs.Prelude.{◌≡◌, ℕ, true, List, length, map, Option, IsSome, option_map}
 use Rattle.fd_table.specs.Table.{most}

@@ -29,7 +29,7 @@ body_of (close fd) = little_bytes 4 fd
 abbrev pub frame_of : ℕ → Command → List ℕ
 frame_of tenant c = little_bytes 2 tenant ++ (little_bytes 2 (command_code c) ++ body_of c)
 
--- a reply that refuses nothing
+-- a reply without an error
 abbrev pub IsGoodReply : List ℕ → List ℕ → Type 0
 IsGoodReply frame reply = (n : ℕ) × (payload : List ℕ) × (reply ≡ reply_to frame (pos n) payload)
 

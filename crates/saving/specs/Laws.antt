@@ -39,7 +39,7 @@ pub record BirthsAreKept : Type 0 where
   pub kept : (refusals : List Bool) (s : TenantState) (command : Command) (a : Answer) (births : List Birth) → HoldsItsMaps s → AreBirths s births → Answers refusals s command a → AreBirths a.after (births_after command a births)
   pub few : (s : TenantState) (births : List Birth) → HoldsItsMaps s → AreBirths s births → length births ≤ most + most_maps
 
--- a new tenant that is given the commands answers each well, and is then alike
+-- a new tenant that gets the commands succeeds at each, and is then alike
 abbrev pub RestoredIsAlike : Type 0
 RestoredIsAlike = (s : TenantState) (births : List Birth) → IsRestorable s → AreBirths s births → (t : TenantState) × Leads new_tenant (restored s births) t × IsAlike s t × HoldsItsMaps t
 
@@ -66,7 +66,7 @@ abbrev pub IsHistory : TenantState → List Birth → List Command → TenantSta
 IsHistory s births [] t later = (t ≡ s) × (later ≡ births)
 IsHistory s births (c ∷ cs) t later = (refusals : List Bool) × (a : Answer) × Answers refusals s c a × IsHistory a.after (births_after c a births) cs t later
 
--- Whatever a tenant did, a new tenant answers each of the frames that restore it well, and from then on it gives each list of
+-- Whatever a tenant did, a new tenant succeeds at each of the frames that restore it, and from then on it gives each list of
 -- frames the replies that the old one gives.
 abbrev pub HistoriesAreRestored : Type 0
 HistoriesAreRestored =

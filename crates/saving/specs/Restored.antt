@@ -63,7 +63,7 @@ restored s births = filled most ++ (born s births ++ closings s.objects first_de
 
 -- ---- commands one after another
 
--- no memory is refused, and each is answered well
+-- no memory is refused, and each succeeds
 abbrev pub Leads : TenantState → List Command → TenantState → Type 0
 Leads s [] t = t ≡ s
 Leads s (c ∷ cs) t = (a : Answer) × Answers [] s c a × ((n : ℕ) × (a.status ≡ pos n)) × Leads a.after cs t

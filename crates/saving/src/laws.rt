@@ -37,7 +37,7 @@ pub fn restorable_is_kept()
     verifier::laws::loaded_maps_have_shapes();
 }
 
-/// A new tenant that is given the commands of a state answers each well, and is then alike.
+/// A new tenant that gets the commands of a state succeeds at each, and is then alike.
 pub fn restored_is_alike()
     ensures { RestoredIsAlike }
 {
@@ -58,7 +58,7 @@ pub fn restored_by_frames()
     restored_is_alike();
 }
 
-/// Whatever a tenant did, the frames that restore it make one that answers as it does.
+/// Whatever a tenant did, the frames that restore it make one that replies as it does.
 pub fn histories_are_restored()
     ensures { HistoriesAreRestored }
 {

@@ -21,7 +21,7 @@ pub enum Tagged {
     Scalar(u64),
     /// A map, by its descriptor.
     Map(u32),
-    /// A pointer, by its object and its distance in bytes from where the object's offsets begin.
+    /// A pointer, by its object and its distance in bytes from the start of the object's offsets.
     Pointer { object: Object, offset: i64 },
 }
 

@@ -47,7 +47,7 @@ abbrev pub else_refusal : Option Errno → Option Errno → Option Errno
 else_refusal None later = later
 else_refusal (Some errno) later = Some errno
 
--- why the test run of an object on a packet of this length is refused
+-- the error of the test run of an object on a packet of this length
 abbrev pub run_refusal : Option OpenObject → ℕ → Option Errno
 run_refusal o size = else_refusal (object_refusal o) (length_refusal size)
 
@@ -55,7 +55,7 @@ run_refusal o size = else_refusal (object_refusal o) (length_refusal size)
 abbrev pub is_outside : ℕ → ℕ → ℕ → Bool
 is_outside many start end = nat_lt end start || nat_lt many end
 
--- why packets with these ends in `many` bytes are refused: the first that is outside or too long
+-- why packets with these ends in `many` bytes are rejected: the first that is outside or too long
 unfoldable pub ends_refusal : ℕ → ℕ → List ℕ → Option Errno
 ends_refusal many start [] = None
 ends_refusal many start (end ∷ ends) =
@@ -64,7 +64,7 @@ ends_refusal many start (end ∷ ends) =
 abbrev pub packets_refusal : ℕ → List ℕ → ℕ → Option Errno
 packets_refusal many ends room = if nat_lt room (length ends) then Some Invalid else ends_refusal many 0 ends
 
--- Why a batch is refused, before the first packet: what is named is no program; there is room for fewer results than packets; or
+-- Why a batch is rejected, before the first packet: what is named is no program; there is room for fewer results than packets; or
 -- a packet is outside, or too long.
 abbrev pub batch_refusal : Option OpenObject → ℕ → List ℕ → ℕ → Option Errno
 batch_refusal o many ends room = else_refusal (object_refusal o) (packets_refusal many ends room)
@@ -90,7 +90,7 @@ BatchIsItsFrames =
     (fd : ℕ) (words : List ℕ) (frames packets : List (List ℕ)) (results : List ℕ) (before after : TenantState) → AreTestRuns fd words frames packets
     → RunsInOrder fd words before packets results after → AloneWithRefusals (Some before) frames (result_replies frames results) (Some after)
 
--- the test-run command of a packet is refused with the error of a run
+-- the test-run command of a packet has the error of a run
 abbrev pub RefusedAsItsFrame : Type 0
 RefusedAsItsFrame =
     (refusals : List Bool) (s : TenantState) (fd : ℕ) (words packet : List ℕ) (errno : Errno) → run_refusal (named s.objects fd) (length packet) ≡ Some errno

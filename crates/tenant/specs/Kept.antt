@@ -19,7 +19,7 @@ pub record KeptTenant : Type 0 where
   pub live : LiveMaps
   pub refused : Bool
 
--- the live map at a place, where its values lie in these bytes
+-- the live map at a place, if its values are in these bytes
 abbrev pub map_at : List ℕ → LiveMaps → ℕ → Option Map
 map_at part t place = option_map (λ l. map_in part t place) (live_at t place)
 

@@ -1,5 +1,5 @@
 -- The machine of one tenant: the answer to each command, and the open objects and the maps after it (bpf(2); for a test run
--- linux/bpf.h, BPF_PROG_TEST_RUN). The order of the refusals is this project's own.
+-- linux/bpf.h, BPF_PROG_TEST_RUN). The order of the errors is this project's own.
 use Rattle.std.specs.Prelude.{◌≡◌, ℕ, ◌+◌, ℤ, pos, Bool, true, false, ◌||◌, ◌==◌, nat_lt, List, [], ◌∷◌, ◌++◌, length, take, drop, replicate, Option, Some, None, option_map, slice_set, Result, Ok, Err, if◌then◌else◌, MatchBool, ◌⊎◌, refl}
 use Rattle.std.specs.Map.{lookup}
 use Rattle.byteorder.specs.Endian.{little_bytes}
@@ -45,7 +45,7 @@ pub record Answer : Type 0 where
   pub payload : List ℕ
   pub after : TenantState
 
--- a refused command changes nothing
+-- a command with an error changes nothing
 abbrev pub refuses : Errno → TenantState → Answer
 refuses errno s = record { status = status_of errno; payload = []; after = s }
 
@@ -199,7 +199,7 @@ abbrev pub cause_errno : Cause → Errno
 cause_errno (cause.Slots kind) = codec_errno kind
 cause_errno (cause.Verdict why) = verdict_errno why
 
--- a refused load reports the slot, and the number of the cause
+-- a rejected load reports the slot, and the number of the cause
 abbrev pub refuses_load : Refusal → TenantState → Answer
 refuses_load refusal s = record { status = status_of (cause_errno refusal.cause); payload = little_bytes 4 refusal.slot ++ little_bytes 2 (cause_number refusal.cause); after = s }
 

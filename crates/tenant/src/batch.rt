@@ -49,7 +49,7 @@ impl Tenant {
         }
     }
 
-    /// Runs a program on each of the packets, none of which is refused.
+    /// Runs a program on each of the packets, none of which is rejected.
     fn run_each(
         &mut self,
         fd: u32,

@@ -8,7 +8,7 @@ use reg_kinds::Reason;
 use tagged_model::MapFault;
 use verifier::Cause;
 
-/// Why a command is refused: the errors of bpf(2).
+/// The errors of commands, those of bpf(2).
 #[derive(Clone, Copy, Debug, PartialEq, Eq)]
 pub enum Errno {
     /// EPERM
@@ -102,7 +102,7 @@ impl Errno {
         }
     }
 
-    /// The error of a load that is refused for this cause.
+    /// The error of a load that is rejected for this cause.
     pub(crate) fn of_cause(cause: Cause) -> Errno
         ensures { result ≡ cause_errno cause }
     {

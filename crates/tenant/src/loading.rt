@@ -65,7 +65,7 @@ fn maps_named(
 }
 
 impl Tenant {
-    /// The program that the slots spell, with the keys of its maps, if it is accepted; or why the slots are refused.
+    /// The program that the slots spell, with the keys of its maps, if it is accepted; or why the slots are rejected.
     fn program_of(
         &self,
         alloc: Global,
@@ -113,7 +113,7 @@ impl Tenant {
     /// PROG_LOAD: opens the program that the slots spell, if it is accepted with the open descriptors. It keeps its maps
     /// when their descriptors are closed.
     ///
-    /// Slots that are no program, or whose program is not accepted, are refused with the slot and the number of the cause.
+    /// Slots that are no program, or whose program is not accepted, are rejected with the slot and the number of the cause.
     ///
     /// # Errors
     ///

@@ -9,7 +9,7 @@ use bpf_maps::KeyRef;
 use command_frames::{Head, ReplyBuf, write_number, write_reply};
 use verifier::Refusal;
 
-/// The reply to a command that is executed, or to a load that is refused because of a slot. Any other refusal is an `Errno`.
+/// The reply to a command that succeeds, or to a load that is rejected because of a slot. Any other error is an `Errno`.
 #[derive(Drop)]
 pub enum Reply<'a> {
     /// Status 0 without a payload.
@@ -22,7 +22,7 @@ pub enum Reply<'a> {
     Key(KeyRef<'a>),
     /// The payload is the result of a test run.
     Number(u32),
-    /// The payload is the slot of a load that is refused, and the number of the cause.
+    /// The payload is the slot of a load that is rejected, and the number of the cause.
     Refused(Refusal),
 }
 

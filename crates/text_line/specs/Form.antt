@@ -17,7 +17,7 @@ use Rattle.text_line.specs.declared.form.Form.TheVariants.{Alu, Movsx, Neg, End,
 use Rattle.text_line.specs.Token.{Token, name, number, symbol}
 use Rattle.text_line.specs.Names.{register_name, sign_name}
 
--- A line is laid out as tokens and single spaces (`None`). On reading, any blanks may stand between tokens.
+-- A line is laid out as tokens and single spaces (`None`). On reading, any blanks may be between tokens.
 abbrev pub TokenLayout : Type 0
 TokenLayout = List (Option Token)
 

@@ -28,7 +28,7 @@ IsWellFormed _ = Unit {0}
 abbrev pub IsLine : List ℕ → Line → Type 0
 IsLine bytes line = IsWellFormed line × IsTokens bytes (spelled line)
 
--- the reading of the bytes: `None` where they have none of the forms
+-- the reading of the bytes: `None` if they have none of the forms
 abbrev pub ReadAs : List ℕ → Option Line → Type 0
 ReadAs bytes (Some line) = IsLine bytes line
 ReadAs bytes None = (line : Line) → ¬ IsLine bytes line

@@ -73,7 +73,7 @@ abbrev pub placed : ℤ → JumpTarget → JumpTarget
 placed distance (target.Number n) = target.Number (normal n)
 placed distance target.Label = target.Number (number_of distance)
 
--- the form with its label replaced, and with a minus before negative numbers alone
+-- the form with its label replaced, and with a minus only before negative numbers
 abbrev pub resolved : ℤ → Form → Form
 resolved distance (Alu wide op dst src) = Alu wide op dst (normal_source src)
 resolved distance (Ja to) = Ja (placed distance to)

@@ -24,7 +24,7 @@ fn skip_blanks(line: &[u8]) -> &[u8]
     rest
 }
 
-/// The line without the blanks at both ends: spaces, tabs and carriage returns. Empty where it has nothing else.
+/// The line without the blanks at both ends: spaces, tabs and carriage returns. Empty if it has nothing else.
 pub fn stripped(line: &[u8]) -> &[u8]
     ensures { result.now ≡ stripped line.now }
 {

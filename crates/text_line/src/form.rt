@@ -13,7 +13,7 @@ use insn_set::{
 /// It may be out of its field's range, which `Form::insn` checks.
 #[derive(Clone, Copy, Debug, PartialEq, Eq)]
 pub struct Number {
-    /// Whether a minus stands before the digits, also before a 0.
+    /// Whether there is a minus before the digits, also before a 0.
     pub negative: bool,
     /// The value of the digits, 0 to 2 ^ 64 - 1; `None` from 2 ^ 64 on, which no field can hold.
     pub magnitude: Option<u64>,
@@ -33,7 +33,7 @@ pub enum SourceOperand {
 pub enum JumpTarget {
     /// An offset in slots from the next slot. The range is -2 ^ 15 to 2 ^ 15 - 1, and of a long jump -2 ^ 31 to 2 ^ 31 - 1.
     Number(Number),
-    /// A label. `Line::Code` has its name beside the form.
+    /// A label. `Line::Code` has its name next to the form.
     Label,
 }
 
@@ -279,7 +279,7 @@ impl Form {
         }
     }
 
-    /// The number of slots of its instruction: 2 for `Const`, `MapFd` and `MapValue`, else 1, also where a number is out of range.
+    /// The number of slots of its instruction: 2 for `Const`, `MapFd` and `MapValue`, else 1, also if a number is out of range.
     pub fn slots(self) -> usize
         ensures value { result ≡ form_slots self }
         ensures bound { result ≤ 2 }

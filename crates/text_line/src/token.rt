@@ -170,7 +170,7 @@ fn number(text: &str) -> Option<(Token<'_>, &str)>
     None
 }
 
-/// The number whose digits, of this class and radix, stand at the front, and the text after them.
+/// The number whose digits, of this class and radix, are at the front, and the text after them.
 fn value(text: &str, class: ByteClass, radix: u32) -> (Token<'_>, &str)
     requires ascii { IsAscii text.now }
     requires digits { IsDigits class radix }

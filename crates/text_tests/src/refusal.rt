@@ -7,7 +7,7 @@ use insn_codec::CodecFault;
 use std::alloc::{AllocError, AllocFailed};
 use thiserror::Error;
 
-/// The answer to a case that is refused.
+/// The result of a case that is rejected.
 #[derive(Debug, Drop, Error)]
 pub enum Refusal {
     /// The text is no program, or has no hex lines.

@@ -97,7 +97,7 @@ difference_kind a b = Err PointerArithmetic
 abbrev pub unless_maybe : Kind → Kind → Result Kind Reason → Result Kind Reason
 unless_maybe a b r = if is_maybe a || is_maybe b then Err MaybeNull else r
 
--- a 64-bit move copies any value; 64-bit sums and differences move pointers; all else is for numbers alone
+-- a 64-bit move copies any value; 64-bit sums and differences move pointers; everything else is only for numbers
 abbrev pub arithmetic_kind : Bool → AluOp → Kind → Kind → Result Kind Reason
 arithmetic_kind true alu.Mov a b = Ok b
 arithmetic_kind true alu.Add a b = unless_maybe a b (sum_kind a b)

@@ -1,4 +1,4 @@
--- The reasons for which the transfer function refuses an instruction. This project's own.
+-- The reasons for which the transfer function rejects an instruction. This project's own.
 use Rattle.std.specs.Prelude.{◌≡◌, ℕ, false, None, Some, Err}
 use Rattle.insn_set.specs.declared.insn.Insn.{Insn}
 use Rattle.insn_set.specs.declared.profile.Reference.{Reference}
@@ -59,6 +59,6 @@ IsReasonFor shapes v reason = IsSafetyReason reason
 abbrev pub IsReasonOf : Shapes → Insn → Reason → Type 0
 IsReasonOf shapes i reason = IsReasonFor shapes (view i) reason
 
--- an instruction is refused only for such a reason
+-- an instruction is rejected only for such a reason
 abbrev pub TransferReasons : Type 0
 TransferReasons = (shapes : Shapes) (at : ℕ) (i : Insn) (f : Facts) (reason : Reason) → effect shapes at i f ≡ Err reason → IsReasonOf shapes i reason

@@ -38,14 +38,14 @@ pub fn transfer_keeps_well_formed()
     interval::laws::results_are_words();
 }
 
-/// An instruction is refused because of an unknown helper only if it calls one, because a descriptor names no map only if it
+/// An instruction is rejected because of an unknown helper only if it calls one, because a descriptor names no map only if it
 /// loads one whose descriptor has no shape, because of a direct value only if it loads one that the map does not have, and for no
 /// other reason of a program's shape.
 pub fn transfer_reasons()
     ensures { TransferReasons }
 {}
 
-/// No instruction is refused because memory runs out.
+/// No instruction is rejected because memory runs out.
 pub fn effects_need_no_memory()
     ensures { (shapes : Shapes) (at : ℕ) (i : Insn) (f : Facts) (reason : Reason)
         → effect shapes at i f ≡ Err reason → reason ≢ Memory }

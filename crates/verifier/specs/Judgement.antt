@@ -1,4 +1,4 @@
--- The judgement of slots: the program that they spell is accepted, or they are refused because of one slot. What is refused, in which
+-- The judgement of slots: the program that they spell is accepted, or they are rejected because of one slot. What is rejected, in which
 -- order, and the numbers are this project's own.
 use Rattle.std.specs.Prelude.{◌≡◌, ℕ, ◌+◌, List, ◌++◌, Result, Ok, Err, codes}
 use Rattle.std.specs.Fmt.{decimal}

@@ -18,7 +18,7 @@ use Rattle.verifier.specs.Verdict.{HasNoFault, IsAccepted, safety_fault}
 abbrev pub OneJudgement : Type 0
 OneJudgement = (named : List Named) (slots : List ℕ) (j k : Result (List Insn) Refusal) → Judges named slots j → Judges named slots k → j ≡ k
 
--- in a program without a fault of its shape, all that an instruction names exists: none is refused for safety because it calls an
+-- in a program without a fault of its shape, all that an instruction names exists: none is rejected for safety because it calls an
 -- unknown helper, loads something other than a map, or loads a direct value that the map does not have
 pub record SafetyFollowsShape : Type 0 where
   pub helpers : (code : List Insn) (named : List Named) (slot : ℕ) → HasNoFault (structure_fault code named) → safety_fault (shapes_of code named) code slot ≢ Some UnknownHelper

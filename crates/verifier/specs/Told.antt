@@ -22,7 +22,7 @@ unfoldable pub reached : Shapes → List Insn → ℕ → List (ℕ × Facts)
 reached shapes code zero = []
 reached shapes code (suc n) = reached shapes code n ++ known_at n (and_then (begins_at code n) (λ insn. facts_before shapes code n))
 
--- what the watcher had received, where it is known, and more
+-- what the watcher had received, if it is known, and more
 abbrev pub with_more : Option (List (ℕ × Facts)) → List (ℕ × Facts) → Option (List (ℕ × Facts))
 with_more told more = option_map (λ notes. notes ++ more) told
 
@@ -47,6 +47,6 @@ abbrev pub IsToldOfSafety : List Insn → List Named → Option (List (ℕ × Fa
 IsToldOfSafety code named old new fault =
     HasNoFault (structure_fault code named) × IsFirstFault (safety_fault (shapes_of code named) code) fault.slot fault.reason × IsToldBelow (fault.slot + 1) (shapes_of code named) code old new
 
--- for a program that is refused
+-- for a program that is rejected
 abbrev pub IsToldRefused : List Insn → List Named → Option (List (ℕ × Facts)) → Option (List (ℕ × Facts)) → VerifyFault → Type 0
 IsToldRefused code named old new fault = IsToldPart code named old new fault ⊎ (IsToldOfShape code named old new fault ⊎ IsToldOfSafety code named old new fault)

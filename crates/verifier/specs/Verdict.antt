@@ -43,6 +43,6 @@ IsAccepted code named = HasNoFault (structure_fault code named) × HasNoFault (s
 abbrev pub memory_fault : VerifyFault
 memory_fault = record { slot = 0; reason = Memory }
 
--- the error for a program that is not accepted: the slot and the reason for which it is refused, or out of memory
+-- the error for a program that is not accepted: the slot and the reason for which it is rejected, or out of memory
 abbrev pub IsFaultOf : List Insn → List Named → VerifyFault → Type 0
 IsFaultOf code named e = (e ≡ memory_fault) ⊎ IsRefused code named e.slot e.reason

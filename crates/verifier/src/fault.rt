@@ -1,11 +1,11 @@
-//! Why a program is refused.
+//! Why a program is rejected.
 
 ghost use Rattle.std.specs.Prelude.{◌≡◌};
 
 use reg_kinds::Reason;
 use std::alloc::AllocError;
 
-/// The reason for which a program is refused, and the slot.
+/// The reason for which a program is rejected, and the slot.
 #[derive(Clone, Copy, Debug, PartialEq, Eq)]
 pub struct VerifyFault {
     /// The slot of the instruction; 0 if out of memory.

@@ -1,4 +1,4 @@
-//! Known answers of the watched verdict and of the private types, proved from their contracts alone. Nothing calls these functions.
+//! Known answers of the watched verdict and of the private types, proved only from their contracts. Nothing calls these functions.
 
 ghost use Rattle.std.specs.Prelude.{◌≡◌, ◌≢◌, ◌<◌, ℕ, length, slice_index_or, None, IfOk, OnOk};
 ghost use Rattle.insn_set.specs.Program.{slot_count};

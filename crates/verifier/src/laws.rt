@@ -16,13 +16,13 @@ pub fn one_refusal()
         → IsRefused code named m a → IsRefused code named n b → (m ≡ n) × (a ≡ b) }
 {}
 
-/// An accepted program is not refused.
+/// An accepted program is not rejected.
 pub fn accepted_is_not_refused()
     ensures { (code : List Insn) (named : List Named) (slot : ℕ) (reason : Reason)
         → IsAccepted code named → ¬ IsRefused code named slot reason }
 {}
 
-/// A program is refused by a rule, never for `Memory`, which `verify` reports only if it is out of memory.
+/// A program is rejected by a rule, never for `Memory`, which `verify` reports only if it is out of memory.
 pub fn refused_by_a_rule()
     ensures { (code : List Insn) (named : List Named) (slot : ℕ) (reason : Reason)
         → IsRefused code named slot reason → reason ≢ Memory }
@@ -40,7 +40,7 @@ pub fn one_judgement()
     accepted_is_not_refused();
 }
 
-/// If the shape of a program has no fault, no instruction is refused for safety because it calls an unknown helper, loads something
+/// If the shape of a program has no fault, no instruction is rejected for safety because it calls an unknown helper, loads something
 /// other than a map, or loads a direct value that the map does not have: the check of the shape has excluded these.
 pub fn safety_follows_shape()
     ensures { SafetyFollowsShape }

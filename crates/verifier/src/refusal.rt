@@ -1,4 +1,4 @@
-//! Why slots are refused: one answer, with a slot and a number.
+//! Why slots are rejected: a slot and a number.
 
 ghost use Rattle.std.specs.Prelude.{◌≡◌};
 
@@ -7,7 +7,7 @@ use insn_codec::{CodecFault, FaultKind};
 use reg_kinds::Reason;
 use std::fmt;
 
-/// What is wrong with slots that are refused.
+/// What is wrong with slots that are rejected.
 #[derive(Clone, Copy, Debug, PartialEq, Eq)]
 pub enum Cause {
     /// They are no program.
@@ -30,7 +30,7 @@ impl Cause {
     }
 }
 
-/// Why slots are refused, and because of which slot. Its text is the line of `verify` and of the log.
+/// Why slots are rejected, and because of which slot. Its text is the line of `verify` and of the log.
 #[derive(Clone, Copy, Debug, PartialEq, Eq)]
 pub struct Refusal {
     /// The slot of the instruction; if they are no program because of their number, the slot that `read_program` reports.

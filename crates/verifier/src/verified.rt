@@ -96,8 +96,8 @@ pub fn verify(alloc: Global, program: &Program, named: &[Named]) -> Result<Verif
     Ok(Verified { program, loaded })
 }
 
-/// Verifies the program that the bytes of slots spell. It is kept without a copy, or the slots are refused: no error but want of memory
-/// is told in another way.
+/// Verifies the program that the bytes of slots spell. It is kept without a copy, or the slots are rejected: out of memory is the
+/// only other error.
 ///
 /// # Errors
 ///
@@ -133,7 +133,7 @@ pub fn verify_slots(
 }
 
 /// Verifies a program like `verify`, and passes the facts before each instruction that a run may reach to `watcher`: each slot once
-/// and in order. If the program is refused for its safety, the last slot is that of the fault; if for its shape, nothing is passed.
+/// and in order. If the program is rejected for its safety, the last slot is that of the fault; if for its shape, nothing is passed.
 /// Nothing is kept of the program.
 ///
 /// # Errors

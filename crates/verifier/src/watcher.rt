@@ -9,7 +9,7 @@ use std::alloc::AllocError;
 
 /// A receiver of the facts before each instruction that a run may reach, in the pass over a program.
 pub trait Watcher {
-    // The slots and facts that it has received so far, where they are known.
+    // The slots and facts that it has received so far, if they are known.
     ghost told: { Self → Option (List (ℕ × AnyFacts)) } = { λ _. None };
 
     /// Receives the facts before the instruction at `slot`. They are borrowed from the pass.

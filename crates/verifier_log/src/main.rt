@@ -1,4 +1,4 @@
-//! verifier_log: the facts of the verifier before each instruction of a program, and why a program is refused. See the README.
+//! verifier_log: the facts of the verifier before each instruction of a program, and why a program is rejected. See the README.
 #![tactic(auto)]
 
 use host::refuse_unread_words;

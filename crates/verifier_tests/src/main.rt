@@ -1,8 +1,8 @@
-//! Plays worked cases of the verifier: writes an answer beside each line of standard input.
+//! Plays worked cases of the verifier: writes a result next to each line of standard input.
 //!
 //! | Line | Answer |
 //! |---|---|
-//! | `verify TEXT` | the verdict on a program's text, where `;` ends a line and `COUNT times LINE` is `COUNT` such lines |
+//! | `verify TEXT` | the verdict on a program's text: `;` ends a line and `COUNT times LINE` is `COUNT` such lines |
 //! | `start TEXT` | the verdict on a program that begins with this text, and then ends with `r0 = 0; exit` |
 //! | `map FD KIND KEY_SIZE VALUE_SIZE MAX_ENTRIES` | from here on this descriptor names a map |
 //! | `program FD` | from here on this descriptor names a program |

@@ -65,6 +65,6 @@ sign_extend n k a = unsigned n (signed k (a % 2 ^ k))
 abbrev pub low : ℕ → ℕ → ℕ
 low k a = a % 2 ^ k
 
--- the low k bits of a with their bytes reversed, where w has k bits: written little-endian, read big-endian
+-- the low k bits of a with their bytes reversed, if w has k bits: written little-endian, read big-endian
 abbrev pub reversed : Width → ℕ → ℕ → ℕ
 reversed w k a = swap_bytes w (a % 2 ^ k)

@@ -1,4 +1,4 @@
-//! Known answers, proved from the contracts alone.
+//! Known answers, proved only from the contracts.
 
 use crate::{AccessSize, AluOp, ByteOrder, Condition, KeptBits, Operator, words32, words64};
 

@@ -55,7 +55,7 @@ pub enum ExtendedBits {
 /// An operator of RFC 9669, sections 4.1 and 4.2, with the destination as first operand and the source as second.
 #[derive(Clone, Copy, Debug, PartialEq, Eq)]
 pub enum Operator {
-    /// An operator of two operands. `Mov` reads the second alone.
+    /// An operator of two operands. `Mov` only reads the second.
     Binary(AluOp),
     /// The negated first operand.
     Neg,

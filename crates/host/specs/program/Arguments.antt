@@ -49,7 +49,7 @@ program_up_to_dis = with_subcommand (with_subcommand program_up_to_serve asm_com
 abbrev pub program : App
 program = with_subcommand program_up_to_dis verify_command.top
 
--- the kinds of error that clap has for the arguments: empty where it accepts them
+-- the kinds of error that clap has for the arguments: empty if it accepts them
 unfoldable pub refusal_kinds : List Text → Kinds
 refusal_kinds arguments = fault_of program arguments
 
@@ -77,7 +77,7 @@ pub data Asked : Type 0 where
   Rewrites : TextTask → Asked
   Verifies : List Text → Asked
 
--- what a subcommand asks for, given its name and its arguments; None where these are wrong
+-- what a subcommand asks for, given its name and its arguments; None if these are wrong
 abbrev pub asked_with : Text → List Row → Option Asked
 asked_with name rows =
     if bytes_eq name (codes "serve") then option_map Serves (option_and_then tenant_number (tenants_value rows)) else
@@ -88,7 +88,7 @@ asked_with name rows =
 abbrev pub asked_of : Option (Text × List Row) → Option Asked
 asked_of chosen = option_and_then (λ (subcommand : Text × List Row). asked_with subcommand.0 subcommand.1) chosen
 
--- what the arguments ask for; None where they are wrong, whatever the map arguments name
+-- what the arguments ask for; None if they are wrong, whatever the map arguments name
 abbrev pub asked_by_arguments : List Text → Option Asked
 asked_by_arguments arguments = if is_empty (refusal_kinds arguments) then asked_of (chosen_subcommand arguments) else None
 
@@ -100,6 +100,6 @@ HasWrongMapArgument maps = (number : ℕ) × IsFirstWrongArgument maps number
 abbrev pub AreWrongArguments : List Text → Type 0
 AreWrongArguments arguments = (asked_by_arguments arguments ≡ None) ⊎ ((maps : List Text) × (asked_by_arguments arguments ≡ Some (Verifies maps)) × HasWrongMapArgument maps)
 
--- where the arguments ask for a verdict and the input's bytes are known, the input has a program that is accepted
+-- if the arguments ask for a verdict and the input's bytes are known, the input has a program that is accepted
 abbrev pub AcceptsAsked : List Text → Option (List ℕ) → Type 0
 AcceptsAsked arguments input = (maps : List Text) → asked_by_arguments arguments ≡ Some (Verifies maps) → AcceptsIfKnown maps input

@@ -9,7 +9,7 @@ use Rattle.clap.specs.Words.{Text}
 abbrev pub is_decimal : Text → Bool
 is_decimal text = nat_lt 0 (length text) && list_all is_ascii_digit text
 
--- the value of decimal digits, where it is below 2^32; leading zeros are allowed
+-- the value of decimal digits, if it is below 2^32; leading zeros are allowed
 abbrev pub decimal_number : Text → Option ℕ
 decimal_number text =
     let number = digits_value 10 text in

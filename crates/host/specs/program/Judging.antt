@@ -8,14 +8,14 @@ use Rattle.verifier.specs.declared.refusal.Refusal.{Refusal}
 use Rattle.host.specs.program.Shapes.{AreMapArguments}
 use Rattle.host.specs.program.Texts.{IsSlotText}
 
--- the verdict on the slots that the input has as hex lines, where these maps are open: their refusal, or None of an accepted program
+-- the verdict on the slots that the input has as hex lines, if these maps are open: their refusal, or None for an accepted program
 abbrev pub IsJudgement : List Named → List ℕ → Option Refusal → Type 0
 IsJudgement maps input None = (slots : List ℕ) × (insns : List Insn) × IsSlotText input slots × Judges maps slots (Ok insns)
 IsJudgement maps input (Some refusal) = (slots : List ℕ) × IsSlotText input slots × Judges maps slots (Err refusal)
 
 -- ---- a run whose input is known
 
--- the input has a program that is accepted, where the maps that these arguments name are open
+-- the input has a program that is accepted, if the maps that these arguments name are open
 pub record Accepts (arguments : List Text) (input : List ℕ) : Type 0 where
   pub maps : List Named
   pub named : AreMapArguments arguments maps

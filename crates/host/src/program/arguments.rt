@@ -126,7 +126,7 @@ fn chosen_task<'m, 'a>(matches: &'m ArgMatches<'a>) -> Option<Task<'m, 'a>>
 }
 
 /// Serves the input's frames and writes the replies. It consumes the streams, so what was read and written, and which fault
-/// came, is in the contract of `serve_frames` alone.
+/// came, is only in the contract of `serve_frames`.
 fn serve_streams<I: Read + Drop, O: Write + Drop>(
     alloc: Global,
     seed: Option<HashSeed>,
@@ -150,7 +150,7 @@ fn serve_streams<I: Read + Drop, O: Write + Drop>(
 }
 
 /// Assembles or disassembles the input. It consumes the streams, so what was read and written, and which fault came, is in
-/// the contract of `rewrite` alone.
+/// the contract of `rewrite` only.
 fn rewrite_streams<I: Read + Drop, O: Write + Drop>(
     alloc: Global,
     task: TextTask,
@@ -176,7 +176,7 @@ fn maps_given(alloc: Global, arguments: Option<&[&str]>) -> Result<Vec<Named>, F
 }
 
 /// Reads the map arguments, verifies the input's program, and returns the exit status of the verdict. It consumes the streams,
-/// so what was read and written, and which fault came, is in the contract of `judge` alone.
+/// so what was read and written, and which fault came, is only in the contract of `judge`.
 fn judge_streams<I: Read + Drop, O: Write + Drop>(
     alloc: Global,
     arguments: Option<&[&str]>,
@@ -229,7 +229,7 @@ fn run<I: Read + Drop, O: Write + Drop>(
 }
 
 /// Runs the program on its arguments, those after its name, and returns its exit status: 0, 1 if the input or its program is
-/// refused, 2 if arguments are wrong, 3 if input or output failed, or if there is no seed for the maps of `serve`, 4 if out of
+/// rejected, 2 if arguments are wrong, 3 if input or output failed, or if there is no seed for the maps of `serve`, 4 if out of
 /// memory. A fault is one line on `faults`; if that line can't be written, the status is the same.
 pub fn run_words<I: Read + Drop, O: Write + Drop, F: Write + Drop>(
     alloc: Global,
@@ -254,7 +254,7 @@ pub fn run_words<I: Read + Drop, O: Write + Drop, F: Write + Drop>(
 }
 
 /// Reports arguments that could not be read, like `run_words`: the line `out of memory` and status 4 if out of memory, else
-/// (where one is not UTF-8) `wrong words` and 2. A line that can't be written is left out.
+/// (if one is not UTF-8) `wrong words` and 2. A line that can't be written is left out.
 pub fn refuse_unread_words<F: Write + Drop>(error: &io::Error, mut faults: F) -> u8
     ensures memory { error_kind error.now ≡ OutOfMemory → result ≡ 4 }
     ensures wrong { error_kind error.now ≢ OutOfMemory → result ≡ 2 }

@@ -44,7 +44,7 @@ impl Failure {
     ghost use Rattle.host.specs.declared.program.failure.Failure.TheVariants.{WrongArguments, Memory};
     ghost use Rattle.host.specs.program.Statuses.{exit_status};
 
-    /// Why the arguments could not be read: `Memory` if out of memory, else `WrongArguments`, as where one is not UTF-8.
+    /// Why the arguments could not be read: `Memory` if out of memory, else `WrongArguments`, for instance if one is not UTF-8.
     pub fn of_unread_arguments(error: &io::Error) -> Failure
         ensures memory { error_kind error.now ≡ OutOfMemory → result ≡ Memory }
         ensures wrong { error_kind error.now ≢ OutOfMemory → result ≡ WrongArguments }

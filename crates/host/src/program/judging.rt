@@ -15,7 +15,7 @@ use std::alloc::{AllocError, Global};
 use tagged_model::Named;
 use verifier::{Refusal, laws, verify_slots};
 
-/// Why the slots on the input's hex lines are refused, where these maps are open; `None` if their program is accepted.
+/// Why the slots on the input's hex lines are rejected, if these maps are open; `None` if their program is accepted.
 fn refusal_of_input(alloc: Global, maps: &[Named], input: &[u8]) -> Result<Option<Refusal>, Failure>
     ensures judged { IfOk result (λ refusal. IsJudgement maps.now input.now refusal) }
     ensures only { (refusal : Option AnyRefusal) → IsJudgement maps.now input.now refusal
@@ -53,7 +53,7 @@ pub(crate) fn verdict_status(refusal: Option<Refusal>) -> u8
     }
 }
 
-/// Reads the input, and writes a line with the verdict on its hex lines, where these maps are open. Returns why they are refused, if
+/// Reads the input, and writes a line with the verdict on its hex lines, if these maps are open. Returns why they are rejected, if
 /// they are.
 pub(crate) fn judge<S: Source, O: Sink>(
     alloc: Global,

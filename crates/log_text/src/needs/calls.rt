@@ -91,7 +91,7 @@ fn bytes_reason(named: &[Named], facts: &Facts, role: Role, kind: Kind) -> Optio
     }
 }
 
-/// Why an argument is refused, if it is.
+/// Why an argument is rejected, if it is.
 fn argument_reason(named: &[Named], facts: &Facts, argument: Argument) -> Option<Reason> {
     let kind = kind_of(facts, argument.register);
     match (argument.role, kind) {
@@ -109,7 +109,7 @@ fn argument_reason(named: &[Named], facts: &Facts, argument: Argument) -> Option
     }
 }
 
-/// The first argument that is refused.
+/// The first argument that is rejected.
 fn refused_argument(refusal: &RefusedProgram<'_>, helper: Helper) -> Option<Argument> {
     for place in 0..4 {
         if let Some(argument) = argument_at(helper, place)
@@ -175,7 +175,7 @@ fn write_argument(
     }
 }
 
-/// Writes what is known of the refused argument of a helper, against what is needed.
+/// Writes what is known of the rejected argument of a helper, and what is required.
 pub(crate) fn write_need(
     text: &mut String,
     refusal: &RefusedProgram<'_>,

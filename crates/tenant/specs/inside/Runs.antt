@@ -1,4 +1,4 @@
--- What a run of one packet answers. This project's own.
+-- The result of a run on one packet. This project's own.
 use Rattle.std.specs.Prelude.{ℕ, Result, Ok, Err}
 use Rattle.byteorder.specs.Endian.{little_bytes}
 use Rattle.tenant.specs.declared.errno.Errno.{Errno}

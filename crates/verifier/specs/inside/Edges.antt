@@ -1,4 +1,4 @@
--- The facts on each edge alone. This project's own.
+-- The facts on each single edge. This project's own.
 use Rattle.std.specs.Prelude.{◌≡◌, ℕ, Option, Some, None, Result, Ok, Err}
 use Rattle.insn_set.specs.declared.insn.Insn.{Insn}
 use Rattle.reg_kinds.specs.declared.facts.Facts.{Facts}

@@ -17,7 +17,7 @@ IsJudgementLine maps refusal input output = IsJudgement maps input refusal × (o
 abbrev pub IsJudgedLine : List Named → List ℕ → List ℕ → Type 0
 IsJudgedLine maps input output = (refusal : Option Refusal) × IsJudgementLine maps refusal input output
 
--- the exit status of a run that wrote it: 1 if the slots are refused
+-- the exit status of a run that wrote it: 1 if the slots are rejected
 abbrev pub judgement_status : Option Refusal → ℕ
 judgement_status None = 0
 judgement_status (Some refusal) = 1

@@ -120,12 +120,12 @@ static void end(int code, bool asks)
     const bool do_overlap = overlap();
     if (is_any_null || is_any_too_long || do_overlap) {
         __CPROVER_assert(!is_asked, "no proved function is called if something is wrong");
-        __CPROVER_assert((code == BPFHOST_NULL && is_any_null) || (code == BPFHOST_LENGTH && is_any_too_long)
-                             || (code == BPFHOST_OVERLAP && do_overlap),
+        __CPROVER_assert((code == BPFHOST_ERR_NULL && is_any_null) || (code == BPFHOST_ERR_LENGTH && is_any_too_long)
+                             || (code == BPFHOST_ERR_OVERLAP && do_overlap),
                          "the code says something that is wrong");
     } else {
         __CPROVER_assert(is_asked == asks, "the proved function is called if nothing is wrong");
-        __CPROVER_assert(code != BPFHOST_NULL && code != BPFHOST_LENGTH && code != BPFHOST_OVERLAP, "the code is another");
+        __CPROVER_assert(code != BPFHOST_ERR_NULL && code != BPFHOST_ERR_LENGTH && code != BPFHOST_ERR_OVERLAP, "the code is another");
     }
     __CPROVER_assert(arena[watched] == byte_before || (code == BPFHOST_DONE && may_be_written()),
                      "no byte changes but those that may be written");
@@ -175,7 +175,7 @@ static void copy(void *to, const void *from, size_t length)
 static int32_t ask(const struct piece *pieces, size_t pieces_count)
 {
     int32_t code = nondet_int32_t();
-    __CPROVER_assume(code <= BPFHOST_DONE && code >= BPFHOST_ROOM);
+    __CPROVER_assume(code <= BPFHOST_DONE && code >= BPFHOST_ERR_BUFFER_TOO_SMALL);
     __CPROVER_assert(!is_asked, "a proved function is called once");
     is_asked = true;
     for (size_t i = 0; i < pieces_count; i++) {

@@ -74,7 +74,7 @@ static bool is_asked(const struct given *given, size_t frame_length, int code)
 
 static int call_random_seed(const struct given *given)
 {
-    return bpfhost_random_seed((bpfhost_seed *)given->at[0]) ? BPFHOST_DONE : BPFHOST_NULL;
+    return bpfhost_random_seed((bpfhost_seed *)given->at[0]) ? BPFHOST_DONE : BPFHOST_ERR_NULL;
 }
 
 static bool holds_random_seed(const struct given *given, int code)

@@ -137,8 +137,8 @@ static bool names(int code, unsigned wrong)
 {
     if (function->builds)
         return code == REFUSED;
-    return (code == BPFHOST_NULL && wrong & NULLS) || (code == BPFHOST_LENGTH && wrong & LENGTHS)
-        || (code == BPFHOST_OVERLAP && wrong & OVERLAPS) || (code == BPFHOST_NO_REPLY && wrong & TOO_FEW);
+    return (code == BPFHOST_ERR_NULL && wrong & NULLS) || (code == BPFHOST_ERR_LENGTH && wrong & LENGTHS)
+        || (code == BPFHOST_ERR_OVERLAP && wrong & OVERLAPS) || (code == BPFHOST_ERR_NO_REPLY && wrong & TOO_FEW);
 }
 
 /* Whether a refused call has to empty an object. */
@@ -306,7 +306,7 @@ static void try_function(const struct function *it)
     function = it;
     asked.code = BPFHOST_DONE;
     try_nulls();
-    asked.code = BPFHOST_NO_HOST;
+    asked.code = BPFHOST_ERR_NO_HOST;
     if (asked.ever != asked_before)
         try_nulls();
 }

@@ -110,7 +110,7 @@ static bool round_of(int outcomes[STEPS][TENANTS])
     bool saw[TENANTS] = {false, false};
     int code = bpfhost_new(&host, TENANTS, &test_seed);
     if (code != BPFHOST_DONE) {
-        CHECK(code == BPFHOST_MEMORY && host.at == NULL && blocks == 0);
+        CHECK(code == BPFHOST_ERR_NO_MEMORY && host.at == NULL && blocks == 0);
         return false;
     }
     for (int step = 0; step < 48; step++)

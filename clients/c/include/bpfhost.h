@@ -64,17 +64,17 @@ static inline const char *bpfhost_version(void)
 
 enum bpfhost_code {
     /* codes: written by tools/generate */
-    BPFHOST_DONE = 0,      /* the call succeeded */
-    BPFHOST_NO_HOST = -1,  /* the handle is empty */
-    BPFHOST_HAS_HOST = -2, /* the handle has a host already */
-    BPFHOST_TENANTS = -3,  /* a host has 1 to 64 tenants */
-    BPFHOST_MEMORY = -4,   /* out of memory for the host */
-    BPFHOST_ROOM = -5,     /* the buffer is smaller than the longest reply */
+    BPFHOST_DONE = 0,                  /* the call succeeded */
+    BPFHOST_ERR_NO_HOST = -1,          /* the handle is empty */
+    BPFHOST_ERR_HAS_HOST = -2,         /* the handle has a host already */
+    BPFHOST_ERR_TENANT_COUNT = -3,     /* a host has 1 to 64 tenants */
+    BPFHOST_ERR_NO_MEMORY = -4,        /* out of memory for the host */
+    BPFHOST_ERR_BUFFER_TOO_SMALL = -5, /* the buffer is smaller than the longest reply */
     /* of this header alone; if more than one of them holds, the call returns one that does */
-    BPFHOST_NULL = -16,    /* a pointer is null */
-    BPFHOST_LENGTH = -17,  /* a length is above PTRDIFF_MAX */
-    BPFHOST_OVERLAP = -18, /* an object that the call may write, the handle included, overlaps another one */
-    BPFHOST_NO_REPLY = -19 /* the bytes are not one whole reply */
+    BPFHOST_ERR_NULL = -16,            /* a pointer is null */
+    BPFHOST_ERR_LENGTH = -17,          /* a length is above PTRDIFF_MAX */
+    BPFHOST_ERR_OVERLAP = -18,         /* an object that the call may write, the handle included, overlaps another one */
+    BPFHOST_ERR_NO_REPLY = -19         /* the bytes are not one whole reply */
     /* end of codes */
 };
 
@@ -99,8 +99,8 @@ typedef struct bpfhost_seed {
     uint64_t words[2];
 } bpfhost_seed;
 
-/* The proved functions. No pointer is null, no length is above PTRDIFF_MAX, what they may write overlaps nothing else that they are
- * given, `*refused` is false or true, and `reply->at` leads to `reply->length` bytes. Call those below in their place. */
+/* The proved functions. No pointer is null, no length is above PTRDIFF_MAX, what they may write overlaps nothing else that they
+ * are given, `*refused` is false or true, and `reply->at` leads to `reply->length` bytes. Call those below in their place. */
 int32_t bpfhost_c_new(bpfhost *handle, size_t tenants, uint64_t first, uint64_t second);
 int32_t bpfhost_c_handle(bpfhost *handle, const uint8_t *frame, size_t frame_length, uint8_t *room, size_t room_length,
                          size_t *written);
@@ -122,10 +122,10 @@ static inline bool bpfhost_are_apart(const void *a, size_t a_length, const void 
 static inline int bpfhost_pair_code(const void *a, size_t a_length, const void *b, size_t b_length)
 {
     if (a == NULL || b == NULL)
-        return BPFHOST_NULL;
+        return BPFHOST_ERR_NULL;
     if (a_length > PTRDIFF_MAX || b_length > PTRDIFF_MAX)
-        return BPFHOST_LENGTH;
-    return bpfhost_are_apart(a, a_length, b, b_length) ? BPFHOST_DONE : BPFHOST_OVERLAP;
+        return BPFHOST_ERR_LENGTH;
+    return bpfhost_are_apart(a, a_length, b, b_length) ? BPFHOST_DONE : BPFHOST_ERR_OVERLAP;
 }
 
 /* Where bytes stand; if there are none, they may be null. */
@@ -151,8 +151,9 @@ static inline bool bpfhost_random_seed(bpfhost_seed *seed)
     return whole;
 }
 
-/* Makes a host for so many tenants, numbered from 0, with the seed of its hash maps, and puts it behind an empty handle. It takes
- * some 260 KiB for each tenant, which bpfhost_free gives back. TENANTS, HAS_HOST, MEMORY, NULL, OVERLAP: the handle is as it was. */
+/* Makes a host for so many tenants, numbered from 0, with the seed of its hash maps, and puts it behind an empty handle. It
+ * takes some 260 KiB for each tenant, which bpfhost_free gives back. ERR_TENANT_COUNT, ERR_HAS_HOST, ERR_NO_MEMORY, ERR_NULL,
+ * ERR_OVERLAP: the handle is as it was. */
 static inline int bpfhost_new(bpfhost *handle, size_t tenants, const bpfhost_seed *seed)
 {
     int code = bpfhost_pair_code(handle, sizeof *handle, seed, sizeof *seed);
@@ -172,8 +173,8 @@ static inline int bpfhost_frame_code(const bpfhost *handle, const uint8_t *frame
 }
 
 /* Handles a frame of any length and content, which is what follows the length field in a stream, and leaves the reply, with its
- * length field, at the front of the room; `written` gets its length, 12 to BPFHOST_LONGEST_REPLY. ROOM, NO_HOST, NULL, LENGTH,
- * OVERLAP: nothing is written, and no tenant's state has changed. */
+ * length field, at the front of the room; `written` gets its length, 12 to BPFHOST_LONGEST_REPLY. ERR_BUFFER_TOO_SMALL,
+ * ERR_NO_HOST, ERR_NULL, ERR_LENGTH, ERR_OVERLAP: nothing is written, and no tenant's state has changed. */
 static inline int bpfhost_handle(bpfhost *handle, const void *frame, size_t frame_length, void *room, size_t room_length,
                                  size_t *written)
 {
@@ -186,8 +187,8 @@ static inline int bpfhost_handle(bpfhost *handle, const void *frame, size_t fram
     return code == BPFHOST_DONE ? (int)bpfhost_c_handle(handle, at, frame_length, (uint8_t *)room, room_length, written) : code;
 }
 
-/* Whether a refused call may empty its reply: it is there, and overlaps neither the handle nor the frame. A frame that is longer than
- * any object might overlap anything. */
+/* Whether a refused call may empty its reply: it is there, and overlaps neither the handle nor the frame. A frame that is
+ * longer than any object might overlap anything. */
 static inline bool bpfhost_may_empty(const bpfhost_bytes *reply, const bpfhost *handle, const uint8_t *frame, size_t frame_length)
 {
     return reply != NULL && frame_length <= PTRDIFF_MAX
@@ -195,9 +196,9 @@ static inline bool bpfhost_may_empty(const bpfhost_bytes *reply, const bpfhost *
         && (frame == NULL || bpfhost_are_apart(reply, sizeof *reply, frame, frame_length));
 }
 
-/* The same, but the reply is lent where it stands, in the host's own room, until the next call on this handle: nothing is copied.
- * NO_HOST, NULL, LENGTH, OVERLAP: no tenant's state has changed, and `reply` has no bytes. But it is as it was if the frame's length
- * is above PTRDIFF_MAX, or if `reply` itself overlaps the handle or the frame. */
+/* The same, but the reply is lent where it stands, in the host's own room, until the next call on this handle: nothing is
+ * copied. ERR_NO_HOST, ERR_NULL, ERR_LENGTH, ERR_OVERLAP: no tenant's state has changed, and `reply` has no bytes. But it is as
+ * it was if the frame's length is above PTRDIFF_MAX, or if `reply` itself overlaps the handle or the frame. */
 static inline int bpfhost_handle_lent(bpfhost *handle, const void *frame, size_t frame_length, bpfhost_bytes *reply)
 {
     const uint8_t *at = bpfhost_bytes_at(frame, frame_length);
@@ -221,7 +222,7 @@ static inline const bpfhost_context *bpfhost_context_at(const bpfhost_context *c
     return context == NULL ? &zeros : context;
 }
 
-/* The words of a context as they stand behind one another; zeros for a null context. NULL, OVERLAP: nothing is written. */
+/* The words of a context as they stand behind one another; zeros for a null context. ERR_NULL, ERR_OVERLAP: nothing is written. */
 static inline int bpfhost_context_words(const bpfhost_context *context, uint32_t words[10])
 {
     const bpfhost_context *c = bpfhost_context_at(context);
@@ -260,7 +261,7 @@ static inline int bpfhost_run_code(const bpfhost *handle, const bpfhost_context 
     size_t results_size = packets * sizeof *results;
     int code;
     if (packets > PTRDIFF_MAX / sizeof *ends)
-        return BPFHOST_LENGTH;
+        return BPFHOST_ERR_LENGTH;
     code = bpfhost_packets_code(handle, sizeof *handle, context, bytes, byte_count, ends, packets);
     if (code == BPFHOST_DONE)
         code = bpfhost_packets_code(results, results_size, context, bytes, byte_count, ends, packets);
@@ -276,12 +277,12 @@ static inline int bpfhost_run_code(const bpfhost *handle, const bpfhost_context 
 }
 
 /* Runs a program of a tenant on many packets, one after another, as PROG_TEST_RUN does on each, without frames and replies. The
- * packets lie one after another in `bytes`, and packet i ends before byte ends[i]; the context, which may be null for zeros, is the
- * same for all but for the packet's length. `results` has room for as many results as packets, and `status` gets 0. What
- * PROG_TEST_RUN would refuse is refused before the first packet, and `status` gets its error: -1 for a tenant that is not served,
- * -9 and -22 for a descriptor that is not open or names a map, -7 for a packet of more than 65,536 bytes; -22 too for ends that are
- * out of order or outside the bytes. Then no packet was run, and `results` is as it was. NO_HOST, NULL, LENGTH, OVERLAP: nothing is
- * written, and no tenant's state has changed. */
+ * packets lie one after another in `bytes`, and packet i ends before byte ends[i]; the context, which may be null for zeros, is
+ * the same for all but for the packet's length. `results` has room for as many results as packets, and `status` gets 0. What
+ * PROG_TEST_RUN would refuse is refused before the first packet, and `status` gets its error: -1 for a tenant that is not
+ * served, -9 and -22 for a descriptor that is not open or names a map, -7 for a packet of more than 65,536 bytes; -22 too for
+ * ends that are out of order or outside the bytes. Then no packet was run, and `results` is as it was. ERR_NO_HOST, ERR_NULL,
+ * ERR_LENGTH, ERR_OVERLAP: nothing is written, and no tenant's state has changed. */
 static inline int bpfhost_run_packets(bpfhost *handle, uint16_t tenant, uint32_t fd, const bpfhost_context *context,
                                       const void *bytes, size_t byte_count, const size_t *ends, size_t packets,
                                       uint32_t *results, int32_t *status)
@@ -304,7 +305,7 @@ static inline int bpfhost_run_packets(bpfhost *handle, uint16_t tenant, uint32_t
 }
 
 /* Whether memory was ever refused to a tenant: then its replies may differ from those that it would be given alone. False for a
- * number that is not served. NO_HOST, NULL, OVERLAP: nothing is written. */
+ * number that is not served. ERR_NO_HOST, ERR_NULL, ERR_OVERLAP: nothing is written. */
 static inline int bpfhost_memory_refused(bpfhost *handle, uint16_t tenant, bool *refused)
 {
     bool found = false;
@@ -512,7 +513,7 @@ typedef struct bpfhost_reply {
     uint16_t reason;
 } bpfhost_reply;
 
-/* Reads one whole reply. NULL, LENGTH, OVERLAP, NO_REPLY: nothing is written. */
+/* Reads one whole reply. ERR_NULL, ERR_LENGTH, ERR_OVERLAP, ERR_NO_REPLY: nothing is written. */
 static inline int bpfhost_read_reply(const void *bytes, size_t length, bpfhost_reply *reply)
 {
     const uint8_t *at = (const uint8_t *)bytes;
@@ -520,7 +521,7 @@ static inline int bpfhost_read_reply(const void *bytes, size_t length, bpfhost_r
     if (code != BPFHOST_DONE)
         return code;
     if (length < 12 || length > BPFHOST_LONGEST_REPLY || bpfhost_get32(at) != length - 4)
-        return BPFHOST_NO_REPLY;
+        return BPFHOST_ERR_NO_REPLY;
     reply->tenant = bpfhost_get16(at + 4);
     reply->command = bpfhost_get16(at + 6);
     reply->status = (int32_t)bpfhost_get32(at + 8);
@@ -538,8 +539,8 @@ static inline int bpfhost_read_reply(const void *bytes, size_t length, bpfhost_r
     return BPFHOST_DONE;
 }
 
-/* Handles a frame and reads the reply, whose payload is lent until the next call on this handle. NO_HOST, NULL, LENGTH, OVERLAP:
- * nothing is written, and no tenant's state has changed. */
+/* Handles a frame and reads the reply, whose payload is lent until the next call on this handle. ERR_NO_HOST, ERR_NULL,
+ * ERR_LENGTH, ERR_OVERLAP: nothing is written, and no tenant's state has changed. */
 static inline int bpfhost_ask(bpfhost *handle, const void *frame, size_t frame_length, bpfhost_reply *reply)
 {
     const uint8_t *at = bpfhost_bytes_at(frame, frame_length);
@@ -556,15 +557,15 @@ static inline const char *bpfhost_code_text(int code)
     switch (code) {
     /* texts of codes: written by tools/generate */
     case BPFHOST_DONE: return "the call succeeded";
-    case BPFHOST_NO_HOST: return "the handle is empty";
-    case BPFHOST_HAS_HOST: return "the handle has a host already";
-    case BPFHOST_TENANTS: return "a host has 1 to 64 tenants";
-    case BPFHOST_MEMORY: return "out of memory for the host";
-    case BPFHOST_ROOM: return "the buffer is smaller than the longest reply";
-    case BPFHOST_NULL: return "a pointer is null";
-    case BPFHOST_LENGTH: return "a length is above PTRDIFF_MAX";
-    case BPFHOST_OVERLAP: return "an object that the call may write, the handle included, overlaps another one";
-    case BPFHOST_NO_REPLY: return "the bytes are not one whole reply";
+    case BPFHOST_ERR_NO_HOST: return "the handle is empty";
+    case BPFHOST_ERR_HAS_HOST: return "the handle has a host already";
+    case BPFHOST_ERR_TENANT_COUNT: return "a host has 1 to 64 tenants";
+    case BPFHOST_ERR_NO_MEMORY: return "out of memory for the host";
+    case BPFHOST_ERR_BUFFER_TOO_SMALL: return "the buffer is smaller than the longest reply";
+    case BPFHOST_ERR_NULL: return "a pointer is null";
+    case BPFHOST_ERR_LENGTH: return "a length is above PTRDIFF_MAX";
+    case BPFHOST_ERR_OVERLAP: return "an object that the call may write, the handle included, overlaps another one";
+    case BPFHOST_ERR_NO_REPLY: return "the bytes are not one whole reply";
     /* end of texts of codes */
     default: return "no code of bpfhost";
     }

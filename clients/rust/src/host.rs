@@ -1,7 +1,7 @@
 use crate::batch::Batch;
 use crate::library::{Handle, unexpected};
 use crate::{Context, Errno, Error, Reply, Tenant};
-use bpfhost_sys::{LONGEST_FRAME, MEMORY, TENANTS};
+use bpfhost_sys::{ERR_NO_MEMORY, ERR_TENANT_COUNT, LONGEST_FRAME};
 use std::collections::hash_map::RandomState;
 use std::fmt;
 use std::hash::{BuildHasher, Hasher};
@@ -41,8 +41,8 @@ impl Host {
     pub fn new(tenants: usize) -> Result<Host, Error> {
         match Handle::new(tenants, [random_word(), random_word()]) {
             Ok(handle) => Ok(Host { handle, frame: Vec::new(), batch: Batch::default() }),
-            Err(TENANTS) => Err(Error::Tenants { asked: tenants }),
-            Err(MEMORY) => Err(Error::NoMemory),
+            Err(ERR_TENANT_COUNT) => Err(Error::Tenants { asked: tenants }),
+            Err(ERR_NO_MEMORY) => Err(Error::NoMemory),
             Err(code) => panic!("{}", unexpected(code)),
         }
     }

@@ -5,7 +5,8 @@ use Rattle.std.specs.Vec.{vec_ptr}
 use Rattle.host_core.specs.Frame.{longest_reply}
 use Rattle.host_core.specs.State.{TenantState}
 use Rattle.host_core.specs.Limits.{most_tenants}
-use Rattle.bpfhost_c.specs.declared.codes.TheConstants.{DONE, NO_HOST, HAS_HOST, TENANTS, ROOM}
+use Rattle.bpfhost_c.specs.declared.codes.TheConstants.{DONE, ERR_NO_HOST, ERR_HAS_HOST}
+use Rattle.bpfhost_c.specs.declared.codes.TheConstants.{ERR_TENANT_COUNT, ERR_BUFFER_TOO_SMALL}
 use Rattle.bpfhost_c.specs.declared.session.Session.{Session}
 
 -- the states of the tenants of a handle's host; an empty handle has none
@@ -24,12 +25,13 @@ StandsAt (Some s) reply at length = (s.reply.items ≡ reply) × (at ≡ vec_ptr
 -- of `new`, unless it is out of memory
 abbrev pub new_code : Option Session → ℕ → ℤ
 new_code before tenants =
-    if nat_lt tenants 1 || nat_lt most_tenants tenants then TENANTS else (if is_none before then DONE else HAS_HOST)
+    if nat_lt tenants 1 || nat_lt most_tenants tenants then ERR_TENANT_COUNT
+    else (if is_none before then DONE else ERR_HAS_HOST)
 
 -- of a call that takes a host
 abbrev pub host_code : Option Session → ℤ
-host_code before = if is_none before then NO_HOST else DONE
+host_code before = if is_none before then ERR_NO_HOST else DONE
 
 -- of a call that also takes room for the longest reply
 abbrev pub room_code : Option Session → ℕ → ℤ
-room_code before room = if nat_lt room longest_reply then ROOM else host_code before
+room_code before room = if nat_lt room longest_reply then ERR_BUFFER_TOO_SMALL else host_code before

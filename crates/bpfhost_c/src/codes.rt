@@ -4,16 +4,16 @@
 pub(crate) const DONE: i32 = 0;
 
 /// The handle has no host.
-pub(crate) const NO_HOST: i32 = -1;
+pub(crate) const ERR_NO_HOST: i32 = -1;
 
 /// The handle has a host already.
-pub(crate) const HAS_HOST: i32 = -2;
+pub(crate) const ERR_HAS_HOST: i32 = -2;
 
 /// A host has 1 to `MOST_TENANTS` tenants.
-pub(crate) const TENANTS: i32 = -3;
+pub(crate) const ERR_TENANT_COUNT: i32 = -3;
 
 /// Out of memory for the host.
-pub(crate) const MEMORY: i32 = -4;
+pub(crate) const ERR_NO_MEMORY: i32 = -4;
 
 /// The room has fewer than `LONGEST_REPLY` bytes.
-pub(crate) const ROOM: i32 = -5;
+pub(crate) const ERR_BUFFER_TOO_SMALL: i32 = -5;

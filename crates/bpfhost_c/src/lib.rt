@@ -82,9 +82,9 @@ ghost use Rattle.host_core.specs.Served.{IsUnrefused};
 ghost use Rattle.host_core.specs.State.{new_tenant};
 ghost use Rattle.bpfhost_c.specs.Calls.{states, StandsAt, new_code, host_code, room_code};
 ghost use Rattle.bpfhost_c.specs.Packets.{RunsPackets};
-ghost use Rattle.bpfhost_c.specs.declared.codes.TheConstants.{DONE, MEMORY};
+ghost use Rattle.bpfhost_c.specs.declared.codes.TheConstants.{DONE, ERR_NO_MEMORY};
 
-use codes::{DONE, HAS_HOST, MEMORY, NO_HOST, ROOM, TENANTS};
+use codes::{DONE, ERR_BUFFER_TOO_SMALL, ERR_HAS_HOST, ERR_NO_HOST, ERR_NO_MEMORY, ERR_TENANT_COUNT};
 use handle::Handle;
 use host_core::{GIVEN_WORDS, HashSeed, LONGEST_REPLY, MOST_TENANTS};
 use session::Session;
@@ -101,7 +101,7 @@ pub struct Lent {
 /// Creates a host for 1 to `MOST_TENANTS` tenants, and stores it in an empty handle. The two words are the seed of its hash maps:
 /// random ones, which no tenant knows.
 ///
-/// Returns `DONE`; else `TENANTS`, `HAS_HOST` or `MEMORY`, and the handle is unchanged.
+/// Returns `DONE`; else `ERR_TENANT_COUNT`, `ERR_HAS_HOST` or `ERR_NO_MEMORY`, and the handle is unchanged.
 #[unsafe(no_mangle)]
 pub extern "C" fn bpfhost_c_new(
     alloc: Global,
@@ -112,22 +112,22 @@ pub extern "C" fn bpfhost_c_new(
 ) -> i32
     ensures made { result ≡ DONE → states handle.new.session ≡ replicate tenants new_tenant }
     ensures otherwise { result ≢ DONE → handle.new.session ≡ handle.old.session }
-    ensures code { result ≢ MEMORY → result ≡ new_code handle.old.session tenants }
-    ensures memory { result ≡ MEMORY → new_code handle.old.session tenants ≡ DONE }
+    ensures code { result ≢ ERR_NO_MEMORY → result ≡ new_code handle.old.session tenants }
+    ensures memory { result ≡ ERR_NO_MEMORY → new_code handle.old.session tenants ≡ DONE }
 {
     if tenants < 1 || MOST_TENANTS < tenants {
-        return TENANTS;
+        return ERR_TENANT_COUNT;
     }
     if let Some(session) = handle.take(alloc) {
         handle.put(session);
-        return HAS_HOST;
+        return ERR_HAS_HOST;
     }
     match Session::new(alloc, tenants, HashSeed::new(first, second)) {
         Ok(session) => {
             handle.put(session);
             DONE
         }
-        Err(_) => MEMORY,
+        Err(_) => ERR_NO_MEMORY,
     }
 }
 
@@ -145,7 +145,7 @@ fn copy_to_front(bytes: &[u8], room: &mut [u8]) -> usize
 /// Handles a frame (what follows the length field) of any length, copies the reply to the front of `room` and its length to
 /// `written`.
 ///
-/// Returns `DONE`; else `ROOM` or `NO_HOST`, and the host, `room` and `written` are unchanged.
+/// Returns `DONE`; else `ERR_BUFFER_TOO_SMALL` or `ERR_NO_HOST`, and the host, `room` and `written` are unchanged.
 #[unsafe(no_mangle)]
 pub extern "C" fn bpfhost_c_handle(
     alloc: Global,
@@ -164,10 +164,10 @@ pub extern "C" fn bpfhost_c_handle(
     ensures written { result ≢ DONE → written.new ≡ written.old }
 {
     if room.len() < LONGEST_REPLY {
-        return ROOM;
+        return ERR_BUFFER_TOO_SMALL;
     }
     let Some(mut session) = handle.take(alloc) else {
-        return NO_HOST;
+        return ERR_NO_HOST;
     };
     session.handle(frame);
     *written = copy_to_front(&session.reply, room);
@@ -178,7 +178,7 @@ pub extern "C" fn bpfhost_c_handle(
 /// Handles a frame, and writes the address and the length of the reply to `lent`. They are valid until the next call with this
 /// handle.
 ///
-/// Returns `DONE`; else `NO_HOST`, and the handle and `lent` are unchanged.
+/// Returns `DONE`; else `ERR_NO_HOST`, and the handle and `lent` are unchanged.
 #[unsafe(no_mangle)]
 pub extern "C" fn bpfhost_c_handle_lent(
     alloc: Global,
@@ -195,7 +195,7 @@ pub extern "C" fn bpfhost_c_handle_lent(
     ensures lent { result ≢ DONE → lent.new ≡ lent.old }
 {
     let Some(mut session) = handle.take(alloc) else {
-        return NO_HOST;
+        return ERR_NO_HOST;
     };
     session.handle(frame);
     lent.at = session.reply.as_ptr();
@@ -208,7 +208,7 @@ pub extern "C" fn bpfhost_c_handle_lent(
 /// lie one after another in `bytes`, and each ends at its number in `ends`. Writes the result of each to the front of `results`, and
 /// 0 to `status`; or, if the batch is rejected, the status of the error that its frames would get, and then no packet was run.
 ///
-/// Returns `DONE`; else `NO_HOST`, and the host, `results` and `status` are unchanged.
+/// Returns `DONE`; else `ERR_NO_HOST`, and the host, `results` and `status` are unchanged.
 #[unsafe(no_mangle)]
 pub extern "C" fn bpfhost_c_run_packets(
     alloc: Global,
@@ -229,7 +229,7 @@ pub extern "C" fn bpfhost_c_run_packets(
     ensures status { result ≢ DONE → status.new ≡ status.old }
 {
     let Some(mut session) = handle.take(alloc) else {
-        return NO_HOST;
+        return ERR_NO_HOST;
     };
     *status = session.run_packets(usize::from(tenant), fd, words, bytes, ends, results);
     handle.put(session);
@@ -239,7 +239,7 @@ pub extern "C" fn bpfhost_c_run_packets(
 /// Sets `refused` to whether memory was ever refused to `tenant`; noninterference is promised to tenants to which it was not.
 /// False for a number that is not served.
 ///
-/// Returns `DONE`; else `NO_HOST`, and `refused` is unchanged.
+/// Returns `DONE`; else `ERR_NO_HOST`, and `refused` is unchanged.
 #[unsafe(no_mangle)]
 pub extern "C" fn bpfhost_c_memory_refused(
     alloc: Global,
@@ -256,7 +256,7 @@ pub extern "C" fn bpfhost_c_memory_refused(
     ensures otherwise { result ≢ DONE → refused.new ≡ refused.old }
 {
     let Some(session) = handle.take(alloc) else {
-        return NO_HOST;
+        return ERR_NO_HOST;
     };
     *refused = session.host.memory_was_refused(usize::from(tenant));
     handle.put(session);

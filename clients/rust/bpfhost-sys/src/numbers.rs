@@ -17,15 +17,15 @@ pub const TEST_RUN_HEAD: usize = 48;
 /// A code: the call succeeded.
 pub const DONE: i32 = 0;
 /// A code: the handle is empty.
-pub const NO_HOST: i32 = -1;
+pub const ERR_NO_HOST: i32 = -1;
 /// A code: the handle has a host already.
-pub const HAS_HOST: i32 = -2;
+pub const ERR_HAS_HOST: i32 = -2;
 /// A code: a host has 1 to 64 tenants.
-pub const TENANTS: i32 = -3;
+pub const ERR_TENANT_COUNT: i32 = -3;
 /// A code: out of memory for the host.
-pub const MEMORY: i32 = -4;
+pub const ERR_NO_MEMORY: i32 = -4;
 /// A code: the buffer is smaller than the longest reply.
-pub const ROOM: i32 = -5;
+pub const ERR_BUFFER_TOO_SMALL: i32 = -5;
 // end of codes
 
 // commands: written by tools/generate

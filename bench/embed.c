@@ -92,7 +92,7 @@ static bpfhost_bytes last_of(const struct frames *frames)
 /* ---- a call */
 
 struct call {
-    bpfhost host;
+    bpfhost *host;
     bpfhost_bytes frame, reply;
 };
 
@@ -100,12 +100,12 @@ static void repeat_call(void *way, long times)
 {
     struct call *call = way;
     while (times--)
-        must(bpfhost_handle_lent(&call->host, call->frame.at, call->frame.length, &call->reply) == BPFHOST_DONE, "no reply");
+        must(bpfhost_handle_lent(call->host, call->frame.at, call->frame.length, &call->reply) == BPFHOST_DONE, "no reply");
 }
 
 static struct call by_call(const struct frames *frames)
 {
-    struct call it = {.host = BPFHOST_EMPTY};
+    struct call it = {.host = NULL};
     must(bpfhost_new(&it.host, 1, &(bpfhost_seed){{1, 2}}) == BPFHOST_DONE, "no host");
     for (size_t i = 0; i < frames->count; i++) {
         it.frame = frames->each[i];
@@ -160,7 +160,7 @@ static void start(struct pipes *it, const char *program)
 /* Sends the frames before the last one, by the lengths of the replies that a host gives by calls. */
 static void by_pipes(struct pipes *it, const char *program, const struct frames *frames)
 {
-    struct call call = {.host = BPFHOST_EMPTY};
+    struct call call = {.host = NULL};
     must(bpfhost_new(&call.host, 1, &(bpfhost_seed){{1, 2}}) == BPFHOST_DONE, "no host");
     start(it, program);
     it->at_once = 1;
@@ -173,7 +173,7 @@ static void by_pipes(struct pipes *it, const char *program, const struct frames 
         repeat_pipes(it, 1);
         must(memcmp(call.reply.at, it->replies, call.reply.length) == 0, "serve answers otherwise than the library");
     }
-    bpfhost_free(&call.host);
+    bpfhost_free(call.host);
     must((it->frames = malloc(AT_ONCE * it->frame_length)) != NULL, "no memory");
     for (size_t i = 0; i < AT_ONCE; i++)
         memcpy(it->frames + i * it->frame_length, last_of(frames).at - 4, it->frame_length);
@@ -316,7 +316,7 @@ static void measure(const char *program, const char *path)
     end(&pipes);
     print_kernel(&frames, &call, time);
     puts("");
-    bpfhost_free(&call.host);
+    bpfhost_free(call.host);
     free(frames.bytes);
 }
 

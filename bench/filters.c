@@ -26,7 +26,7 @@ static uint8_t *bytes;
 static size_t *ends, count;
 static uint32_t *results;
 static struct bpf_insn classic[MOST_SLOTS];
-static bpfhost host = BPFHOST_EMPTY;
+static bpfhost *host;
 static uint32_t program;
 
 static void must(bool holds, const char *what)
@@ -86,7 +86,7 @@ static void load(const char *path)
     fclose(file);
     must(bpfhost_new(&host, 1, &(bpfhost_seed){{1, 2}}) == BPFHOST_DONE, "no host");
     size_t length = bpfhost_frame_prog_load(frame, sizeof frame, 0, BPFHOST_SOCKET_FILTER, slots, many / 8);
-    must(bpfhost_ask(&host, frame, length, &reply) == BPFHOST_DONE && reply.status >= 0, "the program is refused");
+    must(bpfhost_ask(host, frame, length, &reply) == BPFHOST_DONE && reply.status >= 0, "the program is refused");
     program = (uint32_t)reply.status;
 }
 
@@ -103,7 +103,7 @@ static void by_batch(void)
         int32_t status = -1;
         for (size_t i = 0; i < many; i++)
             own[i] = ends[first + i] - begin;
-        int code = bpfhost_run_packets(&host, 0, program, NULL, bytes + begin, own[many - 1], own, many, results + first, &status);
+        int code = bpfhost_run_packets(host, 0, program, NULL, bytes + begin, own[many - 1], own, many, results + first, &status);
         must(code == BPFHOST_DONE && status == 0, "a batch is refused");
     }
 }
@@ -159,6 +159,6 @@ int main(int many, char **words)
         run();
     for (size_t i = 0; passes != 0 && i < count; i++)
         printf("%" PRIu32 "\n", results[i]);
-    bpfhost_free(&host);
+    bpfhost_free(host);
     return 0;
 }

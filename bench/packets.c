@@ -111,7 +111,7 @@ static const struct way {
 #else
 /* ---- the host, and the plain interpreter */
 
-static bpfhost host = BPFHOST_EMPTY;
+static bpfhost *host;
 static bpfhost_context context;
 static size_t ends[MOST_BATCH];
 /* Each packet behind the head of its frame. */
@@ -123,7 +123,7 @@ static void take(bpfhost_bytes frame)
     uint16_t command = bpfhost_get16(frame.at + 2);
     bpfhost_reply reply;
     int found = 0;
-    if (host.at == NULL) {
+    if (host == NULL) {
         run(NULL, NULL);
         must(bpfhost_new(&host, 1, &(bpfhost_seed){{1, 2}}) == BPFHOST_DONE, "no host");
     }
@@ -132,7 +132,7 @@ static void take(bpfhost_bytes frame)
     else if (command == BPFHOST_PROG_LOAD)
         found = load(frame.at + 4, frame.length - 4);
     if (found != 0)
-        must(bpfhost_ask(&host, frame.at, frame.length, &reply) == BPFHOST_DONE && reply.status == found, "a frame is refused");
+        must(bpfhost_ask(host, frame.at, frame.length, &reply) == BPFHOST_DONE && reply.status == found, "a frame is refused");
 }
 
 static void begin(void)
@@ -149,7 +149,7 @@ static void begin(void)
 static void by_batch(void)
 {
     int32_t status = -1;
-    int code = bpfhost_run_packets(&host, 0, fd, &context, packets, batch * size, ends, batch, results, &status);
+    int code = bpfhost_run_packets(host, 0, fd, &context, packets, batch * size, ends, batch, results, &status);
     must(code == BPFHOST_DONE && status == 0, "a batch is refused");
 }
 
@@ -158,7 +158,7 @@ static void by_frames(void)
     bpfhost_bytes reply;
     size_t length = BPFHOST_TEST_RUN_HEAD + size;
     for (size_t i = 0; i < batch; i++) {
-        must(bpfhost_handle_lent(&host, frames + i * length, length, &reply) == BPFHOST_DONE, "no reply");
+        must(bpfhost_handle_lent(host, frames + i * length, length, &reply) == BPFHOST_DONE, "no reply");
         results[i] = bpfhost_get32(reply.at + 12);
     }
 }
@@ -177,7 +177,7 @@ static void by_plain(void)
 
 static void end(void)
 {
-    bpfhost_free(&host);
+    bpfhost_free(host);
 }
 
 static const struct way {

@@ -7,46 +7,50 @@ static const uint8_t close_nothing[8] = {0, 0, 0, 1, 99};
 
 static void checks_new(void)
 {
-    bpfhost host = BPFHOST_EMPTY;
-    void *first;
+    bpfhost *host = NULL;
     CHECK(bpfhost_new(NULL, 1, &test_seed) == BPFHOST_ERR_NULL);
-    CHECK(bpfhost_new(&host, 1, NULL) == BPFHOST_ERR_NULL && host.at == NULL);
-    CHECK(bpfhost_new(&host, 0, &test_seed) == BPFHOST_ERR_TENANT_COUNT && host.at == NULL);
-    CHECK(bpfhost_new(&host, BPFHOST_MOST_TENANTS + 1, &test_seed) == BPFHOST_ERR_TENANT_COUNT && host.at == NULL);
-    CHECK(bpfhost_new(&host, SIZE_MAX, &test_seed) == BPFHOST_ERR_TENANT_COUNT && host.at == NULL);
-    CHECK(bpfhost_new(&host, BPFHOST_MOST_TENANTS, &test_seed) == BPFHOST_DONE && host.at != NULL);
-    bpfhost_free(&host);
-    CHECK(host.at == NULL);
+    CHECK(bpfhost_new(&host, 1, NULL) == BPFHOST_ERR_NULL && host == NULL);
+    CHECK(bpfhost_new(&host, 0, &test_seed) == BPFHOST_ERR_TENANT_COUNT && host == NULL);
+    CHECK(bpfhost_new(&host, BPFHOST_MOST_TENANTS + 1, &test_seed) == BPFHOST_ERR_TENANT_COUNT && host == NULL);
+    CHECK(bpfhost_new(&host, SIZE_MAX, &test_seed) == BPFHOST_ERR_TENANT_COUNT && host == NULL);
+    CHECK(bpfhost_new(&host, BPFHOST_MOST_TENANTS, &test_seed) == BPFHOST_DONE && host != NULL);
+    bpfhost_free(host);
     CHECK(bpfhost_new(&host, 2, &test_seed) == BPFHOST_DONE);
-    open_counter(&host, 1);
-    CHECK(count_once(&host, 1) == 1);
-    /* A second one leaves the first. */
-    first = host.at;
-    CHECK(bpfhost_new(&host, 3, &test_seed) == BPFHOST_ERR_HAS_HOST && host.at == first);
-    CHECK(bpfhost_new(&host, 0, &test_seed) == BPFHOST_ERR_TENANT_COUNT && host.at == first);
-    CHECK(count_once(&host, 1) == 2);
-    bpfhost_free(&host);
-    bpfhost_free(&host);
+    open_counter(host, 1);
+    CHECK(count_once(host, 1) == 1 && count_once(host, 1) == 2);
+    bpfhost_free(host);
     bpfhost_free(NULL);
-    CHECK(host.at == NULL);
 }
 
-static void checks_empty_handle(void)
+/* What the proved functions say of a handle that has a host already, or none: a bpfhost of bpfhost_new has one. */
+static void checks_handles(void)
 {
-    bpfhost host = BPFHOST_EMPTY;
+    void *handle = NULL, *first;
+    bpfhost *host = (bpfhost *)(void *)&handle;
     bpfhost_bytes lent = {room, 7};
     bpfhost_reply reply;
     size_t written = 7;
     bool refused = true;
     memset(&reply, 0x5a, sizeof reply);
     memset(room, 0x5a, sizeof room);
-    CHECK(bpfhost_handle(&host, close_nothing, 8, room, sizeof room, &written) == BPFHOST_ERR_NO_HOST);
+    CHECK(bpfhost_handle(host, close_nothing, 8, room, sizeof room, &written) == BPFHOST_ERR_NO_HOST);
     CHECK(written == 7 && room[0] == 0x5a && room[sizeof room - 1] == 0x5a);
-    CHECK(bpfhost_handle_lent(&host, close_nothing, 8, &lent) == BPFHOST_ERR_NO_HOST && lent.length == 0);
-    CHECK(bpfhost_ask(&host, close_nothing, 8, &reply) == BPFHOST_ERR_NO_HOST && reply.command == 0x5a5a);
-    CHECK(bpfhost_memory_refused(&host, 0, &refused) == BPFHOST_ERR_NO_HOST && refused);
-    bpfhost_free(&host);
-    CHECK(host.at == NULL);
+    CHECK(bpfhost_handle_lent(host, close_nothing, 8, &lent) == BPFHOST_ERR_NO_HOST && lent.length == 0);
+    CHECK(bpfhost_ask(host, close_nothing, 8, &reply) == BPFHOST_ERR_NO_HOST && reply.command == 0x5a5a);
+    CHECK(bpfhost_memory_refused(host, 0, &refused) == BPFHOST_ERR_NO_HOST && refused);
+    bpfhost_c_free(host);
+    CHECK(handle == NULL);
+    CHECK(bpfhost_c_new(host, 2, 1, 2) == BPFHOST_DONE && handle != NULL);
+    open_counter(host, 1);
+    CHECK(count_once(host, 1) == 1);
+    /* A second one leaves the first. */
+    first = handle;
+    CHECK(bpfhost_c_new(host, 3, 1, 2) == BPFHOST_ERR_HAS_HOST && handle == first);
+    CHECK(bpfhost_c_new(host, 0, 1, 2) == BPFHOST_ERR_TENANT_COUNT && handle == first);
+    CHECK(count_once(host, 1) == 2);
+    bpfhost_c_free(host);
+    bpfhost_c_free(host);
+    CHECK(handle == NULL);
 }
 
 static void checks_nulls_and_lengths(bpfhost *host)
@@ -87,7 +91,6 @@ static void checks_overlaps(bpfhost *host)
     static union {
         uint8_t bytes[2 * BPFHOST_LONGEST_REPLY];
         size_t number;
-        bpfhost handle;
         bpfhost_bytes lent;
     } whole;
     uint8_t *b = whole.bytes;
@@ -259,62 +262,60 @@ static void checks_packets(void)
     static uint8_t long_packet[65537];
     static const size_t too_long[2] = {1, 65538}, behind[2] = {2, 9}, backward[3] = {3, 2, 8};
     static uint8_t two_packets[65538];
-    bpfhost host = BPFHOST_EMPTY;
+    bpfhost *host = NULL;
     uint8_t frame[128];
     uint32_t results[3] = {7, 8, 9};
     int32_t status = 1;
     size_t end = sizeof long_packet, length;
-    CHECK(bpfhost_run_packets(&host, 0, 3, NULL, three_bytes, 8, three_ends, 3, results, &status) == BPFHOST_ERR_NO_HOST);
-    CHECK(status == 1 && results[0] == 7);
     CHECK(bpfhost_new(&host, 2, &test_seed) == BPFHOST_DONE);
-    open_counter(&host, 1);
+    open_counter(host, 1);
     length = bpfhost_frame_prog_load(frame, sizeof frame, 1, BPFHOST_SOCKET_FILTER, answers_length, 2);
-    CHECK(ask(&host, frame, length).status == 5);
+    CHECK(ask(host, frame, length).status == 5);
     /* Each packet has its own length, and the counter counts each. */
-    CHECK(bpfhost_run_packets(&host, 1, 5, NULL, three_bytes, 8, three_ends, 3, results, &status) == BPFHOST_DONE);
+    CHECK(bpfhost_run_packets(host, 1, 5, NULL, three_bytes, 8, three_ends, 3, results, &status) == BPFHOST_DONE);
     CHECK(status == 0 && results[0] == 3 && results[1] == 0 && results[2] == 5);
-    CHECK(bpfhost_run_packets(&host, 1, 4, NULL, three_bytes, 8, three_ends, 2, results, &status) == BPFHOST_DONE);
+    CHECK(bpfhost_run_packets(host, 1, 4, NULL, three_bytes, 8, three_ends, 2, results, &status) == BPFHOST_DONE);
     CHECK(status == 0 && results[0] == 1 && results[1] == 2 && results[2] == 5);
-    CHECK(count_once(&host, 1) == 3);
-    CHECK(bpfhost_run_packets(&host, 1, 4, NULL, NULL, 0, NULL, 0, NULL, &status) == BPFHOST_DONE && status == 0);
-    CHECK(count_once(&host, 1) == 4);
+    CHECK(count_once(host, 1) == 3);
+    CHECK(bpfhost_run_packets(host, 1, 4, NULL, NULL, 0, NULL, 0, NULL, &status) == BPFHOST_DONE && status == 0);
+    CHECK(count_once(host, 1) == 4);
     /* What is refused is refused before the first packet. */
-    refuses_packets(&host, 2, 4, three_ends, 3, -1);
-    refuses_packets(&host, 1, 6, three_ends, 3, -9);
-    refuses_packets(&host, 1, 3, three_ends, 3, -22);
-    refuses_packets(&host, 1, 4, behind, 2, -22);
-    refuses_packets(&host, 1, 4, backward, 3, -22);
-    CHECK(bpfhost_run_packets(&host, 1, 4, NULL, long_packet, end, &end, 1, results, &status) == BPFHOST_DONE && status == -7);
-    CHECK(bpfhost_run_packets(&host, 1, 4, NULL, two_packets, 65538, too_long, 2, results, &status) == BPFHOST_DONE && status == -7);
-    CHECK(count_once(&host, 1) == 5);
+    refuses_packets(host, 2, 4, three_ends, 3, -1);
+    refuses_packets(host, 1, 6, three_ends, 3, -9);
+    refuses_packets(host, 1, 3, three_ends, 3, -22);
+    refuses_packets(host, 1, 4, behind, 2, -22);
+    refuses_packets(host, 1, 4, backward, 3, -22);
+    CHECK(bpfhost_run_packets(host, 1, 4, NULL, long_packet, end, &end, 1, results, &status) == BPFHOST_DONE && status == -7);
+    CHECK(bpfhost_run_packets(host, 1, 4, NULL, two_packets, 65538, too_long, 2, results, &status) == BPFHOST_DONE && status == -7);
+    CHECK(count_once(host, 1) == 5);
     /* Nulls, lengths and overlaps. */
     status = 1;
     CHECK(bpfhost_run_packets(NULL, 1, 5, NULL, three_bytes, 8, three_ends, 3, results, &status) == BPFHOST_ERR_NULL);
-    CHECK(bpfhost_run_packets(&host, 1, 5, NULL, NULL, 8, three_ends, 3, results, &status) == BPFHOST_ERR_NULL);
-    CHECK(bpfhost_run_packets(&host, 1, 5, NULL, three_bytes, 8, NULL, 3, results, &status) == BPFHOST_ERR_NULL);
-    CHECK(bpfhost_run_packets(&host, 1, 5, NULL, three_bytes, 8, three_ends, 3, NULL, &status) == BPFHOST_ERR_NULL);
-    CHECK(bpfhost_run_packets(&host, 1, 5, NULL, three_bytes, 8, three_ends, 3, results, NULL) == BPFHOST_ERR_NULL);
-    CHECK(bpfhost_run_packets(&host, 1, 5, NULL, three_bytes, SIZE_MAX, three_ends, 3, results, &status) == BPFHOST_ERR_LENGTH);
-    CHECK(bpfhost_run_packets(&host, 1, 5, NULL, three_bytes, 8, three_ends, SIZE_MAX / 4, results, &status) == BPFHOST_ERR_LENGTH);
-    CHECK(bpfhost_run_packets(&host, 1, 5, NULL, results, 8, three_ends, 2, results, &status) == BPFHOST_ERR_OVERLAP);
-    CHECK(bpfhost_run_packets(&host, 1, 5, NULL, &status, 4, three_ends, 1, results, &status) == BPFHOST_ERR_OVERLAP);
+    CHECK(bpfhost_run_packets(host, 1, 5, NULL, NULL, 8, three_ends, 3, results, &status) == BPFHOST_ERR_NULL);
+    CHECK(bpfhost_run_packets(host, 1, 5, NULL, three_bytes, 8, NULL, 3, results, &status) == BPFHOST_ERR_NULL);
+    CHECK(bpfhost_run_packets(host, 1, 5, NULL, three_bytes, 8, three_ends, 3, NULL, &status) == BPFHOST_ERR_NULL);
+    CHECK(bpfhost_run_packets(host, 1, 5, NULL, three_bytes, 8, three_ends, 3, results, NULL) == BPFHOST_ERR_NULL);
+    CHECK(bpfhost_run_packets(host, 1, 5, NULL, three_bytes, SIZE_MAX, three_ends, 3, results, &status) == BPFHOST_ERR_LENGTH);
+    CHECK(bpfhost_run_packets(host, 1, 5, NULL, three_bytes, 8, three_ends, SIZE_MAX / 4, results, &status) == BPFHOST_ERR_LENGTH);
+    CHECK(bpfhost_run_packets(host, 1, 5, NULL, results, 8, three_ends, 2, results, &status) == BPFHOST_ERR_OVERLAP);
+    CHECK(bpfhost_run_packets(host, 1, 5, NULL, &status, 4, three_ends, 1, results, &status) == BPFHOST_ERR_OVERLAP);
     CHECK(status == 1);
-    bpfhost_free(&host);
+    bpfhost_free(host);
 }
 
 int main(void)
 {
-    bpfhost host = BPFHOST_EMPTY;
+    bpfhost *host = NULL;
     checks_new();
-    checks_empty_handle();
+    checks_handles();
     CHECK(bpfhost_new(&host, 2, &test_seed) == BPFHOST_DONE);
-    checks_nulls_and_lengths(&host);
-    checks_overlaps(&host);
-    checks_replies(&host);
-    checks_frames(&host);
-    checks_longest_program(&host);
+    checks_nulls_and_lengths(host);
+    checks_overlaps(host);
+    checks_replies(host);
+    checks_frames(host);
+    checks_longest_program(host);
     checks_packets();
-    bpfhost_free(&host);
+    bpfhost_free(host);
     puts("calls: each code, and each frame by its bytes");
     return 0;
 }

@@ -79,6 +79,7 @@ static void *object(size_t length, size_t alignment, int uses)
 
 #define ONE(pointer, uses) object(sizeof *(pointer), __alignof__(*(pointer)), uses)
 #define BYTES(length, uses) object(length, 1, uses)
+#define HOST object(BPFHOST_HANDLE_SIZE, __alignof__(void *), WRITTEN)
 
 /* Whether one object has a byte of another. */
 static bool is_shared(size_t which)
@@ -194,7 +195,7 @@ static int32_t ask(const struct piece *pieces, size_t pieces_count)
 
 int32_t bpfhost_c_new(bpfhost *handle, size_t tenants, uint64_t first, uint64_t second)
 {
-    const struct piece pieces[] = {{handle, sizeof *handle, true}};
+    const struct piece pieces[] = {{handle, BPFHOST_HANDLE_SIZE, true}};
     (void)tenants, (void)first, (void)second;
     return ask(pieces, 1);
 }
@@ -203,7 +204,7 @@ int32_t bpfhost_c_handle(bpfhost *handle, const uint8_t *frame, size_t frame_len
                          size_t *written)
 {
     const struct piece pieces[] = {
-        {handle, sizeof *handle, true}, {frame, frame_length, false}, {room, room_length, true}, {written, sizeof *written, true}};
+        {handle, BPFHOST_HANDLE_SIZE, true}, {frame, frame_length, false}, {room, room_length, true}, {written, sizeof *written, true}};
     return ask(pieces, 4);
 }
 
@@ -215,7 +216,7 @@ static struct lent {
 int32_t bpfhost_c_handle_lent(bpfhost *handle, const uint8_t *frame, size_t frame_length, bpfhost_bytes *reply)
 {
     const bpfhost_bytes before = *reply;
-    const struct piece pieces[] = {{handle, sizeof *handle, true}, {frame, frame_length, false}, {reply, sizeof *reply, true}};
+    const struct piece pieces[] = {{handle, BPFHOST_HANDLE_SIZE, true}, {frame, frame_length, false}, {reply, sizeof *reply, true}};
     size_t length = nondet_uint8_t();
     struct lent any;
     int32_t code = ask(pieces, 3);
@@ -234,7 +235,7 @@ int32_t bpfhost_c_run_packets(bpfhost *handle, uint16_t tenant, uint32_t fd, con
                               size_t byte_count, const size_t *ends, size_t packets, uint32_t *results, size_t room,
                               int32_t *status)
 {
-    const struct piece pieces[] = {{handle, sizeof *handle, true},          {words, 10 * sizeof *words, false},
+    const struct piece pieces[] = {{handle, BPFHOST_HANDLE_SIZE, true},          {words, 10 * sizeof *words, false},
                                    {bytes, byte_count, false},              {ends, packets * sizeof *ends, false},
                                    {results, room * sizeof *results, true}, {status, sizeof *status, true}};
     (void)tenant, (void)fd;
@@ -244,7 +245,7 @@ int32_t bpfhost_c_run_packets(bpfhost *handle, uint16_t tenant, uint32_t fd, con
 
 int32_t bpfhost_c_memory_refused(bpfhost *handle, uint16_t tenant, bool *refused)
 {
-    const struct piece pieces[] = {{handle, sizeof *handle, true}, {refused, sizeof *refused, true}};
+    const struct piece pieces[] = {{handle, BPFHOST_HANDLE_SIZE, true}, {refused, sizeof *refused, true}};
     int32_t code;
     (void)tenant;
     __CPROVER_assert(*(const uint8_t *)refused <= 1, "a bool is false or true");
@@ -256,7 +257,7 @@ int32_t bpfhost_c_memory_refused(bpfhost *handle, uint16_t tenant, bool *refused
 
 void bpfhost_c_free(bpfhost *handle)
 {
-    const struct piece pieces[] = {{handle, sizeof *handle, true}};
+    const struct piece pieces[] = {{handle, BPFHOST_HANDLE_SIZE, true}};
     ask(pieces, 1);
 }
 
@@ -266,9 +267,9 @@ void try_new(void)
 {
     uint8_t here[32];
     lie_in(here, sizeof here);
-    bpfhost *handle = ONE(handle, WRITTEN);
+    bpfhost **host = ONE(host, WRITTEN);
     const bpfhost_seed *seed = ONE(seed, READ);
-    end(bpfhost_new(handle, nondet_size_t(), seed), true);
+    end(bpfhost_new(host, nondet_size_t(), seed), true);
 }
 
 void try_handle(void)
@@ -276,11 +277,11 @@ void try_handle(void)
     uint8_t here[24];
     lie_in(here, sizeof here);
     size_t frame_length = any_length(), room_length = any_length();
-    bpfhost *handle = ONE(handle, WRITTEN);
+    bpfhost *host = HOST;
     const void *frame = BYTES(frame_length, READ | NULL_IF_EMPTY);
     void *room = BYTES(room_length, WRITTEN);
     size_t *written = ONE(written, WRITTEN);
-    end(bpfhost_handle(handle, frame, frame_length, room, room_length, written), true);
+    end(bpfhost_handle(host, frame, frame_length, room, room_length, written), true);
 }
 
 /* A refused call empties a reply that overlaps nothing, unless the frame is too long. */
@@ -289,10 +290,10 @@ void try_handle_lent(void)
     uint8_t here[32];
     lie_in(here, sizeof here);
     size_t frame_length = any_length();
-    bpfhost *handle = ONE(handle, WRITTEN);
+    bpfhost *host = HOST;
     const void *frame = BYTES(frame_length, READ | NULL_IF_EMPTY);
     bpfhost_bytes *reply = ONE(reply, WRITTEN);
-    int code = bpfhost_handle_lent(handle, frame, frame_length, reply);
+    int code = bpfhost_handle_lent(host, frame, frame_length, reply);
     if (code != BPFHOST_DONE && reply != NULL && !is_any_too_long && !is_shared(2)) {
         __CPROVER_assert(reply->at != NULL && reply->length == 0, "a refused call empties its reply");
         if (is_of(2, sizeof *reply))
@@ -306,10 +307,10 @@ void try_ask(void)
     uint8_t here[56];
     lie_in(here, sizeof here);
     size_t frame_length = any_length();
-    bpfhost *handle = ONE(handle, WRITTEN);
+    bpfhost *host = HOST;
     const void *frame = BYTES(frame_length, READ | NULL_IF_EMPTY);
     bpfhost_reply *reply = ONE(reply, WRITTEN);
-    end(bpfhost_ask(handle, frame, frame_length, reply), true);
+    end(bpfhost_ask(host, frame, frame_length, reply), true);
 }
 
 /* NO_REPLY may come too, and first: nothing has changed then. */
@@ -338,31 +339,32 @@ void try_run_packets(void)
     lie_in(here, sizeof here);
     size_t byte_count = any_length(), ends_size = any_length(), packets = any_units(ends_size, sizeof(size_t));
     size_t results_size = ends_size > PTRDIFF_MAX ? ends_size : packets * sizeof(uint32_t);
-    bpfhost *handle = ONE(handle, WRITTEN);
+    bpfhost *host = HOST;
     const bpfhost_context *context = ONE(context, READ | MAY_BE_NULL);
     const void *bytes = BYTES(byte_count, READ | NULL_IF_EMPTY);
     const size_t *ends = object(ends_size, sizeof *ends, READ | NULL_IF_EMPTY);
     uint32_t *results = object(results_size, sizeof *results, WRITTEN | NULL_IF_EMPTY);
     int32_t *status = ONE(status, WRITTEN);
-    end(bpfhost_run_packets(handle, 1, 3, context, bytes, byte_count, ends, packets, results, status), true);
+    end(bpfhost_run_packets(host, 1, 3, context, bytes, byte_count, ends, packets, results, status), true);
 }
 
 void try_memory_refused(void)
 {
     uint8_t here[16];
     lie_in(here, sizeof here);
-    bpfhost *handle = ONE(handle, WRITTEN);
+    bpfhost *host = HOST;
     bool *refused = ONE(refused, WRITTEN);
-    end(bpfhost_memory_refused(handle, 1, refused), true);
+    end(bpfhost_memory_refused(host, 1, refused), true);
 }
 
 void try_free(void)
 {
-    uint8_t here[16];
+    uint8_t here[1];
     lie_in(here, sizeof here);
-    bpfhost *handle = ONE(handle, WRITTEN | MAY_BE_NULL);
-    bpfhost_free(handle);
-    end(BPFHOST_DONE, handle != NULL);
+    bpfhost *host = nondet_bool() ? NULL : (bpfhost *)calloc(1, BPFHOST_HANDLE_SIZE);
+    bool is_null = host == NULL;
+    bpfhost_free(host);
+    end(BPFHOST_DONE, !is_null);
 }
 
 void try_frame_map_create(void)

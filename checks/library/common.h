@@ -76,13 +76,13 @@ static inline uint32_t count_once(bpfhost *host, uint16_t tenant)
 /* Makes a host for one tenant, which counts once if it is used, and frees it. */
 static inline void make_and_free(bool is_used)
 {
-    bpfhost host = BPFHOST_EMPTY;
+    bpfhost *host = NULL;
     CHECK(bpfhost_new(&host, 1, &test_seed) == BPFHOST_DONE);
     if (is_used) {
-        open_counter(&host, 0);
-        CHECK(count_once(&host, 0) == 1);
+        open_counter(host, 0);
+        CHECK(count_once(host, 0) == 1);
     }
-    bpfhost_free(&host);
+    bpfhost_free(host);
 }
 
 #endif

@@ -2,7 +2,7 @@
  *
  * Not here, since they write nothing: bpfhost_pair_code, bpfhost_bytes_at, bpfhost_frame_code, bpfhost_may_empty, bpfhost_context_at,
  * bpfhost_packets_code, bpfhost_run_code, bpfhost_may_copy, bpfhost_code_text, bpfhost_version, bpfhost_get16, bpfhost_get32. Since
- * they test nothing: bpfhost_put16, bpfhost_put32, bpfhost_put_bytes. In objects.c: bpfhost_are_apart. */
+ * they test nothing: bpfhost_put16, bpfhost_put32, bpfhost_put_bytes. In objects.c: bpfhost_are_apart, bpfhost_free. */
 #ifndef FUNCTIONS_H
 #define FUNCTIONS_H
 
@@ -69,7 +69,7 @@ static bool is_asked(const struct given *given, size_t frame_length, int code)
 {
     return asked.calls == 1 && code == asked.code && asked.at[0] == given->at[0]
         && (frame_length == 0 || asked.at[1] == given->at[1])
-        && (code != BPFHOST_DONE || is_marked(given->at[0], sizeof(bpfhost)));
+        && (code != BPFHOST_DONE || is_marked(given->at[0], BPFHOST_HANDLE_SIZE));
 }
 
 static int call_random_seed(const struct given *given)
@@ -84,13 +84,20 @@ static bool holds_random_seed(const struct given *given, int code)
 
 static int call_new(const struct given *given)
 {
-    return bpfhost_new((bpfhost *)given->at[0], 17, (const bpfhost_seed *)given->at[1]);
+    return bpfhost_new((bpfhost **)given->at[0], 17, (const bpfhost_seed *)given->at[1]);
 }
 
+/* The host that is made is that of the proved function, with its mark. */
 static bool holds_new(const struct given *given, int code)
 {
     const bpfhost_seed *seed = (const bpfhost_seed *)given->at[1];
-    return is_asked(given, 0, code) && asked.numbers[0] == 17 && asked.numbers[1] == seed->words[0]
+    bool is_made = true;
+    if (code == BPFHOST_DONE) {
+        bpfhost *made = *(bpfhost **)given->at[0];
+        is_made = asked.at[0] == made && is_marked(made, BPFHOST_HANDLE_SIZE);
+        free(made);
+    }
+    return is_made && asked.calls == 1 && code == asked.code && asked.numbers[0] == 17 && asked.numbers[1] == seed->words[0]
         && asked.numbers[2] == seed->words[1];
 }
 
@@ -191,17 +198,6 @@ static int call_memory_refused(const struct given *given)
 static bool holds_memory_refused(const struct given *given, int code)
 {
     return is_asked(given, 0, code) && asked.numbers[0] == 258 && (code != BPFHOST_DONE || *(const uint8_t *)given->at[1] == 1);
-}
-
-static int call_free(const struct given *given)
-{
-    bpfhost_free((bpfhost *)given->at[0]);
-    return asked.calls == 0 ? BPFHOST_DONE : asked.code;
-}
-
-static bool holds_free(const struct given *given, int code)
-{
-    return given->at[0] == NULL ? asked.calls == 0 : is_asked(given, 0, code);
 }
 
 static int call_frame_begin(const struct given *given)
@@ -310,7 +306,7 @@ static bool holds_prog_test_run(const struct given *given, int code)
 
 #define ONE(name, type, uses) {name, sizeof(type), 1, alignof(type), UNCOUNTED, uses, NULL}
 #define BYTES(name, units, count, uses) {name, 1, units, 1, count, uses, NULL}
-#define HANDLE ONE("handle", bpfhost, WRITTEN)
+#define HOST {"host", BPFHOST_HANDLE_SIZE, 1, alignof(void *), UNCOUNTED, WRITTEN, NULL}
 #define FRAME BYTES("frame", 12, 0, READ | NULL_IF_EMPTY)
 #define CONTEXT ONE("context", bpfhost_context, READ | MAY_BE_NULL)
 #define ROOM(units) BYTES("room", units, 0, WRITTEN)
@@ -320,22 +316,21 @@ static const struct function random_seed = {
     "bpfhost_random_seed", call_random_seed, holds_random_seed, false, 0, 1, 0, {ONE("seed", bpfhost_seed, WRITTEN)}};
 
 static const struct function functions[] = {
-    {"bpfhost_new", call_new, holds_new, false, 0, 2, 0, {HANDLE, ONE("seed", bpfhost_seed, READ)}},
+    {"bpfhost_new", call_new, holds_new, false, 0, 2, 0, {ONE("host", bpfhost *, WRITTEN), ONE("seed", bpfhost_seed, READ)}},
     {"bpfhost_handle", call_handle, holds_handle, false, 0, 4, 2,
-     {HANDLE, FRAME, BYTES("room", 20, 1, WRITTEN), ONE("written", size_t, WRITTEN)}},
+     {HOST, FRAME, BYTES("room", 20, 1, WRITTEN), ONE("written", size_t, WRITTEN)}},
     {"bpfhost_handle_lent", call_handle_lent, holds_handle_lent, false, 0, 3, 1,
-     {HANDLE, FRAME, ONE("reply", bpfhost_bytes, WRITTEN | EMPTIED)}},
-    {"bpfhost_ask", call_ask, holds_ask, false, 0, 3, 1, {HANDLE, FRAME, ONE("reply", bpfhost_reply, WRITTEN)}},
+     {HOST, FRAME, ONE("reply", bpfhost_bytes, WRITTEN | EMPTIED)}},
+    {"bpfhost_ask", call_ask, holds_ask, false, 0, 3, 1, {HOST, FRAME, ONE("reply", bpfhost_reply, WRITTEN)}},
     {"bpfhost_read_reply", call_read_reply, holds_read_reply, false, sizeof lent_reply, 2, 1,
      {{"bytes", 1, sizeof lent_reply, 1, 0, READ, lent_reply}, ONE("reply", bpfhost_reply, WRITTEN)}},
     {"bpfhost_context_words", call_context_words, holds_context_words, false, 0, 2, 0,
      {CONTEXT, {"words", 4, 10, alignof(uint32_t), UNCOUNTED, WRITTEN, NULL}}},
     {"bpfhost_run_packets", call_run_packets, holds_run_packets, false, 0, 6, 2,
-     {HANDLE, CONTEXT, BYTES("bytes", 11, 0, READ | NULL_IF_EMPTY),
+     {HOST, CONTEXT, BYTES("bytes", 11, 0, READ | NULL_IF_EMPTY),
       {"ends", sizeof(size_t), 3, alignof(size_t), 1, READ | NULL_IF_EMPTY, NULL},
       {"results", sizeof(uint32_t), 3, alignof(uint32_t), 1, WRITTEN | NULL_IF_EMPTY, NULL}, ONE("status", int32_t, WRITTEN)}},
-    {"bpfhost_memory_refused", call_memory_refused, holds_memory_refused, false, 0, 2, 0, {HANDLE, ONE("refused", bool, WRITTEN)}},
-    {"bpfhost_free", call_free, holds_free, false, 0, 1, 0, {ONE("handle", bpfhost, WRITTEN | MAY_BE_NULL)}},
+    {"bpfhost_memory_refused", call_memory_refused, holds_memory_refused, false, 0, 2, 0, {HOST, ONE("refused", bool, WRITTEN)}},
     {"bpfhost_frame_begin", call_frame_begin, holds_begun, true, 11, 1, 1, {ROOM(12)}},
     {"bpfhost_frame_map_create", call_frame_map_create, holds_map_create, true, 24, 1, 1, {ROOM(26)}},
     {"bpfhost_frame_of_key", call_frame_of_key, holds_key, true, 8, 2, 2, {ROOM(14), KEY}},

@@ -3,16 +3,16 @@
 
 int main()
 {
-    bpfhost host = BPFHOST_EMPTY;
+    bpfhost *host = NULL;
     CHECK(bpfhost_new(&host, 1, &test_seed) == BPFHOST_DONE);
-    open_counter(&host, 0);
-    CHECK(count_once(&host, 0) == 1 && count_once(&host, 0) == 2);
+    open_counter(host, 0);
+    CHECK(count_once(host, 0) == 1 && count_once(host, 0) == 2);
     uint8_t frame[64];
     const uint32_t key = 0;
     const size_t length = bpfhost_frame_map_lookup(frame, sizeof frame, 0, 3, &key, sizeof key);
-    const bpfhost_reply reply = ask(&host, frame, length);
+    const bpfhost_reply reply = ask(host, frame, length);
     CHECK(reply.payload_length == 8 && bpfhost_get32(reply.payload) == 2);
-    bpfhost_free(&host);
+    bpfhost_free(host);
     CHECK(strcmp(bpfhost_version(), BPFHOST_VERSION) == 0);
     puts("C++: the header compiles, and a host runs");
 }

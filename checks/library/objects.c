@@ -325,6 +325,18 @@ static void try_are_apart(uintptr_t around)
     }
 }
 
+/* It gives the host to the proved function, and then the memory of its handle back. Null is left alone. */
+static void try_free(void)
+{
+    bpfhost *host = (bpfhost *)calloc(1, BPFHOST_HANDLE_SIZE);
+    const uintptr_t at = (uintptr_t)host;
+    asked.calls = 0;
+    bpfhost_free(NULL);
+    CHECK(asked.calls == 0);
+    bpfhost_free(host);
+    CHECK(asked.calls == 1 && (uintptr_t)asked.at[0] == at);
+}
+
 int main(void)
 {
     bpfhost_seed seed;
@@ -332,6 +344,7 @@ int main(void)
         any_bytes[i] = (uint8_t)(0x80 + i * 7 % 61);
     try_are_apart(UINTPTR_MAX / 3);
     try_are_apart(UINTPTR_MAX - 3);
+    try_free();
     for (size_t i = 0; i < sizeof functions / sizeof functions[0]; i++)
         try_function(&functions[i]);
     if (bpfhost_random_seed(&seed))

@@ -69,7 +69,7 @@ int main(int argc, char **argv)
 {
     long count = argc > 1 ? atol(argv[1]) : 100000;
     long done[2] = {0, 0};
-    bpfhost copies = BPFHOST_EMPTY, lends = BPFHOST_EMPTY;
+    bpfhost *copies = NULL, *lends = NULL;
     CHECK(bpfhost_new(&copies, TENANTS, &test_seed) == BPFHOST_DONE && bpfhost_new(&lends, TENANTS, &test_seed) == BPFHOST_DONE);
     memset(room, 0xa5, sizeof room);
     for (long i = 0; i < count; i++) {
@@ -79,8 +79,8 @@ int main(int argc, char **argv)
         bpfhost_reply reply;
         if (!is_right)
             fill(length);
-        CHECK(bpfhost_handle(&copies, frame, length, room + AROUND, BPFHOST_LONGEST_REPLY, &written) == BPFHOST_DONE);
-        CHECK(bpfhost_handle_lent(&lends, frame, length, &lent) == BPFHOST_DONE);
+        CHECK(bpfhost_handle(copies, frame, length, room + AROUND, BPFHOST_LONGEST_REPLY, &written) == BPFHOST_DONE);
+        CHECK(bpfhost_handle_lent(lends, frame, length, &lent) == BPFHOST_DONE);
         CHECK(written == lent.length && memcmp(room + AROUND, lent.at, written) == 0);
         CHECK(bpfhost_read_reply(lent.at, lent.length, &reply) == BPFHOST_DONE);
         CHECK(reply.tenant == (length < 4 ? 65535 : bpfhost_get16(frame)));
@@ -90,8 +90,8 @@ int main(int argc, char **argv)
         for (size_t at = 0; at < AROUND; at++)
             CHECK(room[at] == 0xa5 && room[sizeof room - 1 - at] == 0xa5);
     }
-    bpfhost_free(&copies);
-    bpfhost_free(&lends);
+    bpfhost_free(copies);
+    bpfhost_free(lends);
     CHECK(done[0] > count / 8 && done[1] > count / 8);
     printf("random frames: %ld done, %ld refused, each with its reply\n", done[1], done[0]);
     return 0;

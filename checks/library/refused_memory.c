@@ -1,6 +1,6 @@
 /* Memory is refused to the library, one call at a time, and it gives back all that it takes. Linked with --wrap, so that malloc,
- * realloc and free of the library come here: in the first round the first call for memory is refused, in the second the second
- * one, until a round makes fewer calls. In each, bpfhost_new answers MEMORY and leaves the handle empty, or each reply is that of a
+ * calloc, realloc and free of the library and its header come here: in the first round the first call for memory is refused, in the second the second
+ * one, until a round makes fewer calls. In each, bpfhost_new returns ERR_NO_MEMORY and makes no host, or each reply is that of a
  * round without refusals or has the status -12; bpfhost_memory_refused tells of the tenant that was answered -12, and of no other.
  * Then many hosts are made and freed. usage: refused_memory [HOSTS] */
 #include "common.h"
@@ -31,6 +31,13 @@ void *__wrap_malloc(size_t size)
     void *block = refuses(NULL, size) ? NULL : __real_malloc(size);
     blocks += block != NULL;
     return block;
+}
+
+/* The header's, for the handle of a host. */
+void *__wrap_calloc(size_t count, size_t size)
+{
+    void *block = __wrap_malloc(count * size);
+    return block == NULL ? NULL : memset(block, 0, count * size);
 }
 
 void *__wrap_realloc(void *block, size_t size)
@@ -106,31 +113,31 @@ static int outcome(bpfhost *host, int step, uint16_t tenant)
 /* A round: what the steps come to, each tried again where it is refused for memory; true where the host was there. */
 static bool round_of(int outcomes[STEPS][TENANTS])
 {
-    bpfhost host = BPFHOST_EMPTY;
+    bpfhost *host = NULL;
     bool saw[TENANTS] = {false, false};
     int code = bpfhost_new(&host, TENANTS, &test_seed);
     if (code != BPFHOST_DONE) {
-        CHECK(code == BPFHOST_ERR_NO_MEMORY && host.at == NULL && blocks == 0);
+        CHECK(code == BPFHOST_ERR_NO_MEMORY && host == NULL && blocks == 0);
         return false;
     }
     for (int step = 0; step < 48; step++)
         for (uint16_t tenant = 0; tenant < TENANTS; tenant++) {
-            int found = outcome(&host, step, tenant);
+            int found = outcome(host, step, tenant);
             if (found == -12) {
                 bool before = true;
-                CHECK(bpfhost_memory_refused(&host, tenant, &before) == BPFHOST_DONE && before);
+                CHECK(bpfhost_memory_refused(host, tenant, &before) == BPFHOST_DONE && before);
                 saw[tenant] = true;
                 is_last = false;
-                found = outcome(&host, step, tenant);
+                found = outcome(host, step, tenant);
                 CHECK(found != -12);
             }
             outcomes[step][tenant] = found;
             for (uint16_t other = 0; other < TENANTS; other++) {
                 bool told = !saw[other];
-                CHECK(bpfhost_memory_refused(&host, other, &told) == BPFHOST_DONE && told == saw[other]);
+                CHECK(bpfhost_memory_refused(host, other, &told) == BPFHOST_DONE && told == saw[other]);
             }
         }
-    bpfhost_free(&host);
+    bpfhost_free(host);
     CHECK(blocks == 0);
     return true;
 }

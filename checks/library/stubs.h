@@ -73,8 +73,11 @@ static int32_t answer(const struct piece *pieces, size_t count)
 
 int32_t bpfhost_c_new(bpfhost *handle, size_t tenants, uint64_t first, uint64_t second)
 {
-    const struct piece pieces[] = {{handle, sizeof *handle, true}};
+    static const uint8_t empty[BPFHOST_HANDLE_SIZE] = {0};
+    const struct piece pieces[] = {{handle, BPFHOST_HANDLE_SIZE, true}};
     record(pieces, 1);
+    if (memcmp(handle, empty, sizeof empty) != 0)
+        fails("a new host is put into a handle that is not empty");
     asked.numbers[0] = tenants;
     asked.numbers[1] = (size_t)first;
     asked.numbers[2] = (size_t)second;
@@ -85,7 +88,7 @@ int32_t bpfhost_c_handle(bpfhost *handle, const uint8_t *frame, size_t frame_len
                          size_t *written)
 {
     const struct piece pieces[] = {
-        {handle, sizeof *handle, true}, {frame, frame_length, false}, {room, room_length, true}, {written, sizeof *written, true}};
+        {handle, BPFHOST_HANDLE_SIZE, true}, {frame, frame_length, false}, {room, room_length, true}, {written, sizeof *written, true}};
     record(pieces, 4);
     asked.numbers[0] = frame_length;
     asked.numbers[1] = room_length;
@@ -97,7 +100,7 @@ static const uint8_t lent_reply[18] = {14, 0, 0, 0, 1, 0, 5, 0, 0xf3, 0xff, 0xff
 
 int32_t bpfhost_c_handle_lent(bpfhost *handle, const uint8_t *frame, size_t frame_length, bpfhost_bytes *reply)
 {
-    const struct piece pieces[] = {{handle, sizeof *handle, true}, {frame, frame_length, false}, {reply, sizeof *reply, true}};
+    const struct piece pieces[] = {{handle, BPFHOST_HANDLE_SIZE, true}, {frame, frame_length, false}, {reply, sizeof *reply, true}};
     record(pieces, 3);
     asked.numbers[0] = frame_length;
     if (reply->at == NULL)
@@ -114,7 +117,7 @@ int32_t bpfhost_c_run_packets(bpfhost *handle, uint16_t tenant, uint32_t fd, con
                               size_t byte_count, const size_t *ends, size_t packets, uint32_t *results, size_t room,
                               int32_t *status)
 {
-    const struct piece pieces[] = {{handle, sizeof *handle, true},          {words, 10 * sizeof *words, false},
+    const struct piece pieces[] = {{handle, BPFHOST_HANDLE_SIZE, true},     {words, 10 * sizeof *words, false},
                                    {bytes, byte_count, false},              {ends, packets * sizeof *ends, false},
                                    {results, room * sizeof *results, true}, {status, sizeof *status, true}};
     if (packets > PTRDIFF_MAX / sizeof *ends || room > PTRDIFF_MAX / sizeof *results)
@@ -131,7 +134,7 @@ int32_t bpfhost_c_run_packets(bpfhost *handle, uint16_t tenant, uint32_t fd, con
 
 int32_t bpfhost_c_memory_refused(bpfhost *handle, uint16_t tenant, bool *refused)
 {
-    const struct piece pieces[] = {{handle, sizeof *handle, true}, {refused, sizeof *refused, true}};
+    const struct piece pieces[] = {{handle, BPFHOST_HANDLE_SIZE, true}, {refused, sizeof *refused, true}};
     uint8_t byte;
     record(pieces, 2);
     asked.numbers[0] = tenant;
@@ -145,7 +148,7 @@ int32_t bpfhost_c_memory_refused(bpfhost *handle, uint16_t tenant, bool *refused
 
 void bpfhost_c_free(bpfhost *handle)
 {
-    const struct piece pieces[] = {{handle, sizeof *handle, true}};
+    const struct piece pieces[] = {{handle, BPFHOST_HANDLE_SIZE, true}};
     record(pieces, 1);
     (void)answer(pieces, 1);
 }

@@ -7,18 +7,18 @@
 
 static void *runs_its_own(void *count)
 {
-    bpfhost host = BPFHOST_EMPTY;
+    bpfhost *host = NULL;
     uint32_t last = 0;
     CHECK(bpfhost_new(&host, 2, &test_seed) == BPFHOST_DONE);
-    open_counter(&host, 1);
+    open_counter(host, 1);
     for (int i = 0; i < ROUNDS; i++)
-        last = count_once(&host, 1);
-    bpfhost_free(&host);
+        last = count_once(host, 1);
+    bpfhost_free(host);
     *(uint32_t *)count = last;
     return NULL;
 }
 
-static bpfhost shared = BPFHOST_EMPTY;
+static bpfhost *shared;
 static pthread_mutex_t lock = PTHREAD_MUTEX_INITIALIZER;
 
 /* The lent reply is read under the lock too. */
@@ -27,7 +27,7 @@ static void *takes_turns(void *sum)
     uint64_t found = 0;
     for (int i = 0; i < ROUNDS; i++) {
         pthread_mutex_lock(&lock);
-        found += count_once(&shared, 0);
+        found += count_once(shared, 0);
         pthread_mutex_unlock(&lock);
     }
     *(uint64_t *)sum = found;
@@ -46,7 +46,7 @@ int main(void)
         CHECK(counts_found[i] == ROUNDS);
     }
     CHECK(bpfhost_new(&shared, 1, &test_seed) == BPFHOST_DONE);
-    open_counter(&shared, 0);
+    open_counter(shared, 0);
     for (int i = 0; i < THREADS; i++)
         CHECK(pthread_create(&threads[i], NULL, takes_turns, &sums[i]) == 0);
     for (int i = 0; i < THREADS; i++) {
@@ -54,8 +54,8 @@ int main(void)
         sum += sums[i];
     }
     /* Each count from 1 on was given once. */
-    CHECK(sum == all * (all + 1) / 2 && count_once(&shared, 0) == all + 1);
-    bpfhost_free(&shared);
+    CHECK(sum == all * (all + 1) / 2 && count_once(shared, 0) == all + 1);
+    bpfhost_free(shared);
     puts("threads: a host each, and one host handed on");
     return 0;
 }

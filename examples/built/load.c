@@ -24,7 +24,7 @@ struct program {
     struct map maps[MOST_MAPS];
 };
 
-static bpfhost host = BPFHOST_EMPTY;
+static bpfhost *host;
 
 static void fail(const char *what)
 {
@@ -270,7 +270,7 @@ static uint8_t frame[BPFHOST_LONGEST_FRAME + 4];
 static uint32_t done(size_t length)
 {
     bpfhost_reply reply;
-    if (length == 0 || bpfhost_ask(&host, frame, length, &reply) != BPFHOST_DONE)
+    if (length == 0 || bpfhost_ask(host, frame, length, &reply) != BPFHOST_DONE)
         fail("there is no reply");
     if (reply.status < 0) {
         fprintf(stderr, "load: refused with status %d\n", (int)reply.status);
@@ -319,7 +319,7 @@ int main(int count, char **words)
     run(fd, "a packet");
     run(fd, "b packet");
     run(fd, "");
-    bpfhost_free(&host);
+    bpfhost_free(host);
     for (size_t map = 0; map < program.maps_count; map++) {
         free(program.maps[map].slots);
         free(program.maps[map].initial);

@@ -61,13 +61,13 @@ struct received {
     uint8_t packet[64];
 };
 
-static bpfhost host = BPFHOST_EMPTY;
+static bpfhost *host;
 
 /* Each call has to come to a reply here: another code is a mistake of this program. */
 static bpfhost_reply ask(const void *frame, size_t length)
 {
     bpfhost_reply reply;
-    int code = bpfhost_ask(&host, frame, length, &reply);
+    int code = bpfhost_ask(host, frame, length, &reply);
     if (code != BPFHOST_DONE) {
         printf("no reply: %s\n", bpfhost_code_text(code));
         exit(1);
@@ -160,8 +160,8 @@ int main(void)
     look_up("it", HONEST);
     run("UDP", &packets[0]);
 
-    code = bpfhost_memory_refused(&host, HONEST, &refused);
+    code = bpfhost_memory_refused(host, HONEST, &refused);
     printf("Memory was refused to it: %s.\n", code != BPFHOST_DONE ? bpfhost_code_text(code) : refused ? "yes" : "never");
-    bpfhost_free(&host);
+    bpfhost_free(host);
     return 0;
 }

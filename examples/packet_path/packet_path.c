@@ -24,7 +24,7 @@ struct options {
     bool each, rate, by_frames;
 };
 
-static bpfhost host = BPFHOST_EMPTY;
+static bpfhost *host;
 static struct batch batch;
 static uint32_t answers[BATCH];
 
@@ -33,7 +33,7 @@ static uint32_t answers[BATCH];
 static bpfhost_reply ask(const void *frame, size_t length)
 {
     bpfhost_reply reply;
-    int code = bpfhost_ask(&host, frame, length, &reply);
+    int code = bpfhost_ask(host, frame, length, &reply);
     if (code != BPFHOST_DONE)
         fail("no reply: %s", bpfhost_code_text(code));
     return reply;
@@ -119,7 +119,7 @@ static size_t begin_of(size_t packet)
 static void run_batch(uint16_t number, const struct tenant *it)
 {
     int32_t status = 0;
-    int code = bpfhost_run_packets(&host, number, it->program, NULL, batch.bytes, begin_of(batch.count), batch.ends, batch.count,
+    int code = bpfhost_run_packets(host, number, it->program, NULL, batch.bytes, begin_of(batch.count), batch.ends, batch.count,
                                    answers, &status);
     if (code != BPFHOST_DONE)
         fail("%s: not run: %s", it->name, bpfhost_code_text(code));
@@ -248,6 +248,6 @@ int main(int word_count, char **words)
         fail("the counts can't be written: %s", strerror(errno));
     if (source.wrong != NULL)
         fail("%s: packet %" PRIu64 ": %s", source.name, packets + 1, source.wrong);
-    bpfhost_free(&host);
+    bpfhost_free(host);
     return 0;
 }

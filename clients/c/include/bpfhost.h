@@ -8,16 +8,16 @@
  * these functions write and read them so on every machine.
  *
  * What a caller owes, and nothing tests:
- *   - A bpfhost begins as BPFHOST_EMPTY, and only these functions write it. It is not copied: a host has one handle.
+ *   - A bpfhost comes from bpfhost_new, and is not used after bpfhost_free.
  *   - A pointer that is not null is aligned for its type and leads to as many bytes as the call says. They belong to the call
  *     while it lasts.
- *   - A lent reply (bpfhost_handle_lent, bpfhost_ask) is read only before the next call on its handle, bpfhost_free included, and
+ *   - A lent reply (bpfhost_handle_lent, bpfhost_ask) is read only before the next call on its host, bpfhost_free included, and
  *     is not the frame of that call. Only the library writes it.
- *   - A handle is in one call at a time. It may go from thread to thread, ordered by a lock, or by a thread's start or join; a
- *     lent reply goes with it. Two handles share nothing.
+ *   - A host is in one call at a time. It may go from thread to thread, ordered by a lock, or by a thread's start or join; a
+ *     lent reply goes with it. Two hosts share nothing.
  *   - No call from a signal handler, or from the forked child of a process with threads.
  *   - There is stack: 256 KiB are more than enough.
- *   - malloc, realloc and free come from one allocator, and align as malloc does.
+ *   - malloc, calloc, realloc and free come from one allocator, and align as malloc does.
  *
  * What each function tests before it writes anything: that no pointer is null which must lead somewhere, that no length is above
  * PTRDIFF_MAX, and that what it may write overlaps nothing else that it is given. If a test fails, the function returns which one, or
@@ -31,6 +31,7 @@
 #include <stddef.h>
 #include <stdint.h>
 #include <stdio.h>
+#include <stdlib.h>
 #include <string.h>
 
 #ifdef __cplusplus
@@ -60,7 +61,8 @@ static inline const char *bpfhost_version(void)
 #define BPFHOST_TEST_RUN_HEAD 48 /* the bytes of a PROG_TEST_RUN frame before its packet */
 /* end of limits */
 
-/* ---- codes of calls. Each call answers one; a status in a reply is another thing. */
+/* ---- codes of calls. Each call returns one; a status in a reply is another thing. ERR_NO_HOST and ERR_HAS_HOST come only from
+ * the functions bpfhost_c_*: a bpfhost has its host from bpfhost_new on. */
 
 enum bpfhost_code {
     /* codes: written by tools/generate */
@@ -80,12 +82,11 @@ enum bpfhost_code {
 
 /* ---- a host */
 
-/* What holds a host; empty at first. */
-typedef struct bpfhost {
-    void *at;
-} bpfhost;
+/* A host, by the handle that bpfhost_new makes. Only these functions look into it. */
+typedef struct bpfhost bpfhost;
 
-#define BPFHOST_EMPTY {NULL}
+/* The bytes of a handle, which is one pointer. It is null, and all its bytes are zero, while the handle is empty. */
+#define BPFHOST_HANDLE_SIZE (sizeof(void *))
 
 /* Bytes that are lent. */
 typedef struct bpfhost_bytes {
@@ -151,22 +152,32 @@ static inline bool bpfhost_random_seed(bpfhost_seed *seed)
     return whole;
 }
 
-/* Makes a host for so many tenants, numbered from 0, with the seed of its hash maps, and puts it behind an empty handle. It
- * takes some 260 KiB for each tenant, which bpfhost_free gives back. ERR_TENANT_COUNT, ERR_HAS_HOST, ERR_NO_MEMORY, ERR_NULL,
- * ERR_OVERLAP: the handle is as it was. */
-static inline int bpfhost_new(bpfhost *handle, size_t tenants, const bpfhost_seed *seed)
+/* Makes a host for so many tenants, numbered from 0, with the seed of its hash maps; `*host` leads to it then. It takes some 260 KiB
+ * for each tenant, which bpfhost_free gives back. ERR_TENANT_COUNT, ERR_NO_MEMORY, ERR_NULL, ERR_OVERLAP: nothing is written. */
+static inline int bpfhost_new(bpfhost **host, size_t tenants, const bpfhost_seed *seed)
 {
-    int code = bpfhost_pair_code(handle, sizeof *handle, seed, sizeof *seed);
-    return code == BPFHOST_DONE ? (int)bpfhost_c_new(handle, tenants, seed->words[0], seed->words[1]) : code;
+    bpfhost *made;
+    int code = bpfhost_pair_code(host, sizeof *host, seed, sizeof *seed);
+    if (code != BPFHOST_DONE)
+        return code;
+    made = (bpfhost *)calloc(1, BPFHOST_HANDLE_SIZE);
+    if (made == NULL)
+        return BPFHOST_ERR_NO_MEMORY;
+    code = (int)bpfhost_c_new(made, tenants, seed->words[0], seed->words[1]);
+    if (code == BPFHOST_DONE)
+        *host = made;
+    else
+        free(made);
+    return code;
 }
 
-/* What is wrong with the objects of a call that handles a frame and writes `out` beside its handle, or DONE. */
-static inline int bpfhost_frame_code(const bpfhost *handle, const uint8_t *frame, size_t frame_length, const void *out,
+/* What is wrong with the objects of a call that handles a frame and writes `out` beside its host, or DONE. */
+static inline int bpfhost_frame_code(const bpfhost *host, const uint8_t *frame, size_t frame_length, const void *out,
                                      size_t out_length)
 {
-    int code = bpfhost_pair_code(handle, sizeof *handle, frame, frame_length);
+    int code = bpfhost_pair_code(host, BPFHOST_HANDLE_SIZE, frame, frame_length);
     if (code == BPFHOST_DONE)
-        code = bpfhost_pair_code(handle, sizeof *handle, out, out_length);
+        code = bpfhost_pair_code(host, BPFHOST_HANDLE_SIZE, out, out_length);
     if (code == BPFHOST_DONE)
         code = bpfhost_pair_code(frame, frame_length, out, out_length);
     return code;
@@ -174,40 +185,40 @@ static inline int bpfhost_frame_code(const bpfhost *handle, const uint8_t *frame
 
 /* Handles a frame of any length and content, which is what follows the length field in a stream, and leaves the reply, with its
  * length field, at the front of the room; `written` gets its length, 12 to BPFHOST_LONGEST_REPLY. ERR_BUFFER_TOO_SMALL,
- * ERR_NO_HOST, ERR_NULL, ERR_LENGTH, ERR_OVERLAP: nothing is written, and no tenant's state has changed. */
-static inline int bpfhost_handle(bpfhost *handle, const void *frame, size_t frame_length, void *room, size_t room_length,
+ * ERR_NULL, ERR_LENGTH, ERR_OVERLAP: nothing is written, and no tenant's state has changed. */
+static inline int bpfhost_handle(bpfhost *host, const void *frame, size_t frame_length, void *room, size_t room_length,
                                  size_t *written)
 {
     const uint8_t *at = bpfhost_bytes_at(frame, frame_length);
-    int code = bpfhost_frame_code(handle, at, frame_length, room, room_length);
+    int code = bpfhost_frame_code(host, at, frame_length, room, room_length);
     if (code == BPFHOST_DONE)
-        code = bpfhost_frame_code(handle, at, frame_length, written, sizeof *written);
+        code = bpfhost_frame_code(host, at, frame_length, written, sizeof *written);
     if (code == BPFHOST_DONE)
         code = bpfhost_pair_code(room, room_length, written, sizeof *written);
-    return code == BPFHOST_DONE ? (int)bpfhost_c_handle(handle, at, frame_length, (uint8_t *)room, room_length, written) : code;
+    return code == BPFHOST_DONE ? (int)bpfhost_c_handle(host, at, frame_length, (uint8_t *)room, room_length, written) : code;
 }
 
-/* Whether a refused call may empty its reply: it is there, and overlaps neither the handle nor the frame. A frame that is
+/* Whether a refused call may empty its reply: it is there, and overlaps neither the host nor the frame. A frame that is
  * longer than any object might overlap anything. */
-static inline bool bpfhost_may_empty(const bpfhost_bytes *reply, const bpfhost *handle, const uint8_t *frame, size_t frame_length)
+static inline bool bpfhost_may_empty(const bpfhost_bytes *reply, const bpfhost *host, const uint8_t *frame, size_t frame_length)
 {
     return reply != NULL && frame_length <= PTRDIFF_MAX
-        && (handle == NULL || bpfhost_are_apart(reply, sizeof *reply, handle, sizeof *handle))
+        && (host == NULL || bpfhost_are_apart(reply, sizeof *reply, host, BPFHOST_HANDLE_SIZE))
         && (frame == NULL || bpfhost_are_apart(reply, sizeof *reply, frame, frame_length));
 }
 
-/* The same, but the reply is lent where it stands, in the host's own room, until the next call on this handle: nothing is
- * copied. ERR_NO_HOST, ERR_NULL, ERR_LENGTH, ERR_OVERLAP: no tenant's state has changed, and `reply` has no bytes. But it is as
- * it was if the frame's length is above PTRDIFF_MAX, or if `reply` itself overlaps the handle or the frame. */
-static inline int bpfhost_handle_lent(bpfhost *handle, const void *frame, size_t frame_length, bpfhost_bytes *reply)
+/* The same, but the reply is lent where it stands, in the host's own room, until the next call on this host: nothing is
+ * copied. ERR_NULL, ERR_LENGTH, ERR_OVERLAP: no tenant's state has changed, and `reply` has no bytes. But it is as
+ * it was if the frame's length is above PTRDIFF_MAX, or if `reply` itself overlaps the host or the frame. */
+static inline int bpfhost_handle_lent(bpfhost *host, const void *frame, size_t frame_length, bpfhost_bytes *reply)
 {
     const uint8_t *at = bpfhost_bytes_at(frame, frame_length);
-    int code = bpfhost_frame_code(handle, at, frame_length, reply, sizeof *reply);
-    if (code == BPFHOST_DONE || bpfhost_may_empty(reply, handle, at, frame_length)) {
+    int code = bpfhost_frame_code(host, at, frame_length, reply, sizeof *reply);
+    if (code == BPFHOST_DONE || bpfhost_may_empty(reply, host, at, frame_length)) {
         reply->at = bpfhost_bytes_at(NULL, 0);
         reply->length = 0;
     }
-    return code == BPFHOST_DONE ? (int)bpfhost_c_handle_lent(handle, at, frame_length, reply) : code;
+    return code == BPFHOST_DONE ? (int)bpfhost_c_handle_lent(host, at, frame_length, reply) : code;
 }
 
 /* What a run finds in its context behind the packet's length: the fields of the kernel's __sk_buff, with any values. */
@@ -255,22 +266,22 @@ static inline int bpfhost_packets_code(const void *out, size_t out_length, const
 }
 
 /* What is wrong with the objects of a run of many packets, or DONE. */
-static inline int bpfhost_run_code(const bpfhost *handle, const bpfhost_context *context, const uint8_t *bytes, size_t byte_count,
+static inline int bpfhost_run_code(const bpfhost *host, const bpfhost_context *context, const uint8_t *bytes, size_t byte_count,
                                    const size_t *ends, size_t packets, const uint32_t *results, const int32_t *status)
 {
     size_t results_size = packets * sizeof *results;
     int code;
     if (packets > PTRDIFF_MAX / sizeof *ends)
         return BPFHOST_ERR_LENGTH;
-    code = bpfhost_packets_code(handle, sizeof *handle, context, bytes, byte_count, ends, packets);
+    code = bpfhost_packets_code(host, BPFHOST_HANDLE_SIZE, context, bytes, byte_count, ends, packets);
     if (code == BPFHOST_DONE)
         code = bpfhost_packets_code(results, results_size, context, bytes, byte_count, ends, packets);
     if (code == BPFHOST_DONE)
         code = bpfhost_packets_code(status, sizeof *status, context, bytes, byte_count, ends, packets);
     if (code == BPFHOST_DONE)
-        code = bpfhost_pair_code(handle, sizeof *handle, results, results_size);
+        code = bpfhost_pair_code(host, BPFHOST_HANDLE_SIZE, results, results_size);
     if (code == BPFHOST_DONE)
-        code = bpfhost_pair_code(handle, sizeof *handle, status, sizeof *status);
+        code = bpfhost_pair_code(host, BPFHOST_HANDLE_SIZE, status, sizeof *status);
     if (code == BPFHOST_DONE)
         code = bpfhost_pair_code(results, results_size, status, sizeof *status);
     return code;
@@ -283,7 +294,7 @@ static inline int bpfhost_run_code(const bpfhost *handle, const bpfhost_context 
  * served, -9 and -22 for a descriptor that is not open or names a map, -7 for a packet of more than 65,536 bytes; -22 too for
  * ends that are out of order or outside the bytes. Then no packet was run, and `results` is as it was. ERR_NO_HOST, ERR_NULL,
  * ERR_LENGTH, ERR_OVERLAP: nothing is written, and no tenant's state has changed. */
-static inline int bpfhost_run_packets(bpfhost *handle, uint16_t tenant, uint32_t fd, const bpfhost_context *context,
+static inline int bpfhost_run_packets(bpfhost *host, uint16_t tenant, uint32_t fd, const bpfhost_context *context,
                                       const void *bytes, size_t byte_count, const size_t *ends, size_t packets,
                                       uint32_t *results, int32_t *status)
 {
@@ -294,34 +305,36 @@ static inline int bpfhost_run_packets(bpfhost *handle, uint16_t tenant, uint32_t
     const size_t *stops = packets == 0 ? no_ends : ends;
     uint32_t *room = packets == 0 ? no_results : results;
     int32_t told = 0;
-    int code = bpfhost_run_code(handle, c, at, byte_count, stops, packets, room, status);
+    int code = bpfhost_run_code(host, c, at, byte_count, stops, packets, room, status);
     if (code == BPFHOST_DONE)
         code = bpfhost_context_words(c, words);
     if (code == BPFHOST_DONE)
-        code = (int)bpfhost_c_run_packets(handle, tenant, fd, words, at, byte_count, stops, packets, room, packets, &told);
+        code = (int)bpfhost_c_run_packets(host, tenant, fd, words, at, byte_count, stops, packets, room, packets, &told);
     if (code == BPFHOST_DONE)
         *status = told;
     return code;
 }
 
 /* Whether memory was ever refused to a tenant: then its replies may differ from those that it would be given alone. False for a
- * number that is not served. ERR_NO_HOST, ERR_NULL, ERR_OVERLAP: nothing is written. */
-static inline int bpfhost_memory_refused(bpfhost *handle, uint16_t tenant, bool *refused)
+ * number that is not served. ERR_NULL, ERR_OVERLAP: nothing is written. */
+static inline int bpfhost_memory_refused(bpfhost *host, uint16_t tenant, bool *refused)
 {
     bool found = false;
-    int code = bpfhost_pair_code(handle, sizeof *handle, refused, sizeof *refused);
+    int code = bpfhost_pair_code(host, BPFHOST_HANDLE_SIZE, refused, sizeof *refused);
     if (code == BPFHOST_DONE)
-        code = (int)bpfhost_c_memory_refused(handle, tenant, &found);
+        code = (int)bpfhost_c_memory_refused(host, tenant, &found);
     if (code == BPFHOST_DONE)
         *refused = found;
     return code;
 }
 
-/* Frees the host behind a handle, which is empty then. An empty handle, or null, is left alone. */
-static inline void bpfhost_free(bpfhost *handle)
+/* Frees a host. Null is left alone. */
+static inline void bpfhost_free(bpfhost *host)
 {
-    if (handle != NULL)
-        bpfhost_c_free(handle);
+    if (host == NULL)
+        return;
+    bpfhost_c_free(host);
+    free(host);
 }
 
 /* ---- frames. Each function writes a frame into a room and answers its length. If the room is too small, a pointer is null that
@@ -539,15 +552,15 @@ static inline int bpfhost_read_reply(const void *bytes, size_t length, bpfhost_r
     return BPFHOST_DONE;
 }
 
-/* Handles a frame and reads the reply, whose payload is lent until the next call on this handle. ERR_NO_HOST, ERR_NULL,
+/* Handles a frame and reads the reply, whose payload is lent until the next call on this host. ERR_NO_HOST, ERR_NULL,
  * ERR_LENGTH, ERR_OVERLAP: nothing is written, and no tenant's state has changed. */
-static inline int bpfhost_ask(bpfhost *handle, const void *frame, size_t frame_length, bpfhost_reply *reply)
+static inline int bpfhost_ask(bpfhost *host, const void *frame, size_t frame_length, bpfhost_reply *reply)
 {
     const uint8_t *at = bpfhost_bytes_at(frame, frame_length);
     bpfhost_bytes lent = {bpfhost_bytes_at(NULL, 0), 0};
-    int code = bpfhost_frame_code(handle, at, frame_length, reply, sizeof *reply);
+    int code = bpfhost_frame_code(host, at, frame_length, reply, sizeof *reply);
     if (code == BPFHOST_DONE)
-        code = (int)bpfhost_c_handle_lent(handle, at, frame_length, &lent);
+        code = (int)bpfhost_c_handle_lent(host, at, frame_length, &lent);
     return code == BPFHOST_DONE ? bpfhost_read_reply(lent.at, lent.length, reply) : code;
 }
 

@@ -9,11 +9,11 @@ pub use numbers::*;
 
 use core::ffi::c_void;
 
-/// What holds a host, or nothing: empty if `at` is null. Only the library writes it, and it is not copied.
+/// The handle of a host: empty if `at` is null. Only the library writes it, and it is not copied. In C it is an opaque type.
 #[derive(Debug)]
 #[repr(C)]
 pub struct bpfhost {
-    /// The host.
+    /// Where the host is.
     pub at: *mut c_void,
 }
 

@@ -7,7 +7,7 @@ import tempfile
 import unittest
 from pathlib import Path
 
-from tests.scripts import load_script
+import exchanges
 
 HEAD = "| Frame | Meaning | Reply | |\n|---|---|---|---|\n"
 FIRST = "| `08000000 0100 0001 03000000` | a close | `08000000 0100 0001 01000000` | |\n"
@@ -31,7 +31,6 @@ while sys.argv[1] == "serve" and read:
 
 class Exchanges(unittest.TestCase):
     def setUp(self) -> None:
-        self.exchanges = load_script("exchanges")
         folder = tempfile.TemporaryDirectory()
         self.addCleanup(folder.cleanup)
         program = Path(folder.name) / "program"
@@ -40,7 +39,7 @@ class Exchanges(unittest.TestCase):
         self.program = str(program)
 
     def play(self, page: str) -> tuple[list[str], int, int]:
-        told: tuple[list[str], int, int] = self.exchanges.play_page(self.program, page)
+        told: tuple[list[str], int, int] = exchanges.play_page(self.program, page)
         return told
 
     def test_table(self) -> None:
@@ -48,7 +47,7 @@ class Exchanges(unittest.TestCase):
         self.assertEqual(self.play(HEAD + FIRST + AGAIN), ([], 1, 2))
 
     def test_parts(self) -> None:
-        frame = self.exchanges.frame_in(1, "`0102 03` and 2 zero bytes and the slots below", b"", b"\4")
+        frame = exchanges.frame_in(1, "`0102 03` and 2 zero bytes and the slots below", b"", b"\4")
         self.assertEqual(frame, b"\1\2\3\0\0\4")
 
     def test_another_reply(self) -> None:
@@ -69,8 +68,8 @@ class Exchanges(unittest.TestCase):
         self.assertEqual(self.play(frames)[0], ["2: a block of frames without a block of replies"])
 
     def test_one_reply_too_few(self) -> None:
-        page = self.exchanges.exchanges_of(HEAD + FIRST + AGAIN)[0]
-        wrong = self.exchanges.differences(self.program, 2, page.frames, page.replies[:1], "here")
+        page = exchanges.exchanges_of(HEAD + FIRST + AGAIN)[0]
+        wrong = exchanges.differences(self.program, 2, page.frames, page.replies[:1], "here")
         self.assertEqual(wrong, ["3: here the reply is 08000000 0100 0001 02000000, and the page has nothing"])
 
     def test_text_of_other_slots(self) -> None:

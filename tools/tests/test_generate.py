@@ -5,12 +5,11 @@ from __future__ import annotations
 import tempfile
 import unittest
 from pathlib import Path
-from types import ModuleType
 
+import generate
 from generating.crates import Crates, SourceError
 from generating.places import HEADER, PLACES, Place
 from generating.shared import Shared, shared_of
-from tests.scripts import load_script
 
 TOP = Path(__file__).resolve().parents[2]
 MARKED = "before\n  # errors: written by tools/generate\n  old\n  # end of errors\nafter\n"
@@ -18,12 +17,10 @@ MARKED = "before\n  # errors: written by tools/generate\n  old\n  # end of error
 
 class Generate(unittest.TestCase):
     shared: Shared
-    script: ModuleType
 
     @classmethod
     def setUpClass(cls) -> None:
         cls.shared = shared_of(TOP)
-        cls.script = load_script("generate")
 
     def crates(self, **files: str) -> Crates:
         """Crates, each of one file."""
@@ -63,11 +60,11 @@ class Generate(unittest.TestCase):
         self.assertIsNone(place.written(MARKED + MARKED, self.shared))
 
     def test_every_place_is_as_it_is_written(self) -> None:
-        texts, missing = self.script.written(TOP, self.shared)
+        texts, missing = generate.written(TOP, self.shared)
         self.assertEqual(missing, [])
         self.assertEqual(texts, {place.file: (TOP / place.file).read_text() for place in PLACES})
 
     def test_numbers_of_the_header_outside_the_marks(self) -> None:
         header = (TOP / HEADER).read_text()
-        self.assertEqual(self.script.by_hand(header), [])
-        self.assertEqual(len(self.script.by_hand(f"{header}\n#define BPFHOST_OTHER 3\nenum x {{ BPFHOST_MORE = -4 }};\n")), 2)
+        self.assertEqual(generate.by_hand(header), [])
+        self.assertEqual(len(generate.by_hand(f"{header}\n#define BPFHOST_OTHER 3\nenum x {{ BPFHOST_MORE = -4 }};\n")), 2)

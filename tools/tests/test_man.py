@@ -9,8 +9,8 @@ import tempfile
 import unittest
 from pathlib import Path
 
+import man
 from man_pages import header, roff
-from tests.scripts import load_script
 
 TOP = Path(__file__).resolve().parents[2]
 HEADER = (TOP / "clients/c/include/bpfhost.h").read_text()
@@ -20,7 +20,7 @@ class Man(unittest.TestCase):
     def test_pages(self) -> None:
         if not shutil.which("man"):
             self.skipTest("man is missing")
-        pages = load_script("man").pages()
+        pages = man.pages()
         self.assertEqual(sorted(pages), ["bpfhost.1", "libbpfhost.3", "verifier_log.1"])
         with tempfile.TemporaryDirectory() as folder:
             for name, text in pages.items():
@@ -31,7 +31,7 @@ class Man(unittest.TestCase):
                 self.assertGreater(len(ended.stdout.splitlines()), 50, name)
 
     def test_statuses_are_all_told(self) -> None:
-        page = load_script("man").pages()["bpfhost.1"]
+        page = man.pages()["bpfhost.1"]
         told = re.findall(r"(?m)^\.TP\n\\fB(\d)\\fR$", page)
         self.assertEqual(sorted(set(told)), ["0", "1", "2", "3", "4"])
 

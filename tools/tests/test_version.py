@@ -7,19 +7,18 @@ import unittest
 from pathlib import Path
 from unittest import mock
 
-from tests.scripts import load_script
+import version
 
 
 class Version(unittest.TestCase):
     def setUp(self) -> None:
-        self.script = load_script("version")
         folder = tempfile.TemporaryDirectory()
         self.addCleanup(folder.cleanup)
         self.top = Path(folder.name)
-        places = [self.script.Place("code.h", r"^MAJOR (\S+)$", "{0}"), self.script.Place("code.h", r'^ALL "(.*)"$'),
-                  self.script.Place("changes", r"^## (\S+)", is_by_hand=True)]
+        places = [version.Place("code.h", r"^MAJOR (\S+)$", "{0}"), version.Place("code.h", r'^ALL "(.*)"$'),
+                  version.Place("changes", r"^## (\S+)", is_by_hand=True)]
         for name, value in (("TOP", self.top), ("PLACES", places)):
-            patch = mock.patch.object(self.script, name, value)
+            patch = mock.patch.object(version, name, value)
             patch.start()
             self.addCleanup(patch.stop)
         (self.top / "VERSION").write_text("1.2.3\n")
@@ -27,19 +26,19 @@ class Version(unittest.TestCase):
         (self.top / "code.h").write_text('MAJOR 1\nALL "1.2.3"\n')
 
     def test_same(self) -> None:
-        self.assertEqual(self.script.wrong_places("1.2.3"), [])
+        self.assertEqual(version.wrong_places("1.2.3"), [])
 
     def test_others(self) -> None:
         (self.top / "code.h").write_text('MAJOR 2\nALLES "1.2.3"\n')
-        self.assertEqual(self.script.wrong_places("1.2.3"), ["code.h has 2 in place of 1", "code.h has no version in place of 1.2.3"])
+        self.assertEqual(version.wrong_places("1.2.3"), ["code.h has 2 in place of 1", "code.h has no version in place of 1.2.3"])
 
     def test_set(self) -> None:
-        self.assertEqual(self.script.main(["--set", "2.0.10"]), 1)
+        self.assertEqual(version.main(["--set", "2.0.10"]), 1)
         self.assertEqual((self.top / "code.h").read_text(), 'MAJOR 2\nALL "2.0.10"\n')
-        self.assertEqual(self.script.wrong_places("2.0.10"), ["changes has 1.2.3 in place of 2.0.10"])
+        self.assertEqual(version.wrong_places("2.0.10"), ["changes has 1.2.3 in place of 2.0.10"])
 
     def test_no_version(self) -> None:
         for number in ("2.0", "2.0.0-rc1", "02.0.0", ""):
             with self.subTest(number):
-                self.assertEqual(self.script.main(["--set", number]), 2)
+                self.assertEqual(version.main(["--set", number]), 2)
         self.assertEqual((self.top / "VERSION").read_text(), "1.2.3\n")

@@ -11,7 +11,7 @@ use std::marker::Model;
 use std::mem::replace;
 use std::ptr::null_mut;
 
-/// A pointer to a session, or null. C declares it as a struct of one pointer.
+/// A pointer to a session, or null. For C it is an opaque type of the size of a pointer.
 #[repr(C)]
 pub struct Handle {
     at: *mut u8,

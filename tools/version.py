@@ -1,0 +1,83 @@
+"""tools/version [--set NUMBER]
+
+The version of this repository stands in the file VERSION: three numbers with points between them. Each other place that has it, or some of
+its numbers, is compared, and the status is 1 where one has another version or none. --set writes the number to all of them but those that
+are written by hand: the entries of changes, and what has the library's soname. CONTRIBUTING.md says what may change in which version.
+"""
+
+from __future__ import annotations
+
+import re
+import sys
+from dataclasses import dataclass
+from pathlib import Path
+
+TOP = Path(__file__).resolve().parent.parent
+NUMBER = re.compile(r"(0|[1-9]\d*)\.(0|[1-9]\d*)\.(0|[1-9]\d*)")
+
+
+@dataclass(frozen=True)
+class Place:
+    """A file that has the version, or some of its numbers: what the first group of the pattern finds has to be of the form."""
+
+    file: str
+    pattern: str
+    form: str = "{0}.{1}.{2}"
+    is_by_hand: bool = False
+
+    def wanted(self, version: str) -> str:
+        return self.form.format(*version.split("."))
+
+    def found(self, text: str) -> re.Match[str] | None:
+        return re.search(self.pattern, text, re.M)
+
+
+HEADER = "clients/c/include/bpfhost.h"
+PLACES = [
+    Place("README.md", r"^This is version (\S+):"),
+    *(Place(HEADER, rf"^#define BPFHOST_VERSION_{name} (\S+)$", form) for name, form in (("MAJOR", "{0}"), ("MINOR", "{1}"), ("PATCH", "{2}"))),
+    Place(HEADER, r'^#define BPFHOST_VERSION "(.*)"$'),
+    Place(HEADER, r'^/\* The version as text: "(.*)"\. \*/$'),
+    Place("clients/python/bpfhost/__init__.py", r'^__version__ = "(.*)"$'),
+    Place("clients/rust/Cargo.toml", r'^version = "(.*)"$'),
+    Place("clients/rust/Cargo.toml", r'^bpfhost-sys = .*version = "=(.*)" }$'),
+    Place("clients/rust/bpfhost-sys/Cargo.toml", r'^version = "(.*)"$'),
+    Place("clients/rust/Cargo.lock", r'^name = "bpfhost"\nversion = "(.*)"$'),
+    Place("clients/rust/Cargo.lock", r'^name = "bpfhost-sys"\nversion = "(.*)"$'),
+    Place("crates/log_text/src/arguments.rt", r'\.version\("(.*)"\)'),
+    Place("crates/log_tests/stdout", r"^verifier_log (\d\S*)$"),
+    Place("CHANGELOG.md", r"^## (\d\S*)", is_by_hand=True),
+    Place("debian/changelog", r"^bpfhost \((\S+)\)", is_by_hand=True),
+    Place("debian/control", r"^Package: libbpfhost(\d\S*)$", "{0}.{1}", is_by_hand=True),
+    Place("CONTRIBUTING.md", r"^- \*soname\.\* `libbpfhost\.so\.(\S+)`", "{0}.{1}", is_by_hand=True),
+]
+
+
+def wrong_places(version: str) -> list[str]:
+    wrong = []
+    for place in PLACES:
+        found = place.found((TOP / place.file).read_text())
+        if found is None or found[1] != place.wanted(version):
+            wrong.append(f"{place.file} has {found[1] if found else 'no version'} in place of {place.wanted(version)}")
+    return wrong
+
+
+def write(version: str) -> None:
+    (TOP / "VERSION").write_text(f"{version}\n")
+    for place in PLACES:
+        text = (TOP / place.file).read_text()
+        found = None if place.is_by_hand else place.found(text)
+        if found:
+            (TOP / place.file).write_text(text[:found.start(1)] + place.wanted(version) + text[found.end(1):])
+
+
+def main(words: list[str]) -> int:
+    if words and (len(words) != 2 or words[0] != "--set" or not NUMBER.fullmatch(words[1])):
+        print(__doc__, file=sys.stderr)
+        return 2
+    if words:
+        write(words[1])
+    version = (TOP / "VERSION").read_text().strip()
+    wrong = wrong_places(version) if NUMBER.fullmatch(version) else [f"VERSION has {version}, which is no three numbers"]
+    print("".join(f"version: {line}\n" for line in wrong), end="")
+    return bool(wrong)

@@ -216,6 +216,8 @@ static void checks_frames(bpfhost *host)
     n = bpfhost_frame_prog_load(f, sizeof f, 1, BPFHOST_SOCKET_FILTER, answers_length + 8, 1);
     reply = ask(host, f, n); /* exit, and register 0 holds nothing */
     CHECK(reply.status == -13 && reply.slot == 0 && reply.reason == 20);
+    CHECK(strcmp(bpfhost_reason_text(reply.reason), "an unreadable register is read") == 0);
+    CHECK(strcmp(bpfhost_reason_text(0), "no reason of bpfhost") == 0);
     n = bpfhost_frame_close(f, sizeof f, 1, 4);
     CHECK(ask(host, f, n).status == 0 && ask(host, f, n).status == -9);
     n = bpfhost_frame_close(f, sizeof f, 9, 4);

@@ -116,6 +116,10 @@ def _cases(shared: Shared) -> list[str]:
     return [f"case BPFHOST_{each.name}: return {_literal(each.text)};" for each in [*shared.codes, *shared.header_codes]]
 
 
+def _reason_cases(shared: Shared) -> list[str]:
+    return [f"case {each.number}: return {_literal(each.text)};" for each in _all_reasons(shared)]
+
+
 # The crates for Rust.
 
 
@@ -168,6 +172,7 @@ PLACES = [
     Place(HEADER, "commands", lambda shared: _members({each.name.upper(): (each.number, "") for each in shared.commands})),
     Place(HEADER, "types", _header_types),
     Place(HEADER, "texts of codes", _cases),
+    Place(HEADER, "reasons", _reason_cases),
     Place(RUST + "bpfhost-sys/src/numbers.rs", "limits", _rust_limits),
     Place(RUST + "bpfhost-sys/src/numbers.rs", "codes", _rust_codes),
     Place(RUST + "bpfhost-sys/src/numbers.rs", "commands", _rust_commands),

@@ -584,6 +584,51 @@ static inline const char *bpfhost_code_text(int code)
     }
 }
 
+/* The reason of a refused program in words, as bpfhost_reply has it. */
+static inline const char *bpfhost_reason_text(uint16_t reason)
+{
+    switch (reason) {
+    /* reasons: written by tools/generate */
+    case 1: return "a jump out of the program, or into the second half of a wide instruction";
+    case 2: return "a jump to the same or an earlier slot";
+    case 3: return "the last instruction can go on past the end";
+    case 4: return "no path leads to the instruction";
+    case 5: return "an unknown helper";
+    case 6: return "arithmetic or a load into the frame pointer";
+    case 7: return "a map's descriptor is not open";
+    case 8: return "a map's descriptor is of something else";
+    case 9: return "a value is loaded directly that the map does not have";
+    case 20: return "an unreadable register is read";
+    case 21: return "the result at the exit is not a scalar";
+    case 22: return "an access at what is not a pointer";
+    case 23: return "arithmetic on a pointer";
+    case 24: return "a pointer is moved too far";
+    case 25: return "outside the stack";
+    case 26: return "not aligned in the stack";
+    case 27: return "a stack byte that may not be written is read";
+    case 28: return "a part of a spilled pointer";
+    case 29: return "outside a map's value";
+    case 30: return "the pointer may be null";
+    case 31: return "an access to the context other than a load of one of its words";
+    case 32: return "a pointer is stored outside the stack";
+    case 33: return "a pointer is compared with something other than null";
+    case 34: return "a helper's argument of the wrong kind";
+    case 35: return "a helper's length may be zero or too large";
+    case 36: return "an atomic operation in a map's value at an offset that is not known to be a multiple of its size";
+    case 40: return "the verifier got no memory";
+    case 101: return "no instruction begins with this byte";
+    case 102: return "a field has a value that no instruction has there";
+    case 103: return "a register's number is above 10";
+    case 104: return "the second slot of a wide load is missing or wrong";
+    case 105: return "the bytes are no whole slots";
+    case 106: return "there is no slot";
+    case 107: return "there are more than 4,096 slots";
+    case 108: return "out of memory for the program";
+    /* end of reasons */
+    default: return "no reason of bpfhost";
+    }
+}
+
 #ifdef __cplusplus
 }
 #endif

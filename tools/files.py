@@ -5,7 +5,7 @@ from __future__ import annotations
 import subprocess
 from pathlib import Path
 
-OUTPUTS = {"out", "target", "build", "__pycache__"}
+OUTPUTS = {"out", "target", "build", "dist", "__pycache__"}
 
 
 def tracked(top: Path, *patterns: str) -> list[Path]:

@@ -1,3 +1,4 @@
+# PYTHON_ARGCOMPLETE_OK
 """The command `python3 -m bpfhost`: runs objects on captures, checks them, and reads and writes programs and frames as text.
 
 Its status is 0 where all went well; 1 where an input is refused: a file, a program, a frame; 2 where the words are wrong; 3 where the

@@ -45,7 +45,7 @@ PLACES = [
     Place("clients/rust/Cargo.lock", r'^name = "bpfhost"\nversion = "(.*)"$'),
     Place("clients/rust/Cargo.lock", r'^name = "bpfhost-sys"\nversion = "(.*)"$'),
     Place("crates/log_text/src/arguments.rt", r'\.version\("(.*)"\)'),
-    Place("crates/log_tests/stdout", r"^verifier_log (\d\S*)$"),
+    Place("crates/cases_logs/stdout", r"^  verifier_log (\d\S*)$"),
     Place("CHANGELOG.md", r"^## (\d\S*)", is_by_hand=True),
     Place("debian/changelog", r"^bpfhost \((\S+)\)", is_by_hand=True),
     Place("debian/control", r"^Package: libbpfhost(\d\S*)$", "{0}.{1}", is_by_hand=True),

@@ -14,10 +14,10 @@ TOP = Path(__file__).resolve().parents[2]
 CRATES = TOP / "crates"
 # What a case shows of an instruction: the file, and the first words of the lines that show it.
 SHOWS = {
-    "Codec": ("text_tests", ("codec", "dis")),
-    "Text": ("text_tests", ("round", "asm")),
-    "Verdict": ("verifier_tests", ("verify", "start", "maps")),
-    "Run": ("frame_tests", ("load", "slots")),
+    "Codec": ("cases_texts", ("codec", "dis")),
+    "Text": ("cases_texts", ("round", "asm")),
+    "Verdict": ("cases_verdicts", ("verify", "start", "maps")),
+    "Run": ("cases_frames", ("load", "slots")),
 }
 
 
@@ -31,7 +31,7 @@ def lines(crate: str, *words: str) -> Iterator[str]:
 
 def slots_of(text: str) -> list[bytes]:
     """The slots of hex digits; of copies, one."""
-    digits = re.sub(r"\*\d+|[^0-9a-fA-F*]", "", text)
+    digits = re.sub(r"\{\d+\*|[^0-9a-fA-F]", "", text)
     return [bytes.fromhex(digits[at:at + 16]) for at in range(0, len(digits) - 15, 16)]
 
 
@@ -54,7 +54,7 @@ def text_lines(text: str) -> list[str]:
 
 def keys_of_line(rest: str) -> set[Key]:
     words = rest.split()
-    if words and all(re.fullmatch(r"[0-9a-fA-F]{2,}(\*\d+)?", word) for word in words[1:] or words):
+    if words and all(re.fullmatch(r"[0-9a-fA-F]{2,}|\{\d+\*[0-9a-fA-F]+\}", word) for word in words[1:] or words):
         return keys_of_slots(" ".join(words[1:] if len(words[0]) < 4 else words))
     texts = text_lines(re.sub(r"^\d+ ", "", rest))
     return {key for line in texts if (key := key_of_text(line))}

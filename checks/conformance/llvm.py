@@ -65,7 +65,7 @@ def llvm_mc() -> tuple[str, str] | None:
 def corpus() -> list[str]:
     """The lines of programs in the cases of texts, each once, without labels and what names one."""
     found: dict[str, None] = {}
-    for rest in lines("text_tests", "round", "asm"):
+    for rest in lines("cases_texts", "round", "asm"):
         found.update(dict.fromkeys(line for line in text_lines(rest) if not line.endswith(":")))
     return list(found)
 

@@ -11,6 +11,7 @@ from bpfhost.program import assemble
 from conformance.cases import CRATES
 
 FIRST, LAST = 3, 66  # the descriptors that a map of `verify` may have
+REPEATED = re.compile(r"\{(\d+)\*([^}]*)\}")
 COMMANDS: dict[str, Callable[[int, int, bytes], bytes]] = {"lookup": frames.map_lookup_elem, "delete": frames.map_delete_elem, "next": frames.map_get_next_key}
 
 
@@ -32,19 +33,19 @@ class Verdict:
     maps: dict[int, MapShape]
 
 
+def expanded(text: str) -> str:
+    """A text with each `{COUNT*PART}` written out; `#` in a part is the number of times before."""
+    return REPEATED.sub(lambda found: "".join(found[2].replace("#", str(time)) for time in range(int(found[1]))), text)
+
+
 def bytes_of(digits: str) -> bytes:
-    """The bytes of groups of hex digits, of which `*N` makes copies."""
-    groups = [group.partition("*") for group in digits.split()]
-    return b"".join(bytes.fromhex(digit) * int(copies or 1) for digit, _, copies in groups)
+    """The bytes of hex digits, with blanks between them."""
+    return bytes.fromhex(expanded(digits))
 
 
 def program_text(line: str) -> str:
-    """A program's text that stands on one line; `N times LINE` is a line so often."""
-    found = []
-    for each in line.split(";"):
-        repeated = re.fullmatch(r" *(\d+) times (.*)", each)
-        found += [repeated[2]] * int(repeated[1]) if repeated else [each]
-    return "\n".join(found) + "\n"
+    """A program's text that stands on one line."""
+    return expanded(line).replace(";", "\n") + "\n"
 
 
 def frame_of(program: str, word: str, rest: str) -> bytes | None:
@@ -75,9 +76,9 @@ def frame_of(program: str, word: str, rest: str) -> bytes | None:
 
 
 def cases(program: str) -> Iterator[Case]:
-    """The cases of `frame_tests` that are one frame after another; those that set words of the context are left out."""
+    """The cases of `cases_frames` that are one frame after another; those that set words of the context are left out."""
     name, current, is_plain = "", Case("", 1, []), True
-    for line in [*(CRATES / "frame_tests/stdin").read_text().splitlines(), "new 1"]:
+    for line in [*(CRATES / "cases_frames/stdin").read_text().splitlines(), "new 1"]:
         word, _, rest = line.partition(" ")
         if line.startswith("# ") and not current.frames:
             name = line[2:]
@@ -94,17 +95,17 @@ def cases(program: str) -> Iterator[Case]:
 
 
 def verdicts(program: str) -> Iterator[Verdict]:
-    """The programs of `verifier_tests`, with the maps that their descriptors name, where they are descriptors of `bpfhost verify`."""
+    """The programs of `cases_verdicts`, with the maps that their descriptors name, where they are descriptors of `bpfhost verify`."""
     name, maps = "", dict[int, MapShape]()
     programs = set[int]()
-    for line in (CRATES / "verifier_tests/stdin").read_text().splitlines():
+    for line in (CRATES / "cases_verdicts/stdin").read_text().splitlines():
         word, _, rest = line.partition(" ")
         if line.startswith("# ") or line.startswith("## "):
             name = line.lstrip("# ")
         elif word == "new":
             maps, programs = {}, set()
         elif word == "map":
-            fd, kind, *sizes = rest.split()
+            fd, kind, *sizes = rest.split(":")
             if int(fd) not in programs:
                 maps.setdefault(int(fd), MapShape(MapType[kind.upper()], int(sizes[0]), int(sizes[1]), int(sizes[2])))
         elif word == "program":

@@ -37,7 +37,7 @@ def by_opcode() -> str:
 def refused() -> Counter[Key]:
     """The instructions of the RFC that are left out here, and in how many cases of the codec they stand."""
     found: Counter[Key] = Counter()
-    for rest in lines("text_tests", "codec"):
+    for rest in lines("cases_texts", "codec"):
         if slots := slots_of(rest):
             found[key_of(slots[0])] += 1
     return found

@@ -39,14 +39,14 @@ class Instructions(unittest.TestCase):
         self.assertEqual(len({each.key.opcode for each in INSTRUCTIONS if each.is_here}), 119)
 
     def test_cases(self) -> None:
-        self.assertEqual(keys_of_slots("1811000003000000 0000000000000000 9500000000000000*4"), {Key(0x18, 1), Key(0x95)})
+        self.assertEqual(keys_of_slots("1811000003000000 0000000000000000 {4*9500000000000000}"), {Key(0x18, 1), Key(0x95)})
         self.assertEqual(text_lines("exit;{40*r1 = 2;}exit"), ["exit", "r1 = 2", "exit"])
 
 
 class Played(unittest.TestCase):
     def test_lines(self) -> None:
-        self.assertEqual(bytes_of("01*3 ff"), b"\1\1\1\xff")
-        self.assertEqual(program_text("2 times r0 = 1; exit"), "r0 = 1\nr0 = 1\n exit\n")
+        self.assertEqual(bytes_of("{3*01} ff"), b"\1\1\1\xff")
+        self.assertEqual(program_text("{2*r# = 1;} exit"), "r0 = 1\nr1 = 1\n exit\n")
 
     def test_descriptors(self) -> None:
         slots = bytes.fromhex("1811000003000000" "0000000000000000" "9500000000000000")

@@ -13,7 +13,7 @@
 //!   first of these: `each_is_stream`, `one_stream`, `frames_in_front`.
 //! - Bytes begin with at most one reply: they determine its tenant, command, status and payload: `one_reply_in_front`.
 //!
-//! `command_tests` has cases of each command, accepted and rejected. The expected results were written from the protocol.
+//! `cases_commands` has cases of each command, accepted and rejected. The expected results were written from the protocol.
 //!
 //! # Decisions
 //!

@@ -1,0 +1,46 @@
+//! Why a line has no other answer.
+
+use bpf_text::TextFault;
+use hex::FromHexError;
+use host::BadShape;
+use insn_codec::CodecFault;
+use std::alloc::AllocError;
+use std::num::ParseIntError;
+use thiserror::Error;
+use verifier::VerifyFault;
+
+/// What is wrong with a line, or with what it names.
+#[derive(Debug, Drop, Error)]
+pub enum CaseError {
+    /// The text is no program, or has no hex lines.
+    #[error("line {} fault {}", .0.line, .0.kind.number())]
+    Text(#[from] TextFault),
+    /// The slots are no program.
+    #[error("slot {} kind {}", .0.slot, .0.kind.number())]
+    Slots(#[from] CodecFault),
+    /// The program is refused.
+    #[error("slot {} reason {}", .0.slot, .0.reason.number())]
+    Refused(#[from] VerifyFault),
+    /// The words name no map.
+    #[error(transparent)]
+    Map(#[from] BadShape),
+    /// A number is missing, or wrong.
+    #[error("no number")]
+    Number(#[from] ParseIntError),
+    /// A number is out of the range of what it is for.
+    #[error("out of range")]
+    OutOfRange,
+    #[error("no hex digits")]
+    Digits(#[from] FromHexError),
+    /// The bytes are not UTF-8.
+    #[error("no text")]
+    NoText,
+    /// The notation of the line is wrong.
+    #[error("wrong notation")]
+    Notation,
+    /// No line begins with this word.
+    #[error("unknown word")]
+    UnknownWord,
+    #[error(transparent)]
+    Memory(#[from(alloc)] AllocError),
+}

@@ -1,0 +1,72 @@
+//! The open descriptors of the programs that follow.
+
+use crate::case_error::CaseError;
+use crate::lines::first_word;
+use host::read_shape;
+use std::alloc::{AllocError, Global};
+use tagged_model::{Named, Target};
+
+/// The open descriptors. Of two with the same number the first counts.
+///
+/// - `map FD:KIND:KEY:VALUE:MAX`: this descriptor names a map.
+/// - `program FD`: this descriptor names a program.
+/// - `new`: no descriptor is open.
+#[derive(Drop)]
+pub struct Descriptors {
+    alloc: Global,
+    named: Vec<Named>,
+}
+
+/// The map of a descriptor, which may be any number of 32 bits.
+fn named_map(alloc: Global, text: &str) -> Result<Named, CaseError> {
+    let (fd, shape) = text.split_once(':').ok_or(CaseError::Notation)?;
+    let argument = format!(in alloc; "3:{shape}")?;
+    let map = read_shape(argument.as_str())?;
+    Ok(Named {
+        fd: fd.parse()?,
+        target: map.target,
+    })
+}
+
+/// The program of a descriptor.
+fn named_program(text: &str) -> Result<Named, CaseError> {
+    Ok(Named {
+        fd: text.parse()?,
+        target: Target::Program,
+    })
+}
+
+impl Descriptors {
+    /// No descriptor is open.
+    pub fn new(alloc: Global) -> Descriptors {
+        Descriptors {
+            alloc,
+            named: Vec::new(alloc),
+        }
+    }
+
+    /// What the open descriptors name.
+    pub fn named(&self) -> &[Named] {
+        &self.named
+    }
+
+    /// Opens a descriptor.
+    fn open(&mut self, new: Named) -> Result<String, CaseError> {
+        self.named.push(new)?;
+        Ok("open".to_string(self.alloc)?)
+    }
+
+    /// Plays a line that opens a descriptor, or `new`.
+    pub fn play(&mut self, line: &str) -> Result<String, CaseError> {
+        let (word, rest) = first_word(line);
+        match word {
+            "map" => self.open(named_map(self.alloc, rest)?),
+            "program" => self.open(named_program(rest)?),
+            "new" => {
+                self.named.clear();
+                Ok("none open".to_string(self.alloc)?)
+            }
+            _ => Err(CaseError::UnknownWord),
+        }
+    }
+}

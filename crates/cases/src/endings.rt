@@ -1,0 +1,43 @@
+//! How a program ended.
+
+use crate::case_error::CaseError;
+use crate::notation::text_of;
+use std::alloc::{AllocError, Global};
+use std::fmt::Write;
+
+/// Appends equal lines: one unchanged, more as a repetition.
+fn append_equal(text: &mut String, lines: &[&str]) -> Result<(), AllocError> {
+    let line = lines.first().copied().unwrap_or("");
+    match lines.len() {
+        1 => write!(text, "\n{line}"),
+        times => write!(text, "\n{{{times}*{line};}}"),
+    }
+}
+
+/// Appends the lines of an output.
+fn append_output(alloc: Global, text: &mut String, output: &str) -> Result<(), AllocError> {
+    let lines: Vec<&str> = output.lines().collect(alloc)?;
+    for equal in lines.chunk_by(|a, b| a == b) {
+        append_equal(text, equal)?;
+    }
+    if !output.is_empty() && !output.ends_with('\n') {
+        text.push_str("\n(no line feed at the end)")?;
+    }
+    Ok(())
+}
+
+/// The status of a program that was run, and below it the lines of its output and of its fault.
+pub fn outcome(
+    alloc: Global,
+    status: u8,
+    output: &str,
+    faults: &[u8],
+) -> Result<String, CaseError> {
+    let faults = text_of(faults)?;
+    let mut text = format!(in alloc; "status {status}")?;
+    append_output(alloc, &mut text, output)?;
+    for fault in faults.lines() {
+        write!(text, "\nfault: {fault}")?;
+    }
+    Ok(text)
+}

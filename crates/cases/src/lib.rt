@@ -1,0 +1,31 @@
+//! Worked cases as data: the notation of their lines, the error that a line may have, and the loop that plays the lines
+//! of standard input.
+//!
+//! Each line is a case: its first word says what is done with the rest. It is written unchanged, and its answer below it,
+//! indented by two blanks. A line that is empty or begins with `#` is a remark, and has no answer.
+//!
+//! | Notation | Means |
+//! |---|---|
+//! | `;` in a text | a line feed |
+//! | `\xHH` in a text | the byte with these two hex digits |
+//! | `{COUNT*PART}` | the part COUNT times, where each `#` in the part is the number of times before |
+//! | hex digits | bytes; blanks may separate them |
+//! | `FD:KIND:KEY:VALUE:MAX` | a map at a descriptor, as the arguments of `verify` name it |
+//!
+//! Texts in answers have the same notation. Of a program that is run, the answer is its status, and below it the lines of
+//! its output and of its fault.
+#![tactic(auto)]
+
+mod case_error;
+mod descriptors;
+mod endings;
+mod lines;
+mod notation;
+mod playing;
+
+pub use case_error::CaseError;
+pub use descriptors::Descriptors;
+pub use endings::outcome;
+pub use lines::{first_word, input_of, is_remark};
+pub use notation::{GROUP, bytes_of, hex_groups, shown, text_of, times, written};
+pub use playing::{Player, play_lines};

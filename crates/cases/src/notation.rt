@@ -1,0 +1,149 @@
+//! Texts and bytes on one line: `;` is a line feed, `\xHH` the byte with these two hex digits, and `{COUNT*PART}` the part
+//! COUNT times, where each `#` in the part is the number of times before.
+
+ghost use Rattle.std.specs.Prelude.{◌<◌};
+
+use crate::case_error::CaseError;
+use hex::FromHex;
+use std::alloc::{AllocError, Global};
+use std::fmt::Write;
+
+/// The number of bytes of a frame or a reply in one group.
+pub const GROUP: usize = 4;
+
+/// The greatest number of times that a part is repeated.
+const MOST_TIMES: u32 = 1_048_576;
+
+/// A number of times, from decimal digits.
+pub fn times(digits: &str) -> Result<u32, CaseError> {
+    match digits.parse::<u32>() {
+        Ok(times) if times <= MOST_TIMES => Ok(times),
+        _ => Err(CaseError::Notation),
+    }
+}
+
+/// Appends the characters of a text without escapes.
+fn append_characters(bytes: &mut Vec<u8>, text: &str) -> Result<(), AllocError> {
+    for byte in text.bytes() {
+        bytes.push(if byte == b';' { b'\n' } else { byte })?;
+    }
+    Ok(())
+}
+
+/// Appends the byte with the two hex digits at the front, and the characters after them.
+fn append_escaped(bytes: &mut Vec<u8>, text: &str) -> Result<(), CaseError> {
+    let (digits, rest) = text.split_at_checked(2).ok_or(CaseError::Notation)?;
+    let byte = <[u8; 1] as FromHex>::from_hex(digits)?;
+    bytes.extend_from_slice(&byte)?;
+    append_characters(bytes, rest)?;
+    Ok(())
+}
+
+/// Appends the bytes of a text without repetitions.
+fn append_text(bytes: &mut Vec<u8>, text: &str) -> Result<(), CaseError> {
+    for (index, piece) in text.split("\\x").enumerate() {
+        if index == 0 {
+            append_characters(bytes, piece)?;
+        } else {
+            append_escaped(bytes, piece)?;
+        }
+    }
+    Ok(())
+}
+
+/// Appends a part once, with a number in place of each `#`.
+fn append_numbered(bytes: &mut Vec<u8>, part: &[u8], digits: &str) -> Result<(), AllocError> {
+    for byte in part {
+        if *byte == b'#' {
+            bytes.extend_from_slice(digits.as_bytes())?;
+        } else {
+            bytes.push(*byte)?;
+        }
+    }
+    Ok(())
+}
+
+/// Appends a part a number of times.
+fn append_times(
+    alloc: Global,
+    bytes: &mut Vec<u8>,
+    part: &[u8],
+    times: u32,
+) -> Result<(), AllocError> {
+    for time in 0..times {
+        let digits = time.to_string(alloc)?;
+        append_numbered(bytes, part, digits.as_str())?;
+    }
+    Ok(())
+}
+
+/// Appends the bytes of a repetition, given without its first brace, and of the text after it.
+fn append_repeated(alloc: Global, bytes: &mut Vec<u8>, text: &str) -> Result<(), CaseError> {
+    let (repetition, rest) = text.split_once('}').ok_or(CaseError::Notation)?;
+    let (digits, part) = repetition.split_once('*').ok_or(CaseError::Notation)?;
+    let mut once = Vec::new(alloc);
+    append_text(&mut once, part)?;
+    append_times(alloc, bytes, &once, times(digits)?)?;
+    append_text(bytes, rest)
+}
+
+/// The bytes of a text.
+pub fn written(alloc: Global, text: &str) -> Result<Vec<u8>, CaseError> {
+    let mut bytes = Vec::new(alloc);
+    for (index, piece) in text.split('{').enumerate() {
+        if index == 0 {
+            append_text(&mut bytes, piece)?;
+        } else {
+            append_repeated(alloc, &mut bytes, piece)?;
+        }
+    }
+    Ok(bytes)
+}
+
+/// The bytes as text.
+pub fn text_of(bytes: &[u8]) -> Result<&str, CaseError> {
+    str::from_utf8(bytes).map_err(|_| CaseError::NoText)
+}
+
+/// The bytes of hex digits.
+pub fn bytes_of(alloc: Global, text: &str) -> Result<Vec<u8>, CaseError> {
+    let text = written(alloc, text)?;
+    let digits = text_of(&text)?;
+    let digits: String = digits.chars().filter(|c| *c != ' ').collect(alloc)?;
+    let bytes = hex::decode(alloc, digits.as_str())?;
+    Ok(bytes)
+}
+
+/// The hex digits of bytes, in groups of `size` bytes with a blank between them.
+pub fn hex_groups(alloc: Global, bytes: &[u8], size: usize) -> Result<String, AllocError>
+    requires { 0 < size }
+{
+    let mut text = String::new(alloc);
+    for group in bytes.chunks(size) {
+        if !text.is_empty() {
+            text.push(' ')?;
+        }
+        text.push_str(&hex::encode(alloc, group)?)?;
+    }
+    Ok(text)
+}
+
+/// Appends equal lines: one unchanged, more as a repetition.
+fn append_lines(alloc: Global, shown: &mut String, lines: &[&str]) -> Result<(), AllocError> {
+    let line = lines.first().copied().unwrap_or("");
+    let line = line.replace(alloc, '\n', ";")?;
+    match lines.len() {
+        1 => shown.push_str(line.as_str()),
+        times => write!(shown, "{{{times}*{line}}}"),
+    }
+}
+
+/// A text on one line.
+pub fn shown(alloc: Global, text: &str) -> Result<String, AllocError> {
+    let lines: Vec<&str> = text.split_inclusive('\n').collect(alloc)?;
+    let mut shown = String::new(alloc);
+    for equal in lines.chunk_by(|a, b| a == b) {
+        append_lines(alloc, &mut shown, equal)?;
+    }
+    Ok(shown)
+}

@@ -1,0 +1,39 @@
+//! Playing the lines of standard input, one after another.
+
+use crate::case_error::CaseError;
+use crate::lines::is_remark;
+use std::io;
+
+/// Plays lines.
+pub trait Player {
+    /// The answer to a line that is no remark: lines, or none.
+    fn play(&mut self, line: &str) -> Result<String, CaseError>;
+}
+
+/// Writes the lines of an answer, indented.
+fn print_indented<R: Print>(rt: &R, answer: &str) -> io::Result<()> {
+    for line in answer.lines() {
+        println!(rt; "  {line}")?;
+    }
+    Ok(())
+}
+
+/// Writes each line of standard input, and below it its answer or its error.
+pub fn play_lines<R: AllocGlobal + Input + Print, P: Player>(
+    rt: &R,
+    player: &mut P,
+) -> io::Result<()> {
+    for line in rt.lines(rt.alloc()) {
+        let line = line?;
+        let line = line.as_str();
+        println!(rt; "{line}")?;
+        if is_remark(line) {
+            continue;
+        }
+        match player.play(line) {
+            Ok(answer) => print_indented(rt, answer.as_str())?,
+            Err(error) => println!(rt; "  {error}")?,
+        }
+    }
+    Ok(())
+}

@@ -1,0 +1,80 @@
+//! Frames and the commands that they carry, as text.
+
+use crate::bytes::shown;
+use cases::{CaseError, bytes_of};
+use command_frames::{BadFrame, Command, GIVEN_WORDS, HEAD_LENGTH, head, parse};
+use std::alloc::{AllocError, Global};
+
+/// The head of a frame.
+pub fn head_line(alloc: Global, digits: &str) -> Result<String, CaseError> {
+    let frame = bytes_of(alloc, digits)?;
+    let Some(head) = head(&frame) else {
+        return Ok("no head".to_string(alloc)?);
+    };
+    let (tenant, command) = (head.tenant, head.command);
+    Ok(format!(in alloc; "tenant {tenant}, command {command}")?)
+}
+
+/// Words one after another.
+fn words_text(alloc: Global, words: [u32; GIVEN_WORDS]) -> Result<String, AllocError> {
+    let mut text = String::new(alloc);
+    for word in words {
+        if !text.is_empty() {
+            text.push(' ')?;
+        }
+        text.push_str(&word.to_string(alloc)?)?;
+    }
+    Ok(text)
+}
+
+/// A command whose fields are a descriptor and bytes.
+fn fd_and_bytes(alloc: Global, name: &str, fd: u32, bytes: &[u8]) -> Result<String, AllocError> {
+    let bytes = shown(alloc, bytes)?;
+    format!(in alloc; "{name} {fd} [{bytes}]")
+}
+
+/// A command with its fields.
+fn command_text(alloc: Global, command: Command<'_>) -> Result<String, AllocError> {
+    match command {
+        Command::MapCreate {
+            kind,
+            key_size,
+            value_size,
+            max_entries,
+            flags,
+        } => { format!(in alloc; "create {kind} {key_size} {value_size} {max_entries} {flags}") }
+        Command::MapLookup { fd, key } => fd_and_bytes(alloc, "lookup", fd, key),
+        Command::MapUpdate {
+            fd,
+            flags,
+            key_and_value,
+        } => {
+            let bytes = shown(alloc, key_and_value)?;
+            format!(in alloc; "update {fd} {flags} [{bytes}]")
+        }
+        Command::MapDelete { fd, key } => fd_and_bytes(alloc, "delete", fd, key),
+        Command::MapNextKey { fd, key } => fd_and_bytes(alloc, "next key", fd, key),
+        Command::ProgLoad { kind, slots } => fd_and_bytes(alloc, "load", kind, slots),
+        Command::ProgTestRun { fd, words, packet } => {
+            let words = words_text(alloc, words)?;
+            let packet = shown(alloc, packet)?;
+            format!(in alloc; "run {fd} [{words}] [{packet}]")
+        }
+        Command::Close { fd } => format!(in alloc; "close {fd}"),
+    }
+}
+
+/// The command of a frame, or why it has none.
+pub fn parse_line(alloc: Global, digits: &str) -> Result<String, CaseError> {
+    let frame = bytes_of(alloc, digits)?;
+    if frame.len() < HEAD_LENGTH {
+        return Ok("no head".to_string(alloc)?);
+    }
+    let text = match parse(&frame) {
+        Ok(command) => command_text(alloc, command)?,
+        Err(BadFrame::TooLong) => "too long".to_string(alloc)?,
+        Err(BadFrame::Unknown) => "unknown".to_string(alloc)?,
+        Err(BadFrame::Body) => "wrong body".to_string(alloc)?,
+    };
+    Ok(text)
+}

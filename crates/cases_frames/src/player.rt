@@ -1,0 +1,267 @@
+//! Plays lines on a host.
+
+use crate::streams::{cut, program, stream};
+use bpf_text::assemble;
+use cases::{CaseError, GROUP, Player, bytes_of, first_word, hex_groups, text_of, written};
+use host::{HashSeed, Host, MOST_TENANTS, ReplyBuf};
+use insn_codec::write_program;
+use std::alloc::{AllocError, Global};
+
+/// The numbers of the commands.
+const MAP_CREATE: u16 = 0;
+
+const MAP_LOOKUP_ELEM: u16 = 1;
+
+const MAP_UPDATE_ELEM: u16 = 2;
+
+const MAP_DELETE_ELEM: u16 = 3;
+
+const MAP_GET_NEXT_KEY: u16 = 4;
+
+const PROG_LOAD: u16 = 5;
+
+const PROG_TEST_RUN: u16 = 10;
+
+const CLOSE: u16 = 256;
+
+/// A program type of PROG_LOAD: a socket filter.
+const SOCKET_FILTER: u32 = 1;
+
+/// The length of the context words in bytes.
+const WORDS: usize = 40;
+
+/// A new host for this number of tenants.
+pub fn new_host(alloc: Global, tenants: &str) -> Result<Host, CaseError> {
+    let tenants: usize = tenants.parse()?;
+    if tenants < 1 || tenants > MOST_TENANTS {
+        return Err(CaseError::OutOfRange);
+    }
+    Ok(Host::new(alloc, tenants, HashSeed::new(1, 2))?)
+}
+
+/// A frame of a tenant, with a number at the front of its body.
+fn frame(
+    alloc: Global,
+    tenant: u16,
+    command: u16,
+    number: u32,
+    rest: &[u8],
+) -> Result<Vec<u8>, AllocError> {
+    let mut frame = Vec::new(alloc);
+    frame.extend_from_slice(&tenant.to_le_bytes())?;
+    frame.extend_from_slice(&command.to_le_bytes())?;
+    frame.extend_from_slice(&number.to_le_bytes())?;
+    frame.extend_from_slice(rest)?;
+    Ok(frame)
+}
+
+/// Numbers of four bytes each.
+fn numbers(alloc: Global, words: &str) -> Result<Vec<u8>, CaseError> {
+    let mut bytes = Vec::new(alloc);
+    for word in words.split_whitespace() {
+        let number: u32 = word.parse()?;
+        bytes.extend_from_slice(&number.to_le_bytes())?;
+    }
+    Ok(bytes)
+}
+
+/// These bytes, and those of hex digits after them.
+fn before(alloc: Global, front: &[u8], digits: &str) -> Result<Vec<u8>, CaseError> {
+    let rest = bytes_of(alloc, digits)?;
+    let mut bytes = Vec::new(alloc);
+    bytes.extend_from_slice(front)?;
+    bytes.extend_from_slice(&rest)?;
+    Ok(bytes)
+}
+
+/// The slots of a program's text.
+fn slots_of(alloc: Global, text: &str) -> Result<Vec<u8>, CaseError> {
+    let text = written(alloc, text)?;
+    let program = assemble(alloc, text_of(&text)?)?;
+    Ok(write_program(alloc, &program)?)
+}
+
+/// The host on which lines are played, and the context words of its runs.
+#[derive(Drop)]
+pub struct HostPlayer {
+    alloc: Global,
+    host: Host,
+    words: Vec<u8>,
+}
+
+impl HostPlayer {
+    /// A player with a host for one tenant, and zeros as context words.
+    pub fn new(alloc: Global) -> Result<HostPlayer, AllocError> {
+        Ok(HostPlayer {
+            alloc,
+            host: Host::new(alloc, 1, HashSeed::new(1, 2))?,
+            words: vec![in alloc; 0; WORDS]?,
+        })
+    }
+
+    /// The reply to a frame.
+    fn reply(&mut self, frame: &[u8]) -> Result<String, AllocError> {
+        let mut reply = ReplyBuf::new(self.alloc)?;
+        self.host.handle(frame, &mut reply);
+        hex_groups(self.alloc, reply.bytes(), GROUP)
+    }
+
+    /// The reply to the frame of hex digits.
+    fn reply_to_digits(&mut self, digits: &str) -> Result<String, CaseError> {
+        let frame = bytes_of(self.alloc, digits)?;
+        Ok(self.reply(&frame)?)
+    }
+
+    /// The reply to a command: the words of its tenant and of the number at the front of its body, and the bytes after it.
+    fn command(
+        &mut self,
+        tenant: &str,
+        command: u16,
+        number: &str,
+        rest: &[u8],
+    ) -> Result<String, CaseError> {
+        let tenant = tenant.parse()?;
+        let frame = frame(self.alloc, tenant, command, number.parse()?, rest)?;
+        Ok(self.reply(&frame)?)
+    }
+
+    /// The reply to a command on a descriptor: a tenant, the descriptor, and the bytes that follow it.
+    fn on_descriptor(&mut self, command: u16, rest: &str) -> Result<String, CaseError> {
+        let (tenant, rest) = first_word(rest);
+        let (descriptor, digits) = first_word(rest);
+        let bytes = bytes_of(self.alloc, digits)?;
+        self.command(tenant, command, descriptor, &bytes)
+    }
+
+    /// The reply to a new map: a tenant, and the five numbers of the body.
+    fn create(&mut self, rest: &str) -> Result<String, CaseError> {
+        let (tenant, rest) = first_word(rest);
+        let (kind, sizes) = first_word(rest);
+        let bytes = numbers(self.alloc, sizes)?;
+        self.command(tenant, MAP_CREATE, kind, &bytes)
+    }
+
+    /// The reply to an update: a tenant, a descriptor, the flags, and the bytes of the key and the value.
+    fn update(&mut self, rest: &str) -> Result<String, CaseError> {
+        let (tenant, rest) = first_word(rest);
+        let (descriptor, rest) = first_word(rest);
+        let (flags, digits) = first_word(rest);
+        let flags: u64 = flags.parse()?;
+        let bytes = before(self.alloc, &flags.to_le_bytes(), digits)?;
+        self.command(tenant, MAP_UPDATE_ELEM, descriptor, &bytes)
+    }
+
+    /// The reply to a load of these slots.
+    fn load_slots(&mut self, tenant: u16, slots: &[u8]) -> Result<String, AllocError> {
+        let frame = frame(self.alloc, tenant, PROG_LOAD, SOCKET_FILTER, slots)?;
+        self.reply(&frame)
+    }
+
+    /// The reply to a load: a tenant, and the program's text.
+    fn load(&mut self, rest: &str) -> Result<String, CaseError> {
+        let (tenant, text) = first_word(rest);
+        let tenant = tenant.parse()?;
+        let slots = slots_of(self.alloc, text)?;
+        Ok(self.load_slots(tenant, &slots)?)
+    }
+
+    /// The reply to a load: a tenant, and the bytes of the slots.
+    fn load_digits(&mut self, rest: &str) -> Result<String, CaseError> {
+        let (tenant, digits) = first_word(rest);
+        let tenant = tenant.parse()?;
+        let slots = bytes_of(self.alloc, digits)?;
+        Ok(self.load_slots(tenant, &slots)?)
+    }
+
+    /// The reply to a test run: a tenant, a descriptor and a packet.
+    fn run(&mut self, rest: &str) -> Result<String, CaseError> {
+        let (tenant, rest) = first_word(rest);
+        let (descriptor, packet) = first_word(rest);
+        let input = before(self.alloc, &self.words, packet)?;
+        self.command(tenant, PROG_TEST_RUN, descriptor, &input)
+    }
+
+    /// The reply to the frame that a line asks for.
+    fn reply_to_line(&mut self, word: &str, rest: &str) -> Result<String, CaseError> {
+        match word {
+            "frame" => self.reply_to_digits(rest),
+            "create" => self.create(rest),
+            "lookup" => self.on_descriptor(MAP_LOOKUP_ELEM, rest),
+            "update" => self.update(rest),
+            "delete" => self.on_descriptor(MAP_DELETE_ELEM, rest),
+            "next" => self.on_descriptor(MAP_GET_NEXT_KEY, rest),
+            "close" => self.on_descriptor(CLOSE, rest),
+            "load" => self.load(rest),
+            "slots" => self.load_digits(rest),
+            "run" => self.run(rest),
+            _ => Err(CaseError::UnknownWord),
+        }
+    }
+
+    /// The replies to lines separated by `|`.
+    fn round(&mut self, lines: &str) -> Result<String, CaseError> {
+        let mut replies = String::new(self.alloc);
+        for line in lines.split('|') {
+            let (word, rest) = first_word(line.trim());
+            if !replies.is_empty() {
+                replies.push_str(" | ")?;
+            }
+            replies.push_str(&self.reply_to_line(word, rest)?)?;
+        }
+        Ok(replies)
+    }
+
+    /// The replies of the first round that differ from these, with its number.
+    fn other_round(
+        &mut self,
+        lines: &str,
+        count: u32,
+        first: &str,
+    ) -> Result<Option<String>, CaseError> {
+        for number in 1..count {
+            let replies = self.round(lines)?;
+            if replies.as_str() != first {
+                return Ok(Some(format!(in self.alloc; "after {number} rounds: {replies}")?));
+            }
+        }
+        Ok(None)
+    }
+
+    /// The replies to lines that are played a number of times, if they are the same each time.
+    fn rounds(&mut self, rest: &str) -> Result<String, CaseError> {
+        let (count, lines) = first_word(rest);
+        let count: u32 = count.parse()?;
+        let first = self.round(lines)?;
+        match self.other_round(lines, count, &first)? {
+            Some(answer) => Ok(answer),
+            None => Ok(format!(in self.alloc; "{count} rounds: {first}")?),
+        }
+    }
+
+    /// Plays the lines that follow on a new host.
+    fn begin(&mut self, tenants: &str) -> Result<String, CaseError> {
+        self.host = new_host(self.alloc, tenants)?;
+        Ok(String::new(self.alloc))
+    }
+
+    /// Sets the context words of the runs that follow.
+    fn set_words(&mut self, digits: &str) -> Result<String, CaseError> {
+        self.words = bytes_of(self.alloc, digits)?;
+        Ok(String::new(self.alloc))
+    }
+}
+
+impl Player for HostPlayer {
+    fn play(&mut self, line: &str) -> Result<String, CaseError> {
+        let (word, rest) = first_word(line);
+        match word {
+            "new" => self.begin(rest),
+            "words" => self.set_words(rest),
+            "rounds" => self.rounds(rest),
+            "stream" => stream(self.alloc, rest),
+            "cut" => cut(self.alloc, rest),
+            "program" => program(self.alloc, rest),
+            _ => self.reply_to_line(word, rest),
+        }
+    }
+}

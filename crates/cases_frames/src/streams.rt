@@ -1,0 +1,95 @@
+//! Whole streams, and runs of the program.
+
+use crate::player::new_host;
+use cases::{CaseError, GROUP, bytes_of, first_word, hex_groups, input_of, outcome};
+use host::{Counted, Failure, HashSeed, Host, MOST_FRAMES, ServeFault, run_words, serve};
+use std::alloc::{AllocError, Global};
+
+/// How a stream ended: by the fault line of the program, where it ended with a fault.
+fn end_of(alloc: Global, end: Result<u32, ServeFault>) -> Result<String, AllocError> {
+    match end {
+        Ok(frames) => format!(in alloc; "ok {frames}"),
+        Err(fault) => {
+            let frames = fault.frames;
+            let failure = Failure::from(fault);
+            format!(in alloc; "{failure}: {frames} answered")
+        }
+    }
+}
+
+/// How a stream ended, and what was written.
+fn ended(alloc: Global, end: Result<u32, ServeFault>, output: &[u8]) -> Result<String, AllocError> {
+    let end = end_of(alloc, end)?;
+    let output = hex_groups(alloc, output, GROUP)?;
+    format!(in alloc; "{end}\n{output}")
+}
+
+/// How `serve` ends on these bytes, and what it wrote.
+fn served(alloc: Global, host: &mut Host, limit: &str, input: &[u8]) -> Result<String, CaseError> {
+    let limit: u32 = limit.parse()?;
+    if limit > MOST_FRAMES {
+        return Err(CaseError::OutOfRange);
+    }
+    let mut reader = Counted::new(input);
+    let mut writer = Counted::new(Vec::new(alloc));
+    let end = serve(alloc, host, &mut reader, &mut writer, limit);
+    Ok(ended(alloc, end, &writer.into_inner())?)
+}
+
+/// How `serve` ends, for a number of tenants, a limit and a stream's bytes.
+pub fn stream(alloc: Global, line: &str) -> Result<String, CaseError> {
+    let (tenants, rest) = first_word(line);
+    let (limit, digits) = first_word(rest);
+    let mut host = new_host(alloc, tenants)?;
+    let input = bytes_of(alloc, digits)?;
+    served(alloc, &mut host, limit, &input)
+}
+
+/// The first bytes of those of hex digits.
+fn front(alloc: Global, count: &str, digits: &str) -> Result<Vec<u8>, CaseError> {
+    let mut input = bytes_of(alloc, digits)?;
+    input.truncate(count.parse()?);
+    Ok(input)
+}
+
+/// How `serve` ends on a stream that is cut short, for a number of bytes and then the stream's bytes.
+pub fn cut(alloc: Global, line: &str) -> Result<String, CaseError> {
+    let (tenants, rest) = first_word(line);
+    let (limit, rest) = first_word(rest);
+    let (count, digits) = first_word(rest);
+    let mut host = new_host(alloc, tenants)?;
+    let input = front(alloc, count, digits)?;
+    served(alloc, &mut host, limit, &input)
+}
+
+/// The argument that a word of a line represents.
+fn word_of(word: &str) -> &str {
+    if word == "\"\"" { "" } else { word }
+}
+
+/// A run of the program on these arguments and this input.
+fn ran(alloc: Global, words: &[&str], input: &[u8]) -> Result<String, CaseError> {
+    let mut output = Vec::new(alloc);
+    let mut faults = Vec::new(alloc);
+    let status = run_words(
+        alloc,
+        Some(HashSeed::new(1, 2)),
+        words,
+        input,
+        &mut output,
+        &mut faults,
+    );
+    let mut output = hex_groups(alloc, &output, GROUP)?;
+    if !output.is_empty() {
+        output.push('\n')?;
+    }
+    outcome(alloc, status, &output, &faults)
+}
+
+/// A run of the program, for its arguments and, after `<`, its input.
+pub fn program(alloc: Global, line: &str) -> Result<String, CaseError> {
+    let (words, digits) = input_of(line)?;
+    let words: Vec<&str> = words.split_whitespace().map(word_of).collect(alloc)?;
+    let input = bytes_of(alloc, digits)?;
+    ran(alloc, &words, &input)
+}

@@ -1,0 +1,65 @@
+//! Plays lines with the descriptors that are open.
+
+use bpf_text::assemble;
+use cases::{CaseError, Descriptors, Player, first_word, input_of, outcome, text_of, written};
+use log_text::{Log, LogStyle, log_of, run_log_words};
+use std::alloc::Global;
+
+/// The descriptors that programs are verified with.
+#[derive(Drop)]
+pub struct LogPlayer {
+    alloc: Global,
+    descriptors: Descriptors,
+}
+
+impl LogPlayer {
+    /// A player with no open descriptor.
+    pub fn new(alloc: Global) -> LogPlayer {
+        LogPlayer {
+            alloc,
+            descriptors: Descriptors::new(alloc),
+        }
+    }
+
+    /// The log of a program's text.
+    fn log(&self, text: &str, style: LogStyle) -> Result<String, CaseError> {
+        let text = written(self.alloc, text)?;
+        let program = assemble(self.alloc, text_of(&text)?)?;
+        let Log {
+            text,
+            is_accepted: _,
+            facts: _,
+        } = log_of(self.alloc, &program, self.descriptors.named(), style)?;
+        Ok(text)
+    }
+
+    /// How the program ends on these arguments and this input.
+    fn run(&self, case: &str) -> Result<String, CaseError> {
+        let (arguments, text) = input_of(case)?;
+        let arguments: Vec<&str> = arguments.split_whitespace().collect(self.alloc)?;
+        let input = written(self.alloc, text)?;
+        let mut output = Vec::new(self.alloc);
+        let mut faults = Vec::new(self.alloc);
+        let status = run_log_words(
+            self.alloc,
+            &arguments,
+            input.as_slice(),
+            &mut output,
+            &mut faults,
+        );
+        outcome(self.alloc, status, text_of(&output)?, &faults)
+    }
+}
+
+impl Player for LogPlayer {
+    fn play(&mut self, line: &str) -> Result<String, CaseError> {
+        let (word, rest) = first_word(line);
+        match word {
+            "log" => self.log(rest, LogStyle::New),
+            "all" => self.log(rest, LogStyle::Whole),
+            "dot" => self.log(rest, LogStyle::Graph),
+            "run" => self.run(rest),
+            _ => self.descriptors.play(line),
+        }
+    }
+}

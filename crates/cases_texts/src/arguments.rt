@@ -1,0 +1,29 @@
+//! Cases of the program's arguments.
+
+use cases::{CaseError, input_of, outcome, text_of, written};
+use host::{HashSeed, read_shape, run_words};
+use std::alloc::Global;
+
+/// `program`: how the program ends on these arguments and this input.
+pub fn ran(alloc: Global, case: &str) -> Result<String, CaseError> {
+    let (arguments, text) = input_of(case)?;
+    let arguments: Vec<&str> = arguments.split_whitespace().collect(alloc)?;
+    let input = written(alloc, text)?;
+    let mut output = Vec::new(alloc);
+    let mut faults = Vec::new(alloc);
+    let status = run_words(
+        alloc,
+        Some(HashSeed::new(1, 2)),
+        &arguments,
+        input.as_slice(),
+        &mut output,
+        &mut faults,
+    );
+    outcome(alloc, status, text_of(&output)?, &faults)
+}
+
+/// `map`: the map that an argument names.
+pub fn map_named(alloc: Global, argument: &str) -> Result<String, CaseError> {
+    let map = read_shape(argument)?;
+    Ok(format!(in alloc; "{map:?}")?)
+}

@@ -1,0 +1,102 @@
+//! Cases whose text is bytes: hex digits, which blanks may separate.
+
+use bpf_text::disassemble;
+use cases::{CaseError, bytes_of, hex_groups, shown, times};
+use insn_codec::{FaultKind, Insn, Program, decode, encode, read_program};
+use std::alloc::{AllocError, Global};
+use std::fmt::Write;
+
+/// The length of a slot in bytes.
+const SLOT: usize = 8;
+
+/// Bytes as hex digits, with a blank after each slot but the last one.
+pub fn grouped(alloc: Global, bytes: &[u8]) -> Result<String, AllocError> {
+    hex_groups(alloc, bytes, SLOT)
+}
+
+/// An instruction, the number of its slots, and its bytes as they are encoded.
+fn encoded(alloc: Global, insn: &Insn, slots: usize) -> Result<String, AllocError> {
+    let mut out = [0; 16];
+    let length = encode(insn, &mut out);
+    let written = grouped(alloc, &out[..length])?;
+    format!(in alloc; "{insn:?} in {slots}: {written}")
+}
+
+/// `codec`: the instruction at the front, and its bytes as they are encoded.
+pub fn decoded(alloc: Global, text: &str) -> Result<String, CaseError> {
+    let bytes = bytes_of(alloc, text)?;
+    match &decode(&bytes) {
+        Ok((insn, slots)) => Ok(encoded(alloc, insn, *slots)?),
+        Err(fault) => Err(CaseError::from(*fault)),
+    }
+}
+
+/// `dis`: the text of the program.
+pub fn disassembled(alloc: Global, text: &str) -> Result<String, CaseError> {
+    let bytes = bytes_of(alloc, text)?;
+    let program = read_program(alloc, &bytes)?;
+    let text = disassemble(alloc, &program)?;
+    let answer = shown(alloc, text.as_str())?;
+    Ok(answer)
+}
+
+/// The instructions of a program, in order.
+fn insns_of(alloc: Global, program: &Program) -> Result<Vec<Insn>, AllocError> {
+    let mut insns = Vec::new(alloc);
+    for slot in 0..program.slots() {
+        if let Some(insn) = program.get(slot) {
+            insns.push(*insn)?;
+        }
+    }
+    Ok(insns)
+}
+
+/// Appends what begins at a slot.
+fn append_place(text: &mut String, program: &Program, slot: usize) -> Result<(), AllocError> {
+    if slot != 0 {
+        text.push_str("; ")?;
+    }
+    match program.get(slot) {
+        Some(insn) => write!(text, "{slot}: {insn:?}"),
+        None => write!(text, "{slot}: none"),
+    }
+}
+
+/// `places`: what begins at each slot and after the last one, in a copy of the program that is made of the instructions.
+pub fn places(alloc: Global, text: &str) -> Result<String, CaseError> {
+    let bytes = bytes_of(alloc, text)?;
+    let program = read_program(alloc, &bytes)?;
+    let insns = insns_of(alloc, &program)?;
+    let copy = Program::new(alloc, &insns)?.clone()?;
+    let mut answer = String::new(alloc);
+    for slot in 0..=copy.slots() {
+        append_place(&mut answer, &copy, slot)?;
+    }
+    Ok(answer)
+}
+
+/// `exits`: the number of slots of a program of this number of exits.
+pub fn made_of_exits(alloc: Global, digits: &str) -> Result<String, CaseError> {
+    let exits = vec![in alloc; Insn::Exit; times(digits)? as usize]?;
+    let program = Program::new(alloc, &exits)?;
+    let slots = program.slots();
+    let answer = format!(in alloc; "{slots} slots")?;
+    Ok(answer)
+}
+
+/// Whether a slot of this opcode and zeros has no fault, or another one than its opcode.
+fn is_known(opcode: u8) -> bool {
+    let mut bytes = [0; 16];
+    bytes[0] = opcode;
+    match decode(&bytes) {
+        Ok(_) => true,
+        Err(fault) => fault.kind != FaultKind::Opcode,
+    }
+}
+
+/// `opcodes`: how many opcodes are the first byte of an instruction.
+pub fn known_opcodes(alloc: Global) -> Result<String, CaseError> {
+    let known = (0u8..=255).filter(|opcode| is_known(*opcode)).count();
+    let answer = format!(in alloc; "{known} opcodes")?;
+    Ok(answer)
+}

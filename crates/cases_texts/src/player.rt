@@ -1,0 +1,38 @@
+//! Plays lines, each by itself.
+
+use crate::arguments::{map_named, ran};
+use crate::bytes::{decoded, disassembled, known_opcodes, made_of_exits, places};
+use crate::texts::{assembled, printed, read_hex_lines};
+use cases::{CaseError, Player, first_word};
+use std::alloc::Global;
+
+/// A player of lines that stand by themselves.
+#[derive(Drop)]
+pub struct TextPlayer {
+    alloc: Global,
+}
+
+impl TextPlayer {
+    pub fn new(alloc: Global) -> TextPlayer {
+        TextPlayer { alloc }
+    }
+}
+
+impl Player for TextPlayer {
+    fn play(&mut self, line: &str) -> Result<String, CaseError> {
+        let (word, rest) = first_word(line);
+        match word {
+            "codec" => decoded(self.alloc, rest),
+            "dis" => disassembled(self.alloc, rest),
+            "places" => places(self.alloc, rest),
+            "exits" => made_of_exits(self.alloc, rest),
+            "opcodes" => known_opcodes(self.alloc),
+            "asm" => assembled(self.alloc, rest),
+            "round" => printed(self.alloc, rest),
+            "hex" => read_hex_lines(self.alloc, rest),
+            "program" => ran(self.alloc, rest),
+            "map" => map_named(self.alloc, rest),
+            _ => Err(CaseError::UnknownWord),
+        }
+    }
+}

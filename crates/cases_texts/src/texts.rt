@@ -1,0 +1,42 @@
+//! Cases whose text is a program, or hex lines.
+
+use crate::bytes::grouped;
+use bpf_text::{assemble, disassemble, from_hex_lines, hex_lines};
+use cases::{CaseError, shown, text_of, written};
+use insn_codec::{Program, write_program};
+use std::alloc::Global;
+
+/// Assembles the program of a text.
+fn program_of(alloc: Global, text: &str) -> Result<Program, CaseError> {
+    let text = written(alloc, text)?;
+    let program = assemble(alloc, text_of(&text)?)?;
+    Ok(program)
+}
+
+/// `asm`: the hex lines of the program.
+pub fn assembled(alloc: Global, text: &str) -> Result<String, CaseError> {
+    let program = program_of(alloc, text)?;
+    let lines = hex_lines(alloc, &program)?;
+    let answer = shown(alloc, lines.as_str())?;
+    Ok(answer)
+}
+
+/// `round`: the printed text of the program, if it is read again as the same program.
+pub fn printed(alloc: Global, text: &str) -> Result<String, CaseError> {
+    let program = program_of(alloc, text)?;
+    let text = disassemble(alloc, &program)?;
+    let again = assemble(alloc, text.as_str())?;
+    if write_program(alloc, &again)? != write_program(alloc, &program)? {
+        return Ok("another program".to_string(alloc)?);
+    }
+    let answer = shown(alloc, text.as_str())?;
+    Ok(answer)
+}
+
+/// `hex`: the slots of the hex lines.
+pub fn read_hex_lines(alloc: Global, text: &str) -> Result<String, CaseError> {
+    let text = written(alloc, text)?;
+    let bytes = from_hex_lines(alloc, text_of(&text)?)?;
+    let answer = grouped(alloc, &bytes)?;
+    Ok(answer)
+}

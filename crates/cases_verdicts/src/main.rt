@@ -1,0 +1,24 @@
+//! Worked cases of the verifier's verdicts. The crate `cases` has the notation.
+//!
+//! | Line | Answer |
+//! |---|---|
+//! | `verify TEXT` | the verdict on a program's text |
+//! | `start TEXT` | the verdict on a program that begins with this text, and then ends with `r0 = 0; exit` |
+//! | `maps TEXT` | the maps that an accepted program loads, and its number of slots |
+//! | `jumps AHEAD END` | the verdict on a program of 4,096 slots with a jump in every second one |
+//! | `map FD:KIND:KEY:VALUE:MAX` | from here on this descriptor names a map |
+//! | `program FD` | from here on this descriptor names a program |
+//! | `new` | from here on no descriptor is open |
+#![tactic(auto)]
+
+mod jumps;
+mod player;
+
+use cases::play_lines;
+use player::VerdictPlayer;
+use std::io;
+
+fn main(rt: HostRuntime) -> io::Result<()> {
+    let mut player = VerdictPlayer::new(rt.alloc());
+    play_lines(&rt, &mut player)
+}

@@ -1,0 +1,71 @@
+//! Plays lines with the descriptors that are open.
+
+use crate::jumps::jumping;
+use bpf_text::assemble;
+use cases::{CaseError, Descriptors, Player, first_word, text_of, written};
+use std::alloc::Global;
+use verifier::{Verified, verify};
+
+/// The descriptors that programs are verified with.
+#[derive(Drop)]
+pub struct VerdictPlayer {
+    alloc: Global,
+    descriptors: Descriptors,
+}
+
+impl VerdictPlayer {
+    /// A player with no open descriptor.
+    pub fn new(alloc: Global) -> VerdictPlayer {
+        VerdictPlayer {
+            alloc,
+            descriptors: Descriptors::new(alloc),
+        }
+    }
+
+    /// The program of a text, accepted.
+    fn accepted(&self, text: &str) -> Result<Verified, CaseError> {
+        let text = written(self.alloc, text)?;
+        let program = assemble(self.alloc, text_of(&text)?)?;
+        Ok(verify(self.alloc, &program, self.descriptors.named())?)
+    }
+
+    /// The verdict on a program's text.
+    fn verdict(&self, text: &str) -> Result<String, CaseError> {
+        self.accepted(text)?;
+        Ok("accepted".to_string(self.alloc)?)
+    }
+
+    /// The verdict on a program that begins with `text` and then returns 0.
+    fn verdict_of_start(&self, text: &str) -> Result<String, CaseError> {
+        let whole = format!(in self.alloc; "{text}; r0 = 0; exit")?;
+        self.verdict(whole.as_str())
+    }
+
+    /// The verdict on a program of jumps, given `AHEAD END`.
+    fn verdict_of_jumps(&self, text: &str) -> Result<String, CaseError> {
+        let (ahead, end) = first_word(text);
+        let whole = jumping(self.alloc, ahead.parse()?, end)?;
+        self.verdict(whole.as_str())
+    }
+
+    /// The maps that an accepted program loads, and its number of slots.
+    fn maps(&self, text: &str) -> Result<String, CaseError> {
+        let verified = self.accepted(text)?;
+        let maps = verified.maps();
+        let slots = verified.program().slots();
+        Ok(format!(in self.alloc; "maps {maps:?} slots {slots}")?)
+    }
+}
+
+impl Player for VerdictPlayer {
+    fn play(&mut self, line: &str) -> Result<String, CaseError> {
+        let (word, rest) = first_word(line);
+        match word {
+            "verify" => self.verdict(rest),
+            "start" => self.verdict_of_start(rest),
+            "jumps" => self.verdict_of_jumps(rest),
+            "maps" => self.maps(rest),
+            _ => self.descriptors.play(line),
+        }
+    }
+}

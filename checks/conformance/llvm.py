@@ -20,7 +20,7 @@ RULES = [
     ("a wide load of a map or of its value: LLVM has no words for it", re.compile(r"map_(fd|value)")),
     ("an atomic operation on `u32` names its register `w`, where the host has `r`", re.compile(r"^lock ?\* ?\( ?u32")),
     ("a load or a store of at most 32 bits names its register `w`, where the host has `r`", re.compile(r"\*\(u(8|16|32) \*\)")),
-    ("`ll` right behind a number is C's suffix there, and no word of the line", re.compile(r"\dx?[0-9a-f]*ll")),
+    ("`ll` directly after a number is C's suffix there, not a word of the line", re.compile(r"\dx?[0-9a-f]*ll")),
     ("the least distance of `gotol`", re.compile(r"gotol -2147483648")),
     ("a wide constant is written with a sign", re.compile(r"^r\d+ = \d{19,} ll")),
     ("more blanks in an atomic operation than LLVM reads", re.compile(r"^lock  ")),

@@ -7,7 +7,7 @@ import unittest
 from pathlib import Path
 
 sys.path.insert(0, str(Path(__file__).resolve().parents[1]))
-from definitions.page import Row, Section, fill, quotation, sections_of, shown
+from definitions.page import Row, Section, fill, quotation, sections_of, shown, with_definitions
 from definitions.sources import Name, Place, closure, file_of
 from definitions.tiers import ROOTS, Tier, idle_stops, name, tiers
 
@@ -62,6 +62,15 @@ class Tables(unittest.TestCase):
         lines = shown(sections[0])
         self.assertEqual(lines[-2], "| [`host_core/specs/Served.antt`](../crates/host_core/specs/Served.antt) | 12 | `NoneFaults`, `IsUnrefused`, `StreamState` | kept words |")
         self.assertEqual(sections_of(lines)[0].rows[0].words, "kept words")
+
+    def test_tiers_below_their_headings(self) -> None:
+        tier = Tier("For a test", frozenset({Name(SERVED, "IsUnrefused")}), frozenset())
+        row = "| [`host_core/specs/Served.antt`](../crates/host_core/specs/Served.antt) | 3 | `IsUnrefused` | %s |"
+        head = "| File | Lines | Definitions | In the field's words |\n|---|---|---|---|\n"
+        page = "# Page\n\n## Before\n\nkept\n\n### For a test\n\n#### Part\n\n" + head + row % "its words" + "\n\n### After\n\nkept too\n"
+        self.assertEqual(with_definitions([tier], page), page)
+        with self.assertRaises(ValueError):
+            with_definitions([tier], "# Page\n\n## For a test\n")
 
     def test_quotations(self) -> None:
         self.assertTrue(quotation("host_core/specs/Served.antt", "StopsAlone").endswith("ServesAlone old new count rest\n"))

@@ -1,6 +1,6 @@
-"""A client of bpfhost: command frames and replies, a running host and its tenants, maps as mappings, objects, captures.
+"""A client of bpfhost: command frames and replies, a running host and its tenants, maps as mappings, ELF objects, and captures.
 
-README.md of this package shows how to use it; docs/PROTOCOL.md of the repository has the protocol.
+README.md of this package shows how to use it; docs/PROTOCOL.md of the repository defines the protocol.
 """
 
 from bpfhost import frames

@@ -1,12 +1,12 @@
-"""A host for asyncio: the same frames, and nobody waits in the loop for a reply.
+"""A host for asyncio: the same frames, and the event loop never blocks.
 
     async with AsyncHost() as host:
         tenant = host.tenant()
         program = await tenant.prog_load(assemble(host.program, "r0 = 1\\nexit\\n"))
         results = await asyncio.gather(*(program.run(packet) for packet in packets))
 
-One thread beside the loop speaks with the program, by a `Host`. What is asked while it waits goes out as one batch. A call that is cancelled is
-done all the same; only its reply is dropped.
+A second thread talks to the program through a `Host`. Calls that come while it waits are sent as one batch. A cancelled call is still
+executed; only its reply is dropped.
 """
 
 from __future__ import annotations
@@ -31,13 +31,13 @@ from bpfhost.tenant import answered
 
 Answer = TypeVar("Answer")
 
-# So many calls are taken at once.
+# The most calls that are taken from the queue at once.
 _MOST_AT_ONCE = 4096
 
 
 @dataclass
 class _Asked:
-    """A frame, or a call with the host, and who waits for what comes of it."""
+    """A frame, or a call with the host, and the future that gets its result."""
 
     what: bytes | Callable[[Host], object]
     loop: asyncio.AbstractEventLoop
@@ -47,7 +47,7 @@ class _Asked:
         self.future = self.loop.create_future()
 
     def tell(self, answer: object, error: Exception | None = None) -> None:
-        """Hands what came of it to the loop."""
+        """Sets the future's result from any thread."""
         self.loop.call_soon_threadsafe(self._settle, answer, error)
 
     def _settle(self, answer: object, error: Exception | None) -> None:
@@ -60,7 +60,7 @@ class _Asked:
 
 
 class AsyncHost:
-    """A running `bpfhost serve`. It is an async context manager, which ends the program. Errors are those of `Host`."""
+    """A running `bpfhost serve`, as an async context manager that ends the program on exit. Raises the same errors as `Host`."""
 
     def __init__(self, program: Program | None = None, tenants: int = 1) -> None:
         """Starts the program, as `Host` does."""
@@ -81,7 +81,7 @@ class AsyncHost:
         return f"<AsyncHost of {self._host!r}>"
 
     def tenant(self, number: int = 0) -> AsyncTenant:
-        """What speaks for one tenant; a ValueError where the host serves no such one."""
+        """The tenant of this number. Raises ValueError if the host does not serve it."""
         return AsyncTenant(self, self._host.tenant(number).number)
 
     async def ask(self, frame: bytes) -> Reply:
@@ -93,7 +93,7 @@ class AsyncHost:
         return reply
 
     async def call(self, function: Callable[[Host], Answer]) -> Answer:
-        """Calls what takes the blocking host, between two batches of frames."""
+        """Calls a function with the blocking host, between two batches of frames."""
         return await self._put(function)  # type: ignore[return-value]
 
     async def _put(self, what: bytes | Callable[[Host], object]) -> object:
@@ -104,7 +104,7 @@ class AsyncHost:
         return await asked.future
 
     async def close(self, is_killed: bool = False) -> None:
-        """Ends the program behind all that was asked; a HostError where its status is not 0."""
+        """Ends the program after all calls made so far. Raises HostError if its status is not 0."""
         if self._is_open:
             self._is_open = False
             self._asked.put(None)
@@ -112,7 +112,7 @@ class AsyncHost:
             await asyncio.to_thread(self._host.kill if is_killed else self._host.close)
 
     def _answer(self) -> None:
-        """The thread's part: takes what is asked, as much as there is, and hands on what comes of it."""
+        """Runs in the thread: takes as many calls as there are, and hands on their results."""
         goes_on = True
         while goes_on:
             batch: list[_Asked] = []
@@ -150,7 +150,7 @@ class AsyncHost:
 
 
 class AsyncTenant:
-    """What speaks for one tenant. Each command that the host refuses is a Refused, as of `Tenant`."""
+    """One tenant. Each command that the host refuses raises Refused, as with `Tenant`."""
 
     def __init__(self, host: AsyncHost, number: int) -> None:
         self.host = host
@@ -160,16 +160,16 @@ class AsyncTenant:
         return f"<AsyncTenant {self.number} of {self.host!r}>"
 
     async def map_create(self, map_type: MapType, key_size: int, value_size: int, max_entries: int) -> AsyncMap:
-        """Makes a map; sizes in bytes."""
+        """Creates a map; sizes are in bytes."""
         made = await self._done(frames.map_create(self.number, map_type, key_size, value_size, max_entries))
         return AsyncMap(self, made.status, MapShape(map_type, key_size, value_size, max_entries))
 
     async def prog_load(self, slots: bytes, name: str = "") -> AsyncProg:
-        """Loads a socket filter; a ProgramRefused tells the slot and the reason."""
+        """Loads a socket filter. Raises ProgramRefused, with the slot and the reason, if the verifier rejects it."""
         return AsyncProg(self, (await self._done(frames.prog_load(self.number, slots))).status, name)
 
     async def prog_test_run(self, descriptor: int, packet: bytes = b"", context: Context = NO_CONTEXT) -> int:
-        """Runs a program on a packet, and gives its result."""
+        """Runs a program on a packet and returns its result."""
         return (await self._done(frames.prog_test_run(self.number, descriptor, packet, context))).result()
 
     async def close(self, descriptor: int) -> None:
@@ -177,7 +177,7 @@ class AsyncTenant:
         await self._done(frames.close(self.number, descriptor))
 
     async def done(self, frame: bytes) -> Reply:
-        """The reply to a frame of this tenant, which is not refused."""
+        """The reply to a frame of this tenant. Raises Refused if the host refuses the command."""
         return await self._done(frame)
 
     async def _done(self, frame: bytes) -> Reply:
@@ -193,11 +193,11 @@ class AsyncProg:
     name: str = ""
 
     async def run(self, packet: bytes = b"", context: Context = NO_CONTEXT) -> int:
-        """Runs the program on a packet, and gives its result."""
+        """Runs the program on a packet and returns its result."""
         return await self.tenant.prog_test_run(self.descriptor, packet, context)
 
     async def runs(self, packets: Packets | Iterable[bytes]) -> list[int]:
-        """Runs the program on many packets in one call, and gives the results in order."""
+        """Runs the program on many packets in one call and returns the results in order."""
         whole = packets if isinstance(packets, Packets) else Packets.of(packets)
         tenant, descriptor = self.tenant.number, self.descriptor
 
@@ -213,14 +213,14 @@ class AsyncProg:
 
 @dataclass(frozen=True)
 class AsyncMap:
-    """A map that a descriptor names. A key or a value of another size than the map's is a ValueError."""
+    """A map that a descriptor names. Raises ValueError for a key or a value that has not the map's size."""
 
     tenant: AsyncTenant
     descriptor: int
     shape: MapShape
 
     async def get(self, key: bytes) -> bytes | None:
-        """The value of a key, or None where it is not there."""
+        """The value of a key, or None if the map does not have the key."""
         try:
             return (await self.tenant.done(frames.map_lookup_elem(self.tenant.number, self.descriptor, self._right(key)))).payload
         except Refused as refused:
@@ -229,13 +229,13 @@ class AsyncMap:
             raise
 
     async def put(self, key: bytes, value: bytes, flags: Update = Update.ANY) -> None:
-        """Puts a value under a key."""
+        """Sets the value of a key."""
         if len(value) != self.shape.value_size:
             raise ValueError(f"this map has values of {self.shape.value_size} bytes, and not of {len(value)}")
         await self.tenant.done(frames.map_update_elem(self.tenant.number, self.descriptor, self._right(key), value, flags))
 
     async def delete(self, key: bytes) -> bool:
-        """Takes a key out of a hash map, and says whether it was there."""
+        """Deletes a key of a hash map; returns whether the map had it."""
         try:
             await self.tenant.done(frames.map_delete_elem(self.tenant.number, self.descriptor, self._right(key)))
         except Refused as refused:

@@ -1,6 +1,6 @@
-"""Built programs: a program of an object with its maps, as a file that is loaded without Python.
+"""Built programs: a program of an object with its maps, in a file that is loaded without Python.
 
-README.md of this package has the format ("Built programs").
+README.md of this package describes the format ("Built programs").
 """
 
 from __future__ import annotations
@@ -19,7 +19,7 @@ FORMAT, VERSION = "bpfhost program", 1
 
 
 def built(object_file: ObjectFile, lowered: Lowered) -> str:
-    """The file of a program, as text: one object of JSON."""
+    """The content of the file: one JSON object, as text."""
     return f"{json.dumps(_built(object_file, lowered), indent=1)}\n"
 
 
@@ -56,7 +56,7 @@ def _map(object_file: ObjectFile, declared: ObjectMap, slots: list[int]) -> Mapp
 
 
 def _type(object_file: ObjectFile, type_id: int | None) -> str | None:
-    """The type as C spells it."""
+    """The type as written in C."""
     return None if object_file.types is None or type_id is None else object_file.types.name(type_id)
 
 

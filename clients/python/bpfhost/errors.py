@@ -1,4 +1,4 @@
-"""What can go wrong, as exceptions. Each one's text is a plain sentence."""
+"""The exceptions of this package. The text of each is one sentence."""
 
 from __future__ import annotations
 
@@ -15,14 +15,14 @@ if TYPE_CHECKING:
 
 
 class BpfhostError(Exception):
-    """The base of all that this package raises, but for a ValueError where a caller's argument is wrong."""
+    """The base of all exceptions that this package raises, except a ValueError for a wrong argument."""
 
 
 class HostError(BpfhostError):
-    """bpfhost did not start, or ended with another status than 0.
+    """bpfhost did not start, or exited with an unexpected status.
 
-    `fault` is what it wrote to standard error, `written` what it had written to standard output and nobody has read, and `status`
-    its status, where it has ended.
+    `fault` is what it wrote to standard error, `written` the part of its standard output that was not read yet, and `status` its exit
+    status, or None if it has not exited.
     """
 
     def __init__(self, message: str, fault: str = "", written: bytes = b"", status: int | None = None) -> None:
@@ -33,7 +33,7 @@ class HostError(BpfhostError):
 
     @classmethod
     def of(cls, what: str, status: int, fault: bytes, written: bytes = b"") -> HostError:
-        """`what` ended with a status, or by a signal where that is negative, and wrote `fault` on standard error."""
+        """`what` exited with a status, or, if that is negative, was ended by a signal; `fault` is what it wrote to standard error."""
         said = "; ".join(line for line in fault.decode(errors="replace").splitlines() if line.strip())
         by = f"by {_signal_name(-status)}" if status < 0 else f"with status {status}"
         return cls(f"{what} ended {by}: {said or 'it did not say why'}", said, written, status)
@@ -47,11 +47,11 @@ def _signal_name(number: int) -> str:
 
 
 class ReplyError(BpfhostError, ValueError):
-    """Bytes that are no stream of replies, or a reply to something else than was asked."""
+    """Bytes that are not a stream of replies, or a reply to another command than the one sent."""
 
 
 class Refused(BpfhostError):
-    """The host refused a command: `status` is its negative status, and `reply` all that it said."""
+    """The host refused a command: `status` is the reply's negative status, and `reply` the whole reply."""
 
     def __init__(self, reply: Reply) -> None:
         super().__init__(str(reply))
@@ -68,7 +68,7 @@ class Refused(BpfhostError):
 
 
 class ProgramRefused(Refused):
-    """The host refused a program, at a slot for a reason of the verifier or of the codec."""
+    """The host refused a program: the slot, and the reason of the verifier or of the decoder."""
 
     def __init__(self, reply: Reply, slot: int, reason: int) -> None:
         super().__init__(reply)
@@ -77,9 +77,9 @@ class ProgramRefused(Refused):
 
 
 class SourceRefused(BpfhostError):
-    """A program of an object is refused, at a slot for a reason.
+    """A program of an object is rejected: the slot and the reason.
 
-    The text has the line of the source, where the object tells it. `log` is the verifier's log, where there is one.
+    The text has the line of the source if the object has it. `log` is the verifier's log, if there is one.
     """
 
     def __init__(self, message: str, slot: int, reason: int, log: str | None = None) -> None:
@@ -90,18 +90,18 @@ class SourceRefused(BpfhostError):
 
 
 class InputError(BpfhostError, ValueError):
-    """A file or a text that is not what it should be."""
+    """A file or a text that does not have the expected format."""
 
 
 class StateError(BpfhostError):
-    """What is in a map of a tenant can't be read by its frames."""
+    """A tenant's maps can't be read with the frames that are left."""
 
 
 class CaptureError(InputError):
-    """A capture that is cut off, is none, or has a packet that no test run takes."""
+    """A capture that is cut off, is not a capture, or has a packet that no test run takes."""
 
 
-# What parts of this package want, by the names of modules and of Debian's packages.
+# Packages that parts of this package need: the names of their modules, and of Debian's packages.
 PACKAGES = {
     "elftools": "python3-pyelftools",
     "dpkt": "python3-dpkt",
@@ -111,12 +111,12 @@ PACKAGES = {
 }
 
 
-# Debian's packages are seen by Debian's own Python alone, and another one may stand before it in PATH.
+# Only Debian's own Python sees Debian's packages, and another Python may come first in PATH.
 _DEBIANS_PYTHON, _DEBIANS_PACKAGES = Path("/usr/bin/python3"), Path("/usr/lib/python3/dist-packages")
 
 
 class MissingPackage(BpfhostError):
-    """A Python package that is not there."""
+    """A Python package that is not installed."""
 
     def __init__(self, module: str, debian: str) -> None:
         self.module = module

@@ -1,4 +1,4 @@
-"""Runs a filter on every packet of a capture, for one tenant or several, and counts what it answers."""
+"""Runs a filter on every packet of a capture, for one or more tenants, and counts the results."""
 
 from __future__ import annotations
 
@@ -17,10 +17,10 @@ from bpfhost.stopping import Stopping
 
 
 class Short(enum.Enum):
-    """How a packet is run of which the capture has fewer bytes than there were on the wire.
+    """How to run a packet of which the capture has fewer bytes than there were on the wire.
 
-    PAD: as long as it was on the wire, with zeros behind the bytes that the capture has, so that `skb->len` is that length. AS_IS: the
-    bytes that the capture has, which `skb->len` counts.
+    PAD: the bytes that the capture has, followed by zeros up to the length on the wire, so that `skb->len` is that length. AS_IS: only the
+    bytes that the capture has; `skb->len` is their number.
     """
 
     PAD = "pad"
@@ -28,7 +28,7 @@ class Short(enum.Enum):
 
 
 class Long(enum.Enum):
-    """What is done with a packet of more than 65,536 bytes, which no test run takes: its first 65,536 are run, or none."""
+    """What to do with a packet of more than 65,536 bytes, which no test run takes: run its first 65,536 bytes, or skip it."""
 
     CUT = "cut"
     SKIP = "skip"
@@ -36,7 +36,7 @@ class Long(enum.Enum):
 
 @dataclass(frozen=True)
 class Treatment:
-    """How packets are run that are not as they were on the wire, or too long."""
+    """How to run packets that are too long, or not as they were on the wire."""
 
     short: Short = Short.AS_IS
     long: Long = Long.CUT
@@ -44,12 +44,12 @@ class Treatment:
 
 @dataclass
 class Outcome:
-    """What a filter answered to the packets of a capture. A result is how many bytes of the packet are kept; 0 keeps none.
+    """What a filter returned for the packets of a capture. A result is how many bytes of the packet to keep; 0 drops it.
 
     `short` counts packets of which the capture has fewer bytes than there were on the wire, and `long` those of more than 65,536 bytes;
-    `skipped` of these were not run, and count as no packets. `fault` is what is wrong with the capture behind these packets, and `signal`
-    the signal that ended the run. `seconds` is the time of the runs by the clock, and `link_types` are the packets' link types, in the
-    order in which they were met.
+    `skipped` of these were not run, and do not count as packets. `fault` says what is wrong with the capture after these packets, and
+    `signal` is the signal that ended the run. `seconds` is the wall-clock time of the runs, and `link_types` has the packets' link types in
+    order of appearance.
     """
 
     packets: int = 0
@@ -73,20 +73,20 @@ class Outcome:
 
     @property
     def accepted(self) -> int:
-        """How many packets are kept, some bytes of them at least."""
+        """How many packets are kept, in whole or in part."""
         return self.packets - self.results[0]
 
 
 class TenantsDiffer(BpfhostError):
-    """Two tenants with the same program, maps and packets were told different things."""
+    """Two tenants with the same program, maps and packets got different replies."""
 
 
 def accept_none(_piece: Piece, _results: tuple[int, ...]) -> None:
-    """What does nothing with packets that are kept."""
+    """An `Accept` that ignores the packets that are kept."""
 
 
 def accept_to(writer: CaptureWriter) -> Callable[[Piece, tuple[int, ...]], None]:
-    """What writes the packets that are kept, cut to what is kept of them."""
+    """An `Accept` that writes each packet that is kept, cut to the length that the filter returned."""
 
     def accept(piece: Piece, results: tuple[int, ...]) -> None:
         for at, result in enumerate(results):
@@ -98,7 +98,7 @@ def accept_to(writer: CaptureWriter) -> Callable[[Piece, tuple[int, ...]], None]
 
 @dataclass(frozen=True)
 class _Turn:
-    """A piece of a capture, its packets as they are run, and who runs them."""
+    """A piece of a capture, its packets as they are run, and the runs of each tenant."""
 
     piece: Piece
     packets: Packets
@@ -107,13 +107,13 @@ class _Turn:
 
 
 class _Clock:
-    """The time of a capture: milliseconds since its first packet, modulo 2^32; 0 for packets that are older than that one."""
+    """The timestamp of a packet: milliseconds since the first packet, modulo 2^32; 0 for packets that are older than the first."""
 
     def __init__(self) -> None:
         self._first: int | None = None
 
     def milliseconds(self, piece: Piece) -> list[int]:
-        """The times of the packets of a piece."""
+        """The timestamps of the packets of a piece."""
         stamps = [piece.stamp(at) for at in range(len(piece))]
         times = [stamp.seconds * 1_000_000_000 + stamp.nanoseconds for stamp in stamps]
         if self._first is None and times:
@@ -122,10 +122,10 @@ class _Clock:
 
 
 class Filter:
-    """One filter, loaded for one or more tenants of a host, each of which runs it on each packet."""
+    """One filter, loaded for one or more tenants of a host. Each tenant runs it on every packet."""
 
     def __init__(self, runs: Sequence[TestRuns], treatment: Treatment = Treatment()) -> None:
-        """The filter by its runs for each tenant, from 0 on."""
+        """Takes the runs of each tenant, from tenant 0 on."""
         self._host = runs[0].host
         self._runs = list(runs)
         self._treatment = treatment
@@ -138,11 +138,11 @@ class Filter:
         advanced: Callable[[Outcome], None] = lambda _: None,
         stopping: Stopping | None = None,
     ) -> Outcome:
-        """Runs the filter on the packets of a capture, at most so many.
+        """Runs the filter on the packets of a capture, up to a limit.
 
-        `accept` is given each piece with its results, and `advanced` the counts behind each. Where the capture is wrong, the outcome has
-        the packets before that; so it has where `stopping` is asked to end the run. A TenantsDiffer where two tenants are told different
-        things.
+        `accept` gets each piece with its results, and `advanced` the counts after each piece. If the capture is wrong at some packet, or if
+        `stopping` is asked to end the run, the outcome has the packets before that. Raises TenantsDiffer if two tenants get different
+        replies.
         """
         outcome = Outcome()
         stopping = stopping or Stopping()
@@ -157,7 +157,7 @@ class Filter:
         return outcome
 
     def _pieces(self, capture: Capture, limit: int | None, outcome: Outcome, stopping: Stopping) -> Iterator[Piece]:
-        """The pieces of a capture up to a limit, or up to a fault, which is noted in the outcome."""
+        """The pieces of a capture up to a limit or up to a fault, which is noted in the outcome."""
         left = limit
         try:
             for piece in stopping.items(capture.pieces(self._runs[0].most)):
@@ -166,7 +166,7 @@ class Filter:
                 if left is not None:
                     piece = piece.first(left)
                     left -= len(piece)
-                # An empty piece, where nothing has come for a while, lets what waits for its results have them.
+                # An empty piece, after a while without packets, delivers the results that are still to come.
                 yield piece
                 if left == 0:
                     return
@@ -174,14 +174,14 @@ class Filter:
             outcome.fault = error
 
     def _is_skipped(self, piece: Piece, outcome: Outcome) -> bool:
-        """Whether a piece is one packet that is too long, and left out."""
+        """Whether a piece is a single packet that is too long and skipped."""
         is_skipped = piece.whole is not None and self._treatment.long is Long.SKIP
         outcome.skipped += is_skipped
         outcome.long += is_skipped
         return is_skipped
 
     def _packets(self, piece: Piece, outcome: Outcome) -> Packets:
-        """The packets as they are run; those that are too long or short are counted."""
+        """The packets as they are run. Counts those that are too long or short."""
         outcome.long += piece.whole is not None
         if piece.wires is piece.lengths:
             return piece
@@ -190,7 +190,7 @@ class Filter:
         return piece.padded() if short and self._treatment.short is Short.PAD else piece
 
     def _results(self, pieces: Iterable[Piece], outcome: Outcome) -> Iterator[tuple[_Turn, tuple[int, ...]]]:
-        """Each piece with its results, which all tenants have to share."""
+        """Each piece with its results, which must be the same for all tenants."""
         first: tuple[int, ...] = ()
         for turn, results in self._host.pipelined(_send, _receive, self._turns(pieces, outcome)):
             if turn.runs is self._runs[0]:

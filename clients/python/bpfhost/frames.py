@@ -1,6 +1,6 @@
-"""The bytes of command frames (docs/PROTOCOL.md). Each function has the name of its command, and takes the tenant first.
+"""Encodes command frames (docs/PROTOCOL.md). Each function has the name of its command and takes the tenant first.
 
-A number that has no room in its field is a ValueError; all else, right or wrong, is the host's to judge.
+A number that does not fit its field raises ValueError. The host checks everything else.
 """
 
 from dataclasses import astuple, dataclass, fields
@@ -10,7 +10,7 @@ from bpfhost.numbers import SOCKET_FILTER, Command, MapType, Update
 
 @dataclass(frozen=True)
 class Context:
-    """The words of a test run's context behind the packet's length: fields of the kernel's `__sk_buff`, 32 bits each."""
+    """The words of a test run's context after the packet's length: fields of the kernel's `__sk_buff`, 32 bits each."""
 
     pkt_type: int = 0
     mark: int = 0
@@ -24,7 +24,7 @@ class Context:
     ifindex: int = 0
 
     def to_bytes(self) -> bytes:
-        """The ten words as a frame has them."""
+        """The ten words as they are in a frame."""
         return b"".join(_number("a word of the context", word, 32) for word in astuple(self))
 
 
@@ -34,7 +34,7 @@ _BEFORE_CONTEXT = 12
 
 
 def place_of(word: str) -> int:
-    """Where a word of the context begins in a test run's frame; a ValueError where there is no such word."""
+    """The offset of a word of the context in a test run's frame. Raises ValueError if there is no such word."""
     names = [each.name for each in fields(Context)]
     if word not in names:
         raise ValueError(f"the context has no word {word}, but {', '.join(names)}")
@@ -42,14 +42,14 @@ def place_of(word: str) -> int:
 
 
 def _number(name: str, value: int, bits: int) -> bytes:
-    """The bytes of a number, the lowest first."""
+    """The bytes of a number, little-endian."""
     if not 0 <= value < 1 << bits:
         raise ValueError(f"{name} is {value}, and a frame has room for 0 to {(1 << bits) - 1}")
     return value.to_bytes(bits // 8, "little")
 
 
 def frame(tenant: int, command: int, body: bytes = b"") -> bytes:
-    """A frame with any body, right or wrong."""
+    """A frame with any body, valid or not."""
     head = _number("the tenant", tenant, 16) + _number("the command", command, 16)
     return _number("the length", len(head) + len(body), 32) + head + body
 
@@ -57,7 +57,7 @@ def frame(tenant: int, command: int, body: bytes = b"") -> bytes:
 def map_create(
     tenant: int, map_type: MapType | int, key_size: int, value_size: int, max_entries: int, flags: int = 0
 ) -> bytes:
-    """Makes a map; sizes in bytes."""
+    """Creates a map; sizes are in bytes."""
     fields = {"the type": map_type, "the key's size": key_size, "the value's size": value_size}
     fields.update({"the number of entries": max_entries, "the flags": flags})
     body = b"".join(_number(name, value, 32) for name, value in fields.items())
@@ -69,28 +69,28 @@ def _on_descriptor(tenant: int, command: int, descriptor: int, rest: bytes = b""
 
 
 def map_lookup_elem(tenant: int, descriptor: int, key: bytes) -> bytes:
-    """Asks for the value of a key."""
+    """Looks up the value of a key."""
     return _on_descriptor(tenant, Command.MAP_LOOKUP_ELEM, descriptor, key)
 
 
 def map_update_elem(tenant: int, descriptor: int, key: bytes, value: bytes, flags: Update | int = Update.ANY) -> bytes:
-    """Puts a value under a key."""
+    """Sets the value of a key."""
     rest = _number("the flags", flags, 64) + key + value
     return _on_descriptor(tenant, Command.MAP_UPDATE_ELEM, descriptor, rest)
 
 
 def map_delete_elem(tenant: int, descriptor: int, key: bytes) -> bytes:
-    """Takes a key out of a hash map."""
+    """Deletes a key of a hash map."""
     return _on_descriptor(tenant, Command.MAP_DELETE_ELEM, descriptor, key)
 
 
 def map_get_next_key(tenant: int, descriptor: int, key: bytes = b"") -> bytes:
-    """Asks for the key behind `key`, or for the first one."""
+    """Asks for the key after `key`, or for the first key."""
     return _on_descriptor(tenant, Command.MAP_GET_NEXT_KEY, descriptor, key)
 
 
 def prog_load(tenant: int, slots: bytes, prog_type: int = SOCKET_FILTER) -> bytes:
-    """Loads a program, by the bytes of its slots (`bpfhost.assemble` makes them of a text)."""
+    """Loads a program from the bytes of its slots (`bpfhost.assemble` makes them from text)."""
     return frame(tenant, Command.PROG_LOAD, _number("the program's type", prog_type, 32) + slots)
 
 

@@ -1,9 +1,9 @@
-"""The helpers of the kernel by their numbers, for sentences; the host has four of them.
+"""The names of the kernel's helpers by number, for messages; the host has four of them.
 
-Source: __BPF_FUNC_MAPPER of include/uapi/linux/bpf.h, whose order is that of the numbers.
+Source: __BPF_FUNC_MAPPER of include/uapi/linux/bpf.h, which lists them in the order of their numbers.
 """
 
-# Of the host, by docs/VERIFIER.md ("Calls").
+# The host's helpers, from docs/VERIFIER.md ("Calls").
 HELPERS = (1, 2, 3, 26)
 
 _NAMES = """
@@ -41,11 +41,11 @@ _NAMES = """
 
 
 def helper_name(number: int) -> str:
-    """A helper by its name and its number, as `bpf_trace_printk (6)`; one that the kernel did not have in 2022 by its number alone."""
+    """A helper's name and number, as `bpf_trace_printk (6)`; only the number if the kernel had no such helper in 2022."""
     return f"bpf_{_NAMES[number]} ({number})" if 0 < number < len(_NAMES) else f"number {number}"
 
 
 def the_helpers() -> str:
-    """The helpers of the host in words."""
+    """The host's helpers, as a list in words."""
     *first, last = map(helper_name, HELPERS)
     return f"{', '.join(first)} and {last}"

@@ -1,4 +1,4 @@
-"""A running `bpfhost serve`: frames go in, replies come out, one at a time or many at once."""
+"""A running `bpfhost serve`: sends frames and reads replies, one at a time or many at once."""
 
 from __future__ import annotations
 
@@ -25,7 +25,7 @@ Answer = TypeVar("Answer")
 
 @dataclass(eq=False)
 class _Turn:
-    """A batch of frames that was sent: what reads its replies, and what came of that, once they are read."""
+    """A batch of frames that was sent: the function that reads its replies, and its result once they are read."""
 
     receive: Callable[[], object]
     answer: object = None
@@ -34,24 +34,24 @@ class _Turn:
 
 
 class Host:
-    """A running `bpfhost serve`. It is a context manager, which ends the program.
+    """A running `bpfhost serve`, as a context manager that ends the program on exit.
 
-    Threads may share a host, its tenants, their maps and programs: each reply goes to who asked. What takes several frames, as
-    `Map.entries`, may see what others did between two of them; an iterator is of one thread alone.
+    Threads may share a host, its tenants, their maps and programs: each caller gets the replies to its own frames. A call that takes
+    several frames, as `Map.entries`, may see what other threads did between two of them. An iterator belongs to one thread.
 
-    One run of the program takes 16,777,216 frames. Before they are used up, the tenants go on in a new one, with the same maps and
-    programs under the same descriptors. That can't be where a program keeps a map whose descriptor is closed: then the first frame
-    that is too many is a HostError, and `frames_left` says how many there are until then.
+    One run of the program takes 16,777,216 frames. Before they are used up, the tenants move to a new run, with the same maps and programs
+    under the same descriptors. That is not possible while a program keeps a map whose descriptor is closed: then the first frame over the
+    limit raises HostError, and `frames_left` returns how many are left.
 
-    What the program wrote to standard error becomes the text of a HostError where it does not start, ends before it has
-    replied, or ends with another status than 0. A reply that is none is a ReplyError. After either, the host is of no more use.
+    A HostError is raised if the program does not start, exits before it has replied, or exits with a status other than 0; its text has what
+    the program wrote to standard error. A ReplyError is raised for bytes that are not a reply. After either, the host can't be used.
     """
 
-    # Frames that one run of the program takes; tests have less patience.
+    # How many frames one run of the program takes; the tests set a lower number.
     most_frames = MOST_FRAMES
 
     def __init__(self, program: Program | None = None, tenants: int = 1) -> None:
-        """Starts the program (without a path, the one that `find_program` finds) for 1 to 64 tenants."""
+        """Starts the program for 1 to 64 tenants; without a path, `find_program` finds it."""
         if not 1 <= tenants <= MOST_TENANTS:
             raise ValueError(f"a host serves 1 to {MOST_TENANTS} tenants, and not {tenants}")
         self.program = find_program(program)
@@ -65,9 +65,9 @@ class Host:
         self._has_room(self._stream.room())
 
     def _has_room(self, room: int) -> None:
-        # So many bytes of replies may wait unread.
+        # The most bytes of replies that may wait unread.
         self.room = room
-        # So many batches may wait for their replies while one more is sent.
+        # The most batches that may wait for their replies while one more is sent.
         self._ahead = 1 if room // 2 >= LONGEST_REPLY else 0
 
     def __enter__(self) -> Host:
@@ -84,7 +84,7 @@ class Host:
         return f"<Host {self.program}, {self.tenants} tenant{'s' if self.tenants > 1 else ''}, {state}>"
 
     def tenant(self, number: int = 0) -> Tenant:
-        """What speaks for one tenant; a ValueError where the host serves no such one."""
+        """The tenant of this number. Raises ValueError if the host does not serve it."""
         if not 0 <= number < self.tenants:
             raise ValueError(f"tenant {number} is not served: this host has the tenants 0 to {self.tenants - 1}")
         return Tenant(self, number)
@@ -94,20 +94,20 @@ class Host:
         return self.ended(self.begun(self._send_all, self._replies_to, [_whole(frame)]))[0]
 
     def ask_all(self, frames: Iterable[bytes]) -> Iterator[Reply]:
-        """Sends whole frames, many at once, and yields their replies in order.
+        """Sends many whole frames at once and yields their replies in order.
 
-        The frames are taken some time before their replies are yielded.
+        Frames are taken from the iterable some time before their replies are yielded.
         """
         for replies in self.pipelined(self._send_all, self._replies_to, _batches(frames, self.room // 2)):
             yield from replies
 
     def ask_bytes(self, frames: Iterable[bytes]) -> Iterator[bytes]:
-        """The same as `ask_all`, with each reply as the bytes that the host wrote."""
+        """The same as `ask_all`, but yields each reply as the bytes that the host wrote."""
         for replies in self.pipelined(self._send_all, self._bytes_of_replies, _batches(frames, self.room // 2)):
             yield from replies
 
     def widen(self, size: int = 1 << 20) -> None:
-        """Lets more bytes of replies wait unread, where the system allows it, so that more frames are sent at once."""
+        """Allows more bytes of replies to wait unread, if the system permits it, so that more frames are sent at once."""
         with self._lock:
             self._wide = size
             self._stream.widen(size)
@@ -115,16 +115,16 @@ class Host:
 
     @property
     def frames_left(self) -> int:
-        """How many frames this run of the program still takes. Where the tenants can go on in a new one, there is no end to them."""
+        """How many frames this run of the program still takes; no limit applies while the tenants can move to a new run."""
         return max(0, self.most_frames - self._sent)
 
     def pipelined(
         self, send: Callable[[Batch], None], receive: Callable[[Batch], Answer], batches: Iterable[Batch]
     ) -> Iterator[Answer]:
-        """Sends each batch before the replies to the one before it are read.
+        """Sends each batch before it reads the replies to the batch before.
 
-        The replies to a batch have `room // 2` bytes at most, or it is a single frame. Where a reply is refused, a batch can't be
-        made, or nobody asks for more, whoever asks next reads what was sent to its end, and so gets the reply to its own frame.
+        The replies to a batch have at most `room // 2` bytes, unless it is a single frame. If a reply is a refusal, a batch can't be made,
+        or the caller stops iterating, the next caller first reads all replies that are still due, and so gets the reply to its own frame.
         """
         mine: deque[_Turn] = deque()
         for batch in batches:
@@ -135,13 +135,13 @@ class Host:
             yield cast(Answer, self._end(mine.popleft()))
 
     def begun(self, send: Callable[[Batch], None], receive: Callable[[Batch], Answer], batch: Batch) -> Callable[[], Answer]:
-        """Sends one batch, and gives what waits for the replies to it."""
+        """Sends one batch and returns the object that waits for its replies."""
         turn = self._begin(send, receive, batch)
         return lambda: cast(Answer, self._end(turn))
 
     @staticmethod
     def ended(answer: Callable[[], Answer]) -> Answer:
-        """What `begun` gave, waited for."""
+        """Waits for the result of what `begun` returned."""
         return answer()
 
     def _begin(self, send: Callable[[Batch], None], receive: Callable[[Batch], object], batch: Batch) -> _Turn:
@@ -162,7 +162,7 @@ class Host:
         return turn.answer
 
     def _read_turn(self) -> None:
-        """Reads the replies to the batch that waits longest, for whoever sent it."""
+        """Reads the replies to the oldest batch, for the thread that sent it."""
         turn = self._turns.popleft()
         try:
             turn.answer = turn.receive()
@@ -178,17 +178,17 @@ class Host:
             turn.is_read = True
 
     def _settle(self) -> None:
-        """Reads all replies that wait."""
+        """Reads all replies that are still due."""
         while self._turns:
             self._read_turn()
 
     def send(self, frames: bytes | bytearray | memoryview, many: int) -> None:
-        """Sends bytes of so many frames, which open and close nothing; of who reads the replies, as `pipelined` does."""
+        """Sends the bytes of so many frames, which open and close nothing; the caller reads the replies, as in `pipelined`."""
         self._take_room(many)
         self._stream.send(frames)
 
     def _take_room(self, many: int) -> None:
-        """Counts frames that are to be sent, and moves to a new run of the program where there is no room for them in this one."""
+        """Counts frames before they are sent, and moves to a new run of the program if this one has no room for them."""
         left = self.most_frames - self._sent - many
         if left < self.tenants * MOST_TO_READ and left < self._ledger.reserve():
             self._settle()
@@ -202,7 +202,7 @@ class Host:
         self._sent += many
 
     def _move(self) -> None:
-        """Goes on in a new run of the program, where each tenant has what it had."""
+        """Moves all tenants to a new run of the program, with all that they had."""
         old, read = self._stream, self._ledger.read(self._ask_uncounted)
         self._stream = Stream(self.program, self.tenants)
         old.close()
@@ -218,11 +218,11 @@ class Host:
             yield from self._stream.read_many(len(batch))
 
     def read(self, most: int) -> bytes:
-        """Waits for bytes of replies, and reads so many of those that are there; a HostError where the host has ended."""
+        """Waits for bytes of replies and reads those that are there, up to a number. Raises HostError if the host has ended."""
         return self._stream.read(most)
 
     def unread(self, replies: bytes) -> None:
-        """Gives back bytes of replies that were read too early: they are read next."""
+        """Puts back bytes of replies that were read too early; they are read next."""
         self._stream.unread(replies)
 
     def read_reply(self) -> Reply:
@@ -244,32 +244,32 @@ class Host:
         return replies
 
     def close(self) -> None:
-        """Ends the stream of frames, and the program with it; a HostError where its status is not 0."""
+        """Ends the stream of frames, and with it the program. Raises HostError if its status is not 0."""
         with self._lock:
             if not self._stream.is_closed:
                 self._settle()
             self._stream.close()
 
     def kill(self) -> None:
-        """Ends the program in the middle of whatever it does, and tells nothing of it."""
+        """Kills the program, whatever it does, and raises nothing."""
         self._stream.kill()
 
 
 def _whole(frame: bytes) -> bytes:
-    """The frame, whose length is no lie: else the host would wait for the rest of it, and its caller for the reply."""
+    """The frame, if its length field is right: else the host would wait for the rest of it, and the caller for the reply."""
     if len(frame) < 4 or int.from_bytes(frame[:4], "little") != len(frame) - 4:
         raise ValueError(f"{len(frame)} bytes that are no whole frame")
     return frame
 
 
 def _longest_reply(frame: bytes) -> int:
-    """The most bytes of the reply to a frame, by its command: a value or a key, or at most a slot and a reason."""
+    """The most bytes of the reply to a frame, by its command: a value, a key, or a slot and a reason."""
     command = int.from_bytes(frame[6:8], "little")
     return LONGEST_REPLY if command in (Command.MAP_LOOKUP_ELEM, Command.MAP_GET_NEXT_KEY) else REPLY_HEAD + 6
 
 
 def _batches(frames: Iterable[bytes], room: int) -> Iterator[list[bytes]]:
-    """Frames in lists of one at least, whose replies have `room` bytes at most where there are more."""
+    """Frames in non-empty lists; the replies to a list of several have at most `room` bytes."""
     batch: list[bytes] = []
     replies = size = 0
     for frame in frames:

@@ -15,25 +15,25 @@ if TYPE_CHECKING:
 
 
 class Map(MutableMapping[bytes, bytes]):
-    """A map that a descriptor names: `m[key]`, `m[key] = value`, `del m[key]`, and its keys in the host's order.
+    """A map that a descriptor names: `m[key]`, `m[key] = value`, `del m[key]`, and iteration over its keys in the host's order.
 
-    A key that is not there is a KeyError; any other refusal is a Refused with the host's reply. Each step asks the host, also
-    each step from key to key: what changes meanwhile is seen, and where a key that was given is deleted, the first one follows.
+    A missing key raises KeyError; any other refusal raises Refused with the host's reply. Each operation asks the host, and so does each
+    step of an iteration: it sees changes made meanwhile, and it starts again from the first key if the last key was deleted.
     """
 
     def __init__(self, tenant: Tenant, descriptor: int, shape: MapShape) -> None:
-        """The map of this shape that the tenant's descriptor names."""
+        """Names a map of this shape by the tenant's descriptor."""
         self.tenant = tenant
         self.descriptor = descriptor
         self.shape = shape
-        # The keys as they were walked last.
+        # The keys in the order of the last iteration.
         self._walked: list[bytes] = []
 
     def __repr__(self) -> str:
         return f"<Map {self.shape.word(self.descriptor)} of {self.tenant!r}>"
 
     def _right_size(self, key: bytes) -> bytes:
-        """The key, if it has the size of the map's; else a ValueError with both sizes."""
+        """The key, if it has the map's key size. Raises ValueError with both sizes if it has not."""
         if len(key) != self.shape.key_size:
             raise ValueError(f"this map has keys of {self.shape.key_size} bytes, and not of {len(key)}")
         return key
@@ -44,7 +44,7 @@ class Map(MutableMapping[bytes, bytes]):
             return self.tenant.map_lookup_elem(self.descriptor, key)
 
     def __setitem__(self, key: bytes, value: bytes) -> None:
-        # The host takes both as one piece of bytes, so it can't see where one ends and the other begins.
+        # The host gets key and value as one piece of bytes, so it can't see where one ends and the other begins.
         if len(key) != self.shape.key_size or len(value) != self.shape.value_size:
             wanted = f"keys of {self.shape.key_size} bytes and values of {self.shape.value_size}"
             raise ValueError(f"this map has {wanted}, and not of {len(key)} and {len(value)}")
@@ -67,8 +67,8 @@ class Map(MutableMapping[bytes, bytes]):
     def _walk(self) -> list[bytes]:
         """All keys, in order.
 
-        Each step asks for the key behind the one before. Those of the last walk are asked about at once, many frames at a time: as far as
-        they still follow each other, nobody waits for a reply before the next frame.
+        Each step asks for the key after the one before. The keys of the last iteration are asked for many at a time: as long as they still
+        follow each other, no frame waits for the reply to the one before.
         """
         if self.shape.map_type == MapType.ARRAY:
             return [index.to_bytes(4, "little") for index in range(self.shape.max_entries)]
@@ -81,7 +81,7 @@ class Map(MutableMapping[bytes, bytes]):
         return keys
 
     def _still_so(self) -> list[bytes]:
-        """The keys of the last walk, up to the first that does not follow the one before any more."""
+        """The keys of the last iteration, up to the first that no longer follows the one before."""
         guessed = self._walked
         asked = (frames.map_get_next_key(self.tenant.number, self.descriptor, key) for key in [b"", *guessed[:-1]])
         found: list[bytes] = []
@@ -95,9 +95,9 @@ class Map(MutableMapping[bytes, bytes]):
         return found
 
     def entries(self) -> list[tuple[bytes, bytes]]:
-        """All keys with their values, in order; the look-ups are sent many at once.
+        """All keys with their values, in order; the lookups are sent many at once.
 
-        A key that goes meanwhile is left out.
+        A key that is deleted meanwhile is left out.
         """
         keys = self._walk()
         asked = (frames.map_lookup_elem(self.tenant.number, self.descriptor, key) for key in keys)
@@ -110,7 +110,7 @@ class Map(MutableMapping[bytes, bytes]):
 
 
 class _KeyErrors:
-    """Makes a KeyError of a refusal since the key is not there."""
+    """Turns a refusal for a missing key into a KeyError."""
 
     def __init__(self, key: bytes) -> None:
         self._key = key

@@ -1,7 +1,7 @@
-"""What the tenants of a host have open, and how they go on in a new run of the program.
+"""Keeps track of what the tenants of a host have open, and moves them to a new run of the program.
 
-One run of the program takes 16,777,216 frames (docs/PROTOCOL.md, "Limits"). The frames that read all maps are kept back, so that there
-is always room for them; `bpfhost.state` has those that make the same state anew.
+One run of the program takes 16,777,216 frames (docs/PROTOCOL.md, "Limits"). Enough of them are held back to read all maps; `bpfhost.state`
+has the frames that build the same state again.
 """
 
 from __future__ import annotations
@@ -17,19 +17,19 @@ from bpfhost.tenancy import BODY, LiveMap, Tenancy, status_of
 
 AskBytes = Callable[[Iterable[bytes]], Iterator[bytes]]
 
-# The values of a tenant's maps have 262,144 bytes at most, and 8 each at least; a look-up and a step of the walk read one.
+# The values of a tenant's maps have at most 262,144 bytes in all, and at least 8 each; a lookup and a step of the iteration read one.
 MOST_TO_READ = 2 * (LARGEST_SUM // 8 + MOST_MAPS)
-# Commands that open or close something, as frames have them.
+# The commands that open or close something, as encoded in frames.
 _OPENS_OR_CLOSES = frozenset(command.to_bytes(2, "little") for command in (Command.MAP_CREATE, Command.PROG_LOAD, Command.CLOSE))
 
 
 class Ledger:
-    """What each tenant has open, by its frames and the replies to them."""
+    """What each tenant has open, from its frames and the replies to them."""
 
     def __init__(self, tenants: int) -> None:
         self._tenancies = [Tenancy() for _ in range(tenants)]
         self._to_read = [0] * tenants
-        # Tenants that opened or closed something since their frames were counted.
+        # The tenants that opened or closed something since the frames to read their maps were last counted.
         self._changed: set[int] = set()
 
     def note(self, frame: bytes, status: int) -> None:
@@ -38,7 +38,7 @@ class Ledger:
             return
         tenant = int.from_bytes(frame[4:6], "little")
         self._changed.add(tenant)
-        # A program that only pretends to be bpfhost may close what was never opened.
+        # Another program in place of bpfhost may report that it closed what was never opened.
         with contextlib.suppress(KeyError):
             self._tenancies[tenant].note(frame, status)
 
@@ -49,18 +49,18 @@ class Ledger:
                 self.note(frame, status_of(reply))
 
     def reserve(self) -> int:
-        """How many frames read all maps, at most."""
+        """The most frames that it takes to read all maps."""
         for tenant in self._changed:
             self._to_read[tenant] = sum(map(_frames_to_read, self._tenancies[tenant].live()))
         self._changed.clear()
         return sum(self._to_read)
 
     def unreadable(self) -> str | None:
-        """Why not all maps can be read, where that is so."""
+        """The reason why not all maps can be read, or None."""
         return next(filter(None, map(_unreadable, range(len(self._tenancies)), self._tenancies)), None)
 
     def read(self, ask: AskBytes) -> list[State]:
-        """What each tenant has, its maps read by these frames."""
+        """What each tenant has, with the contents of its maps, which these frames read."""
         host = _Asked(ask)
         return [
             State(number, tenancy, at_once(read_pairs(host, number, {on: on.descriptor for on in tenancy.live()})))
@@ -70,7 +70,7 @@ class Ledger:
 
 @dataclass(frozen=True)
 class State:
-    """What a tenant has: what is open, and what is in each map."""
+    """What a tenant has: open descriptors, and the contents of each map."""
 
     tenant: int
     tenancy: Tenancy
@@ -79,7 +79,7 @@ class State:
 
 @dataclass(frozen=True)
 class _Asked:
-    """What is asked, as `read_pairs` wants it."""
+    """Sends frames for `read_pairs` and returns the bytes of the replies."""
 
     ask: AskBytes
 
@@ -88,7 +88,7 @@ class _Asked:
 
 
 def made_anew(states: Iterable[State], ask: AskBytes) -> int:
-    """Makes the tenants' states, on a host where they are new, and gives the number of frames; a HostError where it makes another one."""
+    """Builds the tenants' states on a host on which they are new; returns the number of frames. Raises HostError if a state differs."""
     sent = 0
     for state in states:
         frames = [with_tenant(frame, state.tenant) for frame in state_frames(state.tenancy, state.pairs)]
@@ -103,13 +103,13 @@ def made_anew(states: Iterable[State], ask: AskBytes) -> int:
 
 
 def _frames_to_read(on: LiveMap) -> int:
-    """The most frames that read a map: a look-up for each key, and of a hash map those that walk the keys."""
+    """The most frames that it takes to read a map: a lookup for each key, and, for a hash map, the iteration over the keys."""
     shape = on.shape
     return shape.max_entries if shape.map_type == MapType.ARRAY else 2 * shape.max_entries + 1
 
 
 def _unreadable(tenant: int, tenancy: Tenancy) -> str | None:
-    """Which program of a tenant keeps a map that no descriptor names, in words."""
+    """Names the program of a tenant that keeps a map without a descriptor."""
     for program in tenancy.programs():
         for on in program.maps:
             if not tenancy.is_open(on):

@@ -1,4 +1,4 @@
-"""Packets that lie in one piece of bytes, so that many are handed on without an object for each."""
+"""Packets that lie in one piece of bytes, so that many are passed on without an object for each."""
 
 from __future__ import annotations
 
@@ -10,7 +10,7 @@ from typing import TypeVar
 # The link type of captures of Ethernet (LINKTYPE_ETHERNET).
 ETHERNET = 1
 
-# A packet with an Ethernet header, which has the type at its end, has so many bytes at least.
+# The fewest bytes of a packet with an Ethernet header, which ends with the type.
 LEAST_WITH_TYPE = 14
 
 Some = TypeVar("Some", bound="Packets")
@@ -18,10 +18,10 @@ Some = TypeVar("Some", bound="Packets")
 
 @dataclass(frozen=True)
 class Packets:
-    """Packet i has `lengths[i]` bytes of `data`, from `starts[i]` on. All have one link type, as captures number them.
+    """Packet i has `lengths[i]` bytes of `data`, from `starts[i]` on. All have one link type, with the numbers that captures use.
 
-    `types[i]`, where who read the packets gives it, is the number of the two bytes from byte 12 of packet i on, the lower one first:
-    there an Ethernet header has its type. It means nothing where the packet ends before.
+    `types[i]`, if the reader of the packets sets it, is the little-endian number of bytes 12 and 13 of packet i, in which an Ethernet
+    header has its type. It has no meaning if the packet is shorter.
     """
 
     data: bytes
@@ -32,7 +32,7 @@ class Packets:
 
     @classmethod
     def of(cls, packets: Iterable[bytes], link_type: int = ETHERNET) -> Packets:
-        """These packets, joined."""
+        """The bytes of these packets, joined."""
         listed = list(packets)
         lengths = [len(packet) for packet in listed]
         return Packets(b"".join(listed), list(accumulate(lengths, initial=0))[: len(listed)], lengths, link_type)
@@ -47,11 +47,11 @@ class Packets:
         return map(self.__getitem__, range(len(self)))
 
     def first(self: Some, many: int) -> Some:
-        """The first of these packets, at most so many."""
+        """The first of these packets, up to a number."""
         return self._some(0, many)
 
     def split(self: Some, most: int) -> Iterator[Some]:
-        """The same packets in pieces of so many at most."""
+        """The same packets in pieces, each of at most this many."""
         if len(self) <= most:
             yield self
             return
@@ -59,6 +59,6 @@ class Packets:
             yield self._some(at, at + most)
 
     def _some(self: Some, at: int, end: int) -> Some:
-        """The packets of these numbers."""
+        """The packets at these indices."""
         types = None if self.types is None else self.types[at:end]
         return replace(self, starts=self.starts[at:end], lengths=self.lengths[at:end], types=types)

@@ -1,4 +1,4 @@
-"""Cuts what is more than Redis or a host is given at once."""
+"""Splits what is too much to give to Redis or to a host at once."""
 
 from __future__ import annotations
 
@@ -9,7 +9,7 @@ Item = TypeVar("Item")
 
 
 def in_parts(items: Iterable[Item], size_of: Callable[[Item], int], most: int, many: int | None = None) -> Iterator[list[Item]]:
-    """Items in lists, which have at most `many` and, where there are several, sizes of at most `most` together."""
+    """Items in lists of at most `many`; the sizes in a list of several add up to at most `most`."""
     part: list[Item] = []
     left = most
     for item in items:

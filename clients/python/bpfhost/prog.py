@@ -13,10 +13,10 @@ if TYPE_CHECKING:
 
 
 class Prog(int):
-    """A loaded program. It is its descriptor, and so goes wherever a descriptor does.
+    """A loaded program. It is an int, its descriptor, and can be used as one.
 
-    `run_cnt` and `run_time_ns` have the names that bpftool has for them: the runs that were asked for by this object, and the nanoseconds
-    that their caller has waited for them, frames and replies included.
+    `run_cnt` and `run_time_ns` have bpftool's names: the runs that were made through this object, and the nanoseconds that the caller
+    waited for them, frames and replies included.
     """
 
     tenant: Tenant
@@ -26,22 +26,22 @@ class Prog(int):
 
     @classmethod
     def of(cls, tenant: Tenant, descriptor: int, name: str = "") -> Prog:
-        """The program that a tenant's descriptor names, under a name of the caller's."""
+        """Names the program of a tenant's descriptor, with a name of the caller's choice."""
         prog = cls(descriptor)
         prog.tenant, prog.name, prog.run_cnt, prog.run_time_ns = tenant, name, 0, 0
         return prog
 
     @property
     def descriptor(self) -> int:
-        """The descriptor alone."""
+        """Only the descriptor."""
         return int(self)
 
     def run(self, packet: bytes = b"", context: Context = NO_CONTEXT) -> int:
-        """Runs the program on a packet, and gives its result."""
+        """Runs the program on a packet and returns its result."""
         return self.tenant.prog_test_run(self, packet, context)
 
     def runs(self, pieces: Iterable[Packets], context: Context = NO_CONTEXT) -> Iterator[tuple[int, ...]]:
-        """Runs the program on many packets, and gives the results in order (`TestRuns`)."""
+        """Runs the program on many packets and returns the results in order (`TestRuns`)."""
         return self.tenant.prog_test_runs(self, pieces, context)
 
     def count(self, runs: int, nanoseconds: int) -> None:

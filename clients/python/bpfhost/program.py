@@ -1,4 +1,4 @@
-"""The program bpfhost, by its path: where it is, and what its subcommands asm, dis, verify and serve answer."""
+"""The program bpfhost: finds its path, and runs its subcommands asm, dis, verify and serve on given input."""
 
 from __future__ import annotations
 
@@ -16,20 +16,20 @@ from bpfhost.words import TEXT_FAULTS, reason_words
 
 Program = str | os.PathLike[str]
 
-# Where a build leaves the programs, in a clone that this package stands in.
+# The folder in which a build leaves the programs, if this package is in a clone of the repository.
 _CRATES = Path(__file__).resolve().parents[3] / "crates"
 _BUILT = _CRATES / "bpfhost/out/bpfhost"
 _BUILT_LOG = _CRATES / "verifier_log/out/verifier_log"
-# The status of `asm` and `dis` where it is their input that is wrong (docs/CLI.md).
+# The status of `asm` and `dis` for wrong input (docs/CLI.md).
 _INPUT_REFUSED = 1
 _SLOT = re.compile(r"[0-9A-Fa-f]{16}")
 _KINDS = {MapType.HASH: "hash", MapType.ARRAY: "array"}
 
 
 def find_program(named: Program | None = None) -> str:
-    """The program: that which is named; else of the variable BPFHOST, of PATH, or as the build of this clone leaves it.
+    """The path of the program: the given one, else that of the variable BPFHOST, else from PATH, else from the build of this clone.
 
-    A HostError where there is none of these.
+    Raises HostError if there is none.
     """
     found = named or os.environ.get("BPFHOST") or shutil.which("bpfhost")
     if found:
@@ -47,7 +47,7 @@ def _called(program: Program, words: Sequence[str], given: bytes) -> subprocess.
 
 
 def _written(program: Program, words: Sequence[str], given: bytes) -> bytes:
-    """What the program writes when it is given these bytes, where its status is 0."""
+    """What the program writes for these bytes on standard input, if its status is 0."""
     ended = _called(program, words, given)
     if ended.returncode:
         raise HostError.of(f"bpfhost {words[0]}", ended.returncode, ended.stderr, ended.stdout)
@@ -60,7 +60,7 @@ def serve(program: Program, tenants: int, stream: bytes) -> bytes:
 
 
 def assemble(program: Program, text: str, name: str = "the text") -> bytes:
-    """The slots, as bytes, that `bpfhost asm` makes of a program's text; an InputError names the line that is wrong."""
+    """The slots, as bytes, that `bpfhost asm` writes for a program's text. Raises InputError with the line that is wrong."""
     try:
         written = _written(program, ["asm"], text.encode())
     except HostError as error:
@@ -72,7 +72,7 @@ def assemble(program: Program, text: str, name: str = "the text") -> bytes:
 
 
 def disassemble(program: Program, slots: bytes, name: str = "the slots") -> str:
-    """The text that `bpfhost dis` makes of a program's slots; an InputError names the slot that is wrong."""
+    """The text that `bpfhost dis` writes for a program's slots. Raises InputError with the slot that is wrong."""
     try:
         return _written(program, ["dis"], hex_lines(slots).encode()).decode()
     except HostError as error:
@@ -80,7 +80,7 @@ def disassemble(program: Program, slots: bytes, name: str = "the slots") -> str:
 
 
 def _refused(error: HostError, name: str, text: str) -> BpfhostError:
-    """What the fault line of `asm` or `dis` means; the error itself where it is not the input that is refused."""
+    """Turns the fault line of `asm` or `dis` into an InputError; returns the error itself if it is not about the input."""
     if error.status != _INPUT_REFUSED:
         return error
     fault = re.fullmatch(r"(line|slot) (\d+): fault (\d+)", error.fault)
@@ -97,14 +97,14 @@ def _refused(error: HostError, name: str, text: str) -> BpfhostError:
 
 
 def hex_lines(slots: bytes) -> str:
-    """Slots as lines of hex digits, which `dis` and `verify` read."""
+    """Slots as lines of hex digits, the input of `dis` and `verify`."""
     if len(slots) % SLOT_SIZE:
         raise ValueError(f"{len(slots)} bytes are no whole slots of eight bytes")
     return "".join(f"{slots[at:at + SLOT_SIZE].hex()}\n" for at in range(0, len(slots), SLOT_SIZE))
 
 
 def slots_of(text: str, name: str = "standard input") -> bytes:
-    """The slots that hex lines are, read as `dis` reads them; an InputError names the line that is none."""
+    """The slots of hex lines, read as `dis` reads them. Raises InputError with the line that is wrong."""
     slots: list[bytes] = []
     for number, line in enumerate(text.split("\n"), 1):
         digits = line.strip(" \t\r")
@@ -116,7 +116,7 @@ def slots_of(text: str, name: str = "standard input") -> bytes:
 
 @dataclass(frozen=True)
 class MapShape:
-    """What a map is made of: its kind, the bytes of a key and of a value, and its most entries."""
+    """The shape of a map: its kind, the sizes of a key and of a value in bytes, and its most entries."""
 
     map_type: MapType
     key_size: int
@@ -130,7 +130,7 @@ class MapShape:
 
 @dataclass(frozen=True)
 class Verdict:
-    """The verdict on a program: accepted, or refused at a slot for a reason."""
+    """The verdict on a program: accepted, or rejected at a slot for a reason."""
 
     refused: tuple[int, int] | None
 
@@ -152,10 +152,10 @@ def _map_words(maps: Mapping[int, MapShape]) -> list[str]:
 
 
 def find_verifier_log(program: Program) -> str | None:
-    """The program `verifier_log`, or None.
+    """The path of the program `verifier_log`, or None.
 
-    It is that which the variable VERIFIER_LOG names, where that is set, and none where it is empty; else the one beside bpfhost, or of
-    the same build, or of PATH, or as the build of this clone leaves it.
+    It is the one that the variable VERIFIER_LOG names, or none if the variable is empty; without the variable, the one next to bpfhost, or
+    of the same build, or from PATH, or from the build of this clone.
     """
     named = os.environ.get("VERIFIER_LOG")
     if named is not None:
@@ -175,9 +175,9 @@ def _is_program(path: Path) -> bool:
 
 
 def verifier_log(program: Program, slots: bytes, maps: Mapping[int, MapShape], *words: str) -> str | None:
-    """The log of the verifier on slots, with maps by their descriptors, and other words, as `--dot`; None where there is no program `verifier_log` to write it.
+    """The verifier's log for slots, with maps by their descriptors and with further options, as `--dot`; None without `verifier_log`.
 
-    A HostError where it ends with another status than those of an accepted and of a refused program, 0 and 1.
+    Raises HostError if it exits with a status other than 0, for an accepted program, or 1, for a rejected one.
     """
     logger = find_verifier_log(program)
     if logger is None:
@@ -189,7 +189,7 @@ def verifier_log(program: Program, slots: bytes, maps: Mapping[int, MapShape], *
 
 
 def log_or_fault(program: Program, slots: bytes, maps: Mapping[int, MapShape], *words: str) -> str | None:
-    """The log, or a line with the reason why it can't be had: a verdict is told all the same."""
+    """The log, or a line that says why there is none: the verdict is reported in both cases."""
     try:
         return verifier_log(program, slots, maps, *words)
     except HostError as error:

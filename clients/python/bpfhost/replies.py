@@ -1,4 +1,4 @@
-"""Replies of the host: their bytes (docs/PROTOCOL.md), and what they tell in words."""
+"""Decodes replies of the host (docs/PROTOCOL.md), and describes them in words."""
 
 from __future__ import annotations
 
@@ -15,7 +15,7 @@ _HEAD = struct.Struct("<HHi")
 
 @dataclass(frozen=True)
 class Reply:
-    """A reply: whose it is, to which command, its status, and the payload."""
+    """A reply: its tenant, its command, the status, and the payload."""
 
     tenant: int
     command: int
@@ -28,27 +28,27 @@ class Reply:
         return struct.pack("<I", len(fields)) + fields
 
     def result(self) -> int:
-        """The result of a test run; a ReplyError where this is no reply of one."""
+        """The result of a test run. Raises ReplyError if this is not the reply to one."""
         if self.command != Command.PROG_TEST_RUN or self.status or len(self.payload) != 4:
             raise ReplyError(f"a reply that has no result of a test run: {self.to_bytes().hex()}")
         return int.from_bytes(self.payload, "little")
 
     def refusal(self) -> tuple[int, int] | None:
-        """The slot and the reason for which a program was refused, or None."""
+        """The slot and the reason for which a program was rejected, or None."""
         if self.command != Command.PROG_LOAD or self.status >= 0 or len(self.payload) != 6:
             return None
         slot, reason = struct.unpack("<IH", self.payload)
         return slot, reason
 
     def done(self) -> int:
-        """The status, where it is not negative; else a `Refused`, and of a program a `ProgramRefused`."""
+        """The status, if it is not negative. Raises `Refused` if it is, and `ProgramRefused` for a program."""
         if self.status >= 0:
             return self.status
         refusal = self.refusal()
         raise ProgramRefused(self, *refusal) if refusal else Refused(self)
 
     def says(self) -> str:
-        """What the reply tells, without whom."""
+        """Describes the reply without its tenant."""
         if self.status < 0:
             return self._error()
         if self.command in (Command.MAP_CREATE, Command.PROG_LOAD):
@@ -75,7 +75,7 @@ class Reply:
 
 
 def read_replies(stream: bytes) -> Iterator[Reply]:
-    """The replies that the bytes of a stream are; a ReplyError where they are none."""
+    """Decodes the bytes of a stream of replies. Raises ReplyError if they are not one."""
     at = 0
     while at < len(stream):
         length = int.from_bytes(stream[at : at + 4], "little")

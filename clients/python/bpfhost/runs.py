@@ -1,6 +1,6 @@
-"""Test runs of a program on many packets: their frames in one piece, and the results in their replies.
+"""Test runs of a program on many packets: builds their frames in one piece, and reads the results from the replies.
 
-No object of this package is made for a packet, so that a run costs its client little beside what the host does.
+It makes no Python object for each packet, so that the client's part of a run is small compared with the host's.
 """
 
 from __future__ import annotations
@@ -22,16 +22,16 @@ from bpfhost.replies import Reply
 if TYPE_CHECKING:
     from bpfhost.host import Host
 
-# The reply to a run that ended has four words: its length, the tenant and the command, the status, and the result.
+# The reply to a successful run has four words: its length, the tenant and the command, the status, and the result.
 _REPLY_SIZE = REPLY_HEAD + 4
-# Bytes of a frame's length, and where the context's word `protocol` stands behind it.
+# Bytes of a frame's length field, and the offset of the context's word `protocol` after it.
 _LENGTH, _PROTOCOL = 4, slice(20, 24)
-# A number below is no type but the length of IEEE 802.3, for which the kernel has a type of its own (linux/if_ether.h).
+# A lower number is not a type but an IEEE 802.3 length; the kernel uses ETH_P_802_2 for it (linux/if_ether.h).
 _LEAST_TYPE, _ETH_P_802_2 = b"\x06\x00", b"\x00\x04"
 
 
 def _words(replies: bytes) -> array[int]:
-    """The whole words of 32 bits at the front of bytes."""
+    """The whole 32-bit words at the start of bytes."""
     words = array("I", replies[: len(replies) // 4 * 4])
     if sys.byteorder == "big":
         words.byteswap()
@@ -39,7 +39,7 @@ def _words(replies: bytes) -> array[int]:
 
 
 def _types(packets: Packets) -> Sequence[int | None]:
-    """The type in each packet's Ethernet header, as `Packets` has it, or None where the packet has no such header."""
+    """The type in each packet's Ethernet header, as `Packets` has it; None for a packet without such a header."""
     if packets.link_type != ETHERNET:
         return [None] * len(packets)
     if packets.types is not None and min(packets.lengths, default=0) >= LEAST_WITH_TYPE:
@@ -49,10 +49,10 @@ def _types(packets: Packets) -> Sequence[int | None]:
 
 
 class _Heads:
-    """What stands before packets in the frames of test runs of a program.
+    """What comes before the packets in the frames of test runs of a program.
 
-    `lengths` is a frame's first field by the length of its packet, and `contexts` all behind that, up to the packet, by the type in
-    its Ethernet header or None. Both have what `learn` was given.
+    `lengths` has a frame's first field for each length of a packet, and `contexts` has all that follows it up to the packet, for each type
+    in an Ethernet header, and for None. Both have only what `learn` was given.
     """
 
     def __init__(self, tenant: int, program: int, context: Context) -> None:
@@ -61,7 +61,7 @@ class _Heads:
         self._head = prog_test_run(tenant, program, b"", context)[_LENGTH:]
 
     def learn(self, lengths: Sequence[int], types: Sequence[int | None]) -> None:
-        """Takes lengths of packets, and types in their headers; a ValueError where no test run takes such a packet."""
+        """Takes lengths of packets and types in their headers. Raises ValueError if no test run takes such a packet."""
         longest = max(lengths)
         if longest > LONGEST_PACKET:
             raise ValueError(f"a packet has {longest:,} bytes, and that of a test run has {LONGEST_PACKET:,} at most")
@@ -72,7 +72,7 @@ class _Heads:
     def _context(self, ethernet_type: int | None) -> bytes:
         head = bytearray(self._head)
         if ethernet_type is not None:
-            # It stands there as in the packet.
+            # The bytes are in the same order as in the packet.
             protocol = ethernet_type.to_bytes(2, "little")
             head[_PROTOCOL] = (protocol if protocol >= _LEAST_TYPE else _ETH_P_802_2) + bytes(2)
         return bytes(head)
@@ -81,43 +81,43 @@ class _Heads:
 class TestRuns:
     """Test runs of one program of one tenant.
 
-    The context's word `protocol` is, of Ethernet packets, the type in their header, which lies there as in the packet, as in the
-    kernel (and ETH_P_802_2 where the header has a length instead). All other words are those of `context`.
+    For an Ethernet packet, the context's word `protocol` is the type in its header, in network byte order, as in the kernel (and
+    ETH_P_802_2 if the header has a length instead). All other words are those of `context`.
     """
 
-    # It is no class of tests, whatever pytest thinks of its name.
+    # Not a class of tests, whatever pytest infers from its name.
     __test__ = False
 
     def __init__(self, host: Host, tenant: int, program: int, context: Context = NO_CONTEXT, timed: str | None = None) -> None:
-        """Runs of a program; `timed` names the word of the context that has a number of each packet."""
+        """Prepares runs of a program; `timed` names the word of the context that has a separate number for each packet."""
         self.host = host
         self._prog = program if isinstance(program, Prog) else None
         self._heads = _Heads(tenant, program, context)
         self.timed = timed
         self._word = place_of(timed) - _LENGTH if timed else 0
         self._whose = tenant | Command.PROG_TEST_RUN << 16
-        # The first two words of the reply to a run that ended.
+        # The first two words of the reply to a successful run.
         self._head = struct.pack("<II", _REPLY_SIZE - 4, self._whose)
         self.most = max(1, host.room // 2 // _REPLY_SIZE)
 
     def results(self, pieces: Iterable[Packets]) -> Iterator[tuple[int, ...]]:
-        """The results of runs on packets, for each piece of them, while the next one is on its way.
+        """Yields the results for each piece of packets, while the next piece is on its way.
 
-        A Refused where a run is refused, and a ValueError where a packet has more than 65,536 bytes.
+        Raises Refused if a run is refused, and ValueError if a packet has more than 65,536 bytes.
         """
         return self.host.pipelined(self.send, self.receive, (few for piece in pieces for few in piece.split(self.most)))
 
     def send(self, packets: Packets, numbers: Sequence[int] | None = None) -> None:
-        """Sends the frames of runs on packets, `most` at most, which `receive` then reads the replies to."""
+        """Sends the frames of runs on at most `most` packets; `receive` reads the replies to them."""
         begun = time.perf_counter_ns()
         self.host.send(self.frames(packets, numbers), len(packets))
         if self._prog is not None:
             self._prog.count(0, time.perf_counter_ns() - begun)
 
     def frames(self, packets: Packets, numbers: Sequence[int] | None = None) -> bytes:
-        """The frames of runs on packets; a ValueError where one has more than 65,536 bytes.
+        """The frames of runs on packets. Raises ValueError if a packet has more than 65,536 bytes.
 
-        `numbers` has one of 32 bits for each packet, which the word `timed` of its context has.
+        `numbers` has a 32-bit number for each packet, for the word `timed` of its context.
         """
         if not len(packets):
             return b""
@@ -129,7 +129,7 @@ class TestRuns:
             return self._joined(packets, types, numbers)
 
     def _joined(self, packets: Packets, types: Sequence[int | None], numbers: Sequence[int] | None) -> bytes:
-        """The frames, in as few steps as can be; an IndexError or a KeyError where a length or a type was not learned."""
+        """The frames, in as few steps as possible. Raises IndexError or KeyError if `learn` was not given a length or a type."""
         if numbers is not None:
             return self._joined_with(packets, types, numbers)
         data, lengths, contexts = memoryview(packets.data), self._heads.lengths, self._heads.contexts
@@ -141,7 +141,7 @@ class TestRuns:
         return b"".join(pieces)
 
     def _joined_with(self, packets: Packets, types: Sequence[int | None], numbers: Sequence[int]) -> bytes:
-        """The same with a number in a word of each context."""
+        """The same, with a number in a word of each context."""
         lengths, contexts, word = self._heads.lengths, self._heads.contexts, self._word
         pieces: list[bytes] = []
         for packet, length, ethernet_type, number in zip(packets, packets.lengths, types, numbers, strict=True):
@@ -150,7 +150,7 @@ class TestRuns:
         return b"".join(pieces)
 
     def receive(self, packets: Packets) -> tuple[int, ...]:
-        """The results of runs whose frames were sent; a Refused where one was refused, once all replies are read."""
+        """The results of runs whose frames were sent. Raises Refused, after all replies are read, if a run was refused."""
         begun = time.perf_counter_ns()
         results = self._results(packets)
         if self._prog is not None:
@@ -162,7 +162,7 @@ class TestRuns:
         size, replies, are_results = count * _REPLY_SIZE, b"", True
         while len(replies) < size and are_results:
             replies += self.host.read(size - len(replies))
-            # A refusal is shorter, so it is seen at once, and nobody waits for bytes that do not come.
+            # A refusal is shorter than a result, so it shows at once, and nobody waits for bytes that never come.
             are_results = self._begin_as_results(replies)
         words = _words(replies)
         if are_results and not any(words[2::4]):
@@ -171,12 +171,12 @@ class TestRuns:
         return self._one_by_one(count)
 
     def _begin_as_results(self, replies: bytes) -> bool:
-        """Whether replies have the length, the tenant and the command of a result of this program, as far as they go."""
+        """Whether the replies, as far as they were read, have the length, tenant and command of a result of this program."""
         found = array("Q", replies[: len(replies) // 8 * 8])[::2]
         return found == array("Q", self._head) * len(found)
 
     def _one_by_one(self, count: int) -> tuple[int, ...]:
-        """The results in so many replies, some of which are none."""
+        """The results in so many replies, some of which are refusals."""
         replies = [self.host.read_reply() for _ in range(count)]
         return tuple(self._result(reply) for reply in replies)
 

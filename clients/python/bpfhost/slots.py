@@ -7,12 +7,12 @@ from collections.abc import Iterator, Mapping
 from bpfhost.numbers import SLOT_SIZE
 
 WIDE_LOAD = 0x18
-# What the second half of the byte of registers says of a wide load: of a map, or of an address in a map's value.
+# The second half of the byte of registers in a wide load: of a map, or of an address in a map's value.
 _OF_MAPS = (1, 2)
 
 
 def first_slots(slots: bytes | bytearray) -> Iterator[int]:
-    """The whole slots at which instructions begin: a wide load has two."""
+    """The slots at which instructions begin: a wide load takes two."""
     slot = 0
     while slot < len(slots) // SLOT_SIZE:
         yield slot
@@ -20,7 +20,7 @@ def first_slots(slots: bytes | bytearray) -> Iterator[int]:
 
 
 def _map_loads(slots: bytes) -> Iterator[slice]:
-    """Where the descriptors stand that wide loads name, in bytes."""
+    """The offsets, in bytes, of the descriptors that wide loads name."""
     for slot in first_slots(slots):
         at = SLOT_SIZE * slot
         if slots[at] == WIDE_LOAD and slots[at + 1] >> 4 in _OF_MAPS:
@@ -28,12 +28,12 @@ def _map_loads(slots: bytes) -> Iterator[slice]:
 
 
 def named_maps(slots: bytes) -> list[int]:
-    """The descriptors that wide loads name, in their order."""
+    """The descriptors that wide loads name, in order."""
     return [int.from_bytes(slots[place], "little") for place in _map_loads(slots)]
 
 
 def renamed_maps(slots: bytes, names: Mapping[int, int]) -> bytes:
-    """The same program with other numbers for its maps' descriptors."""
+    """The same program with other descriptors for its maps."""
     renamed = bytearray(slots)
     for place in _map_loads(slots):
         renamed[place] = names[int.from_bytes(slots[place], "little")].to_bytes(4, "little")

@@ -1,6 +1,6 @@
-"""The frames that make a tenant's state anew, on a host where the tenant is new.
+"""The frames that build a tenant's state again, on a host on which the tenant is new.
 
-docs/SCALING.md says why they do. All of them name tenant 0; who plays them puts in the number.
+docs/SCALING.md explains why they do. All of them name tenant 0; the caller replaces the number.
 """
 
 from __future__ import annotations
@@ -15,24 +15,24 @@ from bpfhost.numbers import FIRST_DESCRIPTOR, REPLY_HEAD, SOCKET_FILTER, Command
 from bpfhost.parts import in_parts
 from bpfhost.tenancy import BODY, LiveMap, OpenProgram, Tenancy, command_of, status_of
 
-# r0 = 0; exit: it takes a descriptor, and none of the room for maps.
+# `r0 = 0; exit`: takes a descriptor, and no memory for maps.
 FILLER = frames.prog_load(0, bytes.fromhex("b700000000000000 9500000000000000"), SOCKET_FILTER)
 
-# The pairs of a map, in order; of an array those alone that are not zero.
+# The pairs of a map, in order; for an array, only values that are not zero.
 Pairs = list[tuple[bytes, bytes]]
 
 
 class AsksBytes(Protocol):
-    """A host that is asked many frames at once, and gives the bytes of the replies in order."""
+    """A host that takes many frames at once and returns the bytes of the replies in order."""
 
     def ask_bytes(self, frames: Iterable[bytes]) -> Iterator[bytes]: ...
 
 
 def state_frames(tenancy: Tenancy, pairs: Mapping[LiveMap, Pairs]) -> Iterator[bytes]:
-    """The frames that make the state of a tenant: what is open, and what is in each live map.
+    """The frames that build a tenant's state: open descriptors, and the contents of each live map.
 
-    Maps and programs are made in their order, each at its descriptor: the free numbers below it are filled by programs that are
-    closed at the end, as are the maps that no descriptor names.
+    Maps and programs are made in their order, each at its descriptor: programs fill the free numbers below it, and are closed at the end,
+    as are the maps that have no descriptor.
     """
     taken: set[int] = set()
     objects: list[LiveMap | OpenProgram] = [*tenancy.live(), *tenancy.programs()]
@@ -45,7 +45,7 @@ def state_frames(tenancy: Tenancy, pairs: Mapping[LiveMap, Pairs]) -> Iterator[b
 
 
 def _filled_up_to(descriptor: int, taken: set[int]) -> Iterator[bytes]:
-    """Frees a descriptor, and fills the free ones below it."""
+    """Makes a descriptor the lowest free one: closes its filler, and fills the free ones below it."""
     if descriptor in taken:
         yield frames.close(0, descriptor)
     for number in range(FIRST_DESCRIPTOR, descriptor):
@@ -56,17 +56,17 @@ def _filled_up_to(descriptor: int, taken: set[int]) -> Iterator[bytes]:
 
 
 def wanted_status(tenancy: Tenancy, frame: bytes) -> int:
-    """What a frame of a snapshot is answered: the lowest free descriptor, or 0."""
+    """The status that a frame of a snapshot returns: the lowest free descriptor, or 0."""
     return tenancy.lowest_free() if command_of(frame) in (Command.MAP_CREATE, Command.PROG_LOAD) else 0
 
 
 def with_tenant(frame: bytes, tenant: int) -> bytes:
-    """A frame or a reply with another tenant's number; those that are too short to have one stay as they are."""
+    """A frame or a reply with another tenant's number; one that is too short to have a number stays as it is."""
     return frame[:4] + tenant.to_bytes(2, "little") + frame[6:] if len(frame) >= BODY else frame
 
 
 def split(stream: bytes) -> list[bytes]:
-    """The frames, or replies, that bytes are; a ValueError where they are none."""
+    """Splits bytes into frames or replies. Raises ValueError if they are not such."""
     if size := size_of_alike(stream):
         return [stream[at : at + size] for at in range(0, len(stream), size)]
     found, at = [], 0
@@ -79,17 +79,17 @@ def split(stream: bytes) -> list[bytes]:
     return found
 
 
-# Reading what is in maps, in steps: a step asks the host some hundred frames, so that others are served between two of them.
+# Reads maps in steps of some hundred frames each, so that other callers are served between two steps.
 
 _ASKED_IN_A_STEP = 400
 
 Result = TypeVar("Result")
-# What is done in steps, and gives a result at its end.
+# A task that is done in steps and returns a result at its end.
 Steps = Generator[None, None, Result]
 
 
 def at_once(steps: Steps[Result]) -> Result:
-    """Does all steps, and gives the result."""
+    """Does all steps and returns the result."""
     while True:
         try:
             next(steps)
@@ -98,7 +98,7 @@ def at_once(steps: Steps[Result]) -> Result:
 
 
 def read_pairs(host: AsksBytes, tenant: int, maps: Mapping[LiveMap, int]) -> Steps[dict[LiveMap, Pairs]]:
-    """What is in maps, by the descriptors that name them. It changes nothing."""
+    """The contents of maps, by the descriptors that name them. It changes nothing."""
     keys = {on: _indices(on) for on in maps if on.shape.map_type == MapType.ARRAY}
     keys.update((yield from _walked(host, tenant, {on: fd for on, fd in maps.items() if on not in keys})))
     pairs: dict[LiveMap, Pairs] = {on: [] for on in maps}
@@ -117,7 +117,7 @@ def _indices(on: LiveMap) -> list[bytes]:
 
 
 def _walked(host: AsksBytes, tenant: int, maps: Mapping[LiveMap, int]) -> Steps[dict[LiveMap, list[bytes]]]:
-    """The keys of hash maps in order. All maps are walked at once, a key of each in a batch of frames."""
+    """The keys of hash maps in order. All maps are read at once, with one key of each in a batch of frames."""
     keys: dict[LiveMap, list[bytes]] = {on: [] for on in maps}
     going, left = dict(maps), _ASKED_IN_A_STEP
     while going:
@@ -141,5 +141,5 @@ def _payload(reply: bytes) -> bytes:
 
 
 def same_pairs(some: Mapping[LiveMap, Pairs], others: Mapping[LiveMap, Pairs], maps: Sequence[LiveMap]) -> bool:
-    """Whether both say the same of these maps."""
+    """Whether two states have the same contents of these maps."""
     return all(some[on] == others[on] for on in maps)

@@ -1,4 +1,4 @@
-"""Ctrl-C as a wish: what is being done is done to its end, and then no more is begun."""
+"""Handles Ctrl-C as a request to stop: the current step is finished, and no further step begins."""
 
 from __future__ import annotations
 
@@ -14,10 +14,10 @@ _SIGNALS = (signal.SIGINT, signal.SIGTERM)
 
 
 class Stopping:
-    """Takes SIGINT and SIGTERM as long as it is entered, in the main thread; a second one ends the process as it always does."""
+    """Takes SIGINT and SIGTERM while it is entered, in the main thread; a second one ends the process as usual."""
 
     def __init__(self) -> None:
-        # The signal that asked for the end.
+        # The signal that asked to stop.
         self.signal: int | None = None
         self._waits = False
         self._before: dict[int, object] = {}
@@ -39,7 +39,7 @@ class Stopping:
             raise KeyboardInterrupt
 
     def items(self, items: Iterator[Item]) -> Iterator[Item]:
-        """The items up to the end, or until one is asked to stop, also while the next one is waited for."""
+        """The items, up to the end or up to a request to stop, also one that comes while the next item is waited for."""
         while self.signal is None:
             self._waits = True
             try:

@@ -1,4 +1,4 @@
-"""One run of `bpfhost serve`: bytes of frames go in, bytes of replies come out."""
+"""One run of `bpfhost serve`: writes bytes of frames to it and reads bytes of replies."""
 
 from __future__ import annotations
 
@@ -13,9 +13,9 @@ from bpfhost.numbers import LONGEST_PAYLOAD, REPLY_HEAD
 from bpfhost.replies import Reply, read_replies
 
 LONGEST_REPLY = REPLY_HEAD + LONGEST_PAYLOAD
-# A pipe of a system that does not tell its size is taken to hold so many bytes.
+# The assumed capacity of a pipe if the system does not report it.
 _LEAST_PIPE = 4096
-# A batch of frames has about so many bytes at most.
+# A batch of frames has about this many bytes at most.
 SENT_AT_ONCE = READ_AT_ONCE = 1 << 16
 _SECONDS_TO_END = 5
 
@@ -23,8 +23,8 @@ _SECONDS_TO_END = 5
 class Stream:
     """A process and its two pipes.
 
-    What the program wrote to standard error becomes the text of a HostError where it does not start, ends before it has
-    replied, or ends with another status than 0. A reply that is none is a ReplyError.
+    A HostError is raised if the program does not start, exits before it has replied, or exits with a status other than 0; its text has what
+    the program wrote to standard error. A ReplyError is raised for bytes that are not a reply.
     """
 
     def __init__(self, program: str, tenants: int) -> None:
@@ -34,17 +34,17 @@ class Stream:
         words = [program, "serve", "--tenants", str(tenants)]
         pipe = subprocess.PIPE
         try:
-            # Ctrl-C is meant for who asks: the host, in a group of its own, still answers what is asked afterwards.
+            # Ctrl-C is for the caller: the host is in a process group of its own, and still replies afterwards.
             self._process = subprocess.Popen(words, bufsize=0, stdin=pipe, stdout=pipe, stderr=self._fault, process_group=0)
         except OSError as error:
             self._fault.close()
             raise HostError(f"{program} does not start: {error.strerror}") from error
         # Without a buffer, both pipes are raw files.
         self._frames, self._replies = cast(FileIO, self._process.stdin), cast(FileIO, self._process.stdout)
-        # The host seldom waits for the next batch of frames where the pipe holds several.
+        # If the pipe holds several batches of frames, the host rarely waits for the next one.
         _widen(self._frames, 4 * SENT_AT_ONCE)
         self._unread = b""
-        # Whether a frame, or a reply, was left in its middle.
+        # Whether a frame or a reply was transferred only in part.
         self._is_torn = False
 
     @property
@@ -53,14 +53,14 @@ class Stream:
         return self._frames.closed
 
     def room(self) -> int:
-        """So many bytes of replies may wait unread: the host finds room for each while it is sent to, and so goes on to read.
+        """The most bytes of replies that may wait unread: the host can write them all, and so continues to read frames.
 
-        It is half of what the pipe holds, as a reply begins a new page where it does not fit into the last one.
+        It is half of the pipe's capacity, as a reply that does not fit into the last page begins a new one.
         """
         return _pipe_size(self._replies) // 2
 
     def widen(self, size: int) -> None:
-        """Lets more bytes of replies wait unread, where the system allows it."""
+        """Allows more bytes of replies to wait unread, if the system permits it."""
         _widen(self._replies, size)
 
     def send(self, frames: bytes | bytearray | memoryview) -> None:
@@ -76,7 +76,7 @@ class Stream:
         self._is_torn = False
 
     def read(self, most: int) -> bytes:
-        """Waits for bytes of replies, and reads so many of those that are there; a HostError where the host has ended."""
+        """Waits for bytes of replies and reads those that are there, up to a number. Raises HostError if the host has ended."""
         self.demand_open()
         if self._unread:
             read, self._unread = self._unread[:most], self._unread[most:]
@@ -87,7 +87,7 @@ class Stream:
         return read
 
     def unread(self, replies: bytes) -> None:
-        """Gives back bytes of replies that were read too early: they are read next."""
+        """Puts back bytes of replies that were read too early; they are read next."""
         self._unread = replies + self._unread
 
     def read_whole(self, size: int) -> bytes:
@@ -104,7 +104,7 @@ class Stream:
         return next(read_replies(head + self.read_whole(self._demand_reply(head))))
 
     def read_many(self, count: int) -> list[bytes]:
-        """Waits for so many replies, and cuts them out of what is read at once."""
+        """Waits for so many replies, and splits the bytes that are read at once into replies."""
         replies: list[bytes] = []
         read, at = b"", 0
         while len(replies) < count:
@@ -118,25 +118,25 @@ class Stream:
         return replies
 
     def _demand_reply(self, head: bytes) -> int:
-        """The length that the first four bytes of a reply tell; a ReplyError where no reply has it."""
+        """The length in the first four bytes of a reply. Raises ReplyError if no reply has that length."""
         length = int.from_bytes(head, "little")
         if not REPLY_HEAD <= 4 + length <= LONGEST_REPLY:
             raise ReplyError(f"{self._program} answers {head.hex()}, with which no reply begins")
         return length
 
     def tear(self) -> None:
-        """Notes that a reply was left in its middle: who reads next would take the rest of it for another one."""
+        """Notes that a reply was read only in part: the next reader would take the rest of it for another reply."""
         self._is_torn = True
 
     def demand_open(self) -> None:
-        """A HostError where the stream has ended, or is of no more use."""
+        """Raises HostError if the stream has ended or can't be used any more."""
         if self._frames.closed:
             raise HostError("bpfhost serve was ended before this frame")
         if self._is_torn:
             raise HostError("bpfhost serve is of no more use: an interruption or an error left a frame or a reply in its middle")
 
     def close(self) -> None:
-        """Ends the stream of frames, and the program with it; a HostError where its status is not 0."""
+        """Ends the stream of frames, and with it the program. Raises HostError if its status is not 0."""
         if self._frames.closed:
             return
         self._frames.close()
@@ -149,18 +149,18 @@ class Stream:
             raise ReplyError(f"{self._program} wrote {len(rest)} bytes more than the replies")
 
     def kill(self) -> None:
-        """Ends the program in the middle of whatever it does, and tells nothing of it."""
+        """Kills the program, whatever it does, and raises nothing."""
         self._frames.close()
         self._status()
         self._fault.close()
 
     def _ended(self) -> HostError:
-        """What to raise where the program has ended before it was told to."""
+        """The error to raise if the program has exited before its input ended."""
         self._frames.close()
         return HostError.of("bpfhost serve, before its reply,", self._status(), self._said())
 
     def _status(self) -> int:
-        """The status of the program, which finds the end of its input, and nobody who reads what it writes."""
+        """The status of the program, after its input has ended and its output is no longer read."""
         self._replies.close()
         try:
             return self._process.wait(_SECONDS_TO_END)
@@ -175,7 +175,7 @@ class Stream:
 
 
 def _pipe_size(pipe: FileIO) -> int:
-    """How many bytes a pipe holds."""
+    """The capacity of a pipe in bytes."""
     try:
         import fcntl
 
@@ -185,7 +185,7 @@ def _pipe_size(pipe: FileIO) -> int:
 
 
 def _widen(pipe: FileIO, size: int) -> None:
-    """Lets a pipe hold so many bytes, where that is allowed."""
+    """Sets the capacity of a pipe, if that is permitted."""
     with contextlib.suppress(ImportError, AttributeError, OSError):
         import fcntl
 

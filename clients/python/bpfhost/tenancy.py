@@ -1,7 +1,7 @@
-"""What a tenant has open, told by its frames and the replies to them: which descriptors name which maps and programs.
+"""What a tenant has open, from its frames and the replies to them: which descriptors name which maps and programs.
 
-What is in the maps is not told: test runs change it. A map has one descriptor in its life, from its creation on, and no number names
-it again once that is closed; the programs that were loaded with it keep it (docs/PROTOCOL.md, "What a tenant has").
+The contents of the maps are not known here: test runs change them. A map gets one descriptor when it is created, and no other after that is
+closed; the programs that were loaded with the map keep it (docs/PROTOCOL.md, "What a tenant has").
 """
 
 from __future__ import annotations
@@ -13,11 +13,11 @@ from bpfhost.numbers import FIRST_DESCRIPTOR, MOST_DESCRIPTORS, Command, MapType
 from bpfhost.program import MapShape
 from bpfhost.slots import named_maps
 
-# Where the body of a frame begins, behind its length, tenant and command.
+# The offset of a frame's body, after length, tenant and command.
 BODY = 8
 _SHAPE = struct.Struct("<4I")
 _MAKES = (Command.MAP_CREATE, Command.PROG_LOAD)
-# Commands that change what is in a map.
+# Commands that change the contents of a map.
 _CHANGES = (Command.MAP_UPDATE_ELEM, Command.MAP_DELETE_ELEM, Command.PROG_TEST_RUN)
 
 
@@ -33,7 +33,7 @@ def status_of(reply: bytes) -> int:
 
 @dataclass(eq=False)
 class LiveMap:
-    """A map, the descriptor that it was given, and the body of the frame that made it; `number` counts what the tenant made."""
+    """A map, its descriptor, and the body of the frame that created it; `number` counts the tenant's maps and programs."""
 
     number: int
     descriptor: int
@@ -64,7 +64,7 @@ class Tenancy:
         self._made = 0
 
     def note(self, frame: bytes, status: int) -> bool:
-        """Notes a frame of this tenant and the status of its reply; whether it may have changed anything."""
+        """Notes a frame of this tenant and the status of its reply; returns whether it may have changed anything."""
         if status < 0 or len(frame) < BODY:
             return False
         command = command_of(frame)
@@ -86,7 +86,7 @@ class Tenancy:
             self.open[descriptor] = OpenProgram(self._made, descriptor, body, maps)
 
     def lowest_free(self) -> int:
-        """The descriptor that is given next."""
+        """The descriptor that the next map or program gets."""
         numbers = range(FIRST_DESCRIPTOR, FIRST_DESCRIPTOR + MOST_DESCRIPTORS)
         return next((number for number in numbers if number not in self.open), -1)
 
@@ -95,11 +95,11 @@ class Tenancy:
         return sorted((on for on in self.open.values() if isinstance(on, OpenProgram)), key=lambda on: on.number)
 
     def live(self) -> list[LiveMap]:
-        """The live maps, in the order in which they were made."""
+        """The live maps, in the order in which they were created."""
         named = [on for on in self.open.values() if isinstance(on, LiveMap)]
         kept = [on for program in self.programs() for on in program.maps]
         return sorted(dict.fromkeys(named + kept), key=lambda on: on.number)
 
     def is_open(self, on: LiveMap) -> bool:
-        """Whether a descriptor names the map."""
+        """Whether the map has an open descriptor."""
         return self.open.get(on.descriptor) is on

@@ -1,4 +1,4 @@
-"""One tenant of a running host: the commands, by their names."""
+"""One tenant of a running host: its commands, by their names."""
 
 from __future__ import annotations
 
@@ -23,9 +23,9 @@ if TYPE_CHECKING:
 
 
 class Tenant:
-    """What speaks for one tenant of a host. Each command that the host refuses is a Refused, which has its reply.
+    """One tenant of a host. Each command that the host refuses raises Refused, which has the reply.
 
-    docs/PROTOCOL.md tells each command's errors. A refused command changes nothing. A reply to another command or another tenant is a
+    docs/PROTOCOL.md lists each command's errors. A refused command changes nothing. A reply to another command or another tenant raises
     ReplyError.
     """
 
@@ -38,7 +38,7 @@ class Tenant:
         return f"<Tenant {self.number} of {self.host!r}>"
 
     def map_create(self, map_type: MapType, key_size: int, value_size: int, max_entries: int) -> Map:
-        """Makes a map; sizes in bytes. Its descriptor is the lowest that is free."""
+        """Creates a map; sizes are in bytes. Its descriptor is the lowest free one."""
         made = self._done(frames.map_create(self.number, map_type, key_size, value_size, max_entries))
         return Map(self, made.status, MapShape(map_type, key_size, value_size, max_entries))
 
@@ -47,15 +47,15 @@ class Tenant:
         return self._done(frames.map_lookup_elem(self.number, descriptor, key)).payload
 
     def map_update_elem(self, descriptor: int, key: bytes, value: bytes, flags: Update = Update.ANY) -> None:
-        """Puts a value under a key."""
+        """Sets the value of a key."""
         self._done(frames.map_update_elem(self.number, descriptor, key, value, flags))
 
     def map_delete_elem(self, descriptor: int, key: bytes) -> None:
-        """Takes a key out of a hash map."""
+        """Deletes a key of a hash map."""
         self._done(frames.map_delete_elem(self.number, descriptor, key))
 
     def map_get_next_key(self, descriptor: int, key: bytes = b"") -> bytes | None:
-        """The key behind `key`, or without one the first; None where there is none."""
+        """The key after `key`, or the first key without one; None if there is none."""
         try:
             return self._done(frames.map_get_next_key(self.number, descriptor, key)).payload
         except Refused as refused:
@@ -64,21 +64,21 @@ class Tenant:
             raise
 
     def prog_load(self, slots: bytes, name: str = "") -> Prog:
-        """Loads a socket filter, under a name of the caller's; a ProgramRefused tells the slot and the reason."""
+        """Loads a socket filter, with a name of the caller's choice. Raises ProgramRefused, with the slot and the reason, if it is rejected."""
         return Prog.of(self, self._done(frames.prog_load(self.number, slots)).status, name)
 
     def load_filter(
         self, expression: str, link_type: int = ETHERNET, semantics: Semantics = Semantics.LIBPCAP, length: Length = Length.PACKET
     ) -> Prog:
-        """Loads a filter as tcpdump writes it, for packets of a link type as captures number it, under the expression for its name.
+        """Loads a filter written as for tcpdump, for packets of a link type with the number that captures use; its name is the expression.
 
-        A ClassicError or an ExpressionError where it is refused, and a MissingLibrary without libpcap. clients/python/FILTERS.md says what
-        `semantics` and `length` choose. Classic programs of another source are loaded by `prog_load(program.translated().slots)`.
+        Raises ClassicError or ExpressionError if it is rejected, and MissingLibrary without libpcap. clients/python/FILTERS.md explains
+        `semantics` and `length`. To load a classic program from elsewhere, use `prog_load(program.translated().slots)`.
         """
         return self.prog_load(ClassicProgram.of_expression(expression, link_type).translated(semantics, length).slots, expression)
 
     def prog_test_run(self, descriptor: int, packet: bytes = b"", context: Context = NO_CONTEXT) -> int:
-        """Runs a program on a packet, and gives its result."""
+        """Runs a program on a packet and returns its result."""
         begun = time.perf_counter_ns()
         result = self._done(frames.prog_test_run(self.number, descriptor, packet, context)).result()
         if isinstance(descriptor, Prog):
@@ -88,7 +88,7 @@ class Tenant:
     def prog_test_runs(
         self, descriptor: int, pieces: Iterable[Packets], context: Context = NO_CONTEXT
     ) -> Iterator[tuple[int, ...]]:
-        """Runs a program on many packets, and gives the results in order (`TestRuns`)."""
+        """Runs a program on many packets and returns the results in order (`TestRuns`)."""
         return TestRuns(self.host, self.number, descriptor, context).results(pieces)
 
     def close(self, descriptor: int) -> None:
@@ -100,7 +100,7 @@ class Tenant:
 
 
 def answered(frame: bytes, reply: Reply) -> Reply:
-    """The reply to a frame: a ReplyError where it is one to something else, and a Refused where the command is refused."""
+    """The reply to a frame. Raises ReplyError if it is the reply to something else, and Refused if the command is refused."""
     if reply.tenant | reply.command << 16 != int.from_bytes(frame[4:8], "little"):
         raise ReplyError(f"a command has the reply of something else: {reply}")
     reply.done()

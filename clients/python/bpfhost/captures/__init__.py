@@ -1,7 +1,7 @@
-"""Captures: pcap and pcapng files, read as pieces of many packets, and written as pcap.
+"""Captures: reads pcap and pcapng files in pieces of many packets, and writes both formats.
 
-dpkt knows the headers. The packets are read without it, since it makes an object for each, drops the length that a cut packet
-had, and does not tell where a capture ends in the middle of one.
+dpkt knows the headers. The packets are read without it: it makes an object for each packet, drops the length that a cut packet had on the
+wire, and does not report a capture that ends in the middle of a packet.
 """
 
 from __future__ import annotations
@@ -20,7 +20,7 @@ __all__ = ["Capture", "Piece", "open_capture", "link_type_name"]
 
 _GZIP = b"\x1f\x8b"
 
-# Names of link types that are met often (tcpdump.org/linktypes.html).
+# Names of common link types (tcpdump.org/linktypes.html).
 _LINK_TYPES = {
     0: "NULL",
     1: "ETHERNET",
@@ -36,18 +36,17 @@ _LINK_TYPES = {
 
 
 def link_type_name(link_type: int) -> str:
-    """A link type with its name, where it is a frequent one: `113 (LINUX_SLL)`."""
+    """A link type, with its name if it is a common one: `113 (LINUX_SLL)`."""
     name = _LINK_TYPES.get(link_type)
     return f"{link_type} ({name})" if name else str(link_type)
 
 
 @contextmanager
 def open_capture(path: str | os.PathLike[str]) -> Iterator[Capture]:
-    """The capture of a file, pcap or pcapng by what it begins with.
+    """The capture in a file, pcap or pcapng; its first bytes say which.
 
-    It may be compressed by gzip. A CaptureError where the file can't be read or is neither; and, from the pieces, where it is cut off or
-    wrong. What comes
-    before is given first. A MissingPackage where there is no dpkt.
+    It may be compressed by gzip. Raises CaptureError if the file can't be read or is neither; the pieces raise it if the file is cut off or
+    wrong, after the packets before the fault. Raises MissingPackage without dpkt.
     """
     name = os.fspath(path)
     try:
@@ -59,7 +58,7 @@ def open_capture(path: str | os.PathLike[str]) -> Iterator[Capture]:
 
 
 class _Gzip(GzipFile):
-    """A compressed capture, which is read from its front to its end: to go back would mean to read all of it again."""
+    """A compressed capture is only read forwards: to seek back would mean to read it again from the start."""
 
     def seekable(self) -> bool:
         return False

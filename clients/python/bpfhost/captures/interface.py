@@ -1,4 +1,4 @@
-"""Packets of a network interface as they come, by a packet socket of Linux (packet(7)). It wants root, or CAP_NET_RAW."""
+"""Reads packets of a network interface as they arrive, by a packet socket of Linux (packet(7)). Needs root or CAP_NET_RAW."""
 
 from __future__ import annotations
 
@@ -22,16 +22,16 @@ _ARPHRD_ETHER, _ARPHRD_LOOPBACK = 1, 772
 _TIMESTAMPS = 35
 _AUX, _TIME, _COUNTS = struct.Struct("=IIIHHHH"), struct.Struct("@qq"), struct.Struct("=II")
 _RAW_IP = 101
-# Asks for the kind of an interface, behind its name (netdevice(7)).
+# The request for an interface's hardware type, which follows its name (netdevice(7)).
 _SIOCGIFHWADDR, _HARDWARE = 0x8927, struct.Struct("=16xH14x")
-# The kernel keeps so many bytes of packets for a reader that is busy.
+# How many bytes of packets the kernel buffers while the reader is busy.
 _KEPT = 1 << 23
 _BEHIND_ADDRESSES = 12
 
 
 @dataclass(frozen=True)
 class _Arrived(Piece):
-    """Packets with the times at which the kernel had them, in nanoseconds."""
+    """Packets with their kernel timestamps, in nanoseconds."""
 
     times: list[int] = field(kw_only=True)
 
@@ -43,12 +43,12 @@ class _Arrived(Piece):
 
 
 class InterfaceCapture(Capture):
-    """The packets of an interface, in both directions, without an end. Every so many seconds it gives what has come, if only nothing."""
+    """The packets of an interface, in both directions, without an end. After so many seconds it yields a piece, even an empty one."""
 
     has_nanoseconds = True
 
     def __init__(self, name: str, opened: socket.socket, pause: float) -> None:
-        """Packets of a socket that is bound to the interface of this name."""
+        """Reads packets of a socket that is bound to the interface of this name."""
         self.name = name
         self.bytes_read = self.packets_read = 0
         self._socket = opened
@@ -65,7 +65,7 @@ class InterfaceCapture(Capture):
         raise NotImplementedError
 
     def pieces(self, most: int = MOST_PACKETS) -> Iterator[Piece]:
-        """The packets in pieces, in order; a CaptureError where the interface is gone."""
+        """Yields the packets in pieces, in order. Raises CaptureError if the interface is gone."""
         while True:
             packets: list[tuple[bytes, int]] = []
             until = time.monotonic() + min(self._pause, self.seconds or self._pause)
@@ -76,11 +76,11 @@ class InterfaceCapture(Capture):
             yield from self._pieces_of(packets)
 
     def dropped(self) -> int:
-        """How many packets the kernel has dropped since it was asked last, as nobody read them in time."""
+        """How many packets the kernel has dropped since the last call, as nobody read them in time."""
         return int(_COUNTS.unpack(self._socket.getsockopt(_SOL_PACKET, _STATISTICS, _COUNTS.size))[1])
 
     def _receive(self, seconds: float) -> tuple[bytes, int] | None:
-        """A packet and its time; None where none comes in so many seconds, or one that the loopback interface shows twice."""
+        """A packet and its time; None if none arrives in so many seconds, or for the second copy of a packet on the loopback interface."""
         self._socket.settimeout(seconds)
         try:
             packet, notes, _, address = self._socket.recvmsg(LONGEST_CAPTURED, 256)
@@ -100,7 +100,7 @@ class InterfaceCapture(Capture):
         return packet, arrived
 
     def _pieces_of(self, packets: list[tuple[bytes, int]]) -> Iterator[Piece]:
-        """What has come, each packet that is too long by itself; an empty piece where nothing has."""
+        """What has arrived, with each oversized packet in a piece of its own; an empty piece if nothing has."""
         self.packets_read += len(packets)
         self.bytes_read += sum(len(packet) for packet, _ in packets)
         short: list[tuple[bytes, int]] = []
@@ -126,7 +126,7 @@ class InterfaceCapture(Capture):
 
 
 def _with_tag(packet: bytes, auxiliary: bytes) -> bytes:
-    """The packet with the VLAN tag that the kernel has taken out of it, as captures have it."""
+    """The packet with the VLAN tag that the kernel has removed, as captures have it."""
     status, _, _, _, _, tag, protocol = _AUX.unpack(auxiliary[: _AUX.size])
     if not status & _VLAN_IS_VALID:
         return packet
@@ -136,7 +136,7 @@ def _with_tag(packet: bytes, auxiliary: bytes) -> bytes:
 
 @contextmanager
 def open_interface(name: str, pause: float = 0.2) -> Iterator[InterfaceCapture]:
-    """The packets of an interface; a CaptureError where there is no such one, or it may not be read."""
+    """Opens an interface. Raises CaptureError if there is no such one, or if it may not be read."""
     try:
         opened = socket.socket(socket.AF_PACKET, socket.SOCK_RAW, socket.htons(_ETH_P_ALL))
     except PermissionError as error:

@@ -1,4 +1,4 @@
-"""The format pcap (pcap-savefile(5)): a header of 24 bytes, and before each packet one of 16."""
+"""The pcap format (pcap-savefile(5)): a file header of 24 bytes, and a header of 16 bytes before each packet."""
 
 from __future__ import annotations
 
@@ -14,13 +14,13 @@ from bpfhost.captures.piece import LONGEST_CAPTURED, Capture, Piece, Stamp, low_
 from bpfhost.numbers import LONGEST_PACKET
 
 _NANOSECONDS = (pcap.TCPDUMP_MAGIC_NANO, pcap.PMUDPCT_MAGIC_NANO)
-# The highest bits of the link type tell something else.
+# The highest bits of the link type have another meaning.
 _LINK_TYPE = 0xFFFF
 
 
 @dataclass(frozen=True)
 class _Layout:
-    """What stands before a packet: how many bytes, the numbers of its time and length, and the nanoseconds of a part of a second."""
+    """A packet's header: its size in bytes, how to unpack time and lengths, and the nanoseconds of a unit of the time's fraction."""
 
     head: int
     times: struct.Struct
@@ -37,10 +37,10 @@ class _PcapPiece(Piece):
 
 
 class PcapCapture(Capture):
-    """A capture in the format pcap, in either byte order, with microseconds or nanoseconds."""
+    """A capture in the pcap format, in either byte order, with microseconds or nanoseconds."""
 
     def __init__(self, name: str, file: BufferedReader | GzipFile, magic: bytes) -> None:
-        """Reads the header, whose first bytes are `magic`."""
+        """Reads the file header, whose first bytes are `magic`."""
         super().__init__(name, file, b"")
         number = int.from_bytes(magic, "big")
         kind = pcap.MAGIC_TO_PKT_HDR.get(number) if len(magic) == 4 else None
@@ -60,7 +60,7 @@ class PcapCapture(Capture):
         self._order = order
         self._length = struct.Struct(f"{order}8xII").unpack_from
         self._layout = _Layout(kind.__hdr_len__, struct.Struct(f"{order}II4xI"), 1 if self.has_nanoseconds else 1000)
-        # A packet's length, that on the wire, and the type in its Ethernet header, 12 bytes behind what stands before a packet.
+        # A packet's length, its length on the wire, and the type in its Ethernet header, 12 bytes after the packet's header.
         self._length_and_type = struct.Struct(f"{order}8xII{kind.__hdr_len__ - 4}xH").unpack_from
 
     def _next_piece(self, data: bytes, at: int, most: int) -> tuple[Piece | None, int]:
@@ -70,7 +70,7 @@ class PcapCapture(Capture):
         types: list[int] = []
         head, unpack, size = self._layout.head, self._length_and_type, len(data)
         with contextlib.suppress(struct.error):
-            # Where the bytes end before the type, there is nothing to unpack.
+            # If the bytes end before the type, there is nothing to unpack.
             for _ in range(most):
                 length, wire, ethernet_type = unpack(data, at)
                 start = at + head
@@ -84,18 +84,18 @@ class PcapCapture(Capture):
                 types.append(ethernet_type)
                 at = end
         if starts:
-            # Most captures have their packets whole, and then the lengths on the wire are the same list.
+            # Most captures have whole packets; then the lengths on the wire are the same list.
             wires = self._wires(data, starts) if is_short else lengths
             return self._piece(data, starts, lengths, wires, low_first(types, self._order)), at
         return self._last_packet(data, at)
 
     def _wires(self, data: bytes, starts: list[int]) -> list[int]:
-        """The lengths on the wire of packets that begin there."""
+        """The lengths on the wire of the packets that begin there."""
         head = self._layout.head
         return [self._length(data, start - head)[1] for start in starts]
 
     def _last_packet(self, data: bytes, at: int) -> tuple[Piece | None, int]:
-        """The packet at `at` and where it ends, where it is whole, though the bytes may end before the type in its header."""
+        """The packet at `at` and its end, if it is whole, even if the bytes end before the type in its header."""
         start = at + self._layout.head
         if start > len(data):
             return None, at

@@ -1,4 +1,4 @@
-"""The format pcapng (draft-ietf-opsawg-pcapng): blocks, some of which have a packet."""
+"""The pcapng format (draft-ietf-opsawg-pcapng): blocks, some of which have a packet."""
 
 from __future__ import annotations
 
@@ -18,18 +18,18 @@ from bpfhost.numbers import LONGEST_PACKET
 # The type of a section header block, the same in both byte orders.
 SECTION = b"\x0a\x0d\x0d\x0a"
 _ORDERS = {b"\x4d\x3c\x2b\x1a": "<", b"\x1a\x2b\x3c\x4d": ">"}
-# Bytes of a block without a body; of a packet's block before and around the packet; of a simple one's before it; and of an interface's
-# before its options.
+# Sizes in bytes: a block without a body; a packet block before and around the packet; a simple packet block before the packet; an
+# interface's block before its options.
 _SHORTEST_BLOCK, _BEFORE, _AROUND, _BEFORE_SIMPLE, _BEFORE_OPTIONS = 12, 28, 32, 12, 16
 _ENHANCED: int = pcapng.PCAPNG_BT_EPB
-# A longer block is taken for a lie.
+# A block with a greater length is rejected as damaged.
 _LONGEST_BLOCK = 1 << 24
 _SECOND = 1_000_000_000
 
 
 @dataclass(frozen=True)
 class _Interface:
-    """What packets of an interface have in common: their time counts parts of a second, from `offset` seconds on."""
+    """What the packets of an interface have in common: their timestamps count units of a part of a second, from `offset` seconds on."""
 
     link_type: int
     longest: int
@@ -39,7 +39,7 @@ class _Interface:
 
 @dataclass(frozen=True)
 class _PcapngPiece(Piece):
-    """Packets of blocks of one kind, in one section, to whose interfaces others may still come."""
+    """Packets of blocks of one kind, in a section in which more interfaces may follow."""
 
     kind: int = field(kw_only=True)
     order: str = field(kw_only=True)
@@ -57,12 +57,12 @@ class _PcapngPiece(Piece):
 
 
 class PcapngCapture(Capture):
-    """A capture in the format pcapng: sections of either byte order, any interfaces, and the three kinds of blocks with a packet."""
+    """A capture in the pcapng format: sections of either byte order, any interfaces, and the three kinds of packet blocks."""
 
     has_nanoseconds = True
 
     def __init__(self, name: str, file: BufferedReader | GzipFile, magic: bytes) -> None:
-        """Reads nothing; `magic` is what was read of the file."""
+        """Reads nothing; `magic` has the bytes that were already read."""
         super().__init__(name, file, magic)
         self._begin_section()
         self._has_order("<")
@@ -74,11 +74,10 @@ class PcapngCapture(Capture):
     def _has_order(self, order: str) -> None:
         self._order = order
         self._pair = struct.Struct(f"{order}II").unpack_from
-        # A block with a packet, up to the packet's lengths: its kind, its length, the interface, the time, the packet's length here and on
-        # the wire.
+        # A packet block up to the packet's lengths: its kind, its length, the interface, the time, the captured and the original length.
         self._enhanced = struct.Struct(f"{order}3I8xII").unpack_from
         self._old = struct.Struct(f"{order}2IH10xII").unpack_from
-        # The same of an enhanced packet block with the type in the packet's Ethernet header, and behind the end of the block before.
+        # The same of an enhanced packet block, with the type in the packet's Ethernet header, and after the end of the block before.
         self._enhanced_with_type = struct.Struct(f"{order}3I8xII12xH").unpack_from
         self._end_and_enhanced = struct.Struct(f"{order}4I8xII12xH").unpack_from
 
@@ -98,7 +97,7 @@ class PcapngCapture(Capture):
                 return piece, at
 
     def _one(self, data: bytes, start: int, length: int, wire: int, link_type: int, kind: int) -> Piece:
-        """The piece of one packet, which may be longer than those of test runs."""
+        """The piece of one packet, which may be longer than test runs take."""
         if length > LONGEST_CAPTURED:
             raise self._too_long(length)
         whole = length if length > LONGEST_PACKET else None
@@ -108,10 +107,10 @@ class PcapngCapture(Capture):
         )
 
     def _enhanced_packets(self, data: bytes, at: int, most: int) -> tuple[Piece | None, int]:
-        """The packets of whole enhanced packet blocks of one link type, from `at` on, up to the first block that is something else.
+        """The packets of whole enhanced packet blocks of one link type, from `at` up to the first other block, and where they end.
 
-        Also where they end. A block's end is read together with the head of the next one, which is the only read for each packet; so
-        where the bytes end before the type in the next packet's header, the block is not among these.
+        It reads the end of a block together with the header of the next one, with one read for each packet. So if the bytes end before the
+        type in the next packet's header, that block is left out.
         """
         starts: list[int] = []
         lengths: list[int] = []
@@ -142,14 +141,14 @@ class PcapngCapture(Capture):
             return None, at
         order, interfaces = self._order, self._interfaces
         types = low_first(types, order)
-        # Most captures have their packets whole, and then the lengths on the wire are the same list.
+        # Most captures have whole packets; then the lengths on the wire are the same list.
         wires = [self._enhanced(data, start - _BEFORE)[4] for start in starts] if is_short else lengths
         return _PcapngPiece(
             data, starts, lengths, link_type, types, wires=wires, kind=_ENHANCED, order=order, interfaces=interfaces
         ), at
 
     def _block_end(self, data: bytes, at: int) -> int | None:
-        """Where the block that begins at `at` ends, or None where it is not whole; a section's block sets the byte order."""
+        """The end of the block that begins at `at`, or None if it is not whole; a section's block sets the byte order."""
         if len(data) - at < _SHORTEST_BLOCK:
             return None
         if data[at : at + 4] == SECTION:
@@ -168,7 +167,7 @@ class PcapngCapture(Capture):
         return end
 
     def _take(self, data: bytes, at: int, end: int) -> Piece | None:
-        """Reads a whole block, and gives its packet, where it has one."""
+        """Reads a whole block, and returns its packet if it has one."""
         kind: int = self._pair(data, at)[0]
         if kind == pcapng.PCAPNG_BT_SHB:
             self._begin_section()
@@ -184,7 +183,7 @@ class PcapngCapture(Capture):
         return None
 
     def _packet(self, data: bytes, at: int, end: int, kind: int) -> Piece:
-        """The packet of a block of the old kind, or of an enhanced packet block that is the last one in these bytes, or wrong."""
+        """The packet of an obsolete packet block, or of an enhanced packet block that is wrong or the last one in these bytes."""
         if end - at < _AROUND:
             raise self._wrong_packet()
         _, _, number, length, wire = (self._old if kind == pcapng.PCAPNG_BT_PB else self._enhanced)(data, at)
@@ -193,7 +192,7 @@ class PcapngCapture(Capture):
         return self._one(data, at + _BEFORE, length, wire, self._interfaces[number].link_type, kind)
 
     def _simple_packet(self, data: bytes, at: int, end: int) -> Piece:
-        """The packet of a simple packet block, which is of the first interface and has no length of its own."""
+        """The packet of a simple packet block, which belongs to the first interface and has no captured length."""
         if not self._interfaces or end - at < _BEFORE_SIMPLE + 4:
             raise self._wrong_packet()
         interface = self._interfaces[0]
@@ -217,7 +216,9 @@ class PcapngCapture(Capture):
         return _Interface(link_type, longest, per_second, offset)
 
     def _options(self, body: bytes) -> dict[int, bytes]:
-        """The options of an interface by their codes, in one pass: dpkt copies what is left for each. A struct.error where one is cut off."""
+        """The options of an interface by their codes, in one pass: dpkt copies the rest of the bytes for each. Raises struct.error if one is
+        cut off.
+        """
         options: dict[int, bytes] = {}
         unpack, at = struct.Struct(f"{self._order}HH").unpack_from, _BEFORE_OPTIONS
         while at < len(body):

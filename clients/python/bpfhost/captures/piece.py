@@ -1,4 +1,4 @@
-"""What captures of both formats have: pieces of packets, and the time and the length of each."""
+"""What both capture formats share: pieces of packets, and the time and the length of each packet."""
 
 from __future__ import annotations
 
@@ -19,14 +19,14 @@ from bpfhost.errors import CaptureError
 from bpfhost.numbers import LONGEST_PACKET
 from bpfhost.packets import LEAST_WITH_TYPE, Packets
 
-# A capture is read by so many bytes: enough for the costs of a piece to be small beside those of its packets, and few enough to stay
-# in the processor's cache until they are sent.
+# How many bytes of a capture are read at once: enough to make the cost of a piece small compared with that of its packets, and few enough
+# to stay in the processor's cache until they are sent.
 _CHUNK = 1 << 17
-# A piece has so many packets at most.
+# The most packets of a piece.
 MOST_PACKETS = 1024
 
 
-# A longer packet is taken for a lie: no capture of network packets has one (MAXIMUM_SNAPLEN of libpcap).
+# A greater length is rejected as damaged: no capture of network packets has one (MAXIMUM_SNAPLEN of libpcap).
 LONGEST_CAPTURED = 262_144
 
 SomePiece = TypeVar("SomePiece", bound="Piece")
@@ -34,7 +34,7 @@ SomePiece = TypeVar("SomePiece", bound="Piece")
 
 @dataclass(frozen=True)
 class Stamp:
-    """When a packet was captured, and how many bytes it had then, of which the capture may have fewer."""
+    """When a packet was captured, and its length on the wire; the capture may have fewer bytes."""
 
     seconds: int
     nanoseconds: int
@@ -45,9 +45,9 @@ class Stamp:
 class Piece(Packets, ABC):
     """Packets of a capture.
 
-    `wires[i]` is the length that packet i had on the wire, as the capture tells it; it is `lengths` where all of them are whole. `whole` has,
-    where the packet is longer than those of test runs, so many bytes as the capture has of it; such a packet is a piece of its own, and
-    `lengths` has what a test run takes.
+    `wires[i]` is the length of packet i on the wire, according to the capture; it is `lengths` if all packets are whole. `whole` is for a
+    packet that is longer than test runs take: the bytes that the capture has of it. Such a packet is a piece of its own, and `lengths` has
+    the length that a test run takes.
     """
 
     wires: list[int] = field(kw_only=True)
@@ -58,19 +58,19 @@ class Piece(Packets, ABC):
         """The time and the length of a packet."""
 
     def shorts(self) -> int:
-        """Of how many packets the capture has fewer bytes than there were on the wire."""
+        """How many packets have fewer bytes in the capture than on the wire."""
         captured = self.lengths if self.whole is None else [self.whole]
         return sum(1 for length, wire in zip(captured, self.wires) if wire > length)
 
     def padded(self) -> Packets:
-        """The packets as long as they were on the wire, or as a test run takes, with zeros behind the bytes that the capture has."""
+        """The packets with their length on the wire, or the most that a test run takes: zeros follow the bytes that the capture has."""
         lengths = [max(length, min(wire, LONGEST_PACKET)) for length, wire in zip(self.lengths, self.wires)]
         joined = b"".join([packet.ljust(length, b"\0") for packet, length in zip(self, lengths)])
         types = self.types if min(self.lengths) >= LEAST_WITH_TYPE else None
         return Packets(joined, list(accumulate(lengths, initial=0))[: len(lengths)], lengths, self.link_type, types)
 
     def captured(self, at: int, longest: int) -> bytes:
-        """The first bytes of a packet that the capture has, `longest` at most."""
+        """The first bytes of a packet that the capture has, at most `longest`."""
         length = self.lengths[at] if self.whole is None else self.whole
         return self.data[self.starts[at] : self.starts[at] + min(length, longest)]
 
@@ -80,7 +80,7 @@ class Piece(Packets, ABC):
 
 
 def low_first(types: list[int], order: str) -> list[int]:
-    """The numbers that pairs of bytes are with the lower one first, which were read in a byte order of struct's."""
+    """The little-endian numbers of pairs of bytes, which were read in a byte order of the struct module."""
     if order == "<":
         return types
     swapped = array("H", types)
@@ -90,27 +90,27 @@ def low_first(types: list[int], order: str) -> list[int]:
 
 @dataclass(frozen=True)
 class Nothing(Piece):
-    """No packets: what a capture gives where none has come for a while."""
+    """No packets: what a capture yields after a while without any."""
 
     def stamp(self, at: int) -> Stamp:
         raise IndexError(at)
 
 
 class Capture(ABC):
-    """A capture that is read from its front to its end.
+    """A capture that is read from start to end.
 
-    Where `seconds` is set, a capture that comes through a pipe gives an empty piece each time nothing has come for so long.
+    If `seconds` is set, a capture that comes through a pipe yields an empty piece each time nothing has arrived for so long.
     """
 
     seconds: float | None = None
-    # Whether times have more digits than microseconds have.
+    # Whether timestamps are finer than microseconds.
     has_nanoseconds = False
-    # The link type that the capture names first, once it is read, and how many bytes of a packet it says that it has at most.
+    # The first link type of the capture, once it is read, and its snapshot length in bytes.
     link_type: int | None = None
     longest = LONGEST_PACKET
 
     def __init__(self, name: str, file: BufferedReader | GzipFile, begun: bytes) -> None:
-        """Reads nothing; `begun` is what was read of the file."""
+        """Reads nothing; `begun` has the bytes that were already read."""
         self.name = name
         self._file = file
         self._rest = begun
@@ -119,13 +119,13 @@ class Capture(ABC):
 
     @abstractmethod
     def _next_piece(self, data: bytes, at: int, most: int) -> tuple[Piece | None, int]:
-        """The whole packets in bytes from `at` on, at most so many, and where they end; None where no whole one is left.
+        """The whole packets in bytes from `at` on, up to a number, and where they end; None if no whole packet is left.
 
-        A CaptureError where what stands at `at` is wrong.
+        Raises CaptureError if the bytes at `at` are wrong.
         """
 
     def pieces(self, most: int = MOST_PACKETS) -> Iterator[Piece]:
-        """The packets in pieces, in order; a CaptureError behind the packets before which the capture is wrong."""
+        """Yields the packets in pieces, in order. Raises CaptureError after the last packet before a fault."""
         while len(data := self._with_more(self._rest)) > len(self._rest):
             at = yield from self._pieces_in(data, most)
             self._rest = data[at:]
@@ -135,7 +135,7 @@ class Capture(ABC):
             raise self._cut_off()
 
     def _pieces_in(self, data: bytes, most: int) -> Generator[Piece, None, int]:
-        """The pieces in bytes, and where the last one ends."""
+        """Yields the pieces in bytes; returns where the last one ends."""
         at = 0
         while True:
             piece, at = self._next_piece(data, at, most)
@@ -145,7 +145,7 @@ class Capture(ABC):
             yield piece
 
     def _is_quiet(self) -> bool:
-        """Whether nothing comes through a pipe for a while; what was read of it is all in use by then."""
+        """Whether nothing arrives through a pipe for a while; all that was read of it has been used by then."""
         if self.seconds is None or isinstance(self._file, GzipFile) or self._file.seekable():
             return False
         return not select.select([self._file], [], [], self.seconds)[0]
@@ -153,8 +153,8 @@ class Capture(ABC):
     def _with_more(self, rest: bytes) -> bytes:
         """The bytes that were read last, and what follows; nothing follows at the end of the file.
 
-        They are read once more where the file lets it, which is cheaper than to join them with so many bytes more. From a pipe comes
-        what is there, so that packets of a capture that goes on are not waited for.
+        If the file can seek, they are read again, which is cheaper than to join them with as many new bytes. From a pipe it takes what is
+        there, so that nobody waits for packets that are still to come.
         """
         more = max(_CHUNK, 2 * len(rest))
         if not self._file.seekable():
@@ -167,18 +167,18 @@ class Capture(ABC):
         return self._read(more)
 
     def size(self) -> int | None:
-        """The bytes of the file, or None where it is no regular file, or a compressed one."""
+        """The size of the file, or None if it is not a regular file, or compressed."""
         if isinstance(self._file, GzipFile):
             return None
         status = os.fstat(self._file.fileno())
         return status.st_size if stat.S_ISREG(status.st_mode) else None
 
     def dropped(self) -> int:
-        """How many packets came and could not be read in time: none of a file."""
+        """How many packets were lost because they were not read in time: none in a file."""
         return 0
 
     def error(self, fault: str) -> CaptureError:
-        """The error that tells the file and a fault."""
+        """The error for a fault of the file."""
         return CaptureError(f"{self.name}: {fault}")
 
     def _read(self, size: int, by: Callable[[int], bytes] | None = None) -> bytes:

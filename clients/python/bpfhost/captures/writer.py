@@ -1,4 +1,4 @@
-"""Writes captures, in the format pcap or pcapng."""
+"""Writes captures, in the pcap or the pcapng format."""
 
 from __future__ import annotations
 
@@ -21,24 +21,24 @@ _RECORD = struct.Struct("<IIII")
 _BLOCK = struct.Struct("<7I")
 _AROUND_BLOCK = 32
 _NANOSECONDS, _MICROSECONDS = 9, 6
-# A file of such a name is written as pcapng, and any other one as pcap.
+# A file with this suffix is written as pcapng, and any other file as pcap.
 _PCAPNG = ".pcapng"
 
 
 class _Format(ABC):
-    """How packets are written."""
+    """A format in which packets are written."""
 
     @abstractmethod
     def begun(self, link_type: int) -> bytes:
-        """What stands at the front of the file, whose first packet has this link type."""
+        """The file's header, if its first packet has this link type."""
 
     @abstractmethod
     def has_room(self, link_type: int) -> bool:
-        """Whether the file has room for packets of a link type."""
+        """Whether the file takes packets of a link type."""
 
     @abstractmethod
     def record(self, link_type: int, stamp: Stamp, packet: bytes) -> bytes:
-        """A packet; a struct.error where there is no room for its time."""
+        """A packet. Raises struct.error if its time does not fit."""
 
 
 class _Pcap(_Format):
@@ -60,7 +60,7 @@ class _Pcap(_Format):
 
 
 class _Pcapng(_Format):
-    """Each link type is an interface, which is described before its first packet."""
+    """Each link type is an interface, whose block comes before its first packet."""
 
     def __init__(self, has_nanoseconds: bool, longest: int) -> None:
         self._longest = longest
@@ -89,11 +89,12 @@ class _Pcapng(_Format):
 
 
 class CaptureWriter:
-    """A little-endian capture of packets, with their times and with the lengths that they had on the wire.
+    """A little-endian capture of packets, with their times and their lengths on the wire.
 
-    It is a pcapng file where its name ends with `.pcapng`, and else a pcap file, whose link type is that of the first packet, or without one
-    the one that it is given; `longest` is what the file says of how many bytes a packet has at most. What is wrong in the middle ends no run: `fault` tells it, a packet of another link type or a time that has no room, which is left out and counted,
-    or a file that can't be written, which nothing is written to any more. As a context manager it raises that at its end.
+    It is a pcapng file if its name ends with `.pcapng`, and else a pcap file, whose link type is that of the first packet, or the given one
+    if there are no packets. `longest` is the snapshot length in the file's header. A fault does not end the run, but is kept in `fault`: a
+    packet of another link type or with a time that does not fit, which is left out and counted, or a file that can't be written, to which
+    nothing more is written. As a context manager it raises the fault at its end.
     """
 
     def __init__(
@@ -105,7 +106,7 @@ class CaptureWriter:
         link_type: int = ETHERNET,
         longest: int = LONGEST_CAPTURED,
     ) -> None:
-        """Begins the file, over what it had; a CaptureError where that can't be. A `file` that is given is written to in its place."""
+        """Creates or replaces the file. Raises CaptureError if that fails. If `file` is given, it is written to instead."""
         self.name = os.fspath(path)
         self._format: _Format = (_Pcapng if self.name.endswith(_PCAPNG) else _Pcap)(has_nanoseconds, longest)
         self._link_type = link_type
@@ -128,7 +129,7 @@ class CaptureWriter:
             raise fault
 
     def end(self) -> None:
-        """Writes what is left, and closes the file."""
+        """Writes what is buffered, and closes the file."""
         if not self._has_begun:
             self._write(self._begun(self._link_type))
         with self._faults():
@@ -139,7 +140,7 @@ class CaptureWriter:
 
     @property
     def fault(self) -> CaptureError | None:
-        """What is wrong with what was written, in a sentence."""
+        """What went wrong, in a sentence, or None."""
         if self._failed:
             return self._failed
         if self._others:
@@ -153,7 +154,7 @@ class CaptureWriter:
         return None
 
     def write(self, piece: Piece, at: int, longest: int) -> None:
-        """Writes a packet, of which `longest` bytes are kept at most."""
+        """Writes a packet, at most `longest` bytes of it."""
         begun = b"" if self._has_begun else self._begun(piece.link_type)
         if not self._format.has_room(piece.link_type):
             self._others[piece.link_type] += 1

@@ -1,4 +1,4 @@
-"""`build`: a program of an object, in the form that is accepted, with its maps, as a file."""
+"""`build`: writes a program of an object, in the form that is accepted, with its maps, to a file."""
 
 from __future__ import annotations
 
@@ -13,7 +13,7 @@ from bpfhost.errors import InputError
 
 
 def run(said: argparse.Namespace) -> int:
-    """Writes the file; nothing is written where the program is refused."""
+    """Writes the file; writes nothing if the program is rejected."""
     program, object_file = program_of(said), read_object(said, said.object)
     from bpfhost.built import built
     from bpfhost.loading import choose_program, lowered_program, refused_at
@@ -30,7 +30,7 @@ def run(said: argparse.Namespace) -> int:
 
 
 def write(path: Path, text: str) -> None:
-    """Writes a file whole, or leaves the one that was there."""
+    """Replaces the file as a whole, or leaves the old one."""
     if path.exists() and not path.is_file():
         path.write_text(text)
         return

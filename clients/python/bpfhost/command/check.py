@@ -10,7 +10,7 @@ from bpfhost.errors import HostError, SourceRefused
 
 
 def run(said: argparse.Namespace) -> int:
-    """Verifies each program by itself, with the maps of the object; the status is 1 where one is refused."""
+    """Verifies each program separately, with the maps of the object; the status is 1 if one is rejected."""
     program, object_file = program_of(said), read_object(said, said.object)
     from bpfhost.loading import choose_program, graph_of, log_of, lowered_program, refused_at
     from bpfhost.lowering import LoweringError

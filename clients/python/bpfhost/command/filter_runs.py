@@ -1,4 +1,4 @@
-"""`run` with filters as tcpdump writes them: each by a tenant of its own, on every packet of a capture or of an interface."""
+"""`run` with filters written as for tcpdump: each in a tenant of its own, on every packet of a capture or of an interface."""
 
 from __future__ import annotations
 
@@ -27,12 +27,12 @@ if TYPE_CHECKING:
     from bpfhost.classic.running import Outcome
 
 _STANDARD_INPUT = "-"
-# What a capture tells of a packet beside its bytes.
+# What a capture says about a packet besides its bytes.
 _TOLD = ("protocol",)
 
 
 def run(said: argparse.Namespace) -> int:
-    """Loads the filters, runs them, and shows what each kept; the status is 1 where the capture is wrong behind some packet."""
+    """Loads the filters, runs them, and prints how many packets each kept; the status is 1 if the capture is wrong after some packet."""
     from bpfhost.classic.running import Filters, loaded_runs
     from bpfhost.filtering import accept_none, accept_to
 
@@ -57,7 +57,7 @@ def run(said: argparse.Namespace) -> int:
 
 
 def _noted(name: str, outcome: Outcome, dropped: int, unwritten: CaptureError | None, signal: int | None) -> int:
-    """Tells what is wrong, and gives the status."""
+    """Prints the fault, and returns the status."""
     if dropped:
         print(f"bpfhost: {name}: {dropped:,} packets are dropped by the kernel, as the filters were too slow for them", file=sys.stderr)
     if outcome.long:
@@ -72,7 +72,7 @@ def _noted(name: str, outcome: Outcome, dropped: int, unwritten: CaptureError | 
 
 
 def _refuse_words(said: argparse.Namespace) -> None:
-    """An InputError where the words contradict each other."""
+    """Raises InputError if the arguments contradict each other."""
     if len(said.filters) > MOST_TENANTS:
         raise InputError(f"each filter has a tenant of its own, and {MOST_TENANTS} are the most")
     if said.accepted is not None and len(said.filters) > 1:
@@ -82,7 +82,7 @@ def _refuse_words(said: argparse.Namespace) -> None:
 
 
 def _begun(capture: Capture, stopping: Stopping) -> tuple[Iterator[Piece], int]:
-    """The pieces of a capture, and the link type of its packets, which the first one tells where the capture does not."""
+    """The pieces of a capture, and the link type of its packets, which the first packet has if the capture does not."""
     pieces = stopping.items(capture.pieces())
     first = next(pieces, None)
     if first is None:
@@ -96,7 +96,7 @@ def _with_first(first: Piece, pieces: Iterator[Piece]) -> Iterator[Piece]:
 
 
 def _tell_words(programs: list[ClassicProgram]) -> None:
-    """Tells of words of the context that a capture has no number for."""
+    """Prints a notice for words of the context that a capture has no number for."""
     for program in programs:
         words = [word for word in program.context_words() if word not in _TOLD]
         if words:
@@ -105,7 +105,7 @@ def _tell_words(programs: list[ClassicProgram]) -> None:
 
 @contextlib.contextmanager
 def _accepting(said: argparse.Namespace, capture: Capture, link_type: int) -> Iterator[CaptureWriter | None]:
-    """What writes packets that are kept to a file, if one is named."""
+    """The writer of packets that are kept, if a file is named for them."""
     from bpfhost.captures.writer import CaptureWriter
 
     if said.accepted is None:

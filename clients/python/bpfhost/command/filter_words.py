@@ -1,4 +1,4 @@
-"""The words of the command where it is about filters as tcpdump writes them."""
+"""The command's arguments for filters written as for tcpdump."""
 
 from __future__ import annotations
 
@@ -17,7 +17,7 @@ _number = in_range(int, "number of at least 0", 0)
 
 
 def add_filter_words(words: _Words) -> None:
-    """The words that take such filters in place of an object."""
+    """The arguments that take such filters in place of an object."""
     _add(words, "check", filters.check, "translate and verify filters")
     dis = _add(words, "dis", filters.dis, "write filters as text, between the classic instructions that they come from")
     dis.add_argument("--form", choices=("d", "dd", "ddd", "bytecode"), help="write the classic program itself, as tcpdump and iptables do")
@@ -33,7 +33,7 @@ def add_filter_words(words: _Words) -> None:
 
 
 def _add(words: _Words, name: str, call: Callable[[argparse.Namespace], int], does: str, is_run: bool = False) -> Parser:
-    """A word with what it calls, and the words that name filters and say how they are read."""
+    """An argument with the function that it calls, and the arguments that name filters and say how to read them."""
     parser = words.add_parser(name, help=does)
     parser.set_defaults(run=call)
     parser.add_argument("--filter", metavar="EXPRESSION", dest="filters", action="append", type=_expression, help="a filter as tcpdump has it")
@@ -63,5 +63,5 @@ def _link_type(word: str) -> int:
     try:
         return link_type_number(word)
     except MissingLibrary:
-        # Then no expression is compiled either, and that is told.
+        # Without libpcap no expression is compiled: that is reported later.
         return ETHERNET

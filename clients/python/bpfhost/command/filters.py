@@ -1,4 +1,4 @@
-"""Filters as tcpdump writes them, for the words `run`, `check`, `dis` and `build`: expressions, and classic programs as texts."""
+"""Filters written as for tcpdump, for `run`, `check`, `dis` and `build`: expressions, and classic programs as text."""
 
 from __future__ import annotations
 
@@ -14,25 +14,25 @@ from bpfhost.errors import BpfhostError, InputError
 from bpfhost.program import disassemble, log_or_fault, verify
 from bpfhost.words import reason_words
 
-# The words that name a filter in place of an object.
+# The arguments that name a filter in place of an object.
 EXPRESSION, FILE = "--filter", "--classic"
 _STANDARD_INPUT = "-"
-# A classic program has some 60 KB of text at most, and what is longer is none.
+# The text of a classic program has at most about 60 KB; longer input is rejected.
 _LONGEST_TEXT = 1 << 20
 
 
 def is_about_filters(words: Sequence[str]) -> bool:
-    """Whether these words of the command name filters."""
+    """Whether these arguments name filters."""
     return any(word.partition("=")[0] in (EXPRESSION, FILE) for word in words)
 
 
 def read_filters(said: argparse.Namespace, link_type: int) -> list[ClassicProgram]:
-    """The filters in their order; a BpfhostError for the first that is refused."""
+    """The filters, in order. Raises BpfhostError for the first that is rejected."""
     return [ClassicProgram.of_expression(of, link_type) if kind == EXPRESSION else _read(of) for kind, of in said.filters]
 
 
 def files_of(said: argparse.Namespace) -> list[str]:
-    """The files that filters are read from, standard input too."""
+    """The files that filters are read from, standard input included."""
     return [of for kind, of in said.filters if kind == FILE]
 
 
@@ -53,7 +53,7 @@ def _translated(said: argparse.Namespace, program: ClassicProgram) -> Translatio
 
 
 def check(said: argparse.Namespace) -> int:
-    """Translates and verifies each filter; the status is 1 where one is refused."""
+    """Translates and verifies each filter; the status is 1 if one is rejected."""
     bpfhost, status = program_of(said), 0
     for kind, of in said.filters:
         try:
@@ -73,7 +73,7 @@ def check(said: argparse.Namespace) -> int:
 
 
 def _sizes(program: ClassicProgram, translation: Translation) -> str:
-    """How large a filter is, in both forms."""
+    """The size of a filter, in both forms."""
     way = "" if translation.is_fast else ", with a call for each load"
     return f": {_many(len(program.instructions), 'instruction')} of classic BPF, {_many(translation.count, 'slot')}{way}"
 
@@ -83,7 +83,7 @@ def _many(count: int, what: str) -> str:
 
 
 def dis(said: argparse.Namespace) -> int:
-    """Writes each filter as slots in text, between the classic instructions that they come from; or the classic program itself."""
+    """Writes each filter as text of slots, each group after the classic instruction that it comes from; or the classic program itself."""
     bpfhost = None if said.form else program_of(said)
     for program in read_filters(said, said.link_type):
         forms = {"d": program.listing, "dd": program.elements, "ddd": program.decimals, "bytecode": program.bytecode}
@@ -110,7 +110,7 @@ def _source(program: ClassicProgram, number: int) -> str:
 
 
 def build(said: argparse.Namespace) -> int:
-    """Writes a filter as a file that is loaded without Python."""
+    """Writes a filter to a file that is loaded without Python."""
     from bpfhost.classic.building import built_filter
     from bpfhost.command.build import write
 

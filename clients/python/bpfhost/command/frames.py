@@ -11,7 +11,7 @@ from bpfhost.replies import read_replies
 
 
 def show_replies(_said: argparse.Namespace) -> int:
-    """Shows the replies on standard input, one on each line."""
+    """Prints the replies on standard input, one on each line."""
     for reply in read_replies(sys.stdin.buffer.read()):
         print(reply)
     return 0
@@ -19,7 +19,7 @@ def show_replies(_said: argparse.Namespace) -> int:
 
 def write_load(said: argparse.Namespace) -> int:
     """Writes a frame that loads the hex lines on standard input."""
-    # What is not even text is refused by its line, as all that is no slot.
+    # Input that is not even text is reported with its line, as is every line that is not a slot.
     lines = sys.stdin.buffer.read().decode(errors="replace")
     sys.stdout.buffer.write(frames.prog_load(said.tenant, slots_of(lines)))
     return 0

@@ -1,4 +1,4 @@
-"""How a run is shown: while it goes on, and at its end."""
+"""What a run prints: its progress, and its results at the end."""
 
 from __future__ import annotations
 
@@ -25,17 +25,17 @@ def _nothing(_outcome: Outcome) -> None:
 
 
 class Shown:
-    """The tables of a run, or its JSON or CSV, as the words of the command ask for them."""
+    """The tables of a run, or its JSON or CSV; the arguments name the form."""
 
     def __init__(self, said: argparse.Namespace, object_file: ObjectFile, loaded: LoadedProgram) -> None:
         self._said, self._object_file, self._loaded = said, object_file, loaded
         self.name: str = said.interface or said.capture
-        # Where the packets that are kept go to standard output, what is told of them goes to standard error.
+        # If the kept packets go to standard output, the report goes to standard error.
         self._output: TextIO = sys.stderr if said.accepted == "-" else sys.stdout
 
     @contextlib.contextmanager
     def advancing(self, capture: Capture) -> Iterator[Advanced]:
-        """What shows how far the run has come: the tables, each time behind so much time, or else how much of the capture is read."""
+        """Shows the progress of a run: the tables again after each interval, or how much of the capture is read."""
         if self._said.every is not None:
             yield _Every(self._said.every, self._show).advanced
             return
@@ -43,7 +43,7 @@ class Shown:
             yield progress
 
     def end(self, outcome: Outcome) -> None:
-        """Shows what came of the run."""
+        """Prints the results of the run."""
         self._show(outcome)
 
     def _show(self, outcome: Outcome) -> None:
@@ -64,12 +64,12 @@ class Shown:
         self._output.flush()
 
 
-# Clears a terminal, and goes to its first line.
+# Clears a terminal, and moves to its first line.
 _CLEAR = "\x1b[2J\x1b[H"
 
 
 class _Every:
-    """Shows something where so much time has gone since it was shown last."""
+    """Prints again once an interval has passed."""
 
     def __init__(self, seconds: float, show: Advanced) -> None:
         self._seconds, self._show = seconds, show
@@ -83,7 +83,7 @@ class _Every:
 
 @contextlib.contextmanager
 def _progress(capture: Capture) -> Iterator[Advanced]:
-    """What shows how much of the capture is read, where standard error is a terminal and rich is there."""
+    """Shows how much of the capture is read, if standard error is a terminal and rich is installed."""
     shown = _progress_bar() if sys.stderr.isatty() else None
     if shown is None:
         yield _nothing

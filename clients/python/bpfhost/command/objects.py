@@ -1,4 +1,4 @@
-"""Objects, for the words that take one: pyelftools is asked for only then."""
+"""Objects, for the commands that take one: pyelftools is imported only then."""
 
 from __future__ import annotations
 
@@ -14,9 +14,9 @@ if TYPE_CHECKING:
 
 
 def read_object(said: argparse.Namespace, path: str) -> ObjectFile:
-    """The object of a file in the form that the words ask for; a MissingPackage where there is no pyelftools.
+    """The object of a file in the form that the arguments ask for. Raises MissingPackage without pyelftools.
 
-    What is changed of its maps is told.
+    Prints what is changed in its maps.
     """
     try:
         from bpfhost.objects import Form, load_object
@@ -29,6 +29,6 @@ def read_object(said: argparse.Namespace, path: str) -> ObjectFile:
 
 
 def tell_changes(what: str, changes: Iterable[str]) -> None:
-    """Tells what is changed of an object or of a program, a line each."""
+    """Prints what is changed in an object or in a program, one line each."""
     for change in changes:
         print(f"bpfhost: {what}: {change}", file=sys.stderr)

@@ -26,12 +26,12 @@ if TYPE_CHECKING:
     from bpfhost.filtering import Outcome, Treatment
 
 _STANDARD_INPUT = "/dev/stdin"
-# The status of a process that a signal ended, as a shell has it, is this and the signal's number: 130 of Ctrl-C.
+# A shell reports a process that a signal ended by this status plus the signal's number: 130 for Ctrl-C.
 BY_SIGNAL = 128
 
 
 def run(said: argparse.Namespace) -> int:
-    """Loads the filter, runs it, and shows what came of it; the status is 1 where the capture is wrong behind some packet."""
+    """Loads the filter, runs it, and prints the results; the status is 1 if the capture is wrong after some packet."""
     path = input_of(said)
     object_file = read_object(said, said.object)
     from bpfhost.command.show import demand_map
@@ -61,7 +61,7 @@ def run(said: argparse.Namespace) -> int:
 
 
 def input_of(said: argparse.Namespace) -> str:
-    """The path of the capture, or the name of the interface; the words are wrong where not one of them is named."""
+    """The path of the capture, or the name of the interface; wrong arguments unless exactly one of them is given."""
     if (said.capture is None) == (said.interface is None):
         said.wrong("the following arguments are required: CAPTURE, or --interface IF in its place")
     if said.interface is not None:
@@ -78,7 +78,7 @@ def opened(said: argparse.Namespace, path: str) -> contextlib.AbstractContextMan
 
 
 def refuse_loss(accepted: str | None, *read: tuple[str, str]) -> None:
-    """An InputError where the packets that are kept would be written over one of the files that are read, each told with what it is."""
+    """Raises InputError if the kept packets would overwrite one of the files that are read; each path comes with what it is."""
     for path, what in read:
         if accepted is not None and os.path.exists(accepted) and os.path.exists(path) and os.path.samefile(accepted, path):
             raise InputError(f"{accepted}: the packets that are kept can't be written over the {what}")
@@ -86,7 +86,7 @@ def refuse_loss(accepted: str | None, *read: tuple[str, str]) -> None:
 
 @contextlib.contextmanager
 def _accepting(said: argparse.Namespace, capture: Capture) -> Iterator[CaptureWriter | None]:
-    """What writes packets that are kept to a file, or to standard output, if one is named."""
+    """The writer of packets that are kept, to a file or to standard output, if one is named."""
     from bpfhost.captures.writer import CaptureWriter
 
     if said.accepted is None:
@@ -102,7 +102,7 @@ def _accepting(said: argparse.Namespace, capture: Capture) -> Iterator[CaptureWr
 
 
 def _noted(name: str, treatment: Treatment, outcome: Outcome, dropped: int, unwritten: CaptureError | None) -> int:
-    """Tells how packets were run that are not as they were on the wire, and what is wrong, and gives the status."""
+    """Prints how packets were run that are not as they were on the wire, and what went wrong; returns the status."""
     if dropped:
         print(f"bpfhost: {name}: {_packets(dropped)} dropped by the kernel, as the filter was too slow for them", file=sys.stderr)
     for note in _notes(treatment, outcome):

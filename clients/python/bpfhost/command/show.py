@@ -1,4 +1,4 @@
-"""What came of a run, as tables or as JSON."""
+"""The results of a run, as tables, JSON or CSV."""
 
 from __future__ import annotations
 
@@ -18,15 +18,15 @@ from bpfhost.objects import ObjectFile, ObjectMap
 if TYPE_CHECKING:
     from rich.table import Table
 
-# So many results stand in the table, the most frequent ones; JSON has all.
+# The table has this many results, the most frequent ones; JSON has all.
 _MOST_RESULTS = 10
-# The columns of a table that goes to no terminal: it is as wide as it needs to be.
+# The width of a table that does not go to a terminal: as wide as it needs to be.
 _WIDE = 10_000
 
 
 @dataclass(frozen=True)
 class ShownMap:
-    """A map with the keys and values that it had behind the last packet."""
+    """A map with its keys and values after the last packet."""
 
     declared: ObjectMap
     entries: list[tuple[bytes, bytes]]
@@ -34,13 +34,13 @@ class ShownMap:
 
 @dataclass(frozen=True)
 class Order:
-    """Which entries of a map its table has: all in their order, or so many with the greatest numbers in a field."""
+    """Which entries the table of a map has: all in their order, or a number of those with the greatest values in a field."""
 
     top: int | None = None
     by: str | None = None
 
     def of(self, object_file: ObjectFile, shown: ShownMap) -> list[tuple[bytes, bytes]]:
-        """The entries that are shown; of a map that does not have the field, the first ones in their order."""
+        """The entries to print; for a map that does not have the field, the first ones in their order."""
         entries = shown.entries
         if self.top is None and self.by is None:
             return entries
@@ -51,7 +51,7 @@ class Order:
         return entries[: self.top]
 
     def told(self, are_some: bool) -> str:
-        """What a table says of its order."""
+        """What a table says about its order."""
         if self.top is None or not are_some:
             return ""
         return f"; the first {self.top:,}{f' by {self.by}' if self.by else ''}"
@@ -66,7 +66,7 @@ class Order:
 
 @dataclass(frozen=True)
 class Report:
-    """All that a run is told of."""
+    """The report on a run."""
 
     object_file: ObjectFile
     section: str
@@ -81,7 +81,7 @@ class Report:
     def of(
         cls, object_file: ObjectFile, loaded: LoadedProgram, capture: str, tenants: int, outcome: Outcome, order: Order = Order()
     ) -> Report:
-        """The report on a run, with the maps as a tenant has them now."""
+        """The report on a run, with the contents of the maps now."""
         maps = [ShownMap(each.declared, each.map.entries()) for each in loaded.maps]
         return cls(object_file, loaded.program.section, loaded.program.name, capture, tenants, outcome, maps, order)
 
@@ -94,7 +94,7 @@ def _microseconds(outcome: Outcome) -> float | None:
 
 
 def write_json(report: Report, output: TextIO) -> None:
-    """Writes the report as one object of JSON."""
+    """Writes the report as one JSON object."""
     outcome = report.outcome
     told = {
         "object": report.object_file.path,
@@ -148,7 +148,7 @@ def _plain(object_file: ObjectFile, type_id: int | None, data: bytes) -> object:
 
 
 def write_csv(report: Report, name: str, output: TextIO) -> None:
-    """Writes the entries of one map as CSV, a column for each field; an InputError where there is no such map."""
+    """Writes the entries of one map as CSV, with a column for each field. Raises InputError if there is no such map."""
     demand_map(report.object_file, name)
     shown = next(each for each in report.maps if each.declared.name == name)
     entries = [dict(_columns("key", key) + _columns("value", value)) for key, value in _told_entries(report, shown)]
@@ -159,7 +159,7 @@ def write_csv(report: Report, name: str, output: TextIO) -> None:
 
 
 def demand_map(object_file: ObjectFile, name: str) -> None:
-    """An InputError where the object has no map of this name."""
+    """Raises InputError if the object has no map of this name."""
     names = [declared.name for declared in object_file.maps]
     if name not in names:
         raise InputError(f"{object_file.path}: there is no map {name} to write as CSV: its maps are {', '.join(names) or 'none'}")
@@ -192,12 +192,12 @@ def _columns(name: str, value: object) -> list[tuple[str, object]]:
 
 
 def write_tables(report: Report, output: TextIO) -> None:
-    """Writes the report as tables; a MissingPackage where there is no rich."""
+    """Writes the report as tables. Raises MissingPackage without rich."""
     try:
         from rich.console import Console
     except ModuleNotFoundError as error:
         raise MissingPackage("rich", "python3-rich") from error
-    # Where no terminal sets a width, a table is as wide as it needs to be, and lines end without spaces.
+    # If no terminal sets a width, a table is as wide as it needs to be, and lines end without spaces.
     is_terminal = output.isatty()
     console = Console(markup=False, emoji=False, highlight=False, width=None if is_terminal else _WIDE)
     with console.capture() as captured:
@@ -237,14 +237,14 @@ def _counts(outcome: Outcome) -> Table:
 
 
 def _time(outcome: Outcome) -> str:
-    """The time, in a line of its own: it has other digits in each run, and the tables are the same."""
+    """The time, on a line of its own: it differs in each run, and the tables do not."""
     time = _microseconds(outcome)
     return "time a packet: -" if time is None else f"time a packet: {time:.2f} us"
 
 
 def _results(outcome: Outcome) -> Table:
     table = _table(("result", "right"), ("packets", "right"))
-    # Of results that are as frequent, the lower one goes first.
+    # Of equally frequent results, the lower one comes first.
     frequent = sorted(outcome.results.items(), key=lambda item: (-item[1], item[0]))
     for result, count in frequent[:_MOST_RESULTS]:
         table.add_row(_result(result), f"{count:,}")
@@ -255,14 +255,14 @@ def _results(outcome: Outcome) -> Table:
 
 
 def _result(result: int) -> str:
-    """A result, which has 32 bits; that of `return -1` as that, too."""
+    """A result, which has 32 bits; that of `return -1` with its signed value, too."""
     return f"{result:,} ({result - (1 << 32)})" if result >> 31 else f"{result:,}"
 
 
 def _map_parts(report: Report, shown: ShownMap) -> Iterator[str | Table]:
     object_file, declared = report.object_file, shown.declared
     is_array = declared.map_type == MapType.ARRAY
-    # The elements of an array are all there, and most have often not been written to.
+    # An array has all its elements, and most were often never written.
     entries = [entry for entry in report.order.of(object_file, shown) if not is_array or declared.max_entries == 1 or any(entry[1])]
     yield _map_title(declared, len(shown.entries), len(entries)) + report.order.told(len(entries) < len(shown.entries))
     if not entries:

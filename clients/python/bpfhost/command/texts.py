@@ -27,7 +27,7 @@ def _decoded(name: str, given: bytes) -> str:
 
 
 def asm(said: argparse.Namespace) -> int:
-    """Writes the slots of a text as hex lines; a fault is told with its line."""
+    """Writes the slots of a text as hex lines; an error names its line."""
     name, given = _read(said.file)
     text = _decoded(name, given)
     sys.stdout.write(hex_lines(assemble(find_program(said.bpfhost), text, name)))

@@ -1,4 +1,4 @@
-"""`--version`: which client, and which program it uses."""
+"""`--version`: the client's version, and the program that it uses."""
 
 from __future__ import annotations
 
@@ -9,12 +9,12 @@ from pathlib import Path
 from bpfhost.errors import HostError
 from bpfhost.program import find_program
 
-# What tools/quick-build puts beside programs that it builds without their proofs.
+# The file that tools/quick-build leaves next to programs that it builds without their proofs.
 UNPROVED = "UNPROVED"
 
 
 def is_unproved(program: str) -> bool:
-    """Whether a file beside the program says that it was built without proofs."""
+    """Whether a file next to the program says that it was built without proofs."""
     return (Path(program).absolute().parent / UNPROVED).is_file()
 
 
@@ -41,7 +41,7 @@ class Version(argparse.Action):
 
 
 def program_of(said: argparse.Namespace) -> str:
-    """The program that words name, or that is found; one that is built without proofs is told once."""
+    """The program that the arguments name, or that is found; prints a notice, once, for one that is built without proofs."""
     program = find_program(said.bpfhost)
     if is_unproved(program):
         print(f"bpfhost: {program} is built without proofs", file=sys.stderr)

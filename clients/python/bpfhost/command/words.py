@@ -1,4 +1,4 @@
-"""What words of `run` mean that several of its parts read."""
+"""Values of arguments of `run` that several of its parts read."""
 
 from __future__ import annotations
 
@@ -10,7 +10,7 @@ _UNITS = {"ms": 0.001, "s": 1.0, "": 1.0, "m": 60.0}
 
 
 def seconds(word: str) -> float:
-    """A time, as `1s`, `500ms`, `2m` or `1.5`; a ValueError where it is none, or not above 0."""
+    """A time, as `1s`, `500ms`, `2m` or `1.5`. Raises ValueError if it is not a time above 0."""
     found = _SECONDS.fullmatch(word)
     if found is None or float(found[1]) == 0:
         raise ValueError(word)
@@ -18,7 +18,7 @@ def seconds(word: str) -> float:
 
 
 def setting(word: str) -> tuple[str, str]:
-    """A name and a value, as `limit=10`; a ValueError where there is no name."""
+    """A name and a value, as `limit=10`. Raises ValueError without a name."""
     name, sign, value = word.partition("=")
     if not name or not sign:
         raise ValueError(word)
@@ -26,7 +26,7 @@ def setting(word: str) -> tuple[str, str]:
 
 
 def number_at(value: object, path: str) -> float | None:
-    """The number of a field of a plain value, as `bytes` or `flow.packets`; None where there is none."""
+    """The number in a field of a plain value, as `bytes` or `flow.packets`; None if there is none."""
     for name in path.split("."):
         if not isinstance(value, Mapping) or name not in value:
             return None
@@ -35,7 +35,7 @@ def number_at(value: object, path: str) -> float | None:
 
 
 def first_number(value: object) -> float | None:
-    """The value itself where it is a number, or else the first of its fields that is one."""
+    """The value itself if it is a number, else the first of its fields that is one."""
     if isinstance(value, Mapping):
         return next((number for number in map(first_number, value.values()) if number is not None), None)
     return value if isinstance(value, int | float) else None

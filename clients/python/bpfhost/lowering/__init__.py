@@ -1,14 +1,14 @@
-"""Programs in a form that the host accepts, where the form that a compiler wrote is refused.
+"""Writes a program in a form that the host accepts, if the form that the compiler wrote is rejected.
 
-The host's verdict is a written definition, and stays (docs/VERIFIER.md). What a loader may do is to write the same program otherwise, as a
-linker does. These are the steps, each only where it is needed:
+The verifier's rules are a written definition, and do not change (docs/VERIFIER.md). A loader may write the same program in another form, as
+a linker does. These are the steps; each is done only if it is needed:
 
 1. Calls of functions of the object are inlined (`inlining`, `frames`).
 2. Loops whose count is bounded are unrolled (`loops`).
-3. Blocks stand in topological order, so that all jumps go forward; what no path reaches is left out (`graph`).
-4. Blocks that several edges lead to are written once for each edge, where facts are lost there (`copies`).
+3. Blocks are put in topological order, so that all jumps go forward; unreachable code is removed (`graph`).
+4. Blocks with several incoming edges are copied for each edge, if facts are lost where the edges meet (`copies`).
 
-`checker` looks at the result, apart from the steps: each path of it is a path of the program, with the same instructions.
+`checker` checks the result independently of the steps: each path of it is a path of the program, with the same instructions.
 """
 
 from bpfhost.lowering.checker import WrongForm

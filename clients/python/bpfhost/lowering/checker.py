@@ -1,16 +1,16 @@
-"""The checker of a form: each path of it is a path of the program as it was, with the same instructions.
+"""The checker of a form: each path of it is a path of the original program, with the same instructions.
 
-It uses nothing of the steps that wrote the form but what they state: for each slot of the form where it comes from, and for each inlined
-call how its registers and its stack are named (`Frame`). It decodes the form again, and walks over it from the first slot on, in the order
-of the slots, since all jumps have to go forward. On the way it follows the program as it was, at the place that each slot names:
+It takes from the steps that wrote the form only what they state: where each slot of the form comes from, and how each inlined call renames
+its registers and its stack (`Frame`). It decodes the form again, and reads it from the first slot on, in the order of the slots, since all
+jumps have to go forward. At the same time it follows the original program, at the place that each slot names:
 
-- Each instruction of the form is what the instruction at that place becomes in its frame.
-- Each edge of the form leads to a slot that names the place where the program goes on. On the way there the program may pass what leaves
-  no trace: jumps, calls and exits of inlined functions for which nothing is saved, and comparisons that the numbers known on this edge
-  decide (`values`).
+- Each instruction of the form is the instruction at that place, renamed for its frame.
+- Each edge of the form leads to a slot that names the place at which the program continues. In between, the program may pass what has no
+  slots in the form: jumps, calls and exits of inlined functions for which nothing is saved, and comparisons that are decided by the numbers
+  known on this edge (`values`).
 
-A frame is right if its registers are other names of the same registers, if its stack and what is saved for it lie below its caller's, and
-if all that it writes of registers 6 to 9, and its caller reads later, is saved before it and read again behind it.
+A frame is right if its registers are other names of the same registers, if its stack and its saved registers are below its caller's stack,
+and if each of the registers 6 to 9 that it writes and its caller reads later is saved before it and restored after it.
 """
 
 from __future__ import annotations
@@ -30,14 +30,14 @@ _WORD = 8
 
 
 class WrongForm(LoweringError):
-    """A form that is not the program that it should be: a fault of this package, and nothing is loaded."""
+    """The form is not the same program: a bug of this package. Nothing is loaded."""
 
     def __init__(self, what: str) -> None:
         super().__init__(f"a form is not loaded, as it is another program: {what}")
 
 
 def check(functions: Sequence[Function], frames: Frames, slots: bytes, origins: Sequence[Origin]) -> None:
-    """A WrongForm where the form of these slots is another program than function 0 with what it calls."""
+    """Raises WrongForm if the form of these slots is another program than function 0 with all that it calls."""
     if len(slots) % SLOT_SIZE or not 1 <= len(slots) // SLOT_SIZE <= MOST_SLOTS or len(origins) != len(slots) // SLOT_SIZE:
         raise WrongForm(f"{len(slots)} bytes with {len(origins)} origins are no program")
     program = _Program(functions, frames)
@@ -47,7 +47,7 @@ def check(functions: Sequence[Function], frames: Frames, slots: bytes, origins: 
 
 
 class _Program:
-    """The program as it was, with its calls in their frames: the places of it, and what stands there by the names of a form."""
+    """The original program, with each call in a frame: its places, and the instruction at each, renamed as in a form."""
 
     def __init__(self, functions: Sequence[Function], frames: Frames) -> None:
         self.frames = frames
@@ -57,7 +57,7 @@ class _Program:
         self.inner = {(frame.caller, frame.call): number for number, frame in enumerate(frames)}
 
     def check_frames(self) -> None:
-        """Frame 0 is the program itself, and each other one is below its caller."""
+        """Frame 0 is the program itself, and the stack of each other frame is below its caller's."""
         if self.frames[0] != Frame(0, None, 0, tuple(range(FRAME_POINTER + 1)), 0, ()):
             raise WrongForm("the first frame is not that of the program")
         for number, frame in enumerate(self.frames[1:], 1):
@@ -82,7 +82,7 @@ class _Program:
             raise WrongForm(f"frame {number} is outside of the stack")
 
     def instruction(self, place: Origin) -> Instruction:
-        """The instruction at a place, as the function has it; a WrongForm where there is none."""
+        """The instruction at a place, as in the function. Raises WrongForm if there is none."""
         found = self.functions[place.frame].instructions.get(place.slot) if 0 <= place.frame < len(self.frames) else None
         if found is None:
             raise WrongForm(f"there is no instruction at {place}")
@@ -96,7 +96,7 @@ class _Program:
         return called
 
     def becomes(self, place: Origin) -> tuple[Instruction, ...]:
-        """What the instruction at a place is in a form: nothing of a jump, and of calls and exits what saves registers."""
+        """What the instruction at a place becomes in a form: nothing for a jump; for calls and exits, the instructions that save registers."""
         found, frame = self.instruction(place), self.frames[place.frame]
         if found.is_goto:
             return ()
@@ -108,7 +108,7 @@ class _Program:
         return _named(found, frame)
 
     def behind(self, place: Origin, is_taken: bool) -> Origin | None:
-        """The place that follows, where a comparison holds or does not; None behind the program's exit."""
+        """The next place, if a comparison is true or false; None after the program's exit."""
         found, function, frame = self.instruction(place), self.functions[place.frame], self.frames[place.frame]
         if found.calls_function:
             return Origin(self._called(place), 0)
@@ -117,7 +117,7 @@ class _Program:
         return Origin(place.frame, function.target(place.slot) if found.is_goto or is_taken else function.after(place.slot))
 
     def leads(self, place: Origin | None, state: State, goal: Origin) -> bool:
-        """Whether the program comes from one place to another without a trace, where this is known."""
+        """Whether the program gets from one place to another without an instruction of the form, given what is known."""
         passed = set()
         while place is not None and place != goal:
             if place in passed or self.becomes(place) and not self.instruction(place).is_comparison:
@@ -134,7 +134,7 @@ class _Program:
 
 
 def _named(found: Instruction, frame: Frame) -> tuple[Instruction, ...]:
-    """An instruction that stays, by the names of its frame: written apart from what writes it."""
+    """An instruction that stays, renamed for its frame; this code is separate from the code that writes the form."""
     dst, src = found.dst, found.src
     is_operator = found.kind in (op.ALU, op.ALU64) and found.code != op.END
     if found.kind in (op.LDX, op.STX) or found.from_register and (is_operator or found.is_comparison):
@@ -162,7 +162,7 @@ class _Walk:
         self._states: dict[int, State] = {}
 
     def check(self) -> None:
-        """Looks at each instruction and each edge."""
+        """Checks each instruction and each edge."""
         self._arrive(0, Origin(0, 0), State())
         for slot, found in self._form.items():
             state = self._states.pop(slot, None)
@@ -191,7 +191,7 @@ class _Walk:
             self._go(slot + found.slots, slot, behind, state)
 
     def _compare(self, slot: int, found: Instruction, wanted: Instruction, state: State) -> None:
-        """A comparison is that of its place, or its opposite with exchanged edges."""
+        """A comparison is the one at its place, or its opposite with the edges exchanged."""
         place = self._origins[slot]
         is_opposite = found.code != wanted.code
         if found.jumping(0) != ((wanted.opposite() or wanted) if is_opposite else wanted).jumping(0):
@@ -202,7 +202,7 @@ class _Walk:
             self._go(target, slot, behind, known or state.copy())
 
     def _go(self, target: int, slot: int, behind: Origin | None, state: State) -> None:
-        """An edge of the form, from where the program goes on at a place."""
+        """Checks an edge of the form, from the place at which the program continues."""
         if target <= slot or target not in self._form:
             raise WrongForm(f"slot {slot} leads to slot {target}, where no later instruction begins")
         if behind is None:
@@ -219,7 +219,7 @@ class _Walk:
 
 
 def _check_registers(program: _Program, form: Mapping[int, Instruction], origins: Sequence[Origin]) -> None:
-    """Registers 6 to 9 that a frame writes, and does not save, are not read by its caller later."""
+    """Registers 6 to 9 that a frame writes and does not save are not read by its caller later."""
     written: list[set[int]] = [set() for _ in program.frames]
     for slot, found in form.items():
         if not (program.instruction(origins[slot]).is_exit and found.opcode == op.LOAD_64):
@@ -236,7 +236,7 @@ def _check_registers(program: _Program, form: Mapping[int, Instruction], origins
 
 
 def _is_read(function: Function, begin: int, register: int) -> bool:
-    """Whether a path from a slot on reads a register before it writes it."""
+    """Whether a path from a slot reads a register before it writes it."""
     seen, waiting = {begin}, [begin]
     while waiting:
         slot = waiting.pop()

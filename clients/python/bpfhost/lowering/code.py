@@ -14,9 +14,9 @@ from bpfhost.objects.model import ObjectFile, ObjectProgram
 
 @dataclass(frozen=True)
 class Function:
-    """A function with its instructions by their slots, and the functions that they call, by their numbers in `functions_of`.
+    """A function with its instructions by their slots, and the functions that it calls, by their numbers in `functions_of`.
 
-    `linked` are its slots, with the numbers of maps in the object.
+    `linked` has its slots, with the numbers of maps in the object.
     """
 
     declared: ObjectProgram
@@ -25,12 +25,12 @@ class Function:
     calls: Mapping[int, int]
 
     def where(self, slot: int) -> str:
-        """The line of the source that a slot is of, or else function and slot."""
+        """The line of the source that a slot comes from, or else function and slot."""
         line = self.declared.line_of(slot)
         return f"{self.declared.name}, slot {slot}" if line is None else str(line)
 
     def after(self, slot: int) -> int:
-        """The slot behind an instruction."""
+        """The slot after an instruction."""
         return slot + self.instructions[slot].slots
 
     def target(self, slot: int) -> int:
@@ -61,7 +61,7 @@ class Function:
 
     @cached_property
     def live(self) -> Mapping[int, frozenset[int]]:
-        """Before each instruction the callee-saved registers that are read later, before anything is written there."""
+        """For each instruction, the callee-saved registers that are live before it."""
         found: dict[int, frozenset[int]] = {slot: frozenset() for slot in self.instructions}
         before: dict[int, list[int]] = {slot: [] for slot in self.instructions}
         for slot, following in self.successors.items():
@@ -79,9 +79,9 @@ class Function:
 
 
 def functions_of(object_file: ObjectFile, program: ObjectProgram) -> tuple[Function, ...]:
-    """The program and then the functions of its object; maps are named by their numbers in the object.
+    """The program, followed by the functions of its object; maps are named by their numbers in the object.
 
-    A LoweringError where an instruction is none, or a jump leads to none.
+    Raises LoweringError for an invalid instruction, or for a jump out of the function.
     """
     numbers = range(len(object_file.maps))
     needed = _needed(object_file, program)
@@ -89,7 +89,7 @@ def functions_of(object_file: ObjectFile, program: ObjectProgram) -> tuple[Funct
 
 
 def _needed(object_file: ObjectFile, program: ObjectProgram) -> set[int]:
-    """The numbers in the object of the functions that are called, and -1, which stands for the program."""
+    """The numbers in the object of the functions that are called, and -1 for the program."""
     needed, waiting = {-1}, [program]
     while waiting:
         called = {call.function for call in waiting.pop().calls} - needed
@@ -107,7 +107,7 @@ def _function(declared: ObjectProgram, maps: Sequence[int], is_needed: bool) -> 
 
 
 def _check(function: Function) -> None:
-    """A LoweringError for the first instruction that is none, or that leads to none."""
+    """Raises LoweringError for the first instruction that is invalid or jumps out of the function."""
     for slot, found in function.instructions.items():
         if not is_known(found) or max(found.dst, found.src) > 10:
             raise LoweringError(f"{function.where(slot)}: no instruction has the bytes of slot {slot} of {function.declared.name}")

@@ -1,4 +1,4 @@
-"""Copies of blocks: one that several edges lead to is written once for each, so that none of them loses what is known on it."""
+"""Copies of blocks: a block with several incoming edges is copied for each, so that none of them loses what is known on it."""
 
 from __future__ import annotations
 
@@ -8,9 +8,9 @@ from dataclasses import dataclass
 from bpfhost.lowering.graph import Block, Graph, Written, predecessors, written
 from bpfhost.numbers import MOST_SLOTS
 
-# The most slots of a block that is copied: small ones are tried first.
+# The most slots of a block that is copied; small ones are tried first.
 SIZES = (4, 8, 16)
-# So many forms of a program are tried at most.
+# The most forms of a program that are tried.
 MOST_TRIES = 48
 
 Refusal = tuple[int, int]
@@ -19,24 +19,24 @@ Ask = Callable[[Written], Refusal | None]
 
 @dataclass(frozen=True)
 class Copied:
-    """A graph with copies: `sources` has the block of the original graph that each one is of."""
+    """A graph with copies: `sources` has the block of the original graph for each block."""
 
     graph: dict[int, Block]
     sources: dict[int, int]
 
 
 def copied(graph: Graph, chosen: Collection[int]) -> Copied | None:
-    """The graph with a copy of each chosen block for each edge that leads there; None where that has too many slots."""
+    """The graph with a copy of each chosen block for each edge that leads to it; None if that has too many slots."""
     return _Copying(graph, chosen).copied()
 
 
 class _Copying:
-    """Follows the copies from the first block on."""
+    """Follows the copies from the first block."""
 
     def __init__(self, graph: Graph, chosen: Collection[int]) -> None:
         self._graph = graph
         self._chosen = chosen
-        # The shared copy of each block that is not chosen.
+        # The one shared copy of each block that is not chosen.
         self._shared: dict[int, int] = {}
         self._sources: dict[int, int] = {}
         self._waiting: list[int] = []
@@ -75,10 +75,10 @@ class Accepted:
 
 
 def with_copies(graph: Graph, refused: Refusal, ask: Ask) -> Accepted | None:
-    """The form with the fewest copies that is found and accepted, of a graph whose plain form is refused; None where none is.
+    """The accepted form with the fewest copies that is found, for a graph whose plain form is rejected; None if there is none.
 
-    What a refused instruction lacks was lost where edges meet above it. So the nearest such block, and those from there down to the
-    instruction, are copied for each edge, and the verdict is asked again. Small blocks are tried first, then larger ones.
+    A fact that a rejected instruction needs was lost where edges meet before it. So the nearest such block, and the blocks from there to
+    the instruction, are copied for each edge, and the new form is verified. Small blocks are tried first, then larger ones.
     """
     tries = iter(range(MOST_TRIES))
     for size in SIZES:
@@ -89,7 +89,7 @@ def with_copies(graph: Graph, refused: Refusal, ask: Ask) -> Accepted | None:
 
 
 def _with_copies_of(graph: Graph, size: int, refused: Refusal | None, ask: Ask, tries: Iterator[int]) -> Accepted | None:
-    """Copies more and more blocks of so many slots at most, until a form is accepted, or nothing more can be copied."""
+    """Copies more and more blocks of at most so many slots, until a form is accepted or nothing more can be copied."""
     chosen: set[int] = set()
     now = copied(graph, chosen)
     while now is not None and next(tries, None) is not None:
@@ -105,7 +105,7 @@ def _with_copies_of(graph: Graph, size: int, refused: Refusal | None, ask: Ask, 
 
 
 def _to_copy(now: Copied, form: Written, slot: int, size: int) -> set[int]:
-    """The blocks from the nearest one above a slot that several edges lead to, down to the slot's; none where one of them is too large."""
+    """The blocks from the nearest one before a slot that has several incoming edges, to the slot's; none if one of them is too large."""
     before = predecessors(now.graph)
     number = form.blocks[slot]
     found = {number}

@@ -1,4 +1,4 @@
-"""What stops lowering."""
+"""The errors of lowering."""
 
 from __future__ import annotations
 
@@ -6,11 +6,11 @@ from bpfhost.errors import BpfhostError
 
 
 class LoweringError(BpfhostError):
-    """A program that can't be written in a form that the host takes; the text is one sentence."""
+    """A program that can't be written in a form that the host accepts; the text is one sentence."""
 
 
 class Cycle(Exception):
-    """Blocks that lead to one another in a circle, by their numbers: the graph has no topological order."""
+    """Blocks that form a cycle, by their numbers: the graph has no topological order."""
 
     def __init__(self, blocks: list[int]) -> None:
         super().__init__(f"blocks {blocks} are a cycle")

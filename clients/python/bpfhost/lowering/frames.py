@@ -1,9 +1,8 @@
-"""Frames: where the registers and the stack of an inlined function are.
+"""Frames: the place of an inlined function's registers and stack.
 
-A call of a function of the object leaves registers 6 to 9 and the caller's stack as they are. The code of an inlined function has them
-in common with its caller. So its stack begins below its caller's, its registers 6 to 9 are given such names that as few as possible of
-those that its caller needs later are written to, and those few are saved below the caller's stack before the call, and read again behind
-it.
+A call of a function of the object keeps registers 6 to 9 and the caller's stack. The code of an inlined function shares them with its
+caller. So its stack begins below its caller's. Its registers 6 to 9 are renamed such that it overwrites as few as possible of those that
+its caller reads later; these few are saved below the caller's stack before the call, and restored after it.
 """
 
 from __future__ import annotations
@@ -19,7 +18,7 @@ from bpfhost.lowering.values import STACK_SIZE
 from bpfhost.numbers import MOST_SLOTS
 
 _WORD = 8
-# The most calls inside of one another; a kernel has eight frames.
+# The deepest nesting of calls; the kernel, too, has eight frames.
 DEEPEST = 32
 
 
@@ -27,9 +26,9 @@ DEEPEST = 32
 class Frame:
     """One call of a function, inlined; or the program itself, which has no caller.
 
-    `function` is a number of `functions_of`, `caller` a frame and `call` the slot of the call there. Register r of the function is
-    register `registers[r]`, and its frame pointer is `depth` bytes below that of the program. `saved` are registers by the names of the
-    program, each with its place in the stack as an offset from the program's frame pointer.
+    `function` is a number of `functions_of`, `caller` a frame and `call` the slot of the call in it. Register r of the function is register
+    `registers[r]`, and its frame pointer is `depth` bytes below that of the program. `saved` has registers by the names of the program,
+    each with its place in the stack as an offset from the program's frame pointer.
     """
 
     function: int
@@ -44,7 +43,7 @@ Frames = tuple[Frame, ...]
 
 
 def moved(found: Instruction, frame: Frame) -> tuple[Instruction, ...]:
-    """An instruction of a frame's function by the names and in the stack of the program."""
+    """An instruction of a frame's function with the names and the stack of the program."""
     renamed = op.renamed(found, frame.registers)
     if not frame.depth:
         return (renamed,)
@@ -55,7 +54,7 @@ def moved(found: Instruction, frame: Frame) -> tuple[Instruction, ...]:
 
 
 def _is_odd(found: Instruction) -> bool:
-    """Whether an instruction has the frame pointer elsewhere than in an address or as what is copied: no compiler writes that."""
+    """Whether an instruction uses the frame pointer other than in an address or as the source of a copy: no compiler writes that."""
     if found.kind == op.STX:
         return found.src == FRAME_POINTER
     is_copy = found.opcode == op.MOVE_64 and not found.offset
@@ -63,24 +62,24 @@ def _is_odd(found: Instruction) -> bool:
 
 
 def saving(frame: Frame) -> tuple[Instruction, ...]:
-    """What saves registers of the caller before a frame's code."""
+    """The instructions that save registers of the caller before a frame's code."""
     return tuple(Instruction(op.STORE_64, FRAME_POINTER, register, place, 0) for register, place in frame.saved)
 
 
 def restoring(frame: Frame) -> tuple[Instruction, ...]:
-    """What reads them again behind it."""
+    """The instructions that restore them after it."""
     return tuple(Instruction(op.LOAD_64, register, FRAME_POINTER, place, 0) for register, place in frame.saved)
 
 
 @dataclass
 class _Call:
-    """A frame while it is not known yet where it is: calls in it by their slots, and what it writes of registers 6 to 9."""
+    """A frame that has no place yet: its calls by their slots, and which of the registers 6 to 9 it writes."""
 
     function: int
     slot: int
     inner: list[_Call]
     writes: frozenset[int]
-    # What registers 6 to 9 are by the names of the caller, and those of the caller that are saved.
+    # The names of registers 6 to 9 in the caller, and the registers of the caller that are saved.
     names: dict[int, int]
     saved: tuple[int, ...]
 
@@ -88,13 +87,13 @@ class _Call:
 def frames_of(functions: Sequence[Function]) -> Frames:
     """The frames of the program, which is function 0, and of all that it calls, each caller before its callees.
 
-    A LoweringError where a function calls itself, also through others, or where stack or slots are too few.
+    Raises LoweringError if a function calls itself, also indirectly, or if it takes too much stack or too many slots.
     """
     return tuple(_Placing(functions).frames(_Calls(functions).call(0, 0, ())))
 
 
 class _Calls:
-    """Follows calls, and counts the slots of what they lead to."""
+    """Follows calls, and counts the slots of the functions that they lead to."""
 
     def __init__(self, functions: Sequence[Function]) -> None:
         self._functions = functions
@@ -121,7 +120,7 @@ class _Calls:
         return f"{function.where(slot)}: {names}, and a function that calls itself can't be inlined"
 
     def _named(self, caller: Function, call: _Call) -> _Call:
-        """The call with names for its registers: those that it writes are not needed by the caller later, as far as there are such."""
+        """The call with names for its registers: as far as possible, it writes only registers that the caller does not need later."""
         needed = caller.live[caller.after(call.slot)]
         free = [register for register in CALLEE_SAVED if register not in needed]
         wanted = sorted(call.writes, key=lambda register: register not in free)
@@ -139,7 +138,7 @@ class _Calls:
 
 
 def _written(function: Function, inner: Sequence[_Call]) -> frozenset[int]:
-    """The registers 6 to 9 that are not what they were, when the function ends."""
+    """The registers 6 to 9 that are changed when the function ends."""
     own = {register for found in function.instructions.values() for register in op.writes(found)} & set(CALLEE_SAVED)
     return frozenset(own.union(*({call.names[register] for register in call.writes} - set(call.saved) for call in inner)))
 

@@ -1,4 +1,4 @@
-"""Control-flow graphs: a function as blocks, blocks in topological order, and the slots that they are written as."""
+"""Control-flow graphs: a function as basic blocks, blocks in topological order, and the slots that they are written as."""
 
 from __future__ import annotations
 
@@ -11,7 +11,7 @@ from bpfhost.lowering.instructions import Instruction, goto
 
 
 class Origin(NamedTuple):
-    """Where an instruction comes from: a frame by its number, a slot of its function, and which one of those that the slot became."""
+    """The origin of an instruction: the number of a frame, a slot of its function, and an index among the instructions that the slot became."""
 
     frame: int
     slot: int
@@ -29,8 +29,8 @@ class Step(NamedTuple):
 class Block:
     """Instructions that run one after another.
 
-    Behind them, `jump` is a comparison that leads to block `taken` where it holds, and else to `next`; without one it goes on to `next`,
-    and without that the last instruction ends the program. `origin` is where it begins.
+    After them, `jump` is a comparison: to block `taken` if it is true, and else to `next`. Without `jump` the block continues at `next`;
+    without `next` its last instruction ends the program. `origin` is the place at which it begins.
     """
 
     origin: Origin
@@ -40,17 +40,17 @@ class Block:
     taken: int | None = None
 
     def successors(self) -> tuple[int, ...]:
-        """The blocks that may follow: first the one that is jumped to."""
+        """The successors, the target of the jump first."""
         return tuple(each for each in (self.taken, self.next) if each is not None)
 
     def leading(self, to: Callable[[int], int]) -> Block:
-        """The block with other numbers for those that follow."""
+        """The block with other numbers for its successors."""
         taken = None if self.taken is None else to(self.taken)
         return replace(self, next=None if self.next is None else to(self.next), taken=taken)
 
     @property
     def slots(self) -> int:
-        """How many slots its instructions have, without jumps that nothing compares for."""
+        """How many slots its instructions take, without unconditional jumps."""
         return sum(step.instruction.slots for step in self.steps) + (self.jump is not None)
 
 
@@ -67,9 +67,9 @@ class Written(NamedTuple):
 
 
 def in_order(graph: Graph) -> list[int]:
-    """The blocks that a path reaches, in topological order; of two that follow, the one that is not jumped to stands as near as can be.
+    """The reachable blocks in topological order; of two successors, the one that is not jumped to follows as closely as possible.
 
-    A Cycle where there is no such order.
+    Raises Cycle if there is no such order.
     """
     finished: list[int] = []
     state = {0: False}
@@ -91,7 +91,7 @@ def in_order(graph: Graph) -> list[int]:
 
 
 def without_empty(graph: Graph) -> dict[int, Block]:
-    """The graph without blocks that have no instruction: what leads there leads to what follows."""
+    """The graph without empty blocks: edges to them lead to their successors."""
     to: dict[int, int] = {}
     for number, block in graph.items():
         passed = {number}
@@ -122,7 +122,7 @@ def written(graph: Graph) -> Written:
 
 
 def _laid_out(graph: Graph, block: Block, following: int | None) -> Iterator[tuple[Step, int | None]]:
-    """A block's instructions before the block that stands behind it, each with the block that it jumps to."""
+    """The instructions of a block, which the given block follows; each has the block that it jumps to."""
     yield from ((step, None) for step in block.steps)
     otherwise = block.next
     if block.jump is not None:
@@ -132,7 +132,7 @@ def _laid_out(graph: Graph, block: Block, following: int | None) -> Iterator[tup
             return
         yield block.jump, block.taken
     if otherwise is not None and otherwise != following:
-        # A jump has the origin of the place that the run goes on at.
+        # A jump has the origin of the place at which the run continues.
         yield Step(goto(0), graph[otherwise].origin), otherwise
 
 
@@ -151,7 +151,7 @@ def _linked(steps: list[Step], targets: Mapping[int, int], places: Mapping[int, 
 
 
 def predecessors(graph: Graph) -> dict[int, list[int]]:
-    """The blocks that lead to each one, once for each edge."""
+    """The predecessors of each block, once for each edge."""
     found: dict[int, list[int]] = {number: [] for number in graph}
     for number, block in graph.items():
         for following in block.successors():

@@ -14,12 +14,12 @@ _Leader = tuple[int, int]
 
 
 def inlined(functions: Sequence[Function], frames: Frames) -> dict[int, Block]:
-    """The blocks that a path reaches; the program's first one is block 0."""
+    """The reachable blocks; the program's first one is block 0."""
     return _Inlining(functions, frames).graph()
 
 
 class _Inlining:
-    """Builds blocks by their leaders: a call of a function goes on in its frame, and its exit behind the call."""
+    """Builds blocks by their leaders: a call of a function continues in its frame, and its exit after the call."""
 
     def __init__(self, functions: Sequence[Function], frames: Frames) -> None:
         self._frames = frames
@@ -68,7 +68,7 @@ class _Inlining:
                 return Block(origin, tuple(steps), self._number((frame, slot)))
 
     def _ended(self, origin: Origin, frame: int, slot: int, steps: list[Step]) -> Block:
-        """A block at whose end the function exits: the program ends there, or its caller goes on."""
+        """A block at whose end the function exits: the program ends there, or its caller continues."""
         here = self._frames[frame]
         if here.caller is None:
             return Block(origin, (*steps, *self._steps(frame, slot)))

@@ -1,4 +1,4 @@
-"""Instructions by their fields (docs/INSTRUCTIONS.md, "Layout"): which registers they read and write, and where they lead."""
+"""Instructions by their fields (docs/INSTRUCTIONS.md, "Layout"): the registers that they read and write, and their successors."""
 
 from __future__ import annotations
 
@@ -10,10 +10,10 @@ from bpfhost.numbers import SLOT_SIZE
 from bpfhost.slots import WIDE_LOAD, first_slots
 
 FRAME_POINTER = 10
-# Registers that a call leaves as they are, by the calling convention.
+# Registers that a call preserves, by the calling convention.
 CALLEE_SAVED = (6, 7, 8, 9)
 
-# Classes, and what the upper half of an opcode says.
+# Classes, and the meaning of the upper bits of an opcode.
 LD, LDX, ST, STX, ALU, JMP, JMP32, ALU64 = range(8)
 _FROM_REGISTER = 0x08
 GOTO, GOTO_LONG, CALL, CALL_FUNCTION, EXIT = 0x05, 0x06, 0x85, 1, 0x95
@@ -21,7 +21,7 @@ MOVE_64, ADD_64 = 0xBF, 0x07
 STORE_64, LOAD_64 = 0x7B, 0x79
 # Codes of arithmetic, without the source and the class.
 ADD, SUB, MUL, DIV, OR, AND, LSH, RSH, NEG, MOD, XOR, MOV, ARSH, END = (16 * code for code in range(14))
-# Codes of comparisons, the same way.
+# Codes of comparisons, in the same form.
 JEQ, JGT, JGE, JSET, JNE, JSGT, JSGE, JLT, JLE, JSLT, JSLE = (16 * code for code in (1, 2, 3, 4, 5, 6, 7, 10, 11, 12, 13))
 OPPOSITE = {JEQ: JNE, JGT: JLE, JGE: JLT, JSGT: JSLE, JSGE: JSLT}
 OPPOSITE |= {opposite: code for code, opposite in OPPOSITE.items()}
@@ -33,7 +33,7 @@ SIGNED_LOAD = 0x80
 
 
 class Instruction(NamedTuple):
-    """An instruction by its fields; `second` is the second slot of a wide load, and no byte of any other."""
+    """An instruction by its fields; `second` is the second slot of a wide load, and empty for any other."""
 
     opcode: int
     dst: int
@@ -44,13 +44,13 @@ class Instruction(NamedTuple):
 
     @classmethod
     def at(cls, slots: bytes | bytearray, slot: int) -> Instruction:
-        """The instruction whose first slot this is; of a wide load that is cut off, the half that is there."""
+        """The instruction that begins with this slot; for a wide load that is cut off, the half that is there."""
         opcode, registers, offset, constant = struct.unpack_from("<BBhi", slots, SLOT_SIZE * slot)
         second = bytes(slots[SLOT_SIZE * (slot + 1) : SLOT_SIZE * (slot + 2)]) if opcode == WIDE_LOAD else b""
         return cls(opcode, registers & 15, registers >> 4, offset, constant, second)
 
     def to_bytes(self) -> bytes:
-        """The slots."""
+        """Its slots."""
         return struct.pack("<BBhi", self.opcode, self.dst | self.src << 4, self.offset, self.constant) + self.second
 
     @property
@@ -65,7 +65,7 @@ class Instruction(NamedTuple):
 
     @property
     def code(self) -> int:
-        """What the upper half of its opcode says: of arithmetic the operator, of a comparison which one."""
+        """The code in the upper bits of its opcode: the operator of arithmetic, or which comparison."""
         return self.opcode & 0xF0
 
     @property
@@ -90,26 +90,26 @@ class Instruction(NamedTuple):
 
     @property
     def from_register(self) -> bool:
-        """Whether arithmetic or a comparison has a register for its second operand."""
+        """Whether the second operand of arithmetic or of a comparison is a register."""
         return bool(self.opcode & _FROM_REGISTER)
 
     @property
     def size(self) -> int:
-        """How many bytes a load or a store moves."""
+        """How many bytes a load or a store accesses."""
         return SIZES[self.opcode & 0x18]
 
     def distance(self) -> int | None:
-        """Of a jump the distance of its target from the next slot."""
+        """The distance of a jump's target from the next slot."""
         if self.opcode == GOTO_LONG:
             return self.constant
         return self.offset if self.opcode == GOTO or self.is_comparison else None
 
     def jumping(self, distance: int) -> Instruction:
-        """A conditional jump or a jump by 16 bits with another distance, which a program of 4,096 slots never exceeds."""
+        """A jump with another distance in its 16-bit offset, which a program of 4,096 slots never exceeds."""
         return self._replace(offset=distance)
 
     def opposite(self) -> Instruction | None:
-        """The comparison that holds where this one does not, if there is one."""
+        """The opposite comparison, if there is one."""
         code = OPPOSITE.get(self.code)
         return None if code is None else self._replace(opcode=self.opcode & 0x0F | code)
 
@@ -125,7 +125,7 @@ def decoded(slots: bytes) -> dict[int, Instruction]:
 
 
 def is_known(found: Instruction) -> bool:
-    """Whether an instruction has a form of RFC 9669, as far as its opcode tells."""
+    """Whether RFC 9669 defines the instruction, judged by its opcode."""
     kind, code = found.kind, found.code
     if kind in (ALU, ALU64):
         return code <= END
@@ -137,7 +137,7 @@ def is_known(found: Instruction) -> bool:
 
 
 def reads(found: Instruction) -> tuple[int, ...]:
-    """The registers that an instruction reads; of a call those that may have arguments."""
+    """The registers that an instruction reads; for a call, those that may have arguments."""
     match found.kind:
         case 4 | 7:
             source = (found.src,) if _has_source(found) else ()
@@ -156,19 +156,19 @@ def reads(found: Instruction) -> tuple[int, ...]:
 
 
 def writes(found: Instruction) -> tuple[int, ...]:
-    """The registers that an instruction writes; a call leaves nothing in those for arguments."""
+    """The registers that an instruction writes; a call invalidates those for arguments."""
     if found.kind in (LD, LDX, ALU, ALU64):
         return (found.dst,)
     return (0, 1, 2, 3, 4, 5) if found.opcode == CALL else ()
 
 
 def _has_source(found: Instruction) -> bool:
-    """Whether arithmetic reads its second register: a byte-order conversion has a width there."""
+    """Whether arithmetic reads its second register: for a byte swap the field is a width."""
     return found.from_register and found.code != END
 
 
 def renamed(found: Instruction, names: Sequence[int]) -> Instruction:
-    """The same instruction on other registers: register r is `names[r]`."""
+    """The same instruction with other registers: register r is `names[r]`."""
     if found.opcode in (GOTO, GOTO_LONG, CALL, EXIT):
         return found
     if found.kind == LD:

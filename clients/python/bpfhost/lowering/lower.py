@@ -1,4 +1,4 @@
-"""Programs of objects in a form that the host accepts: the same program, as another compiler might have laid it out."""
+"""Writes programs of objects in a form that the host accepts: the same program, laid out as another compiler might do."""
 
 from __future__ import annotations
 
@@ -23,18 +23,18 @@ from bpfhost.slots import WIDE_LOAD
 Refusal = tuple[int, int]
 Ask = Callable[[ObjectProgram], Refusal | None]
 
-# A jump to an earlier slot, and an instruction that no path reaches.
+# A jump to an earlier slot, and an unreachable instruction.
 _BACKWARD, _UNREACHED = 2, 4
-# Reasons that another form can cure: all that is lost where edges meet, or for the order of blocks (docs/VERIFIER.md, "Reasons").
+# Reasons that another form may avoid: facts lost where edges meet, and the order of blocks (docs/VERIFIER.md, "Reasons").
 _CURABLE = frozenset((_BACKWARD, _UNREACHED, *range(20, 37)))
 
 
 @dataclass(frozen=True)
 class Lowered:
-    """A program in a form that is accepted, or, where none is, in the plainest one, with what that is refused for.
+    """A program in a form that is accepted; or, if there is none, in the plainest form, with the reason for its rejection.
 
-    `program` is loaded as any other. `changes` tells, in a sentence each, what was changed, by the steps of `steps`; none was where there
-    are none. `origins` has for each slot the place that it comes from, in a frame of `frames`; both are empty where the program is as it
+    `program` is loaded as any other. `changes` describes what was changed, in a sentence each, by the steps in `steps`; both are empty if
+    nothing was. `origins` has for each slot the place that it comes from, in a frame of `frames`; both are empty if the program is as it
     was.
     """
 
@@ -48,7 +48,7 @@ class Lowered:
     steps: tuple[str, ...] = ()
 
     def place(self, slot: int) -> str:
-        """What is to be told of a slot beside its line: the slot that it comes from, which copy, and the calls that lead there."""
+        """What to print for a slot besides its line: the slot that it comes from, which copy it is, and the calls that lead there."""
         if not 0 <= slot < len(self.origins):
             return ""
         origin = self.origins[slot]
@@ -67,7 +67,7 @@ class Lowered:
         return self._copies[slot] if 0 <= slot < len(self.origins) else (1, 1)
 
     def is_added(self, slot: int) -> bool:
-        """Whether a slot is a jump that the form has and its program may not have."""
+        """Whether a slot is a jump that may be only in the form."""
         return 0 <= slot < len(self.origins) and self._keys[slot][1]
 
     @cached_property
@@ -81,7 +81,7 @@ class Lowered:
 
     @cached_property
     def _keys(self) -> list[tuple[Origin, bool]]:
-        """The origins; a jump that was added has that of its target, and is no copy of it."""
+        """The origins; a jump that was added has that of its target, and does not count as a copy of it."""
         gotos = {slot for slot, found in decoded(self.program.slots).items() if found.is_goto}
         return [(origin, slot in gotos) for slot, origin in enumerate(self.origins)]
 
@@ -92,10 +92,10 @@ def as_is(program: ObjectProgram, refused: Refusal | None = None) -> Lowered:
 
 
 def lower(object_file: ObjectFile, program: ObjectProgram, ask: Ask) -> Lowered:
-    """The program in the form that needs the fewest changes and is accepted; `ask` gives the verdict on a form.
+    """The accepted form with the fewest changes; `ask` returns the verdict on a form.
 
-    Each form but the program as it is, has passed the checker. A LoweringError where calls can't be inlined or loops not be unrolled,
-    or where a jump leads nowhere.
+    Each form, except the program as it is, has passed the checker. Raises LoweringError if calls can't be inlined, if loops can't be
+    unrolled, or if a jump leads out of the program.
     """
     refused = None
     if not program.calls:
@@ -114,11 +114,11 @@ class _Lowering:
         self._refused = refused
         self._functions = functions_of(object_file, program)
         self._frames = frames_of(self._functions)
-        # What is told, by the names of the steps: calls, loops, order, copies.
+        # The text on each change, by the names of the steps: calls, loops, order, copies.
         self._changes: dict[str, str] = {}
 
     def lowered(self) -> Lowered:
-        """The form, by the steps in their order."""
+        """The form, after the steps in their order."""
         graph = without_empty(inlined(self._functions, self._frames))
         self._tell_calls()
         graph = self._without_loops(graph)
@@ -157,7 +157,7 @@ class _Lowering:
             self._changes["calls"] = f"{_counted(count, 'call is', 'calls are')} inlined, of {', '.join(names)}{what}"
 
     def _refusal(self, plain: Written, refused: Refusal) -> Lowered:
-        """What is told of a program that no form cures: the refusal of the program as it is, if that is not of the order of its blocks."""
+        """The refusal to report for a program without an accepted form: that of the original, unless it is about the order of blocks."""
         if self._refused is not None and self._refused[1] not in (_BACKWARD, _UNREACHED):
             return as_is(self._program, self._refused)
         return self._form(plain, refused)
@@ -177,7 +177,7 @@ class _Lowering:
         return self._ask_verdict(self._as_program(form))
 
     def _form(self, form: Written, refused: Refusal | None) -> Lowered:
-        """The form of the program, once the checker has passed it."""
+        """The form of the program, after it has passed the checker."""
         check(self._functions, self._frames, form.slots, form.origins)
         if not self._changes and form.slots == self._functions[0].linked:
             return as_is(self._program, refused)
@@ -190,7 +190,7 @@ class _Lowering:
         return replace(self._program, slots=form.slots, map_slots=map_slots, lines=self._lines(form.origins), calls=())
 
     def _lines(self, origins: Sequence[Origin]) -> tuple[SourceLine, ...]:
-        """The line of each slot, where it is another one than that of the slot before."""
+        """The line of each slot, if it differs from that of the slot before."""
         found: list[SourceLine] = []
         for slot, origin in enumerate(origins):
             line = self._functions[self._frames[origin.frame].function].declared.line_of(origin.slot)
@@ -200,7 +200,7 @@ class _Lowering:
 
 
 def _maps(slots: bytes) -> list[tuple[int, int]]:
-    """The slots that name maps, with their numbers in the object."""
+    """The slots that name maps, with the maps' numbers in the object."""
     loads = [(slot, found) for slot, found in decoded(slots).items() if found.opcode == WIDE_LOAD and found.src in (1, 2)]
     return [(slot, found.constant) for slot, found in loads]
 

@@ -1,6 +1,6 @@
-"""Ranges of numbers of 64 bits: what operators and comparisons make of them, by the tables of docs/VERIFIER.md ("Ranges").
+"""Ranges of 64-bit numbers: the results of operators and comparisons, by the tables of docs/VERIFIER.md ("Ranges").
 
-Where that page leaves an operator open, its result is any number; a comparison of constants is decided, also a signed one.
+If that page does not define an operator, its result is any number. A comparison of constants is decided, also a signed one.
 """
 
 from __future__ import annotations
@@ -11,7 +11,7 @@ from bpfhost.lowering import instructions as op
 
 
 class Range(NamedTuple):
-    """All whole numbers from `lo` to `hi`, both included."""
+    """All integers from `lo` to `hi`, both included."""
 
     lo: int
     hi: int
@@ -40,7 +40,7 @@ def constant(number: int, bits: int = 64) -> Range:
 
 
 def hull(a: Range, b: Range) -> Range:
-    """The least range that has the members of both."""
+    """The smallest range that includes both."""
     return Range(min(a.lo, b.lo), max(a.hi, b.hi))
 
 
@@ -60,7 +60,7 @@ def result(code: int, a: Range, b: Range, bits: int, offset: int = 0) -> Range:
     """The results of an operator, by its code, on 64 or 32 bits; the operands are cut to them. `offset` is the instruction's."""
     a, b = cut(a, bits), cut(b, bits)
     if offset:
-        # A sign extension, a signed operator, or what no instruction has there.
+        # A sign extension, a signed operator, or an offset that no instruction has.
         return _extended(b, offset, bits) if code == op.MOV and offset in (8, 16, 32) else full(bits)
     if code == op.MOV:
         return b
@@ -70,7 +70,7 @@ def result(code: int, a: Range, b: Range, bits: int, offset: int = 0) -> Range:
 
 
 def _extended(b: Range, width: int, bits: int) -> Range:
-    """What a move with sign extension from so many bits gives."""
+    """The result of a move with sign extension from so many bits."""
     if b.is_constant:
         return constant(signed(b.lo % (1 << width), width), bits)
     return b if b.hi < 1 << width - 1 else full(bits)
@@ -125,7 +125,7 @@ def _of_ranges(code: int, a: Range, b: Range, bits: int) -> Range:
 
 
 def _wrapped(lo: int, hi: int, bits: int) -> Range:
-    """A range of sums or differences, where none of them wraps or all do."""
+    """A range of sums or differences, if none of them wraps or all do."""
     size = 1 << bits
     return Range(lo % size, hi % size) if lo // size == hi // size else full(bits)
 
@@ -143,7 +143,7 @@ def _shifted(code: int, a: Range, b: Range, bits: int) -> Range:
 
 
 def refine(code: int, a: Range, b: Range, bits: int) -> tuple[Refined, Refined]:
-    """The ranges of two operands where a comparison holds, and where it does not; None where that can't be."""
+    """The ranges of two operands if a comparison is true, and if it is false; None if that is impossible."""
     if bits == 32 and max(a.hi, b.hi) >= 1 << 32:
         return (a, b), (a, b)
     if code in _AS_UNSIGNED:
@@ -159,13 +159,13 @@ _AS_UNSIGNED = {op.JSGT: op.JGT, op.JSGE: op.JGE, op.JSLT: op.JLT, op.JSLE: op.J
 
 
 def _same_sign(a: Range, b: Range, bits: int) -> bool:
-    """Whether all members of both have one sign, so that a signed comparison is the unsigned one."""
+    """Whether all members of both have the same sign, so that a signed comparison equals the unsigned one."""
     least_negative = 1 << bits - 1
     return max(a.hi, b.hi) < least_negative or min(a.lo, b.lo) >= least_negative
 
 
 def _signed_constants(code: int, a: Range, b: Range, bits: int) -> tuple[Refined, Refined]:
-    """A signed comparison of numbers of both signs, which constants alone decide: with the sign bits turned it is unsigned."""
+    """A signed comparison of numbers of both signs: decided only for constants, as an unsigned one with the sign bits flipped."""
     both, sign = (a, b), 1 << bits - 1
     if not (a.is_constant and b.is_constant):
         return both, both
@@ -173,7 +173,7 @@ def _signed_constants(code: int, a: Range, b: Range, bits: int) -> tuple[Refined
 
 
 def _tested(a: Range, b: Range) -> tuple[Refined, Refined]:
-    """A test of common bits, which constants alone decide."""
+    """A test of common bits: decided only for constants."""
     both = a, b
     if not (a.is_constant and b.is_constant):
         return both, both
@@ -181,7 +181,7 @@ def _tested(a: Range, b: Range) -> tuple[Refined, Refined]:
 
 
 def _held(code: int, a: Range, b: Range) -> Refined:
-    """The ranges where an unsigned comparison holds."""
+    """The ranges if an unsigned comparison is true."""
     match code:
         case op.JEQ:
             common = Range(max(a.lo, b.lo), min(a.hi, b.hi))
@@ -198,7 +198,7 @@ def _held(code: int, a: Range, b: Range) -> Refined:
 
 
 def _without(a: Range, b: Range) -> Range | None:
-    """The range without a number, where the other operand is one; None where it has no other member."""
+    """The range without a number, if the other operand is a constant; None if it has no other member."""
     if not b.is_constant or b.lo not in (a.lo, a.hi):
         return a
     if a.is_constant:

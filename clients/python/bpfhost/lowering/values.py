@@ -1,7 +1,7 @@
-"""What is known of registers and of the stack before an instruction, as far as lowering asks: ranges of numbers, and places in the stack.
+"""What is known of registers and of the stack before an instruction, for lowering: ranges of numbers, and offsets in the stack.
 
-It is less than the verifier knows (docs/VERIFIER.md): a pointer to anything but the stack is any number here. It decides comparisons
-(`edges`), and tells how much of the stack a function uses (`stack_used`).
+The verifier knows more (docs/VERIFIER.md): here a pointer to anything but the stack is any number. This module decides comparisons
+(`edges`), and computes how much of the stack a function uses (`stack_used`).
 """
 
 from __future__ import annotations
@@ -15,7 +15,7 @@ from bpfhost.lowering.ranges import ANY_NUMBER, Range, constant, cut, full, hull
 
 STACK_SIZE = 512
 _LOAD_BYTES, _READ_ONLY = 26, (1, 2, 3)
-# A place that moves further is not followed: no stack is that large.
+# A greater offset is not tracked: no stack is that large.
 _FARTHEST = 1 << 29
 
 
@@ -28,17 +28,17 @@ class Place:
 
 @dataclass(frozen=True)
 class Unknown:
-    """Any number, or any pointer, one into the stack too."""
+    """Any number, or any pointer, also one into the stack."""
 
 
 UNKNOWN = Unknown()
 Value = Range | Place | Unknown
-# A number or a pointer that is not into the stack: numbers that lie below the least address may be neither.
+# The lowest address: a smaller number is not a pointer.
 _LEAST_ADDRESS = 1 << 32
 
 
 def join(a: Value, b: Value) -> Value:
-    """What is known where either may be."""
+    """What is known if the value is either of two."""
     if a == b:
         return a
     return hull(a, b) if isinstance(a, Range) and isinstance(b, Range) else UNKNOWN
@@ -50,13 +50,13 @@ def _at_entry() -> list[Value]:
 
 @dataclass
 class State:
-    """The registers by their numbers, and what lies in the stack by offset and size in bytes."""
+    """The registers by their numbers, and the contents of the stack by offset and size in bytes."""
 
     registers: list[Value] = field(default_factory=_at_entry)
     stack: dict[tuple[int, int], Value] = field(default_factory=dict)
 
     def copy(self) -> State:
-        """A state that changes by itself."""
+        """A copy that can be changed."""
         return State(self.registers.copy(), self.stack.copy())
 
     def joined(self, other: State | None) -> State:
@@ -67,7 +67,7 @@ class State:
         return State(registers, {key: join(self.stack[key], other.stack[key]) for key in self.stack.keys() & other.stack.keys()})
 
     def apply(self, found: Instruction) -> None:
-        """What an instruction does that is no jump."""
+        """The effect of an instruction that is not a jump."""
         match found.kind:
             case 4 | 7:
                 self.registers[found.dst] = self._arithmetic(found)
@@ -137,7 +137,7 @@ class State:
 
 
 def _wide(found: Instruction) -> Value:
-    """What a wide load gives: a number, or an address that is not in the stack."""
+    """The result of a wide load: a number, or an address that is not in the stack."""
     return constant(found.constant % (1 << 32) | int.from_bytes(found.second[4:], "little") << 32) if not found.src else ANY_NUMBER
 
 
@@ -146,12 +146,12 @@ def _as_number(value: Value) -> Range:
 
 
 def _below_addresses(found: Range) -> Value:
-    """A number that may have been an address before: it is known where it is below all of them."""
+    """A number that may have been an address before: its range is known if all of it is below the addresses."""
     return found if found.hi < _LEAST_ADDRESS else UNKNOWN
 
 
 def _moved(code: int, a: Value, b: Value) -> Value | None:
-    """A place in the stack that is moved by a constant; None where it is something else."""
+    """A pointer into the stack, moved by a constant; None if it is something else."""
     if code == op.ADD and isinstance(b, Place):
         a, b = b, a
     if not isinstance(a, Place) or not isinstance(b, Range) or not b.is_constant or code not in (op.ADD, op.SUB):
@@ -162,7 +162,7 @@ def _moved(code: int, a: Value, b: Value) -> Value | None:
 
 
 def edges(state: State, found: Instruction) -> tuple[State | None, State | None]:
-    """The states where a comparison holds, and where it does not; None where that can't be."""
+    """The states if a comparison is true, and if it is false; None if that is impossible."""
     bits = 64 if found.kind == op.JMP else 32
     a = state.registers[found.dst]
     b: Value = state.registers[found.src] if found.from_register else constant(found.constant, bits)
@@ -181,10 +181,10 @@ def _refined(state: State, found: Instruction, a: Range, b: Range) -> State:
 
 
 def stack_used(code: Mapping[int, Instruction], successors: Mapping[int, Iterable[int]]) -> int | None:
-    """How many bytes below the frame pointer a function uses, rounded up to eight; None where more than there are.
+    """How many bytes below the frame pointer a function uses, rounded up to eight; None if more than there are.
 
-    `successors` are the slots that can follow each slot. Places that one register may have are kept as a set, so that edges that
-    meet lose none of them.
+    `successors` has the slots that can follow each slot. All offsets that a register may have are kept as a set, so that none is lost where
+    edges meet.
     """
     places: dict[int, dict[int, frozenset[int]]] = {min(code): {FRAME_POINTER: frozenset({0})}}
     lowest, waiting = 0, [min(code)]
@@ -208,7 +208,7 @@ def _merged(a: dict[int, frozenset[int]], b: dict[int, frozenset[int]]) -> dict[
 
 
 def _places_after(found: Instruction, before: dict[int, frozenset[int]]) -> tuple[dict[int, frozenset[int]], int]:
-    """The places that registers may have behind an instruction, and the lowest byte of the stack that it names."""
+    """The offsets that registers may have after an instruction, and the lowest byte of the stack that it names."""
     base = found.src if found.kind == op.LDX else found.dst if found.kind in (op.ST, op.STX) else None
     lowest = min((place + found.offset for place in before.get(base, ())), default=0) if base is not None else 0
     written = op.writes(found)
@@ -223,15 +223,15 @@ def _places_after(found: Instruction, before: dict[int, frozenset[int]]) -> tupl
 
 
 def _places_moved(found: Instruction, before: dict[int, frozenset[int]]) -> frozenset[int]:
-    """The places that an instruction gives its register: a copy, or one that is moved by a constant down the stack."""
+    """The offsets that an instruction gives its register: a copy, or one moved down the stack by a constant."""
     if found.opcode == op.MOVE_64 and not found.offset:
         return before.get(found.src, frozenset())
     if found.kind != op.ALU64 or found.code not in (op.ADD, op.SUB):
         return frozenset()
     own = before.get(found.dst, frozenset())
     if found.from_register:
-        # By how much is not known; an index goes up from where the object begins.
+        # The distance is not known; an index goes up from the start of the object.
         return own | before.get(found.src, frozenset())
     by = found.constant if found.code == op.ADD else -found.constant
-    # Places that are further away than the stack is large are taken for the next ones: below it all are too far.
+    # Offsets further away than the size of the stack are clamped: below it, all are too far.
     return frozenset(min(max(place + by, -STACK_SIZE - 1), STACK_SIZE) for place in own)

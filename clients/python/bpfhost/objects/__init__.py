@@ -4,7 +4,7 @@
     for program in found.programs:
         print(program.section, program.name, len(program.slots) // 8)
 
-It wants pyelftools (Debian: python3-pyelftools), and `load_object` raises a MissingPackage where there is none.
+It needs pyelftools (Debian: python3-pyelftools); without it, `load_object` raises MissingPackage.
 """
 
 from bpfhost.objects.errors import ObjectError

@@ -18,14 +18,14 @@ _HEADER_SIZE = 24
 
 @dataclass(frozen=True)
 class Void:
-    """Type 0, and what a pointer to void leads to."""
+    """Type 0, and the target of a pointer to void."""
 
     name: str = "void"
 
 
 @dataclass(frozen=True)
 class Int:
-    """A whole number: `size` bytes, of which `bits` bits from `bit_offset` on are in use."""
+    """An integer: `size` bytes, of which `bits` bits from `bit_offset` on are used."""
 
     name: str
     size: int
@@ -61,7 +61,7 @@ class Array:
 
 @dataclass(frozen=True)
 class Member:
-    """A field of a struct or a union; `bits` is 0 where it is no bit-field. Nameless are anonymous structs and unions."""
+    """A member of a struct or a union; `bits` is 0 unless it is a bit-field. Anonymous structs and unions have no name."""
 
     name: str
     type: int
@@ -81,7 +81,7 @@ class Composite:
 
 @dataclass(frozen=True)
 class Enum:
-    """An enumeration of `size` bytes; `names` has the first name of each value, modulo 2^(8 * size)."""
+    """An enum of `size` bytes; `names` has the first name of each value, modulo 2^(8 * size)."""
 
     name: str
     size: int
@@ -91,7 +91,7 @@ class Enum:
 
 @dataclass(frozen=True)
 class Forward:
-    """A struct or a union that is declared and not defined."""
+    """A struct or a union that is declared but not defined."""
 
     name: str
     is_union: bool
@@ -99,7 +99,7 @@ class Forward:
 
 @dataclass(frozen=True)
 class Typedef:
-    """Another name of a type."""
+    """A typedef."""
 
     name: str
     target: int
@@ -115,7 +115,7 @@ class Modifier:
 
 @dataclass(frozen=True)
 class Function:
-    """A function, or a function's type where it has no name; or a tag of a declaration."""
+    """A function, or a function's type if it has no name; or a declaration tag."""
 
     name: str
 
@@ -130,7 +130,7 @@ class Variable:
 
 @dataclass(frozen=True)
 class Placed:
-    """Where a variable stands in its section: its type's id, bytes."""
+    """The place of a variable in its section: its type's id, and its range of bytes."""
 
     variable: int
     offset: int
@@ -191,7 +191,7 @@ class Btf:
 
 @dataclass(frozen=True)
 class _Record:
-    """The head of a type: three words, and where the kind's own words begin."""
+    """The header of a type: three words, and the offset of the words of its kind."""
 
     reader: ByteReader
     strings: ByteReader
@@ -203,17 +203,17 @@ class _Record:
     size: int
 
     def rows(self, width: int) -> Iterator[tuple[int, ...]]:
-        """The rows behind the head, `count` of so many words."""
+        """The rows after the header, `count` of so many words."""
         words = self.reader.words(self.at, self.count * width)
         return (words[at : at + width] for at in range(0, len(words), width))
 
     def word(self) -> int:
-        """The one word behind the head."""
+        """The one word after the header."""
         return self.reader.words(self.at, 1)[0]
 
 
 def read_btf(section: bytes) -> Btf:
-    """Reads a .BTF section. An ObjectError where a range, an id or a kind is wrong."""
+    """Reads a .BTF section. Raises ObjectError if a range, an id or a kind is wrong."""
     whole = ByteReader(section, "section .BTF")
     header_size = read_head(whole)
     type_at, type_size, string_at, string_size = whole.words(8, 4)
@@ -228,7 +228,7 @@ def read_btf(section: bytes) -> Btf:
 
 
 def read_head(whole: ByteReader) -> int:
-    """The size of the header of a .BTF or a .BTF.ext section, whose first words are looked at."""
+    """The size of the header of a .BTF or a .BTF.ext section, whose first words are checked."""
     first, size = whole.words(0, 2)
     if first & 0xFFFF != MAGIC:
         raise ObjectError(f"{whole.name} does not begin with the number of BTF, {MAGIC:#x}, but with {first & 0xFFFF:#x}")
@@ -327,7 +327,7 @@ def _data_section(record: _Record) -> Type:
     return DataSection(record.name, record.size, variables)
 
 
-# For each kind how it is read, and how many bytes stand behind the head: in all, and for each of `vlen` rows.
+# For each kind, how to read it, and how many bytes follow the header: in all, and for each of `vlen` rows.
 _KINDS: dict[int, tuple[Callable[[_Record], Type], int, int]] = {
     1: (_int, 4, 0),
     2: (_pointer, 0, 0),
@@ -352,7 +352,7 @@ _KINDS: dict[int, tuple[Callable[[_Record], Type], int, int]] = {
 
 
 def targets(found: Type) -> tuple[int, ...]:
-    """The ids of the types that a type is made of."""
+    """The ids of the types that a type refers to."""
     match found:
         case Pointer(target=target) | Typedef(target=target) | Modifier(target=target):
             return (target,)

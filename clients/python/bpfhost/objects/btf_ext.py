@@ -1,4 +1,4 @@
-"""The .BTF.ext section: which line of the source an instruction is of, and which instructions a CO-RE relocation is for.
+"""The .BTF.ext section: the line of the source for each instruction, and the instructions with CO-RE relocations.
 
 Source: the kernel's Documentation/bpf/btf.rst, section 4.2.
 """
@@ -27,9 +27,9 @@ class LineInfo:
 
 @dataclass(frozen=True)
 class CoreRelocation:
-    """A CO-RE relocation, by the offset in bytes of its instruction in the section: of a type, by the numbers of members on the way to a field.
+    """A CO-RE relocation, by the offset in bytes of its instruction in the section: a type, and the indices of members that lead to a field.
 
-    `kind` is what is asked of it, by the numbers of enum bpf_core_relo_kind.
+    `kind` is a number of enum bpf_core_relo_kind.
     """
 
     offset: int
@@ -40,7 +40,7 @@ class CoreRelocation:
 
 @dataclass(frozen=True)
 class BtfExt:
-    """Lines and CO-RE relocations; by the names of sections, in the order of the offsets."""
+    """Lines and CO-RE relocations, by the names of sections, in the order of the offsets."""
 
     lines: dict[str, tuple[LineInfo, ...]]
     relocated: dict[str, tuple[CoreRelocation, ...]]
@@ -50,10 +50,10 @@ NOTHING = BtfExt({}, {})
 
 
 def read_btf_ext(section: bytes, strings: ByteReader) -> BtfExt:
-    """Reads a .BTF.ext section, with the strings of .BTF. An ObjectError where a range is wrong."""
+    """Reads a .BTF.ext section, with the strings of .BTF. Raises ObjectError if a range is wrong."""
     whole = ByteReader(section, _NAME)
     header_size = read_head(whole)
-    # The header may end behind the offsets and sizes of functions and lines; what follows came later (CO-RE).
+    # The header may end after the offsets and sizes of functions and lines; CO-RE was added later.
     lines_at, lines_size = whole.words(16, 2)
     rows = _rows(whole.part(header_size + lines_at, lines_size, f"the lines of {_NAME}"), strings, 4)
     lines = {name: _in_order(of_section, strings) for name, of_section in rows.items()}
@@ -74,7 +74,7 @@ def _relocation(row: tuple[int, ...], strings: ByteReader) -> CoreRelocation:
 
 
 def _in_order(rows: list[tuple[int, ...]], strings: ByteReader) -> tuple[LineInfo, ...]:
-    """The lines in the order of their instructions, one for each: the last that is told of it."""
+    """The lines in the order of their instructions, one for each: the last one given for it."""
     by_offset = {row[0]: row for row in rows}
     return tuple(_line(by_offset[offset], strings) for offset in sorted(by_offset))
 

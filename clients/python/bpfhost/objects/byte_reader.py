@@ -1,4 +1,4 @@
-"""Numbers and strings in bytes that nobody has checked yet."""
+"""Reads numbers and strings from bytes that have not been checked yet."""
 
 from __future__ import annotations
 
@@ -7,12 +7,12 @@ from dataclasses import dataclass
 
 from bpfhost.objects.errors import ObjectError
 
-# A name is refused where it is longer: no compiler writes such a name, and many of them would take all memory.
+# A longer name is rejected: no compiler writes such a name, and many of them would use up the memory.
 LONGEST_NAME = 1024
 
 
 def printable(name: str) -> str:
-    """A name with an escape in place of each character that is not printable: names come to terminals."""
+    """A name with each character that is not printable escaped: names are written to terminals."""
     if name.isprintable():
         return name
     return "".join(each if each.isprintable() else each.encode("unicode_escape").decode() for each in name)
@@ -20,18 +20,18 @@ def printable(name: str) -> str:
 
 @dataclass(frozen=True)
 class ByteReader:
-    """Reads little-endian numbers at offsets; what lies outside the bytes is an ObjectError that has `name`."""
+    """Reads little-endian numbers at offsets. An offset outside the bytes raises ObjectError with `name`."""
 
     data: bytes
     name: str
 
     def words(self, at: int, count: int) -> tuple[int, ...]:
-        """So many numbers of 32 bits."""
+        """So many 32-bit numbers."""
         self.check(at, 4 * count)
         return struct.unpack_from(f"<{count}I", self.data, at)
 
     def check(self, at: int, size: int) -> None:
-        """Refuses a range of bytes that is not inside."""
+        """Raises ObjectError for a range of bytes that is not inside."""
         if at < 0 or size < 0 or at + size > len(self.data):
             raise ObjectError(f"{self.name} has {len(self.data)} bytes, and {size} bytes are to be read at offset {at}")
 
@@ -41,14 +41,14 @@ class ByteReader:
         return ByteReader(self.data[at : at + size], name)
 
     def string(self, at: int) -> str:
-        """The string that begins here and ends before a zero byte, as `printable` gives it; what is not UTF-8 is replaced."""
+        """The string from here to the next zero byte, as `printable` returns it; invalid UTF-8 is replaced."""
         end = self._end(at)
         if end < 0:
             raise ObjectError(f"the string at offset {at} of {self.name} has no end, or more than {LONGEST_NAME:,} bytes")
         return printable(self.data[at:end].decode(errors="replace"))
 
     def cut_string(self, at: int) -> str:
-        """As `string`, but a string that is too long is cut, and each tab is a space."""
+        """As `string`, but a string that is too long is cut, and each tab becomes a space."""
         end = self._end(at)
         found = self.data[at : end if end >= 0 else at + LONGEST_NAME].decode(errors="replace")
         return printable(found.replace("\t", " "))

@@ -1,7 +1,7 @@
-"""CO-RE relocations of the context, struct __sk_buff, which everyone has who includes vmlinux.h: its fields are those of the host's context.
+"""CO-RE relocations of the context, struct __sk_buff, which each object that includes vmlinux.h has: the host's context has its fields.
 
 Source: the kernel's Documentation/bpf/llvm_reloc.rst, "CO-RE Relocations"; enum bpf_core_relo_kind of include/uapi/linux/bpf.h; the fields
-of struct __sk_buff there, whose order docs/PROTOCOL.md has ("PROG_TEST_RUN").
+of struct __sk_buff there, whose order is in docs/PROTOCOL.md ("PROG_TEST_RUN").
 """
 
 from __future__ import annotations
@@ -18,16 +18,16 @@ FIELDS = (
     "len", "pkt_type", "mark", "queue_mapping", "protocol", "vlan_present", "vlan_tci", "vlan_proto", "priority", "ingress_ifindex", "ifindex"
 )  # fmt: skip
 _WORD = 4
-# What is asked of a field: where it begins, its bytes, whether it is there, whether it has a sign.
+# What a relocation of a field asks for: its offset, its size in bytes, whether it exists, whether it is signed.
 _OFFSET, _SIZE, _EXISTS, _SIGNED = 0, 1, 2, 3
-# A type of this name with more behind three underscores is a flavor of it.
+# A type with this name, three underscores and a suffix is a flavor of it.
 _FLAVOR = "___"
 _INSTEAD = "include bpfhost.h, not vmlinux.h, which has the types of one kernel"
 _LOADS_AND_STORES, _ALU = (1, 2, 3), (4, 7)
 
 
 def relocate(place: Place, slots: bytearray, btf: Btf | None, relocation: CoreRelocation) -> None:
-    """Does a CO-RE relocation in the slots of a function. An ObjectError where it is not one of a field of the context."""
+    """Applies a CO-RE relocation to the slots of a function. Raises ObjectError unless it is for a field of the context."""
     slot = (relocation.offset - place.begin) // SLOT_SIZE
     type_name = spelling(btf, relocation.type) if btf and relocation.type < len(btf.types) else "?"
     field = _field(btf, relocation)
@@ -45,7 +45,7 @@ def relocate(place: Place, slots: bytearray, btf: Btf | None, relocation: CoreRe
 
 
 def _field(btf: Btf | None, relocation: CoreRelocation) -> str | None:
-    """The field of the context that a relocation is of; None where it is of something else."""
+    """The field of the context that a relocation is for; None if it is for something else."""
     if btf is None or relocation.type >= len(btf.types):
         return None
     found = resolve(btf, relocation.type)
@@ -58,7 +58,7 @@ def _field(btf: Btf | None, relocation: CoreRelocation) -> str | None:
 
 
 def _put(slots: bytearray, slot: int, number: int) -> bool:
-    """Puts a number where its instruction has it: in the offset of a load or a store, or in the constant of arithmetic or of a wide load."""
+    """Writes a number into its instruction: the offset of a load or a store, or the constant of arithmetic or of a wide load."""
     at = SLOT_SIZE * slot
     if at + SLOT_SIZE > len(slots):
         return False

@@ -1,11 +1,11 @@
-"""Maps that an object defines: variables of the section .maps, by BTF, and of the section maps, as `struct bpf_map_def`.
+"""Maps that an object defines: variables of section .maps, described by BTF, and of section maps, as `struct bpf_map_def`.
 
 Source: libbpf's conventions: bpf_helpers.h (`__uint`, `__type`) and parse_btf_map_def of libbpf.c; for the struct
 bpf_object__init_user_maps, which libbpf.c had before version 1.0.
 
-The host runs one program at a time, so a map with a value for each processor has one value, as any other. It takes memory for a hash
-map's keys as they come, which is what BPF_F_NO_PREALLOC asks for. It has no file system of its own, so what a pinned map shares by a
-file it does not share. So these are taken for maps without them, which is told; a strict reading refuses them.
+The host runs one program at a time, so a per-CPU map is replaced by one with one value. It allocates memory for a hash map's keys as they
+are added, which is what BPF_F_NO_PREALLOC asks for. It has no file system, so a pinned map is not shared by a file. A notice is printed for
+each of these changes; with strict reading they are refused.
 """
 
 from __future__ import annotations
@@ -24,7 +24,7 @@ from bpfhost.objects.model import ObjectMap
 
 BTF_MAPS, LEGACY_MAPS = MAP_SECTIONS = (".maps", "maps")
 
-# Those of `enum bpf_map_type` in linux/bpf.h that programs ask for most, by their names there.
+# The map types of `enum bpf_map_type` in linux/bpf.h that programs ask for most often.
 _MAP_TYPES = {
     0: "UNSPEC",
     3: "PROG_ARRAY",
@@ -57,7 +57,7 @@ _NO_PREALLOC = 1
 
 @dataclass
 class MapChanges:
-    """What is changed of the maps of an object, in a sentence each; nothing may be where the reading is strict."""
+    """The changes of an object's maps, in a sentence each; strict reading refuses each of them."""
 
     is_strict: bool
     told: list[str] = field(default_factory=list)
@@ -78,7 +78,7 @@ class MapChanges:
             raise ObjectError(f"{where} has map_flags {number}, and the host has none")
 
     def check_pinning(self, number: int, where: str) -> None:
-        """Leaves pinning out."""
+        """Drops pinning."""
         if number and self.is_strict:
             raise ObjectError(f"{where} has pinning {number}, and the host has none")
         if number:
@@ -87,7 +87,7 @@ class MapChanges:
 
 @dataclass(frozen=True)
 class DefinedMap:
-    """A map with the place that relocations name: the number of a section, and an offset in bytes there."""
+    """A map with the place that relocations name: a section's number, and an offset in bytes."""
 
     section: int
     offset: int
@@ -95,7 +95,7 @@ class DefinedMap:
 
 
 def defined_maps(elf: ElfObject, btf: Btf | None, changes: MapChanges) -> list[DefinedMap]:
-    """All maps that the object defines, those of each section in their order. An ObjectError where the host has no such map."""
+    """All maps that the object defines, in the order of each section. Raises ObjectError if the host has no such map."""
     found: list[DefinedMap] = []
     for section in elf.sections:
         if section.name == BTF_MAPS and section.size:
@@ -154,7 +154,7 @@ def _variables(btf: Btf, name: str) -> dict[str, Variable]:
 
 
 class _Attributes:
-    """The members of a map's struct, of which each tells one thing."""
+    """The members of a map's struct; each sets one property."""
 
     def __init__(self, btf: Btf, where: str) -> None:
         self._btf = btf
@@ -184,7 +184,7 @@ class _Attributes:
         return check_map(declared, self._where)
 
     def _refuse_others(self) -> None:
-        """What the host's maps do not have may be told, as 0."""
+        """Properties that the host's maps do not have may be set, to 0."""
         for name in _OTHERS:
             if self._numbers.get(name):
                 raise ObjectError(f"{self._where} has {name} {self._numbers[name]}, and the host has none")
@@ -198,14 +198,14 @@ class _Attributes:
             raise ObjectError(f"{self._where} has a member {member.name or 'without a name'}, which is not known")
 
     def _target(self, member: Member) -> int:
-        """The type that `__type` tells: the member is a pointer to it."""
+        """The type set by `__type`: the member is a pointer to it."""
         found = resolve(self._btf, member.type)
         if not isinstance(found, Pointer):
             raise ObjectError(f"{self._where} has a member {member.name} that is no pointer: __type tells it")
         return found.target
 
     def _number(self, member: Member) -> int:
-        """The number that `__uint` tells: the member is a pointer to an array of so many."""
+        """The number set by `__uint`: the member is a pointer to an array of that length."""
         found = resolve(self._btf, self._target(member))
         if not isinstance(found, Array):
             raise ObjectError(f"{self._where} has a member {member.name} that is no pointer to an array: __uint tells it")

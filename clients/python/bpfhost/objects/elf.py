@@ -1,7 +1,7 @@
 """An ELF object of machine BPF as plain records, read by pyelftools.
 
-The library takes what a file says for true, so what could lead it astray is looked at before: where tables lie, how
-long they are, and where names begin. What it still stumbles over is told as a damaged part of the file.
+pyelftools trusts the file. So what could mislead it is checked first: the ranges of tables, and the offsets of names. An error that it
+still raises is reported as a damaged part of the file.
 
 Source: System V Application Binary Interface, chapter 4; the kernel's Documentation/bpf/llvm_reloc.rst.
 """
@@ -17,18 +17,18 @@ from bpfhost.errors import MissingPackage
 from bpfhost.objects.byte_reader import LONGEST_NAME, printable
 from bpfhost.objects.errors import ObjectError
 
-# No file is read that is larger, or has more sections: no compiler writes such an object.
+# A larger file, or one with more sections, is not read: no compiler writes such an object.
 LARGEST_FILE = 8 * 1024 * 1024
 MOST_SECTIONS = 4096
 
-# Flags of sections, and the sizes of entries of tables in bytes.
+# Flags of sections, and the sizes in bytes of entries of tables.
 _ALLOCATED, _EXECUTABLE, _COMPRESSED = 2, 4, 0x800
 _SECTION_HEADER, _SYMBOL = 64, 24
 
 
 @dataclass(frozen=True)
 class Section:
-    """A section by its header; `kind` is the type's name in the ABI, as SHT_PROGBITS. Sizes and offsets in bytes."""
+    """A section by its header; `kind` is the type's name in the ABI, as SHT_PROGBITS. Sizes and offsets are in bytes."""
 
     index: int
     name: str
@@ -46,15 +46,15 @@ class Section:
 
     @property
     def allocated(self) -> bool:
-        """Whether it is a part of what runs, and not a note for tools."""
+        """Whether it is loaded, and not only for tools."""
         return bool(self.flags & _ALLOCATED)
 
 
 @dataclass(frozen=True)
 class Symbol:
-    """A symbol. `section` is None where it has none, and `place` says why: SHN_UNDEF, SHN_ABS, SHN_COMMON.
+    """A symbol. `section` is None if it has none; then `place` says why: SHN_UNDEF, SHN_ABS, SHN_COMMON.
 
-    `value` is an offset in bytes from the section's beginning, and `kind` the type's name in the ABI, as STT_FUNC.
+    `value` is an offset in bytes from the start of the section, and `kind` the type's name in the ABI, as STT_FUNC.
     """
 
     name: str
@@ -67,7 +67,7 @@ class Symbol:
 
 @dataclass(frozen=True)
 class Relocation:
-    """An entry of a relocation section: `offset` in bytes, the relocation's number, the symbol."""
+    """An entry of a relocation section: the offset in bytes, the relocation's type, the symbol."""
 
     offset: int
     kind: int
@@ -84,7 +84,7 @@ class ElfObject:
     reader: Any
 
     def data(self, section: Section) -> bytes:
-        """The section's bytes; zeros where the file has none of them (SHT_NOBITS)."""
+        """The section's bytes; zeros if the file has none for it (SHT_NOBITS)."""
         if section.kind == "SHT_NOBITS":
             if section.size > LARGEST_FILE:
                 raise ObjectError(f"section {section.name} has {section.size:,} bytes, and at most {LARGEST_FILE:,} are read")
@@ -98,7 +98,7 @@ class ElfObject:
         return next((section for section in self.sections if section.name == name), None)
 
     def symbols_of(self, section: Section) -> list[Symbol]:
-        """The functions and variables of a section, in the order in which they stand there."""
+        """The functions and variables of a section, in order of their offsets."""
         return self._defined.get(section.index, [])
 
     def owner_of(self, section: Section, offset: int) -> str:
@@ -145,7 +145,7 @@ def _order(symbol: Symbol) -> tuple[int, str]:
 
 
 def read_elf(path: str | os.PathLike[str]) -> ElfObject:
-    """Reads an object file. ObjectError where it is none, is damaged, or is of another machine."""
+    """Reads an object file. Raises ObjectError if it is not one, is damaged, or is for another machine."""
     content = _content(path)
     reader = _reader(content)
     _check_header(reader)
@@ -167,7 +167,7 @@ def _content(path: str | os.PathLike[str]) -> bytes:
 
 
 def _told(part: str, read: Callable[[], Any]) -> Any:
-    """What pyelftools reads. Where an offset leads it astray it raises what comes up there, so all of it is caught."""
+    """Reads with pyelftools. A wrong offset can make it raise any exception, so all are caught."""
     try:
         return read()
     except Exception as error:
@@ -216,7 +216,7 @@ def _sections(content: bytes, reader: Any) -> tuple[Section, ...]:
 
 
 def _check_names(content: bytes, part: str, offset: int, size: int) -> None:
-    """A table of strings lies in the file, ends with a zero byte, and has no string that is too long."""
+    """Checks that a string table is inside the file, ends with a zero byte, and has no string that is too long."""
     _check_range(content, part, offset, size)
     table = content[offset : offset + size]
     if not table.endswith(b"\0"):

@@ -1,6 +1,6 @@
-"""What the instructions of a program ask for that the host does not have, told before it is loaded.
+"""Finds instructions that need what the host does not have, before the program is loaded.
 
-Source: RFC 9669; docs/INSTRUCTIONS.md for what the host has. What is no instruction at all is left to the host's verdict.
+Source: RFC 9669; docs/INSTRUCTIONS.md for what the host has. Invalid instructions are left to the verifier.
 """
 
 from __future__ import annotations
@@ -26,13 +26,13 @@ _PACKET_ACCESS = (0x20, 0x28, 0x30, 0x40, 0x48, 0x50)
 
 
 def is_wide_load(slots: bytes | bytearray, slot: int) -> bool:
-    """Whether a wide load of a number stands at a slot, whole."""
+    """Whether a whole wide load of a number begins at a slot."""
     at = SLOT_SIZE * slot
     return at + 16 <= len(slots) and slots[at] == WIDE_LOAD and slots[at + 1] >> 4 == 0
 
 
 def calls_of(slots: bytes | bytearray) -> dict[int, int]:
-    """The slots with calls of functions of the object, each with the distance of what it calls from the next slot."""
+    """The slots with calls of functions of the object, each with the distance of the called function from the next slot."""
     found: dict[int, int] = {}
     for slot in first_slots(slots):
         at = SLOT_SIZE * slot
@@ -42,7 +42,7 @@ def calls_of(slots: bytes | bytearray) -> dict[int, int]:
 
 
 def check_instructions(slots: bytes, place: Place) -> None:
-    """Refuses the first instruction that asks for what the host does not have, in a sentence; calls of functions are no matter here."""
+    """Raises ObjectError for the first instruction that needs what the host does not have; calls of functions are not checked here."""
     for slot in first_slots(slots):
         lacks = _lacks(slots[SLOT_SIZE * slot : SLOT_SIZE * (slot + 1)])
         if lacks:

@@ -1,4 +1,4 @@
-"""What a type is behind its other names, how many bytes its values have, and how C spells it."""
+"""Resolves a type's other names; the size of its values; and how it is written in C."""
 
 from __future__ import annotations
 
@@ -22,17 +22,17 @@ from bpfhost.objects.btf import (
 from bpfhost.objects.errors import ObjectError
 
 POINTER_SIZE = 8
-# So many types may stand one in the other; the kernel allows 32 (MAX_RESOLVE_DEPTH in kernel/bpf/btf.c).
+# The deepest nesting of types; the kernel allows 32 (MAX_RESOLVE_DEPTH in kernel/bpf/btf.c).
 DEEPEST = 32
 
 
 def resolve(btf: Btf, type_id: int) -> Type:
-    """The type behind typedefs, const, volatile, restrict and tags."""
+    """The type without typedefs, const, volatile, restrict and tags."""
     return btf.type(resolve_id(btf, type_id))
 
 
 def resolve_id(btf: Btf, type_id: int) -> int:
-    """The id of the type behind typedefs, const, volatile, restrict and tags."""
+    """The id of the type without typedefs, const, volatile, restrict and tags."""
     first = type_id
     for _ in range(DEEPEST + 1):
         found = btf.type(type_id)
@@ -43,7 +43,7 @@ def resolve_id(btf: Btf, type_id: int) -> int:
 
 
 def size_of(btf: Btf, type_id: int) -> int:
-    """The size of a type's values, in bytes. An ObjectError where the type has no values: void, functions, forward declarations."""
+    """The size of a type's values in bytes. Raises ObjectError if the type has no values: void, functions, forward declarations."""
     first, count = type_id, 1
     for _ in range(DEEPEST + 1):
         found = resolve(btf, type_id)
@@ -62,12 +62,12 @@ def size_of(btf: Btf, type_id: int) -> int:
 
 
 def spelling(btf: Btf, type_id: int) -> str:
-    """The type as C spells it without a name, as `struct flow *` or `unsigned char[6]`."""
+    """The type as written in C without a name, as `struct flow *` or `unsigned char[6]`."""
     return _spelled(btf, type_id, "", DEEPEST)
 
 
 def _spelled(btf: Btf, type_id: int, declarator: str, depth: int) -> str:
-    """The type of what a declarator declares: the declarator is what stands behind the first name, as `*` or `[6]`."""
+    """The type with a declarator after its name, as `*` or `[6]`."""
     if depth < 0:
         raise ObjectError(f"type {type_id} of section .BTF is nested more than {DEEPEST} times")
     found = btf.type(type_id)

@@ -1,4 +1,4 @@
-"""The limits of maps and programs (docs/PROTOCOL.md), told by name before any frame is sent."""
+"""The limits of maps and programs (docs/PROTOCOL.md), checked before any frame is sent so that an error has a name."""
 
 from __future__ import annotations
 
@@ -19,12 +19,12 @@ from bpfhost.objects.errors import ObjectError
 from bpfhost.objects.model import ObjectMap
 
 ARRAY_KEY = 4
-# Of an object; this package's own limit.
+# For an object; this package's own limit.
 MOST_PROGRAMS = 512
 
 
 def check_map(declared: ObjectMap, where: str) -> ObjectMap:
-    """The map, where the host has room for such a one; `where` names it in the error."""
+    """The map. Raises ObjectError if the host has no room for such a one; `where` names it in the error."""
     _check_number(where, "a key", declared.key_size, LONGEST_KEY, "bytes")
     _check_number(where, "a value", declared.value_size, LONGEST_VALUE, "bytes")
     _check_number(where, "it", declared.max_entries, MOST_ENTRIES, "entries")
@@ -46,7 +46,7 @@ def area(declared: ObjectMap) -> int:
 
 
 def check_maps(maps: Sequence[ObjectMap]) -> None:
-    """Refuses maps that a tenant can't have at once."""
+    """Raises ObjectError for maps that a tenant can't have at the same time."""
     if len(maps) > MOST_MAPS:
         raise ObjectError(f"the object has {len(maps)} maps, its sections of variables among them, and a tenant {MOST_MAPS} at most")
     total = sum(map(area, maps))
@@ -55,7 +55,7 @@ def check_maps(maps: Sequence[ObjectMap]) -> None:
 
 
 def check_slots(size: int, where: str) -> None:
-    """Refuses a function that is no program's length, by its bytes."""
+    """Raises ObjectError for a function whose length in bytes no program may have."""
     if size % SLOT_SIZE:
         raise ObjectError(f"{where} has {size} bytes, which are no whole slots of {SLOT_SIZE}")
     if not 1 <= size // SLOT_SIZE <= MOST_SLOTS:

@@ -1,4 +1,4 @@
-"""An object file from its path."""
+"""Reads an object file from its path."""
 
 from __future__ import annotations
 
@@ -17,12 +17,12 @@ from bpfhost.objects.variables import variable_maps, with_places
 
 
 def load_object(path: str | os.PathLike[str], form: Form = Form.LOWERED) -> ObjectFile:
-    """Reads an ELF object of machine BPF, to be taken in a form, and refuses what the host does not have.
+    """Reads an ELF object of machine BPF in a form, and rejects what the host does not have.
 
-    An ObjectError, which begins with the path, where the file can't be read, is no such object or is damaged; or where it
-    asks for what is not there: another helper or kind of map than the host's, atomic operations that fetch, addresses in variables,
-    CO-RE relocations of other types than the context's, more than the limits of docs/PROTOCOL.md; and, where programs are taken as they are, calls between functions.
-    A MissingPackage where there is no pyelftools.
+    Raises ObjectError, whose text begins with the path, if the file can't be read, is not such an object or is damaged; or if it needs what
+    the host does not have: other helpers or kinds of maps, atomic operations that fetch, addresses in variables, CO-RE relocations of other
+    types than the context's, more than the limits of docs/PROTOCOL.md; and, if programs are taken as they are, calls between functions.
+    Raises MissingPackage without pyelftools.
     """
     name = os.fsdecode(path)
     try:

@@ -1,4 +1,4 @@
-"""What an object file has: programs, the functions that they call, maps, types."""
+"""The contents of an object file: programs, the functions that they call, maps, types."""
 
 from __future__ import annotations
 
@@ -13,11 +13,11 @@ from bpfhost.objects.types import Types
 
 
 class Form(enum.Enum):
-    """How an object is taken, and its programs are loaded.
+    """How to read an object and load its programs.
 
-    LOWERED: a map that the host does not have is replaced by one that serves the same program (`ObjectFile.changes` tells it), and
-    `bpfhost.lowering` writes programs in another form where that is needed. STRICT: the same with maps as they are declared, or
-    refused. AS_IS: programs too are taken as they are, or refused.
+    LOWERED: a map that the host does not have is replaced by one that serves the same program (`ObjectFile.changes` describes it), and
+    `bpfhost.lowering` writes programs in another form if needed. STRICT: the same for programs, but a map is taken as declared, or
+    rejected. AS_IS: programs too are taken as they are, or rejected.
     """
 
     LOWERED = "lowered"
@@ -27,9 +27,9 @@ class Form(enum.Enum):
 
 @dataclass(frozen=True)
 class SourceLine:
-    """The line of the source that the instructions from a slot on are of; slots count from the program's first.
+    """The line of the source for the instructions from a slot on; slots count from the program's first.
 
-    `file` is as the compiler was told it, most often a whole path, and `column` counts from 1.
+    `file` is the path given to the compiler, usually a whole one, and `column` counts from 1.
     """
 
     slot: int
@@ -39,13 +39,13 @@ class SourceLine:
     text: str
 
     def __str__(self) -> str:
-        """The line as compilers tell it, as `filter.c:23: return table[i];`; a file in the working directory is seen from there."""
+        """The line as compilers print it, as `filter.c:23: return table[i];`; the path of a file in the working directory is relative to it."""
         file = os.path.normpath(self.file).removeprefix(os.path.join(os.getcwd(), ""))
         return f"{file}:{self.line}: {self.text}".removesuffix(": ")
 
 
 def line_at(lines: Sequence[SourceLine], slot: int) -> SourceLine | None:
-    """The last of some lines, in the order of their slots, that begins at the slot or before it; None where none does."""
+    """The last of some lines, in the order of their slots, that begins at the slot or before it; None if there is none."""
     behind = bisect_right(lines, slot, key=lambda line: line.slot)
     return lines[behind - 1] if behind else None
 
@@ -68,10 +68,10 @@ class CallSlot:
 
 @dataclass(frozen=True)
 class ObjectMap:
-    """A map that an object asks for; sizes in bytes.
+    """A map that an object declares; sizes are in bytes.
 
-    `key_type` and `value_type` are types of the object, where it tells them. `initial` is the value of element 0 of a
-    section of global variables, and None in any other map.
+    `key_type` and `value_type` are types of the object, if it has them. `initial` is the value of element 0 of a section of global
+    variables, and None in any other map.
     """
 
     name: str
@@ -86,9 +86,9 @@ class ObjectMap:
 
 @dataclass(frozen=True)
 class ObjectProgram:
-    """A function of an executable section. Its slots lack the descriptors of maps, which `linked` fills in.
+    """A function of an executable section. Its slots do not have the descriptors of maps yet; `linked` fills them in.
 
-    What it calls of the object are `calls`, in the order of their slots; the host has no such calls.
+    `calls` are its calls of functions of the object, in the order of their slots; the host has no such calls.
     """
 
     section: str
@@ -99,7 +99,7 @@ class ObjectProgram:
     calls: tuple[CallSlot, ...] = ()
 
     def line_of(self, slot: int) -> SourceLine | None:
-        """The last line that begins at the slot or before it, or None where none does."""
+        """The last line that begins at the slot or before it, or None if there is none."""
         return line_at(self.lines, slot)
 
     def linked(self, descriptors: Sequence[int]) -> bytes:
@@ -113,10 +113,10 @@ class ObjectProgram:
 
 @dataclass(frozen=True)
 class ObjectFile:
-    """An object file: its programs in the order of their sections, its maps, and its types where it has any.
+    """An object file: its programs in the order of their sections, its maps, and its types if it has any.
 
-    `functions` are those that programs call, in the order in which they are met. `changes` tells, in a sentence each, which maps are
-    others than the object declares.
+    `functions` are those that programs call, in the order in which they are found. `changes` describes, in a sentence each, the maps that
+    differ from the object's declarations.
     """
 
     path: str

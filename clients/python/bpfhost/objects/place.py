@@ -1,4 +1,4 @@
-"""Where a program is, for sentences on its instructions."""
+"""The place of a program in its object, for messages about its instructions."""
 
 from __future__ import annotations
 
@@ -19,16 +19,16 @@ class Place:
 
     @property
     def begin(self) -> int:
-        """The function's first byte in its section."""
+        """The offset of the function's first byte in its section."""
         return self.function.value
 
     @property
     def end(self) -> int:
-        """The byte behind its last one."""
+        """The offset of the byte after its last one."""
         return self.function.value + self.function.size
 
     def refused(self, slot: int, what: str) -> ObjectError:
-        """The error that a slot does what the host does not have, with the line of the source where it is known."""
+        """The error for a slot that needs what the host does not have, with the line of the source if it is known."""
         line = line_at(self.lines, slot)
         return ObjectError(f"{self} {what}, at slot {slot}{f' ({line})' if line else ''}")
 

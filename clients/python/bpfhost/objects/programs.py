@@ -1,7 +1,7 @@
 """Programs: the functions of executable sections, and the functions that they call.
 
-Source: libbpf's bpf_object__add_programs for which functions are programs. What stands in .text is called by others, and
-so is no program of its own; it is read where a program calls it.
+Source: libbpf's bpf_object__add_programs for which functions are programs. A function in .text is not a program of its own; it is read if a
+program calls it.
 """
 
 from __future__ import annotations
@@ -33,9 +33,9 @@ _Row = TypeVar("_Row")
 def read_programs(
     elf: ElfObject, maps: Sequence[DefinedMap], types: tuple[Btf | None, BtfExt], has_calls: bool = True
 ) -> tuple[tuple[ObjectProgram, ...], tuple[ObjectProgram, ...]]:
-    """All programs, in the order of the sections and of the functions there, and the functions that they call.
+    """All programs, in the order of the sections and of the functions in them, and the functions that they call.
 
-    An ObjectError where one is not for the host; a call between functions is one such reason where `has_calls` is false.
+    Raises ObjectError if the host does not take one; a call between functions is one such reason if `has_calls` is false.
     """
     sections = [section for section in elf.sections if _has_programs(section)]
     if not sections:
@@ -57,17 +57,17 @@ class _Reader:
         self._btf, self._btf_ext = types
         self._has_calls = has_calls
         self._sections: dict[int, _Section] = {}
-        # What is called, in the order in which it was met, by section and first byte.
+        # The called functions in the order in which they were found, by section and first byte.
         self._callees: dict[tuple[int, int], Callee] = {}
 
     def section(self, section: Section) -> _Section:
-        """What the object has of a section with functions."""
+        """What the object has for a section with functions."""
         if section.index not in self._sections:
             self._sections[section.index] = _Section.of(self._elf, section, self._btf, self._btf_ext)
         return self._sections[section.index]
 
     def function(self, section: Section, function: Symbol) -> ObjectProgram:
-        """A function, with calls of functions by their numbers."""
+        """A function, with the numbers of the functions that it calls."""
         place, program, callees = self.section(section).program(function, self._linker)
         calls = tuple(CallSlot(slot, self._number(place, callees[slot])) for slot in sorted(callees))
         return replace(program, calls=calls)
@@ -122,7 +122,7 @@ class _Section:
 
     @classmethod
     def of(cls, elf: ElfObject, section: Section, btf: Btf | None, btf_ext: BtfExt) -> _Section:
-        """What an object has of a section."""
+        """What an object has for a section."""
         functions = _functions(elf, section)
         if not functions:
             raise ObjectError(f"section {section.name} has instructions, and no symbol of a function names them")
@@ -132,7 +132,7 @@ class _Section:
         return cls(section, functions, elf.data(section), relocations, btf_ext.lines.get(section.name, ()), core, btf)
 
     def program(self, function: Symbol, linker: Linker) -> tuple[Place, ObjectProgram, dict[int, Callee]]:
-        """The program of a function, with where it is, and what it calls by the slots of the calls."""
+        """The program of a function, with its place, and the functions that it calls, by the slots of the calls."""
         place = Place(self.section, function, self._lines(function))
         self._check_range(place)
         slots = bytearray(self.code[place.begin : place.end])
@@ -149,14 +149,14 @@ class _Section:
         check_slots(place.end - place.begin, str(place))
 
     def _lines(self, function: Symbol) -> tuple[SourceLine, ...]:
-        """The lines of a function. Line 0 is code of the compiler's own, which goes to the line before."""
+        """The lines of a function. Line 0 marks code that the compiler added; it gets the line before."""
         begin = function.value
         found = _between(self.lines, begin, begin + function.size, _first_byte)
         return tuple(_source_line(line, begin) for line in found if line.line)
 
 
 def _check_owners(section: Section, functions: Sequence[Symbol], relocations: Sequence[Relocation]) -> None:
-    """Each relocation is in a function."""
+    """Checks that each relocation is in a function."""
     begins = [function.value for function in functions]
     ends: list[int] = list(accumulate([function.value + function.size for function in functions], _further))
     for relocation in relocations:
@@ -171,7 +171,7 @@ def _further(end: int, other: int) -> int:
 
 
 def _between(rows: Sequence[_Row], begin: int, end: int, key: Callable[[_Row], int]) -> Sequence[_Row]:
-    """The rows, in their order, whose numbers are in a range."""
+    """The rows, in order, whose offsets are in a range."""
     return rows[bisect_left(rows, begin, key=key) : bisect_left(rows, end, key=key)]
 
 

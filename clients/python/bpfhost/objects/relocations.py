@@ -15,7 +15,7 @@ from bpfhost.objects.instructions import calls_of, is_wide_load
 from bpfhost.objects.model import MapSlot
 from bpfhost.objects.place import Place
 
-# Numbers of relocations, and the `src` fields of wide loads.
+# The types of relocations, and the `src` fields of wide loads.
 _WIDE_LOAD, _CALL = 1, 10
 _KINDS = {0: "R_BPF_NONE", 2: "R_BPF_64_ABS64", 3: "R_BPF_64_ABS32", 4: "R_BPF_64_NODYLD32"}
 _MAP, _MAP_VALUE = 1, 2
@@ -34,15 +34,15 @@ class Callee:
 
 @dataclass(frozen=True)
 class Linker:
-    """Does the relocations of programs, by the maps of their object."""
+    """Applies the relocations of programs, with the maps of their object."""
 
     elf: ElfObject
     maps: Sequence[DefinedMap]
 
     def link(self, place: Place, slots: bytearray, relocations: Sequence[Relocation]) -> tuple[tuple[MapSlot, ...], dict[int, Callee]]:
-        """Does all relocations of a program in its slots, and gives the wide loads that want a descriptor, and what is called.
+        """Applies all relocations of a program to its slots; returns the wide loads that need a descriptor, and the called functions.
 
-        An ObjectError where a relocation can't be done.
+        Raises ObjectError if a relocation can't be applied.
         """
         found = [self._link(place, slots, relocation) for relocation in relocations]
         callees = {each.slot: each for each in found if isinstance(each, Callee)}
@@ -65,7 +65,7 @@ class Linker:
         return self._address(place, slots, slot, relocation.symbol)
 
     def _called(self, place: Place, slots: bytearray, slot: int, symbol: Symbol) -> Callee:
-        """What a call with a relocation calls: its distance counts from the symbol."""
+        """The target of a call with a relocation: its distance counts from the symbol."""
         if symbol.section is None:
             raise place.refused(slot, f"calls function {symbol.name}, which the object does not define")
         if slot not in calls_of(slots):
@@ -73,7 +73,7 @@ class Linker:
         return self._callee(place, slots, slot, self.elf.sections[symbol.section], symbol.value)
 
     def _callee(self, place: Place, slots: bytearray, slot: int, section: Section, base: int) -> Callee:
-        """The function of a section that a call leads to, whose distance counts from the slot behind a byte of the section."""
+        """The function of a section that a call leads to; its distance counts from the slot after a byte of the section."""
         begin = base + SLOT_SIZE * (calls_of(slots)[slot] + 1)
         functions = (symbol for symbol in self.elf.symbols_of(section) if symbol.kind == "STT_FUNC")
         function = next((symbol for symbol in functions if symbol.value == begin), None)
@@ -82,7 +82,7 @@ class Linker:
         return Callee(slot, section, function)
 
     def _address(self, place: Place, slots: bytearray, slot: int, symbol: Symbol) -> MapSlot:
-        """A wide load of an address: that of the symbol, to which the number in the load is added."""
+        """A wide load of an address: that of the symbol, plus the number in the load."""
         if symbol.section is None:
             why = _NO_PLACE.get(symbol.place, "is not defined in the object")
             raise place.refused(slot, f"loads the address of {symbol.name}, which {why}")
@@ -122,13 +122,13 @@ def _address_in(section: Section, offset: int, symbol: Symbol) -> str:
 
 
 def _wide_number(slots: bytes | bytearray, slot: int) -> int:
-    """The number of a wide load: its low half stands in the first slot, its high half in the second."""
+    """The number of a wide load: its low half is in the first slot, its high half in the second."""
     at = SLOT_SIZE * slot
     return int.from_bytes(slots[at + 4 : at + 8] + slots[at + 12 : at + 16], "little")
 
 
 def _fill(slots: bytearray, slot: int, source: int, offset: int) -> None:
-    """Makes a wide load one of a map or of a map's value: its `src`, no descriptor yet, and the offset."""
+    """Makes a wide load one of a map or of a map's value: sets `src`, no descriptor yet, and the offset."""
     at = SLOT_SIZE * slot
     slots[at + 1] = slots[at + 1] & 0x0F | source << 4
     slots[at + 4 : at + 8] = bytes(4)

@@ -1,6 +1,6 @@
-"""Values for global variables, given as text before an object is loaded: `limit=1000`, `allowed=192.0.2.1`.
+"""Sets global variables from text before an object is loaded: `limit=1000`, `allowed=192.0.2.1`.
 
-The sections of variables are maps with a first value (`.data`, `.rodata`, `.bss`); what is set changes that.
+The sections of variables are maps with an initial value (`.data`, `.rodata`, `.bss`); this module changes that value.
 """
 
 from __future__ import annotations
@@ -20,7 +20,7 @@ _MAC = re.compile(r"[0-9A-Fa-f]{1,2}(?::[0-9A-Fa-f]{1,2}){5}")
 
 
 def with_values(found: ObjectFile, values: Mapping[str, str]) -> ObjectFile:
-    """The object with these values for its global variables, by their names; an ObjectError where one can't have its value."""
+    """The object with these values for its global variables, by their names. Raises ObjectError if one can't have its value."""
     if not values:
         return found
     if found.types is None:
@@ -58,7 +58,7 @@ def _with_value(path: str, btf: Btf, declared: ObjectMap, placed: Placed, name: 
 
 
 def _bytes_of(btf: Btf, type_id: int, text: str) -> bytes:
-    """The bytes of a value; a ValueError where the text is none of the type."""
+    """The bytes of a value. Raises ValueError if the text is not a value of the type."""
     found = resolve(btf, type_id)
     size = address_size(btf, type_id)
     if size is not None and (":" in text or text.count(".") == 3):
@@ -94,7 +94,7 @@ def _number(number: int | None, size: int, signed: bool) -> bytes:
 
 
 def _address(text: str, size: int) -> bytes:
-    """The bytes of an address in the order of the packet."""
+    """The bytes of an address in network byte order."""
     if size == 6:
         if not _MAC.fullmatch(text):
             raise ValueError("six bytes in hexadecimal digits are wanted, as 02:00:00:00:00:01")

@@ -1,4 +1,4 @@
-"""The types of an object, and values in their words."""
+"""The types of an object, and how to write values of them."""
 
 from __future__ import annotations
 
@@ -11,25 +11,25 @@ from bpfhost.objects.values import decode, plain, text, texts
 
 @dataclass(frozen=True)
 class Types:
-    """The types that a .BTF section has, by their ids."""
+    """The types of a .BTF section, by their ids."""
 
     btf: Btf
 
     def show(self, type_id: int, data: bytes) -> str:
-        """The value that the first bytes are, as C writes it: `{ .src = 167772161, .port = 53 }`.
+        """The value of the first bytes as written in C: `{ .src = 167772161, .port = 53 }`.
 
-        An ObjectError where there are fewer bytes than the type has, the type has no values, or there is no such type.
+        Raises ObjectError if there are fewer bytes than the type has, if the type has no values, or if there is no such type.
         """
         return text(decode(self.btf, type_id, data))
 
     def plain(self, type_id: int, data: bytes) -> object:
-        """The value as numbers, strings, lists and dicts, for JSON; the errors are those of `show`."""
+        """The value as numbers, strings, lists and dicts, for JSON. Raises the errors of `show`."""
         return plain(decode(self.btf, type_id, data))
 
     def texts(self, type_id: int, data: bytes) -> object:
-        """The value as lists and dicts of what `show` writes, without quotes, for the cells of a table; the errors are those of `show`."""
+        """The value as lists and dicts of what `show` writes, without quotes, for the cells of a table. Raises the errors of `show`."""
         return texts(decode(self.btf, type_id, data))
 
     def name(self, type_id: int) -> str:
-        """The type as C spells it; an ObjectError where there is none."""
+        """The type as written in C. Raises ObjectError if there is none."""
         return spelling(self.btf, type_id)

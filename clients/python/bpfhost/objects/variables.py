@@ -1,7 +1,7 @@
 """Sections of global variables: each is an array of one element, whose value has the section's bytes.
 
-Source: bpf_object__init_global_data_maps of libbpf.c, and the names of sections there; the host loads addresses in the
-value of such a map (docs/INSTRUCTIONS.md, "Wide loads").
+Source: bpf_object__init_global_data_maps of libbpf.c, and the names of sections there; the host loads addresses in the value of such a map
+(docs/INSTRUCTIONS.md, "Wide loads").
 """
 
 from __future__ import annotations
@@ -21,7 +21,7 @@ _NAMES = (".data", ".rodata", ".bss")
 
 
 def is_of_variables(section: Section) -> bool:
-    """Whether a section is one of global variables, by its name; one without bytes has none."""
+    """Whether a section has global variables, by its name; a section without bytes has none."""
     named = any(section.name == name or section.name.startswith(f"{name}.") for name in _NAMES)
     return named and section.allocated and not section.executable and section.size > 0
 
@@ -62,13 +62,13 @@ def _refuse_addresses(elf: ElfObject, section: Section) -> None:
 
 
 def _type_of(btf: Btf | None, section: Section) -> int | None:
-    """The id of the section's type, where that has some variable."""
+    """The id of the section's type, if that has any variable."""
     found = btf.section(section.name) if btf else None
     return found[0] if found and found[1].variables else None
 
 
 def with_places(btf: Btf, elf: ElfObject) -> Btf:
-    """The types with the sizes of sections and the places of variables, which compilers leave to who loads the object."""
+    """The types with the sizes of sections and the offsets of variables, which compilers leave to the loader."""
     types = list(btf.types)
     for section in elf.sections:
         found = btf.section(section.name) if is_of_variables(section) else None
@@ -91,10 +91,10 @@ def _offset(each: Placed) -> int:
 
 
 def _place(btf: Btf, section: Section, each: Placed, places: dict[str, list[int]]) -> list[Placed]:
-    """A variable where its symbol is; nothing where the section has no such symbol.
+    """A variable at its symbol's offset; nothing if the section has no such symbol.
 
-    A static variable's place stands in the type too, and counts where several have one name. Clang describes constant strings
-    as variables of .rodata, though they and their symbols are in .rodata.str1.1.
+    For a static variable, the offset in the type counts too if several have one name. Clang describes constant strings as variables of
+    .rodata, though they and their symbols are in .rodata.str1.1.
     """
     variable = btf.type(each.variable)
     if not isinstance(variable, Variable):

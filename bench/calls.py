@@ -1,5 +1,5 @@
 #!/usr/bin/env python3
-"""Counts the machine instructions that a call of a helper takes. bench/README.md says what is printed.
+"""Counts the machine instructions that a call of a helper takes. bench/README.md explains the output.
 
 usage: calls.py BPFHOST [PLAIN]
 """
@@ -32,9 +32,9 @@ from programs import (
 )
 from streams import runs_of
 
-# Calls in a program, so many keys in turn, and runs of it in the shorter of two streams.
+# Calls in a program, with so many different keys; and runs of it in the shorter of two streams.
 CALLS, KEYS, RUNS = 240, 16, 10
-# Where the key and the value stand in the stack.
+# The offsets of the key and the value in the stack.
 KEY, VALUE, LONGEST_KEY = -64, -72, 64
 MAP = 3
 Slots = list[bytes]
@@ -52,12 +52,12 @@ def stack() -> Slots:
 
 
 def key(number: int) -> Slots:
-    """Another key by its first four bytes, the map and the key's address."""
+    """Sets another key by its first four bytes, the map and the key's address."""
     return [slot(STORE_WORD_K, 10, off=KEY, imm=number % KEYS), *loads_map(1, MAP), *pointer(2, KEY)]
 
 
 def puts(number: int) -> Slots:
-    """What an update takes."""
+    """The arguments of an update."""
     return [*key(number), *pointer(3, VALUE), slot(MOV64_K, 4)]
 
 
@@ -67,7 +67,7 @@ def bytes_of_packet(length: int, number: int) -> Slots:
 
 @dataclass(frozen=True)
 class Case:
-    """Calls of helpers in turn, in a map or on bytes of the packet."""
+    """Calls of helpers one after another, on a map or on bytes of the packet."""
 
     name: str
     helpers: tuple[int, ...]
@@ -82,7 +82,7 @@ class Case:
         return puts(number) if helper == UPDATE else key(number)
 
     def begin(self) -> Iterator[bytes]:
-        """The context in register 6, the key and the value; in a hash map that is looked at, keys."""
+        """The context in register 6, the key and the value; for a lookup in a hash map, the keys."""
         yield slot(MOV64_X, 6, 1)
         yield from stack()
         if self.kind == HASH and DELETE not in self.helpers:
@@ -90,7 +90,7 @@ class Case:
                 yield from (*puts(number), call(UPDATE))
 
     def program(self, calls: bool) -> Program:
-        """With the calls, or with a move in the place of each."""
+        """With the calls, or with a move in place of each."""
         slots = list(self.begin())
         for number in range(CALLS):
             for helper in self.helpers:
@@ -113,7 +113,7 @@ CASES = (
 
 
 def counted(count: Count, streams: Streams, host: Host, programs: tuple[Program, Program]) -> float:
-    """Machine instructions a call, less those of the move in the twin. Starts and loads cancel out in two lengths."""
+    """Machine instructions per call, minus those of the move in its place. Start and load cancel out between the two lengths."""
     with_calls, without = (
         count_of(count, host, streams.of(runs_of, program, 2 * RUNS)) - count_of(count, host, streams.of(runs_of, program, RUNS))
         for program in programs

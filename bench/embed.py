@@ -12,12 +12,12 @@ from programs import HASH, Program, empty, parser
 from streams import FIRST, MAP_CREATE, frame, runs_of
 
 MAP_LOOKUP, MAP_UPDATE = 1, 2
-# The least that the kernel runs a program on, and what Ethernet carries.
+# The shortest packet that the kernel runs a program on, and the longest of Ethernet.
 ETHERNET_HEADER, LONG_PACKET = 14, 1500
 
 
 def look_up() -> bytes:
-    """A hash map of a key of four bytes, with a value of eight."""
+    """A hash map with a key of four bytes and a value of eight."""
     key, value = b"key1", b"value001"
     return (
         frame(MAP_CREATE, struct.pack("<5I", HASH, len(key), len(value), 16, 0))

@@ -1,7 +1,7 @@
 #!/usr/bin/env python3
-"""Times filters as tcpdump writes them beside libpcap's interpreter. bench/README.md says what is printed.
+"""Times filters written as for tcpdump, compared with libpcap's interpreter. bench/README.md explains the output.
 
-usage: filters.py [--rounds N] [--only WORD] [--no-counts] FILTERS; FILTERS is what filters.c is built to
+usage: filters.py [--rounds N] [--only WORD] [--no-counts] FILTERS; FILTERS is the program built from filters.c
 """
 
 from __future__ import annotations
@@ -47,7 +47,7 @@ class Case:
 
 
 class Way:
-    """How packets are run."""
+    """How the packets are run."""
 
     def __init__(self, name: str, program: str, word: str) -> None:
         self.name, self.program, self.word = name, program, word
@@ -63,11 +63,11 @@ class Way:
         return ended.stdout
 
     def time(self, case: Case) -> float:
-        """Nanoseconds of a packet."""
+        """Nanoseconds per packet."""
         return float(self.says(case, 0))
 
     def instructions(self, case: Case, count: Count) -> float:
-        """Machine instructions of a packet."""
+        """Machine instructions per packet."""
         counts = [count(self.command(case, passes), subprocess.DEVNULL) for passes in (FEWER, MORE)]
         if counts[0] is None or counts[1] is None:
             sys.exit(f"{self.name}, {case.name}: its machine instructions can't be counted")
@@ -90,7 +90,7 @@ def made_cases(folder: Path, only: str) -> Iterator[Case]:
 
 
 def captures(folder: Path) -> dict[str, list[bytes]]:
-    """Packets of two captures: that of examples/capture, and what examples/filters makes."""
+    """The packets of two captures: that of examples/capture, and the one that examples/filters makes."""
     made = folder / "made.pcap"
     subprocess.run([sys.executable, str(TOP / "examples/filters/make_traffic.py"), str(made)], check=True)
     return {"flows": packets_of(TOP / "examples/capture/sample.pcap"), "mixed": packets_of(made)}
@@ -108,7 +108,7 @@ def packets_of(path: Path) -> list[bytes]:
 
 
 def print_times(cases: list[Case], ways: list[Way], rounds: int) -> None:
-    """For each case the times of the ways, medians of rounds, and how many times libpcap's they are in one round."""
+    """For each case the medians of the times of each way over the rounds, and their ratios to libpcap's in the same round."""
     fast, plain, libpcap = ways
     print(f"ns a packet\n{'':<36}" + "".join(f"{way.name:>10}" for way in ways) + f"{'fast to libpcap':>18}{'plain to libpcap':>18}")
     for case in cases:
@@ -119,7 +119,7 @@ def print_times(cases: list[Case], ways: list[Way], rounds: int) -> None:
 
 
 def print_counts(cases: list[Case], ways: list[Way], tool: str, count: Count) -> None:
-    """Machine instructions of a packet."""
+    """Machine instructions per packet."""
     print(f"machine instructions a packet, by {tool}\n{'':<36}" + "".join(f"{way.name:>10}" for way in ways))
     for case in cases:
         print(f"{case.name:<36}" + "".join(f"{way.instructions(case, count):>10.1f}" for way in ways), flush=True)

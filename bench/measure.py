@@ -1,5 +1,5 @@
 #!/usr/bin/env python3
-"""Measures a built bpfhost, and other interpreters beside it. bench/README.md says what is printed.
+"""Measures a built bpfhost, and other interpreters for comparison. bench/README.md explains the output.
 
 usage: measure.py [--rounds N] [--only WORD] BPFHOST [PLAIN [DPDK]]
 """
@@ -20,17 +20,17 @@ from programs import LOADED, RUN, SLOTS, Program
 from streams import loads_of, runs_of
 
 SERVE = ["serve", "--tenants", "1"]
-# Instructions of programs that each timed stream executes, about, and the most runs that it has.
+# About how many instructions each timed stream executes, and the most runs that it has.
 EXECUTED, MOST_RUNS = 60_000_000, 100_000
-# Loads in each timed stream, and runs and loads where machine instructions are counted by a slow tool.
+# Loads in each timed stream; and runs and loads if a slow tool counts the machine instructions.
 LOADS, COUNTED_RUNS, COUNTED_LOADS = 60, 60, 2
 
 Programs = dict[str, Program]
-# What was found of each program, by its name and the host's.
+# The measurements of each program, by its name and the host's.
 Found = dict[tuple[str, str], float]
 
 
-# What a stream is read from, and what counts the machine instructions of a command: none where it does not count here.
+# The input of a stream, and the command that counts the machine instructions of another; None if it does not count here.
 Input = IO[bytes] | int
 
 
@@ -39,7 +39,7 @@ class Count(Protocol):
 
 
 class Host:
-    """A program that reads frames and writes replies. With no calls it runs only programs that call no helper."""
+    """A program that reads frames and writes replies. Without calls it runs only programs that call no helper."""
 
     def __init__(self, name: str, command: list[str], calls: bool = True) -> None:
         self.name, self.command, self.calls = name, command, calls
@@ -52,7 +52,7 @@ class Host:
             return subprocess.run(self.command, stdin=frames, stdout=subprocess.PIPE, check=True).stdout
 
     def seconds(self, stream: str) -> float:
-        """The processor time that the process takes, by itself and in the system: others on the machine count little."""
+        """The processor time of the process, in user and in system mode: other load on the machine changes it little."""
         with open(stream, "rb") as frames:
             process = subprocess.Popen(self.command, stdin=frames, stdout=subprocess.DEVNULL)
             _, status, usage = os.wait4(process.pid, 0)
@@ -77,7 +77,7 @@ def counted_by_valgrind(command: list[str], frames: Input, environment: Mapping[
 
 
 def counter() -> tuple[str, Count] | tuple[None, None]:
-    """What counts machine instructions here, if anything does."""
+    """The tool that counts machine instructions here, if there is one."""
     for tool, count in (("perf", counted_by_perf), ("valgrind", counted_by_valgrind)):
         if shutil.which(tool) and count(["true"], subprocess.DEVNULL):
             return tool, count
@@ -110,7 +110,7 @@ class Streams:
 
 
 def least(rounds: int, tasks: list[tuple[Host, str]]) -> dict[tuple[Host, str], float]:
-    """The least time of each task, (host, stream), over rounds in which each has its turn."""
+    """The least time of each task, (host, stream), over rounds in which all take turns."""
     best: dict[tuple[Host, str], float] = {}
     for at in range(rounds):
         if sys.stderr.isatty():
@@ -136,7 +136,7 @@ def same_replies(streams: Streams, programs: Programs, hosts: list[Host]) -> Non
 
 
 def measured_runs(streams: Streams, programs: Programs, hosts: list[Host], rounds: int) -> Found:
-    """Seconds of a run of each program on each host, with its frame."""
+    """Seconds per run of each program on each host, with its frame."""
     pairs = {
         name: (streams.of(runs_of, program, 0), streams.of(runs_of, program, runs_for(program)))
         for name, program in programs.items()
@@ -150,7 +150,7 @@ def measured_runs(streams: Streams, programs: Programs, hosts: list[Host], round
 
 
 def counted_runs(streams: Streams, programs: Programs, hosts: list[Host], count: Count) -> Found:
-    """Machine instructions of a run of each program on each host, with its frame."""
+    """Machine instructions per run of each program on each host, with its frame."""
     found = {}
     for name, program in programs.items():
         few, more = (streams.of(runs_of, program, runs) for runs in (COUNTED_RUNS, 2 * COUNTED_RUNS))
@@ -181,7 +181,7 @@ def print_runs(streams: Streams, programs: Programs, hosts: list[Host], rounds: 
 
 
 def told_of(found: Found, name: str, host: Host, scale: float) -> float | None:
-    """What a run takes beyond the empty program's, or None where this host does not run the program."""
+    """How much more a run takes than one of the empty program, or None if this host does not run the program."""
     if (name, host.name) not in found:
         return None
     return (found[name, host.name] - found["empty", host.name]) * scale
@@ -192,7 +192,7 @@ def shown(number: float | None, digits: int) -> str:
 
 
 def print_loads(streams: Streams, programs: Programs, host: Host, rounds: int, count: Count | None) -> None:
-    """Loads, less those of the empty program."""
+    """Loads, minus those of the empty program."""
     bare = RUN["empty"]()
     every = {"empty": bare, **programs}
     files = {name: streams.of(loads_of, program, LOADS) for name, program in every.items()}

@@ -1,5 +1,5 @@
 #!/usr/bin/env python3
-"""Times filters on packets by the batch. bench/README.md says what is printed.
+"""Times filters on packets by the batch. bench/README.md explains the output.
 
 usage: packets.py [--rounds N] [--batches 1,8,..] [--sizes 64,..] [--only WORD] [--no-counts] PACKETS [PACKETS_WITH_DPDK]
 """
@@ -35,7 +35,7 @@ class Case:
 
 
 class Way:
-    """How packets are run: by a program, with its word for the way."""
+    """How the packets are run: a program, with its name for the way."""
 
     def __init__(self, name: str, program: str, word: str) -> None:
         self.name, self.program, self.word = name, program, word
@@ -50,11 +50,11 @@ class Way:
         return ended.stdout
 
     def time(self, case: Case) -> float:
-        """Nanoseconds of a packet."""
+        """Nanoseconds per packet."""
         return float(self.says(case, 0))
 
     def instructions(self, case: Case, count: Count) -> float:
-        """Machine instructions of a packet."""
+        """Machine instructions per packet."""
         counts = [count(self.command(case, batches), subprocess.DEVNULL) for batches in (FEWER, MORE)]
         if counts[0] is None or counts[1] is None:
             sys.exit(f"{self.name}, {case.name}: its machine instructions can't be counted")
@@ -62,13 +62,13 @@ class Way:
 
 
 def same_answers(case: Case, ways: list[Way]) -> None:
-    """All answer the same to the packets of a third batch."""
+    """All ways return the same for the packets of a third batch."""
     if len({way.says(case, 3) for way in ways}) > 1:
         sys.exit(f"{case.name}: {', '.join(way.name for way in ways)} answer differently")
 
 
 def print_times(cases: list[Case], ways: list[Way], rounds: int) -> None:
-    """For each case the times of the ways, medians of rounds, and how many times the plain interpreter's that is in one round."""
+    """For each case the medians of the times of each way over the rounds, and their ratios to the plain interpreter's in the same round."""
     shown = "".join(f"{way.name:>10}" for way in ways)
     ratios = "".join(f"{f'{way.name} to {other.name}':>17}" for way, other in compared(ways))
     print(f"ns a packet\n{'':<21}{'size':>6}{'batch':>6}{shown}{ratios}")
@@ -82,7 +82,7 @@ def print_times(cases: list[Case], ways: list[Way], rounds: int) -> None:
 
 
 def compared(ways: list[Way]) -> Iterator[tuple[Way, Way]]:
-    """The call with each of the others, and a frame for each packet with the plain interpreter."""
+    """The call compared with each of the others, and a frame for each packet compared with the plain interpreter."""
     call, frames, plain, *others = ways
     yield call, plain
     yield frames, plain
@@ -91,7 +91,7 @@ def compared(ways: list[Way]) -> Iterator[tuple[Way, Way]]:
 
 
 def print_counts(cases: list[Case], ways: list[Way], tool: str, count: Count) -> None:
-    """Machine instructions of a packet; but for the call's, those of a batch are so many times those of a packet."""
+    """Machine instructions per packet; except for the call, those of a batch are a multiple of those of a packet."""
     batches = sorted({case.batch for case in cases})
     head = "".join(f"{f'{ways[0].name}, {batch}':>12}" for batch in batches) + "".join(f"{way.name:>12}" for way in ways[1:])
     print(f"machine instructions a packet, by {tool}, {cases[0].size} bytes\n{'':<21}{head}")

@@ -1,4 +1,4 @@
-"""The programs of the bench, as slots of RFC 9669, with the maps that they load and the packet that they are run on."""
+"""The benchmark programs, as slots of RFC 9669, with the maps that they load and the packet that they are run on."""
 
 from __future__ import annotations
 
@@ -16,7 +16,7 @@ JA, JEQ_K, JGT_K, JGE_X, JSET_K, JNE_K, CALL, EXIT = 0x05, 0x15, 0x25, 0x3D, 0x4
 LOOK_UP, UPDATE, DELETE, LOAD_BYTES = 1, 2, 3, 26
 HASH, ARRAY = 1, 2
 
-# The ten words of context that a frame gives.
+# The ten words of context that a frame has.
 WORDS = range(1, 11)
 
 Slots = list[bytes]
@@ -49,7 +49,7 @@ class Program:
     # Each map's kind, key size, value size and entries; their descriptors are 3, 4, ..
     maps: list[tuple[int, int, int, int]] = field(default_factory=list)
     packet: bytes = b""
-    # How many instructions a run executes, where it is known.
+    # How many instructions a run executes, if it is known.
     executed: int = 0
 
     @property
@@ -79,7 +79,7 @@ def arithmetic(rounds: int) -> Program:
 
 
 def branches() -> Program:
-    """A filter of 1,000 tests of the packet's length and the other words of the context; each jump leads over one slot."""
+    """A filter of 1,000 tests of the packet's length and the other words of the context; each jump skips one slot."""
     context, tests, executed = [0, *WORDS], [], 0
     for number in range(1000):
         opcode, constant = (JEQ_K, JGT_K, JSET_K)[number % 3], number % 7
@@ -95,7 +95,7 @@ def branches() -> Program:
 
 
 def kept_on_stack(registers: Sequence[int], count: int) -> Program:
-    """Values kept on the stack, all over it, and taken back: all of these registers are stored, loaded and added to in turn."""
+    """Stores values all over the stack and loads them: all of these registers are stored, loaded and added to in turn."""
     slots = [slot(MOV64_K, reg, imm=reg) for reg in registers]
     for number in range(0, count, len(registers)):
         places = [(reg, -8 * (1 + (number + at) % 64)) for at, reg in enumerate(registers)]
@@ -117,7 +117,7 @@ def stack_chain() -> Program:
 
 
 def copies_of_packet(offset: int, to: int, length: int) -> Slots:
-    """Copies bytes of the packet into the stack; the context is in register 6."""
+    """Copies bytes of the packet to the stack; the context is in register 6."""
     return [
         slot(MOV64_X, 1, 6),
         slot(MOV64_K, 2, imm=offset),
@@ -149,7 +149,7 @@ def look_at_packet() -> Slots:
         (JSET_K, 7, 0x1FFF),
         slot(LOAD_BYTE, 7, 10, off=-31),
         (JNE_K, 7, 6),
-        # The header's length tells where the ports stand.
+        # The header's length gives the offset of the ports.
         slot(AND64_K, 8, imm=15),
         slot(LSH64_K, 8, imm=2),
         slot(ADD64_K, 8, imm=14),
@@ -160,7 +160,7 @@ def look_at_packet() -> Slots:
         slot(LOAD_HALF, 7, 10, off=-46),
         slot(BIG_ENDIAN, 7, imm=16),
         (JNE_K, 7, 443),
-        # The two addresses, mixed with the port of the sender
+        # The two addresses, mixed with the sender's port
         slot(LOAD_WORD, 7, 10, off=-28),
         slot(LOAD_WORD, 8, 10, off=-24),
         slot(XOR64_X, 7, 8),
@@ -188,14 +188,14 @@ def segment() -> bytes:
 
 
 def parser() -> Program:
-    """Eight looks at one packet, each with three calls that copy bytes of it."""
+    """Parses one packet eight times, each with three calls that copy bytes of it."""
     looks = look_at_packet() * 8
     slots = [slot(MOV64_X, 6, 1), slot(MOV64_K, 9), *looks, slot(MOV64_X, 0, 9), slot(EXIT)]
     return Program(slots, packet=segment(), executed=len(slots))
 
 
 def counts(fd: int, key: int) -> Slots:
-    """Adds 1 to a count under a key, and the count to register 9. A hash map's first count is put there by an update."""
+    """Adds 1 to a count under a key, and the count to register 9. In a hash map, an update adds the first count."""
     counted = [
         slot(LOAD_DOUBLE, 1, 0),
         slot(ADD64_K, 1, imm=1),
@@ -232,12 +232,12 @@ def counter() -> Program:
         counted += counts(3, number) + counts(4, 1000 * number)
     slots = [slot(MOV64_K, 9), *counted, slot(MOV64_X, 0, 9), slot(EXIT)]
     maps = [(ARRAY, 4, 8, 16), (HASH, 4, 8, 64)]
-    # Once every key is there: a wide load is one instruction of two slots, and the updates are jumped over.
+    # Once every key exists: a wide load is one instruction of two slots, and the updates are skipped.
     return Program(slots, maps=maps, executed=16 * 10 + 3)
 
 
 def counter_in_array() -> Program:
-    """One count in an array, by a look-up; it answers the count."""
+    """One count in an array, by a lookup; it returns the count."""
     counted = [slot(LOAD_DOUBLE, 1, 0), slot(ADD64_K, 1, imm=1), slot(STORE_DOUBLE, 0, 1), slot(MOV64_X, 0, 1)]
     slots = [
         slot(STORE_WORD_K, 10, off=-4, imm=3),
@@ -260,14 +260,14 @@ def on_context() -> Program:
 
 
 def one_copy() -> Program:
-    """A copy of the 20 bytes of an IPv4 header, of which it answers the address of the sender."""
+    """Copies the 20 bytes of an IPv4 header, and returns the sender's address."""
     answer = [slot(JNE_K, 0, off=1), slot(LOAD_WORD, 0, 10, off=-12), slot(EXIT)]
     slots = [slot(MOV64_X, 6, 1), *copies_of_packet(14, -24, 20), *answer]
     return Program(slots, executed=len(slots))
 
 
 def one_look() -> Program:
-    """One look at a TCP segment: the two addresses mixed where it goes to port 443, and 0 else."""
+    """Parses a TCP segment: returns the two addresses mixed if it goes to port 443, and 0 otherwise."""
     slots = [slot(MOV64_X, 6, 1), slot(MOV64_K, 9), *look_at_packet(), slot(MOV64_X, 0, 9), slot(EXIT)]
     return Program(slots, executed=len(slots))
 
@@ -275,8 +275,8 @@ def one_look() -> Program:
 def counts_and_keeps_greatest(counts_one: Slots, rounds: int) -> Slots:
     """Counts words of the context, and keeps the greatest: two global variables, in an array of one element as compilers do.
 
-    `counts_one` adds 1 to the number at register 4. Beside it a round executes five instructions once the greatest word is there: a
-    wide load is one of two slots, and the last store is jumped over.
+    `counts_one` adds 1 to the number at register 4. Besides that a round executes five instructions once the greatest word is there: a wide
+    load is one of two slots, and the last store is skipped.
     """
     slots = []
     for number in range(rounds):
@@ -296,14 +296,14 @@ GLOBALS = [(ARRAY, 4, 16, 1)]
 
 
 def globals_of(rounds: int) -> Program:
-    """The counter is loaded, added to and stored, each time."""
+    """The counter is loaded, incremented and stored each time."""
     counts_one = [slot(LOAD_DOUBLE, 5, 4), slot(ADD64_K, 5, imm=1), slot(STORE_DOUBLE, 4, 5)]
     slots = [*counts_and_keeps_greatest(counts_one, rounds), slot(ADD64_X, 0, 5), slot(EXIT)]
     return Program(slots, maps=GLOBALS, executed=8 * rounds + 2)
 
 
 def atomic_globals_of(rounds: int) -> Program:
-    """The counter is added to by one atomic operation in their place."""
+    """The counter is incremented by one atomic operation instead."""
     counts_one = [slot(ATOMIC_DOUBLE, 4, 6, imm=ATOMIC_ADD)]
     adds_counter = [*loads_value(4, 3, 0), slot(LOAD_DOUBLE, 5, 4), slot(ADD64_X, 0, 5)]
     slots = [slot(MOV64_K, 6, imm=1), *counts_and_keeps_greatest(counts_one, rounds), *adds_counter, slot(EXIT)]
@@ -337,7 +337,7 @@ SLOTS = 4096
 
 
 def filled(slots: Slots, end: Slots) -> Program:
-    """As many slots as a program may have: moves between the slots and the end."""
+    """As many slots as a program may have: moves in all slots before the exit."""
     return Program(slots + [slot(MOV64_K, 9, imm=1)] * (SLOTS - len(slots) - len(end)) + end)
 
 
@@ -352,7 +352,7 @@ def straight() -> Program:
 
 
 def spills() -> Program:
-    """The frame pointer and the context are kept all over the stack, and loaded again."""
+    """Stores the frame pointer and the context all over the stack, and loads them again."""
     slots = []
     for number in range(2040):
         off = -8 * (1 + number % 64)
@@ -361,7 +361,7 @@ def spills() -> Program:
 
 
 def jumps_to_one_target(slots: Slots) -> Program:
-    """Four thousand tests of one number behind these slots, each of which jumps to the end."""
+    """Four thousand tests of one number after these slots, each of which jumps to the end."""
     end, slots = returns(0), list(slots)
     for number in range(4000):
         slots.append(slot(JEQ_K, 2, off=SLOTS - len(end) - len(slots) - 1, imm=number))
@@ -369,17 +369,17 @@ def jumps_to_one_target(slots: Slots) -> Program:
 
 
 def one_target() -> Program:
-    """Four thousand jumps to one target, where a number is known of one register."""
+    """Four thousand jumps to one target, with a number known of one register."""
     return jumps_to_one_target([slot(LOAD_WORD, 2, 1)])
 
 
 def one_target_full() -> Program:
-    """The same where something is known of each register and of each stack slot."""
+    """The same, with something known of each register and of each stack slot."""
     return jumps_to_one_target(full_facts())
 
 
 def crossing() -> Program:
-    """Each jump leads over the next ninety slots, so that ninety are open at each slot."""
+    """Each jump skips the next ninety slots, so that ninety jumps are open at each slot."""
     end, open_jumps, slots = returns(0), 90, full_facts()
     while len(slots) + open_jumps + 1 < SLOTS - len(end):
         slots.append(slot(JEQ_K, 2, off=open_jumps, imm=len(slots)))

@@ -1,6 +1,6 @@
 #!/usr/bin/env bash
-# Times the interpreter and the loads of programs: bench/run.sh [--rounds N] [--only WORD]. README.md, beside this file, says what
-# is printed. It wants python3, and rt, or a built program in BPFHOST.
+# Times the interpreter and the loads of programs: bench/run.sh [--rounds N] [--only WORD]. README.md in this folder explains the
+# output. It needs python3, and rt, or a built program in BPFHOST.
 set -euo pipefail
 if [ "${1:-}" = --help ]; then
     sed -n "2,3s/^# //p" "$0"

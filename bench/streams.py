@@ -1,8 +1,8 @@
 #!/usr/bin/env python3
-"""Streams of command frames for the programs of the bench (docs/PROTOCOL.md).
+"""Streams of command frames for the benchmark programs (docs/PROTOCOL.md).
 
-usage: streams.py run PROGRAM RUNS     a program is loaded with its maps, and test-run so many times
-       streams.py load PROGRAM LOADS   a program is loaded and closed so many times
+usage: streams.py run PROGRAM RUNS     loads a program with its maps, and test-runs it so many times
+       streams.py load PROGRAM LOADS   loads and closes a program so many times
 """
 
 from __future__ import annotations

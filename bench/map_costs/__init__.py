@@ -1,1 +1,1 @@
-"""What commands and calls on hash maps cost, with random keys and with keys that are to collide. bench/README.md says more."""
+"""Costs of commands and helper calls on hash maps, with random keys and with colliding keys. bench/README.md has more."""

@@ -1,7 +1,7 @@
-"""Counts and times commands and calls on hash maps. bench/README.md says what is printed.
+"""Counts and times commands and calls on hash maps. bench/README.md explains the output.
 
 usage: python3 -m map_costs [--rounds N] [--key-sizes N,..] [--entries N,..] [--only PART] [--seed SEED] BUILT BPFHOST..
-BUILT is a folder with what bench/maps compiles. PART is commands, keys, calls or steps. SEED is two words in hexadecimal digits.
+BUILT is a folder with what bench/maps compiles. PART is commands, keys, calls or steps. SEED is two hexadecimal words.
 """
 
 from __future__ import annotations
@@ -20,7 +20,7 @@ from map_costs.keys import RANDOM, SEED, Family, Searched, Seed, with_seed, with
 from measure import Count, counter
 
 PARTS = ("commands", "keys", "calls", "steps")
-# What is compared of families of keys.
+# What to compare for families of keys.
 COMPARED = [FILL, "look-up", "oldest"]
 
 
@@ -29,7 +29,7 @@ class Bench:
     count: Count | None
     rounds: int
     shapes: list[Shape]
-    # The bpfhosts, whose first one is compared with the others, and what is measured beside them.
+    # The bpfhosts, the first of which is compared with the others, and the other hosts that are measured.
     hosts: list[Host]
     beside: list[Host]
     families: list[Family]
@@ -61,7 +61,7 @@ def takes_seed(host: Host) -> bool:
 
 
 def kernel(built: Built) -> list[Host]:
-    """The kernel's maps, where bpf(2) may be called."""
+    """The kernel's maps, if bpf(2) is available."""
     host = built.kernel()
     with scratch() as files:
         told = host.run(files.of(streams_of(FILL, RANDOM.keys(4, 64), 64).whole))
@@ -72,7 +72,7 @@ def kernel(built: Built) -> list[Host]:
 
 
 def named(programs: list[str]) -> Iterator[tuple[str, str]]:
-    """The programs with their files' names, numbered where a name comes again."""
+    """The programs by the names of their files, numbered if a name occurs twice."""
     names: list[str] = []
     for program in programs:
         names.append(Path(program).name)
@@ -98,7 +98,7 @@ def bench_of(given: argparse.Namespace) -> Bench:
 
 
 def same_replies(bench: Bench, shape: Shape) -> None:
-    """All answer alike; the kernel gives its keys in an order of its own."""
+    """All hosts give the same replies, except that the kernel returns its keys in another order."""
     keys = RANDOM.keys(shape.key_size, shape.entries)
     for name in OPERATIONS:
         asked = [host for host in (*bench.hosts, *bench.beside) if host.counts or name != "walk"]
@@ -126,7 +126,7 @@ def print_commands(bench: Bench) -> None:
 
 
 def family_lines(bench: Bench, host: Host, shape: Shape) -> Iterator[str]:
-    """What each family costs, and how many times what random keys do."""
+    """The cost of each family, and its ratio to that of random keys."""
     keys = {family.name: (family, family.keys(shape.key_size, shape.entries)) for family in (RANDOM, *bench.families)}
     taken = costs.times(bench.rounds, [host], keys, COMPARED)
     counted = {

@@ -1,4 +1,4 @@
-"""What a helper's call on a full hash map costs inside a run: machine instructions, less those of a move in its place."""
+"""The cost of a helper's call on a full hash map during a run: machine instructions, minus those of a move in its place."""
 
 from __future__ import annotations
 
@@ -35,14 +35,14 @@ STACK = 512
 
 @dataclass(frozen=True)
 class Calls:
-    """A program that calls a helper for each of these keys, which the map has."""
+    """A program that calls a helper for each of these keys, which are in the map."""
 
     helper: int
     keys: Keys
 
     @property
     def key_at(self) -> int:
-        """Where a key begins in the stack; above it there is room for a value, where it fits."""
+        """The offset of a key in the stack; there is room for a value above it, if one fits."""
         return -min(STACK, -(-len(self.keys[0]) // 8) * 8 + VALUE_SIZE)
 
     def arguments(self, key: bytes) -> list[bytes]:
@@ -54,7 +54,7 @@ class Calls:
         return given
 
     def slots(self, is_called: bool) -> list[bytes]:
-        """With the calls, or with a move in the place of each."""
+        """With the calls, or with a move in place of each."""
         found = [slot(STORE_DOUBLE_K, 10, off=-VALUE_SIZE, imm=7)]
         for key in self.keys:
             found += [*self.arguments(key), call(self.helper) if is_called else slot(MOV64_K)]
@@ -68,7 +68,7 @@ class Calls:
 
 
 def can_be_called(helper: str, key_size: int) -> bool:
-    """A value has to fit into the stack beside the key."""
+    """The key and a value have to fit into the stack together."""
     return helper == "look-up" or key_size + VALUE_SIZE <= STACK
 
 
@@ -78,7 +78,7 @@ def calls_of(helper: str, keys: Keys) -> Calls:
 
 
 def instructions(count: Count, host: Host, keys: Keys, helper: str) -> float:
-    """Machine instructions of a call. The start, the map and the load cancel out in two lengths of a stream."""
+    """Machine instructions per call. The start, the map and the load cancel out between the two lengths of a stream."""
     calls = calls_of(helper, keys)
     with scratch() as files:
         counts = Counts(count, files)

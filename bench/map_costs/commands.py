@@ -1,4 +1,4 @@
-"""Streams of commands on one hash map (docs/PROTOCOL.md), each with the stream that it is compared with."""
+"""Streams of commands on one hash map (docs/PROTOCOL.md), each with the stream to compare it with."""
 
 from __future__ import annotations
 
@@ -38,7 +38,7 @@ def put_back(key: bytes) -> bytes:
 
 
 def shuffled(keys: Keys, count: int) -> Keys:
-    """The keys in a random order, again and again in the same one."""
+    """The keys in a random order, which repeats."""
     order = list(keys)
     random.Random(count).shuffle(order)
     return repeated(order, count)
@@ -49,19 +49,19 @@ def repeated(keys: Keys, count: int) -> Keys:
 
 
 def walked(keys: Keys, count: int) -> Frames:
-    """The keys are asked for from the first to the last, and that there is none behind it, again and again."""
+    """Reads the keys from the first to the last, and gets the reply that no key follows, again and again."""
     asked = [b"", *keys]
     return [on_map(NEXT_KEY, asked[at % len(asked)]) for at in range(count)]
 
 
 # Frames of so many steps on a map that is full of the keys, added in their order. A step is one command, or a delete and an update.
 STEPS: dict[str, Callable[[Keys, int], Frames]] = {
-    # a frame of an unknown command, as long as a look-up's: what reading it and replying takes
+    # a frame of an unknown command, as long as a lookup's: the cost of reading it and replying
     "no command": lambda keys, count: [on_map(NO_COMMAND, key) for key in repeated(keys, count)],
     "look-up": lambda keys, count: [on_map(LOOK_UP, key) for key in shuffled(keys, count)],
     "update": lambda keys, count: [update(key) for key in shuffled(keys, count)],
     "walk": walked,
-    # each one that is put back is the newest, so that the next one is the oldest
+    # each key that is added again is the newest, so the next one is the oldest
     "oldest": lambda keys, count: [put_back(key) for key in repeated(keys, count)],
     "newest": lambda keys, count: [put_back(keys[-1])] * count,
     "random": lambda keys, count: [put_back(key) for key in random.Random(count).choices(keys, k=count)],
@@ -72,7 +72,7 @@ OPERATIONS = (FILL, *STEPS)
 
 @dataclass(frozen=True)
 class Streams:
-    """A stream, one without the steps, and how many there are: what a step costs is the difference, divided by their number."""
+    """A stream, one without the steps, and the number of steps: the cost of a step is the difference, divided by their number."""
 
     without: bytes
     whole: bytes
@@ -84,7 +84,7 @@ def filled(keys: Keys) -> bytes:
 
 
 def fills(keys: Keys, count: int) -> Streams:
-    """Maps are made, filled and closed, at least so many keys; a step is a key."""
+    """Creates, fills and closes maps, with at least so many keys in all; a step is a key."""
     times = -(-count // len(keys))
     close = on_map(CLOSE, b"")
     return Streams((created(keys) + close) * times, (filled(keys) + close) * times, times * len(keys))

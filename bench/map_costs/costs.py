@@ -1,4 +1,4 @@
-"""What a step of an operation costs on a host: machine instructions, and processor time beside other hosts."""
+"""The cost of a step of an operation on a host: machine instructions, and processor time compared with other hosts."""
 
 from __future__ import annotations
 
@@ -14,10 +14,10 @@ from map_costs.hosts import Files, Host, least
 from map_costs.keys import Family, Keys
 from measure import Count
 
-# Steps whose machine instructions are counted, and that are timed; fewer where keys collide, since each takes long.
+# Steps whose machine instructions are counted, and that are timed; fewer for colliding keys, as each takes long.
 COUNTED, COUNTED_COLLIDING = 1000, 100
 TIMED, TIMED_BYTES = 20_000, 6_000_000
-# Processes whose machine instructions are counted at once. What they count does not depend on each other.
+# How many processes' machine instructions are counted at once. Their counts do not depend on each other.
 AT_ONCE = 2
 
 
@@ -63,7 +63,7 @@ def counted_steps(family: Family) -> int:
 
 
 def timed_steps(family: Family, keys: Keys) -> int:
-    """As many as take long enough; with keys that collide each takes as much longer as there are keys, and so does the fill."""
+    """As many as take long enough. With colliding keys each step, and the fill, takes longer by a factor of the number of keys."""
     most = min(TIMED, TIMED_BYTES // (2 * len(keys[0]) + 60))
     return min(most, max(len(keys), 64 * TIMED // len(keys))) if family.knows_seed else most
 
@@ -71,7 +71,7 @@ def timed_steps(family: Family, keys: Keys) -> int:
 def instructions(
     count: Count, hosts: list[Host], family: Family, keys: Keys, operations: list[str]
 ) -> dict[tuple[str, str], float]:
-    """Machine instructions of a step, by operation and host."""
+    """Machine instructions per step, by operation and host."""
     wanted = {(name, host): streams_of(name, keys, counted_steps(family)) for name in operations for host in hosts if host.counts}
     with scratch() as files:
         counts = Counts(count, files)
@@ -82,7 +82,7 @@ def instructions(
 def times(
     rounds: int, hosts: list[Host], families: dict[str, tuple[Family, Keys]], operations: list[str]
 ) -> dict[tuple[str, str, str], float]:
-    """Seconds of a step, by family, operation and host; all have their turns in one run."""
+    """Seconds per step, by family, operation and host; all take turns in one run."""
     with scratch() as files:
         wanted = {
             (family_name, name, host.name): (host, streams)

@@ -11,7 +11,7 @@ from pathlib import Path
 from map_costs.keys import Seed
 from measure import Count
 
-# What known_seed.c says when the seed is taken from it.
+# What known_seed.c prints when the seed is taken from it.
 IS_KNOWN = b"the seed is known"
 
 
@@ -21,7 +21,7 @@ class Host:
     command: tuple[str, ...]
     # Added to the environment.
     variables: tuple[tuple[str, str], ...] = ()
-    # Whether its process does the work itself, so that its machine instructions tell something.
+    # Whether its process does the work itself, so that its machine instructions can be counted.
     counts: bool = True
 
     @property
@@ -33,7 +33,7 @@ class Host:
             return subprocess.run(self.command, stdin=frames, capture_output=True, env=self.environment)
 
     def seconds(self, stream: Path) -> float:
-        """The processor time that the process takes, by itself and in the system: others on the machine count little."""
+        """The processor time of the process, in user and in system mode: other load on the machine changes it little."""
         with stream.open("rb") as frames:
             process = subprocess.Popen(
                 self.command, stdin=frames, stdout=subprocess.DEVNULL, stderr=subprocess.DEVNULL, env=self.environment
@@ -54,7 +54,7 @@ class Host:
 
 @dataclass(frozen=True)
 class Built:
-    """What was compiled of this folder's C, and the seed that all are given."""
+    """The programs compiled from this folder's C, and the seed that all of them get."""
 
     folder: Path
     seed: Seed
@@ -64,7 +64,7 @@ class Built:
         return self.folder / "colliding"
 
     def served(self, name: str, program: str) -> Host:
-        """A bpfhost with the known seed: its draws are answered by known_seed.c."""
+        """A bpfhost with the known seed: known_seed.c returns it for its random draws."""
         variables = (("LD_PRELOAD", str(self.folder / "known_seed.so")), ("BENCH_SEED", self.seed.words))
         return Host(name, (program, "serve", "--tenants", "1"), variables)
 
@@ -90,7 +90,7 @@ class Files:
 
 
 def least(rounds: int, tasks: list[tuple[Host, Path]]) -> dict[tuple[Host, Path], float]:
-    """The least time of each task over rounds in which each has its turn."""
+    """The least time of each task over rounds in which all take turns."""
     best: dict[tuple[Host, Path], float] = {}
     for _ in range(rounds):
         for host, stream in tasks:

@@ -1,4 +1,4 @@
-"""Keys of hash maps: random ones, and families of keys that are to collide."""
+"""Keys of hash maps: random ones, and families of keys made to collide."""
 
 from __future__ import annotations
 
@@ -9,12 +9,12 @@ from collections.abc import Callable
 from dataclasses import dataclass
 from pathlib import Path
 
-# Up to eight bytes a key is hashed as one number, in both factors of one product: there is no key that makes a factor zero for all
-# others, so keys that collide are searched for. In a longer key the last eight bytes alone are one factor.
+# Up to eight bytes, a key is hashed as one number, in both factors of one product: no key makes a factor zero for all others, so colliding
+# keys are found by search. In a longer key one factor has only the last eight bytes.
 LONGEST_NUMBER = 8
 # The constant of the kit's own hash function.
 KIT_FACTOR = 0x9E37_79B9_7F4A_7C15
-# A step that leads through all numbers of 32 and of 64 bits.
+# A step that visits all numbers of 32 and of 64 bits.
 STEP = 0x9E37_79B9_0000_0001
 
 Keys = list[bytes]
@@ -29,7 +29,7 @@ class Seed:
 
     @classmethod
     def of_words(cls, words: str) -> Seed:
-        """Of two words in hexadecimal digits."""
+        """From two words in hexadecimal digits."""
         state, factor = (int(word, 16) for word in words.split())
         if max(state, factor) >= 2**64:
             raise ValueError(words)
@@ -55,13 +55,13 @@ def random_keys(size: int, count: int) -> Keys:
 
 
 def at_begin(numbers: list[int], size: int) -> Keys:
-    """Each number in the first eight bytes, or in all where there are fewer, and zeros."""
+    """Numbers in the first eight bytes, or in all if there are fewer, followed by zeros."""
     width = min(size, LONGEST_NUMBER)
     return [(number % 256**width).to_bytes(width, "little").ljust(size, b"\0") for number in numbers]
 
 
 def at_end(numbers: list[int], size: int) -> Keys:
-    """Zeros, and then each number in the last eight bytes."""
+    """Zeros, followed by numbers in the last eight bytes."""
     width = min(size, LONGEST_NUMBER)
     return [(number % 256**width).to_bytes(width, "little").rjust(size, b"\0") for number in numbers]
 
@@ -71,7 +71,7 @@ def counting(size: int, count: int) -> Keys:
 
 
 def counting_high(size: int, count: int) -> Keys:
-    """Multiples of a high power of two: the highest twelve bits count."""
+    """Multiples of a high power of two: the highest twelve bits count up."""
     return at_end([number << (8 * min(size, LONGEST_NUMBER) - 12) for number in range(count)], size)
 
 
@@ -80,13 +80,13 @@ def equal_steps(size: int, count: int) -> Keys:
 
 
 def ending_in(factor: int, size: int, count: int) -> Keys:
-    """Long keys whose last eight bytes are a word, which makes the factor zero that this word is in. The eight before it count."""
+    """Long keys whose last eight bytes are a word of the seed, which makes the factor with this word zero. The eight bytes before count up."""
     return [bytes(size - 16) + struct.pack("<QQ", number, factor) for number in range(count)]
 
 
 @dataclass(frozen=True)
 class Searched:
-    """Keys that collide, found by a built colliding.c where they are short."""
+    """Colliding keys; if they are short, the program built from colliding.c finds them."""
 
     tool: Path
 
@@ -101,7 +101,7 @@ class Searched:
 
 @dataclass(frozen=True)
 class Family:
-    """Keys of a size, so many; whether whoever makes them knows the seed."""
+    """Keys of a size, and how many; whether their author knows the seed."""
 
     name: str
     keys: Callable[[int, int], Keys]
@@ -112,7 +112,7 @@ RANDOM = Family("random", random_keys)
 
 
 def without_seed(searched: Searched) -> list[Family]:
-    """Keys of somebody who knows the function and not the seed."""
+    """Keys of an author who knows the function but not the seed."""
     return [
         Family("counting", counting),
         Family("counting in the highest bits", counting_high),
@@ -123,5 +123,5 @@ def without_seed(searched: Searched) -> list[Family]:
 
 
 def with_seed(searched: Searched, seed: Seed) -> Family:
-    """Keys of somebody who knows the seed."""
+    """Keys of an author who knows the seed."""
     return Family("colliding under the seed", lambda size, count: searched.under(seed, size, count), knows_seed=True)

@@ -1,4 +1,4 @@
-"""The longest single step: the frame that takes longest while a map is filled, and while keys of the full map are put back."""
+"""The longest single step: the slowest frame while a map is filled, and while keys are added again to the full map."""
 
 from __future__ import annotations
 
@@ -16,7 +16,7 @@ from map_costs.hosts import Host
 from map_costs.keys import Keys
 from measure import Count
 
-# Keys that are put back, and rounds over which a frame's time is the least.
+# Keys that are added again, and rounds over which the least time of a frame is taken.
 PUT_BACK, ROUNDS = 12_000, 7
 
 
@@ -56,7 +56,7 @@ def least_times(host: Host, frames: list[bytes]) -> list[float]:
 
 
 def longest(count: Count | None, host: Host, frames: list[bytes], first: int, end: int, took: list[float]) -> Step:
-    """The longest of the frames from the first up to the end."""
+    """The slowest of the frames from the first up to the end."""
     at = max(range(first, end), key=took.__getitem__)
     counted = None
     if count:
@@ -69,7 +69,7 @@ def longest(count: Count | None, host: Host, frames: list[bytes], first: int, en
 
 
 def longest_steps(count: Count | None, host: Host, keys: Keys) -> tuple[Step, Step]:
-    """While the map is filled, and behind that."""
+    """While the map is filled, and after that."""
     frames = frames_of(keys)
     took = least_times(host, frames)
     full = 1 + len(keys)

@@ -1,7 +1,7 @@
-"""Programs with atomic operations, drawn by chance: on their stack, in values that they load directly, and in such as they look up.
+"""Random programs with atomic operations: on their stack, in values that they load directly, and in values that they look up.
 
-Beside what the programs of direct_programs.py do, these write four slots of the stack and keep pointers there. The key of a
-look-up is in the last of them. What an operation changes a number by is register 9, or a constant in register 3.
+Besides what the programs of direct_programs.py do, these write four slots of the stack and keep pointers in them. The last slot has the key
+of a lookup. The operand of an operation is register 9, or a constant in register 3.
 """
 
 from __future__ import annotations
@@ -21,13 +21,13 @@ FRAME = (-24, -32, -40, KEY)
 LONGEST_KEY = 8
 ATOMIC_SIZES = (4, 8)
 ALL_WRITTEN = 0xFF
-# How many of the places are right.
+# The share of right operands.
 RIGHT_PLACES = 0.94
 WRONG_PAIRS = [(base, source) for base in Kind for source in Kind if reason_of(base, source)]
 
 
 class StackPlace(Place):
-    """Bytes at a distance from the stack's upper end, by register 10."""
+    """Bytes at a distance from the upper end of the stack, by register 10."""
 
     def of(self, run: Run) -> tuple[bytearray, int]:
         return run.stack, STACK + self.off
@@ -36,13 +36,13 @@ class StackPlace(Place):
         return self.off // 8 * 8
 
     def mask(self) -> int:
-        """Its bytes within their slot."""
+        """The bytes within their slot."""
         return ((1 << self.size) - 1) << self.off % 8
 
 
 @dataclass(frozen=True)
 class FoundPlace(Place):
-    """Bytes of the value of a key, where it is there."""
+    """Bytes of the value of a key, if the map has it."""
 
     fd: int
     key: bytes
@@ -56,7 +56,7 @@ class FoundPlace(Place):
 
 @dataclass(frozen=True)
 class Change:
-    """An operation, and the register that it changes a number by: what is known of it, and what it has in a run."""
+    """An operation, and the register of its operand: what is known of it, and what it has in a run."""
 
     operation: Operation
     register: int
@@ -77,7 +77,7 @@ def take_pointer(run: Run, register: int, slot: int) -> None:
 
 class Atomics(Direct):
     def __init__(self, draw: random.Random, maps: dict[int, Map], draw_other: Callable[[], int]) -> None:
-        # Which bytes of a slot are written, as a mask, or None where a pointer is kept in it.
+        # Which bytes of a slot are written, as a mask, or None if it has a pointer.
         self.frame: dict[int, int | None] = {CONTEXT: None, **dict.fromkeys(FRAME, 0)}
         self.kept: dict[int, Pointer] = {}
         super().__init__(draw, maps, draw_other)
@@ -95,7 +95,7 @@ class Atomics(Direct):
             self.change_wrong: 0.4,
         }
 
-    # What is drawn for them.
+    # The operands to draw.
 
     def change(self) -> Change:
         """An operation with a number, mostly."""
@@ -110,7 +110,7 @@ class Atomics(Direct):
         return Change(operation, 3, number=lambda run: constant)
 
     def register_of(self, kind: Kind, free: int) -> int:
-        """A register of this kind: the free one where no other is."""
+        """A register of this kind: the free one if there is no other."""
         if kind is Kind.MAP:
             self.say(map_load(free, self.called_map()[0]))
         elif kind is Kind.CONTEXT:
@@ -121,7 +121,7 @@ class Atomics(Direct):
         return free
 
     def value_place(self) -> Place:
-        """Bytes of a value for an operation, mostly such as are a multiple of their size behind its first one."""
+        """Bytes of a value for an operation, mostly at an offset that is a multiple of their size."""
         size = self.draw.choice(ATOMIC_SIZES)
         if self.draw.random() > RIGHT_PLACES:
             return self.place(size)
@@ -138,7 +138,7 @@ class Atomics(Direct):
         return [it for it, of in known.items() if of.low == of.high and self.value_size(of.fd) >= size]
 
     def stack_place(self) -> StackPlace:
-        """Bytes of the stack for an operation; mostly written ones, and some are written where none are."""
+        """Bytes of the stack for an operation: mostly written ones, and some are written if none are."""
         size = self.draw.choice(ATOMIC_SIZES)
         if self.draw.random() > RIGHT_PLACES:
             slot = self.draw.choice((*FRAME, CONTEXT, NOT_WRITTEN))
@@ -152,7 +152,7 @@ class Atomics(Direct):
         return self.draw.choice(written)
 
     def reason_at(self, place: StackPlace) -> int:
-        """The reason for which an operation at this place is refused, or 0."""
+        """The reason for which an operation at this place is rejected, or 0."""
         if place.off < -STACK or place.off + place.size > 0:
             return 25
         if place.off % place.size:
@@ -162,7 +162,7 @@ class Atomics(Direct):
             return 28
         return 0 if written & place.mask() == place.mask() else 27
 
-    # Lines, and what they ask for.
+    # Lines, and what they need.
 
     def lock(self, change: Change, place: Place, base: Kind, ask: Ask | Wrong) -> None:
         self.asks += [Wrong(self.slots, reason_of(base, change.source)), ask]
@@ -173,7 +173,7 @@ class Atomics(Direct):
         return AtomicAsk(self.slots, of.fd, of.low + place.off, of.high + place.off + place.size, place.size)
 
     def store_in_stack(self, place: StackPlace, constant: int | None = None) -> None:
-        """A constant, or register 9, is stored."""
+        """Stores a constant, or register 9."""
         self.say(f"{place.text()} = {'r9' if constant is None else constant}")
         self.frame[place.slot()] = place.mask() | (self.frame[place.slot()] or 0)
         self.deeds.append(lambda run: place.write(run, run.total if constant is None else constant))
@@ -184,7 +184,7 @@ class Atomics(Direct):
         self.deeds.append(lambda run: add(run, place.number(run)))
 
     def look_up_key(self) -> tuple[int, int, bytes]:
-        """A look-up with a key in the stack: the map's descriptor, the size of its values, and the key."""
+        """A lookup with a key in the stack: the map's descriptor, the size of its values, and the key."""
         fitting = [fd for fd, on in self.maps.items() if on.key_size <= LONGEST_KEY]
         fd = self.draw.choice(fitting) if fitting else self.draw_other()
         on = self.maps.get(fd) or Map(0, 4, 8, 1)
@@ -193,7 +193,7 @@ class Atomics(Direct):
         self.say("r2 = r10", f"r2 += {KEY}", map_load(1, fd), f"call {LOOK_UP}")
         return fd, on.value_size, number(key, LONGEST_KEY)[: on.key_size]
 
-    # The parts.
+    # The parts of a program.
 
     def change_value(self) -> None:
         change, it = self.change(), self.value_place()
@@ -201,7 +201,7 @@ class Atomics(Direct):
         self.deeds.append(lambda run: change.do(run, it))
 
     def change_found(self) -> None:
-        """An operation in a value that is looked up, which is read behind it."""
+        """An operation in a value that was looked up, which is read afterwards."""
         fd, value_size, key = self.look_up_key()
         change, size = self.change(), self.draw.choice([it for it in ATOMIC_SIZES if it <= value_size] or ATOMIC_SIZES)
         off = self.draw.randrange(max(value_size // size, 1)) * size
@@ -221,7 +221,7 @@ class Atomics(Direct):
         self.deeds.append(deed)
 
     def change_stack(self) -> None:
-        """An operation on bytes of the stack, now and then by a pointer that is moved; their slot is read where it can be."""
+        """An operation on bytes of the stack, now and then through a moved pointer; their slot is read afterwards if possible."""
         change, it = self.change(), self.stack_place()
         through: Place = it
         if self.draw.random() < 0.3:
@@ -246,14 +246,14 @@ class Atomics(Direct):
             self.add_from_stack(self.draw.choice(written))
 
     def keep(self) -> None:
-        """A pointer is kept in a slot, beside which operations may change what stands."""
+        """Stores a pointer to a slot; operations may change the slots next to it."""
         slot, register = self.draw.choice(FRAME), self.draw.choice(POINTERS)
         self.say(f"{StackPlace(10, slot, 8).text()} = r{register}")
         self.frame[slot], self.kept[slot] = None, self.known[register]
         self.deeds.append(lambda run: keep_pointer(run, slot, register))
 
     def take_back(self) -> None:
-        """A pointer that is kept is loaded, if there is one."""
+        """Loads a stored pointer, if there is one."""
         slots = [slot for slot in FRAME if self.frame[slot] is None]
         if not slots:
             return
@@ -263,7 +263,7 @@ class Atomics(Direct):
         self.deeds.append(lambda run: take_pointer(run, register, slot))
 
     def change_wrong(self) -> None:
-        """An operation with a base or a source that none may have, or both: the first condition that fails is told."""
+        """An operation with an invalid base or source, or both: the verifier reports the first condition that fails."""
         base, source = self.draw.choice(WRONG_PAIRS)
         if Kind.MAYBE_NULL in (base, source):
             self.look_up_key()

@@ -1,4 +1,4 @@
-"""Atomic operations: what each does to a number, and what the verifier asks of its two registers."""
+"""Atomic operations: what each does to a number, and what the verifier requires of its two registers."""
 
 from __future__ import annotations
 
@@ -10,7 +10,7 @@ from dataclasses import dataclass
 
 @dataclass(frozen=True)
 class Operation:
-    """As it is written, the number that its slot has, and its result on two numbers, before that is cut to its size."""
+    """Its text, the number in its slot, and its result on two numbers, before that is cut to its size."""
 
     sign: str
     number: int
@@ -26,7 +26,7 @@ OPERATIONS = (
 
 
 class Kind(enum.Enum):
-    """What a register has, as the verifier knows it."""
+    """What the verifier knows of a register."""
 
     UNREADABLE = enum.auto()
     NUMBER = enum.auto()
@@ -38,7 +38,7 @@ class Kind(enum.Enum):
 
 
 def reason_of(base: Kind, source: Kind) -> int:
-    """The reason for which an operation with these registers is refused, wherever its place is, or 0."""
+    """The reason for which an operation with these registers is rejected, wherever its place is, or 0."""
     if Kind.UNREADABLE in (base, source):
         return 20
     if base in (Kind.NUMBER, Kind.MAP):

@@ -1,7 +1,7 @@
 #!/usr/bin/env python3
-"""Writes a capture in other forms, and damaged, each as a file of a folder. usage: captures.py CAPTURE FOLDER
+"""Writes a capture in other forms, and damaged, each to a file in a folder. usage: captures.py CAPTURE FOLDER
 
-The capture is in the format pcap, little-endian, with microseconds. The other forms are big-endian, with nanoseconds, and both.
+The capture is a little-endian pcap file with microseconds. The other forms are big-endian, with nanoseconds, and both.
 """
 
 from __future__ import annotations
@@ -14,7 +14,7 @@ from pathlib import Path
 HEADER, HEAD = "IHHiIII", "IIII"
 MICROSECONDS, NANOSECONDS = 0xA1B2C3D4, 0xA1B23C4D
 LONGEST_PACKET = 65536
-# The packet that is damaged, by its place.
+# The index of the packet that is damaged.
 DAMAGED = 100
 
 
@@ -29,7 +29,7 @@ def packets(capture: bytes) -> Iterator[tuple[tuple[int, ...], bytes]]:
 
 
 def written(capture: bytes, order: str, magic: int) -> bytes:
-    """The same packets in a byte order, with another resolution of their times."""
+    """The same packets in a byte order, with another resolution of their timestamps."""
     per_microsecond = 1000 if magic == NANOSECONDS else 1
     numbers = struct.unpack_from("<" + HEADER, capture)
     found = [struct.pack(order + HEADER, magic, *numbers[1:])]
@@ -39,7 +39,7 @@ def written(capture: bytes, order: str, magic: int) -> bytes:
 
 
 def damaged(capture: bytes) -> dict[str, bytes]:
-    """What is no whole capture, by the names of the files."""
+    """Captures that are not whole, by the names of the files."""
     header, head = struct.calcsize("<" + HEADER), struct.calcsize("<" + HEAD)
     before = header + sum(head + len(packet) for _, packet in list(packets(capture))[:DAMAGED])
     return {

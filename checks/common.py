@@ -1,11 +1,11 @@
-"""What the checks use: the path of the client in Python, numbers as bytes, and texts of calls and of a program that looks up."""
+"""What the checks share: the path of the client in Python, numbers as bytes, and texts of calls and of a program with a lookup."""
 
 import sys
 from pathlib import Path
 
 sys.path.insert(0, str(Path(__file__).resolve().parents[1] / "clients/python"))
 
-# The descriptors that a tenant is given, in their order.
+# The descriptors that a tenant gets, in order.
 MAP, SECOND, THIRD = 3, 4, 5
 
 # Helpers.
@@ -13,16 +13,16 @@ LOOK_UP, UPDATE, DELETE = 1, 2, 3
 
 
 def calls_with_key(helper: int, fd: int, key: int = -4) -> str:
-    """The text of a call with a map and the key that stands there in the stack."""
+    """The text of a call with a map and the key at an offset in the stack."""
     return f"r2 = r10\nr2 += {key}\nr1 = map_fd {fd} ll\ncall {helper}\n"
 
 
 def updates(fd: int, flags: int = 0) -> str:
-    """The text of an update, which puts the value at r10 - 16 under the key at r10 - 4."""
+    """The text of an update, which sets the value at r10 - 16 under the key at r10 - 4."""
     return f"r2 = r10\nr2 += -4\nr3 = r10\nr3 += -16\nr1 = map_fd {fd} ll\nr4 = {flags}\ncall {UPDATE}\n"
 
 
-# Answers what index 0 of an array holds.
+# Returns the value at index 0 of an array.
 READS_INDEX = f"""
 *(u32 *)(r10 - 4) = 0
 {calls_with_key(LOOK_UP, MAP)}
@@ -36,5 +36,5 @@ exit
 
 
 def number(value: int, size: int) -> bytes:
-    """A number as so many bytes, the lowest first."""
+    """A number as so many bytes, little-endian."""
     return value.to_bytes(size, "little")

@@ -1,7 +1,7 @@
-"""Programs that load addresses in the values of arrays, drawn by chance, with what each asks for and does.
+"""Random programs that load addresses in the values of arrays, with what each needs and does.
 
-Registers 6 to 8 point into such values, and register 9 has a number that grows with all that is read, which is the answer. The
-context is kept in the stack. What a program asks for is known while it is drawn: of each pointer the map and a range of offsets.
+Registers 6 to 8 point into such values; register 9 has a number that grows with all that is read, which is the result. The stack has the
+context. What a program needs is computed as it is drawn: the map of each pointer, and its range of offsets.
 """
 
 from __future__ import annotations
@@ -18,7 +18,7 @@ PARTS = range(2, 8)
 SIZES = (1, 2, 4, 8)
 LOOK_UP, UPDATE, DELETE = 1, 2, 3
 EFAULT = 14
-# Of what is drawn, how much is right: a map's descriptor, an offset of a load, the bytes of an access.
+# The share of right operands: a map's descriptor, an offset of a load, the bytes of an access.
 RIGHT = 0.98
 
 
@@ -76,7 +76,7 @@ def move(run: Run, register: int, by: int) -> None:
 
 
 class Direct:
-    """A program that is drawn part after part, of a tenant with these maps. `draw_other` draws any descriptor."""
+    """A program that is drawn part by part, for a tenant with these maps. `draw_other` draws any descriptor."""
 
     def __init__(self, draw: random.Random, maps: dict[int, Map], draw_other: Callable[[], int]) -> None:
         self.draw, self.maps, self.draw_other = draw, maps, draw_other
@@ -97,7 +97,7 @@ class Direct:
         self.say("r0 = r9", "exit")
 
     def parts(self) -> dict[Callable[[], None], float]:
-        """What is drawn of, and how often each."""
+        """The kinds of parts, and how often each is drawn."""
         return {
             self.load: 4,
             self.store: 4,
@@ -128,7 +128,7 @@ class Direct:
 
         return Code(act, tuple(self.asks))
 
-    # Lines, and what they ask for.
+    # Lines, and what they need.
 
     def say(self, *lines: str) -> None:
         for line in lines:
@@ -136,7 +136,7 @@ class Direct:
             self.slots += 2 if line.endswith(" ll") else 1
 
     def access(self, line: str, *places: Place) -> None:
-        """A line that asks for these places."""
+        """A line that accesses these bytes."""
         for it in places:
             of = self.known[it.register]
             self.asks.append(Ask(self.slots, of.fd, of.low + it.off, of.high + it.off + it.size))
@@ -145,7 +145,7 @@ class Direct:
     def add_to_total(self, register: int) -> None:
         self.say("r9 *= 31", f"r9 += r{register}")
 
-    # What is drawn for them.
+    # The operands to draw.
 
     def is_right(self) -> bool:
         return self.draw.random() < RIGHT
@@ -166,12 +166,12 @@ class Direct:
         return self.draw.choice((0, self.draw.randrange(size) // 8 * 8, self.draw.randrange(size)))
 
     def room(self, register: int) -> int:
-        """How many bytes of a value there are for each offset that the pointer may have."""
+        """How many bytes of the value follow for each offset that the pointer may have."""
         of = self.known[register]
         return self.value_size(of.fd) - (of.high - of.low)
 
     def place(self, size: int = 0) -> Place:
-        """Bytes at a pointer, so many or a number that a load may have; mostly such as lie in the value."""
+        """Bytes at a pointer, a given number or a number that a load may have; mostly within the value."""
         register = self.draw.choice([it for it in POINTERS if self.room(it) >= max(size, 1)] or POINTERS)
         size = size or self.draw.choice([it for it in SIZES if it <= self.room(register)] or SIZES)
         of = self.known[register]
@@ -181,14 +181,14 @@ class Direct:
         return Place(register, as_offset(off), size)
 
     def called_map(self, reads_value: bool = False) -> tuple[int, Map]:
-        """A map that a helper is given, mostly one for which there is a key, and a value if it reads one."""
+        """A map for a helper, mostly one that has a key, and a value if the helper reads one."""
         room = max(map(self.room, POINTERS))
         sizes = {fd: max(on.key_size, on.value_size * reads_value) for fd, on in self.maps.items()}
         fitting = [fd for fd, size in sizes.items() if size <= room]
         fd = self.draw.choice(fitting) if fitting and self.is_right() else self.draw_other()
         return fd, self.maps.get(fd) or Map(0, 4, 8, 1)
 
-    # The parts.
+    # The parts of a program.
 
     def load_address(self, register: int = 0) -> None:
         register = register or self.draw.choice(POINTERS)
@@ -198,7 +198,7 @@ class Direct:
         self.deeds.append(lambda run: point(run, register, fd, off))
 
     def load_one_of_two(self) -> None:
-        """A pointer to one of two offsets in a value, by a bit that is read."""
+        """A pointer to one of two offsets in a value, chosen by a bit that is read."""
         register, byte = self.draw.choice(POINTERS), self.place(1)
         fd, off = self.address()
         other = self.offset(fd)
@@ -214,7 +214,7 @@ class Direct:
         self.deeds.append(lambda run: move(run, register, by))
 
     def move_by_byte(self) -> None:
-        """A pointer goes forward by some low bits of a byte that is read."""
+        """A pointer moves forward by some low bits of a byte that is read."""
         register, byte, mask = self.draw.choice(POINTERS), self.place(1), self.draw.choice((1, 3, 7))
         self.access(f"r1 = {byte.text()}", byte)
         self.say(f"r1 &= {mask}", f"r{register} += r1")
@@ -222,14 +222,14 @@ class Direct:
         self.deeds.append(lambda run: move(run, register, byte.number(run) & mask))
 
     def spill(self) -> None:
-        """A pointer goes through the stack into a register."""
+        """A pointer is stored to the stack and loaded into a register."""
         kept, register = self.draw.choice(POINTERS), self.draw.choice(POINTERS)
         self.say(f"*(u64 *)(r10 - 16) = r{kept}", f"r{register} = *(u64 *)(r10 - 16)")
         self.known[register] = self.known[kept]
         self.deeds.append(lambda run: point(run, register, *run.pointers[kept]))
 
     def test(self) -> None:
-        """No pointer to a value is null: what stands on the edge where one is need not be right."""
+        """No pointer to a value is null: the code on the edge for a null pointer need not be valid."""
         register = self.draw.choice(POINTERS)
         self.say(f"if r{register} != 0 goto +1", f"r9 = *(u64 *)(r{register} + 9999)")
 
@@ -257,7 +257,7 @@ class Direct:
         self.deeds.append(lambda run: it.write(run, it.number(run) + by))
 
     def keep_greatest(self) -> None:
-        """The greater of two numbers stays in the first one's place."""
+        """The greater of two numbers replaces the first one."""
         here = self.place()
         there = self.place(here.size)
         self.access(f"r1 = {here.text()}", here)
@@ -281,7 +281,7 @@ class Direct:
         self.deeds.append(deed)
 
     def look_up(self) -> None:
-        """The key is read where a pointer points; behind it stands a load from what is found."""
+        """The key is read through a pointer; a load of the value that was found follows."""
         fd, on = self.called_map()
         key, size = self.place(on.key_size), self.draw.choice([it for it in SIZES if it <= on.value_size])
         off = self.draw.randint(0, on.value_size - size) if self.is_right() else on.value_size - size + 1
@@ -299,7 +299,7 @@ class Direct:
         self.deeds.append(deed)
 
     def update(self) -> None:
-        """Both the key and the value are read where pointers point."""
+        """Both the key and the value are read through pointers."""
         fd, on = self.called_map(reads_value=True)
         key, value, flags = self.place(on.key_size), self.place(on.value_size), self.draw.choice((0, 0, 0, 1, 2, 3))
         self.say(*argument(2, key), *argument(3, value), map_load(1, fd), f"r4 = {flags}")
@@ -328,7 +328,7 @@ class Direct:
 
 
 def as_offset(distance: int) -> int:
-    """The nearest distance that an instruction has room for."""
+    """The nearest distance that an instruction can have."""
     return max(-(1 << 15), min(distance, (1 << 15) - 1))
 
 

@@ -1,9 +1,9 @@
 #!/usr/bin/env python3
-"""Flips each bit of each slot of some programs, one at a time, and runs what is left. usage: flipped_bits.py BPFHOST
+"""Flips each bit of each slot of some programs, one at a time, and runs the result. usage: flipped_bits.py BPFHOST
 
-Each such program is loaded by a new host, for a tenant that has the map of the program, beside a tenant with two maps of its own.
-It is refused, or it runs to its end. Either way the other tenant finds its maps as it left them, and the tenant itself is
-answered as by a host where it is alone.
+A new host loads each such program, for a tenant that has the program's map, next to a tenant with two maps of its own. The program is
+rejected, or it runs to its end. In both cases the other tenant's maps do not change, and the tenant itself gets the replies that it gets
+as the only tenant of a host.
 """
 
 from __future__ import annotations
@@ -152,7 +152,7 @@ def of(tenant: int, told: Sequence[Reply]) -> list[Reply]:
 
 
 def play(bpfhost: str, case: Case, slots: bytes) -> tuple[str | None, bool]:
-    """What is wrong with the answers, or None; and whether the program was accepted."""
+    """What is wrong with the replies, or None; and whether the program was accepted."""
     program = SECOND if case.opening else MAP
     load = frames.prog_load(FLIPPED, slots)
     run = frames.prog_test_run(FLIPPED, program, PACKET)

@@ -1,4 +1,4 @@
-"""Programs that read, write, add and delete keys by helpers: their texts, and what a run of each does.
+"""Programs that read, write, add and delete keys by helpers: their texts, and the effect of a run of each.
 
 Keys have four bytes, values at least eight.
 """
@@ -14,7 +14,7 @@ from model import WORD, Code, Map, answer_of
 
 
 def look_up(fd: int, key: int) -> str:
-    """The text of a look-up, behind which register 0 points to the value; the answer is 0 where there is none."""
+    """The text of a lookup, after which register 0 points to the value; the program returns 0 if there is none."""
     return put_key(key) + calls_with_key(LOOK_UP, fd) + "if r0 != 0 goto +2\nr0 = 0\nexit\n"
 
 
@@ -27,7 +27,7 @@ def read_word(value: bytes) -> int:
 
 
 def on_maps(act: Callable[..., int]) -> Code:
-    """What a run does that is given the program's maps, in the order in which it loads them."""
+    """The effect of a run with the program's maps, in the order in which it loads them."""
     return Code(lambda run: act(*run.maps.values()))
 
 
@@ -50,7 +50,7 @@ def puts(key: bytes, value: int, flags: int) -> Code:
 
 
 def replaces(key: bytes, other: bytes, value: int) -> Code:
-    """Deletes a key, adds another, and then still writes to the value that went."""
+    """Deletes a key, adds another, and then still writes to the deleted value."""
 
     def act(on: Map) -> int:
         if key not in on.values:
@@ -78,7 +78,7 @@ def copies(key: bytes) -> Code:
 
 
 def write_program(draw: random.Random, fd: int, other: int, is_eight: bool) -> tuple[str, Code]:
-    """A text, and what it does; `is_eight` tells whether values of the first map have eight bytes, as an update reads."""
+    """A text and its effect; `is_eight` is whether values of the first map have eight bytes, as an update reads."""
     key, value = draw.randrange(4), draw.randrange(1 << 31)
     name = number(key, 4)
     choice = draw.randrange(5 if is_eight else 3)

@@ -1,7 +1,7 @@
-"""A model of docs/PROTOCOL.md in lists and dictionaries: no memory, no addresses, and each tenant by itself.
+"""A model of docs/PROTOCOL.md in lists and dictionaries: no memory, no addresses, and each tenant separate.
 
-Of the programs it knows what a run does, by their slots (`KNOWN`). Which of them are accepted it tells by their wide loads, by
-their atomic operations, and by the bytes of values that they ask for; in all else they are right.
+It knows the effect of a run from a program's slots (`KNOWN`). It decides whether a program is accepted from its wide loads, its atomic
+operations, and the bytes of values that it accesses; in all else the programs are right.
 """
 
 from __future__ import annotations
@@ -45,7 +45,7 @@ def demand(holds: object, error: int) -> None:
 
 
 def answer_of(call: Callable[[], object]) -> int:
-    """What a helper answers for a call: 0 or an error."""
+    """The result of a helper's call: 0 or an error."""
     try:
         call()
     except Refused as refused:
@@ -58,7 +58,7 @@ def answer_of(call: Callable[[], object]) -> int:
 
 @dataclass(eq=False)
 class Map:
-    """Its keys with their values, in order; and how many a run has deleted."""
+    """Its keys with their values, in order; and how many keys runs have deleted."""
 
     kind: int
     key_size: int
@@ -107,9 +107,9 @@ class Map:
 
 @dataclass
 class Run:
-    """A run: the maps by the descriptors that name them in the program, the packet, and what registers and the stack have.
+    """A run: the maps by the descriptors that name them in the program, the packet, registers and the stack.
 
-    A pointer is a descriptor and an offset in a value; those of `kept` are in the stack, by the offset of their slot.
+    A pointer is a descriptor and an offset in a value; `kept` has those in the stack, by the offset of their slot.
     """
 
     maps: dict[int, Map]
@@ -122,7 +122,7 @@ class Run:
 
 @dataclass(frozen=True)
 class Ask:
-    """Bytes of the values of a map that the instruction at a slot may ask for, from the first to the end of the last."""
+    """Bytes of the values of a map that the instruction at a slot may access, from the first to the end of the last."""
 
     slot: int
     fd: int
@@ -130,13 +130,13 @@ class Ask:
     end: int
 
     def refused(self, maps: dict[int, Map]) -> int:
-        """The reason for which the instruction is refused, or 0."""
+        """The reason for which the instruction is rejected, or 0."""
         return 29 if self.first < 0 or self.end > maps[self.fd].value_size else 0
 
 
 @dataclass(frozen=True)
 class AtomicAsk(Ask):
-    """The same of an atomic operation on so many bytes: its place is to be known, and a multiple of them."""
+    """The same for an atomic operation on so many bytes: its offset must be known, and a multiple of them."""
 
     size: int
 
@@ -158,7 +158,7 @@ class Wrong:
 
 @dataclass(frozen=True)
 class Code:
-    """What a run of a program does and answers, and what it asks for, in the order of the slots."""
+    """The effect and the result of a program's run, and what it needs, in the order of the slots."""
 
     act: Callable[[Run], int]
     asks: tuple[Ask | Wrong, ...] = ()
@@ -168,7 +168,7 @@ KNOWN: dict[bytes, Code] = {}
 
 
 def fault_of_shape(load: WideLoad, named: dict[int, Map | Program]) -> int:
-    """The reason for which a program with this load is refused by its shape, or 0."""
+    """The reason for which a program with this load is rejected for its form, or 0."""
     if load.dst == 10:
         return 6
     if not load.is_of_map():
@@ -183,7 +183,7 @@ def fault_of_shape(load: WideLoad, named: dict[int, Map | Program]) -> int:
 
 
 def refuse_first(reasons: Iterable[tuple[int, int]]) -> None:
-    """Refuses a program at the first of these slots that has a reason."""
+    """Rejects a program at the first of these slots that has a reason."""
     for slot, reason in reasons:
         if reason:
             error = Errno.EBADF if reason == 7 else Errno.EACCES if reason == 6 or 20 <= reason <= 36 else Errno.EINVAL
@@ -192,7 +192,7 @@ def refuse_first(reasons: Iterable[tuple[int, int]]) -> None:
 
 @dataclass(eq=False)
 class Program:
-    """What its runs do, and the maps that it keeps, by the descriptors that named them when it was loaded."""
+    """The effect of its runs, and the maps that it keeps, by the descriptors that named them when it was loaded."""
 
     slots: bytes
     code: Code
@@ -209,7 +209,7 @@ class Program:
 
 
 class Tenant:
-    """The objects by their descriptors. A map is live while one of them is the map or a program that names it."""
+    """The objects by their descriptors. A map is live while a descriptor names it, or names a program that keeps it."""
 
     def __init__(self) -> None:
         self.open: dict[int, Map | Program] = {}

@@ -3,8 +3,8 @@
 
 usage: random_commands.py BPFHOST [STREAMS]
 
-The model is docs/PROTOCOL.md in lists and dictionaries (model.py). Maps of all sizes come and go, so that the values of those
-that stay are moved, and programs read, write, add and delete keys in between (key_programs.py), or load addresses in values
+The model is docs/PROTOCOL.md in lists and dictionaries (model.py). Maps of all sizes are created and closed, so that the values of the
+others move, and programs read, write, add and delete keys in between (key_programs.py), load addresses in values
 (direct_programs.py), or have atomic operations too (atomic_programs.py). The commands are the same in each run of the check.
 """
 
@@ -31,14 +31,14 @@ STREAMS, FRAMES, TENANTS = 60, 500, 3
 
 
 def family(slots: bytes) -> str:
-    """What a program is counted under: atomic operations, loads of addresses in values without any, or nothing."""
+    """The kind under which a program is counted: atomic operations, loads of addresses in values without any, or none."""
     if atomics(slots):
         return "atomic operations"
     return "direct loads" if any(it.is_direct() for it in wide_loads(slots)) else ""
 
 
 class Stream:
-    """Draws frames, and asks the model what is open, so that most of them mean something."""
+    """Draws frames, by what the model has open, so that most of them are valid."""
 
     def __init__(self, bpfhost: str, seed: int) -> None:
         self.bpfhost = bpfhost
@@ -132,7 +132,7 @@ class Stream:
         return frames.prog_test_run(tenant, fd, self.draw.randbytes(size))
 
     def look_behind(self, tenant: int, program: Program) -> None:
-        """Half of the runs with direct loads are followed by look-ups of values that they may have written."""
+        """Half of the runs with direct loads are followed by lookups of values that they may have written."""
         maps, kind = self.tenants[tenant].maps(), family(program.slots)
         self.seen[kind, "runs"] += 1
         self.seen[kind, "runs after a close"] += any(on not in maps.values() for on in program.maps.values())
@@ -153,7 +153,7 @@ class Stream:
         return frames.close(tenant, self.descriptor(tenant))
 
     def other(self, tenant: int) -> bytes:
-        """A frame of a tenant that is not served, of no command, or that is too short."""
+        """A frame of a tenant that is not served, with no command, or one that is too short."""
         if self.draw.random() < 0.3:
             return number(3, 4) + self.draw.randbytes(3)
         where = self.draw.choice((tenant, TENANTS, 65_534))
@@ -178,7 +178,7 @@ class Stream:
 
 
 def check(bpfhost: str, seed: int) -> Counter[tuple[str, str]]:
-    """Plays a stream, and counts what was seen in it."""
+    """Sends a stream, and counts what occurred in it."""
     stream = Stream(bpfhost, seed)
     sent, wanted = [], []
     for _ in range(FRAMES):
@@ -197,7 +197,7 @@ def check(bpfhost: str, seed: int) -> Counter[tuple[str, str]]:
 
 
 def tell(seen: Counter[tuple[str, str]], kind: str) -> None:
-    """What was seen of the programs of a kind."""
+    """The counts for the programs of a kind."""
     of = Counter({what: many for (whose, what), many in seen.items() if whose == kind})
     reasons = sorted((int(what.split()[1]), many) for what, many in of.items() if what.startswith("reason"))
     told = ", ".join(f"{many} for reason {reason}" for reason, many in reasons)

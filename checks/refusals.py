@@ -8,12 +8,12 @@ import subprocess
 from collections.abc import Iterator, Sequence
 from pathlib import Path
 
-# What a program ended with: its status, and what it wrote.
+# A program's status, and its output.
 Ended = tuple[int, bytes, bytes]
 
 
 class Refusals:
-    """Refuses by a library that is loaded in front of the C library: refuse_memory.c or refuse_seed.c."""
+    """Refuses by a library that is loaded before the C library: refuse_memory.c or refuse_seed.c."""
 
     def __init__(self, library: str, folder: str) -> None:
         self._told = Path(folder) / "refused"
@@ -21,7 +21,7 @@ class Refusals:
         os.environ["REFUSED_FILE"] = str(self._told)
 
     def runs(self) -> Iterator[int]:
-        """The number of each run's call. The one that asks for the next tells whether it was refused."""
+        """The number of the refused call, for each run. It ends after a run in which no call was refused."""
         for call in itertools.count(1):
             os.environ["REFUSED_CALL"] = str(call)
             self._told.unlink(missing_ok=True)

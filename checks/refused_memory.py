@@ -1,10 +1,10 @@
 #!/usr/bin/env python3
-"""Refuses memory to a built bpfhost, one call at a time, and compares what it answers, and to a built verifier_log where one is named.
+"""Refuses memory to a built bpfhost, one call at a time, and compares its replies; also to a built verifier_log if one is named.
 usage: refused_memory.py BPFHOST LIBRARY [VERIFIER_LOG]
 
-The first call for memory is refused, in another run the second, and so on until a run makes fewer calls. A refusal has to be
-told, once, as want of memory, and nothing else may differ: what was refused and is asked again is answered as if nothing had
-been, and the other tenant is answered so from the beginning.
+The first call for memory is refused, in another run the second, and so on until a run makes fewer calls. A refusal has to be reported,
+once, as out of memory, and nothing else may differ: a refused command that is sent again gets the reply that it gets without the refusal,
+and the other tenant gets the same replies throughout.
 """
 
 from __future__ import annotations
@@ -25,7 +25,7 @@ PROGRAM = SECOND
 TENANTS = 2
 WANT_OF_MEMORY = 4
 
-# Puts 6 under key 1 of a hash map, and answers what the helper does.
+# Sets the value 6 under key 1 of a hash map, and returns the helper's result.
 PUTS_KEY = f"""
 *(u32 *)(r10 - 4) = 1
 *(u64 *)(r10 - 16) = 6
@@ -33,7 +33,7 @@ PUTS_KEY = f"""
 exit
 """
 
-# Adds 1 to index 0 of an array of one element, and answers what it holds.
+# Adds 1 to index 0 of an array of one element, and returns the value.
 COUNTS = f"""
 r1 = map_value {MAP} + 0 ll
 r0 = *(u64 *)(r1 + 0)
@@ -42,7 +42,7 @@ r0 += 1
 exit
 """
 
-# Its result is missing where the jump is taken.
+# Its result is missing if the jump is taken.
 MISSES_RESULT = """
 r2 = *(u32 *)(r1 + 0)
 if r2 == 0 goto +1
@@ -54,7 +54,7 @@ MAP_ARGUMENT = "3:array:4:8:1"
 
 
 class Differs(Exception):
-    """An answer that no refusal explains."""
+    """A reply that no refusal explains."""
 
 
 @dataclass(frozen=True)
@@ -67,7 +67,7 @@ class Step:
 
 
 def of_first_tenant(slots: bytes) -> list[Step]:
-    """A hash map, a program that puts a key into it, and each command on the map."""
+    """A hash map, a program that adds a key to it, and each command on the map."""
     key, other, value = number(1, 4), number(2, 4), number(8, 8)
     return [
         Step(frames.map_create(0, MapType.HASH, 4, 8, 4), grows=True),
@@ -110,17 +110,17 @@ def in_turn(ours: list[Step], theirs: list[Step]) -> list[Step]:
 
 
 def is_want_of_memory(reply: Reply, step: Step) -> bool:
-    """Whether the reply tells want of memory to a command that may have been refused some: -12, and no payload."""
+    """Whether the reply reports out of memory, to a command that may have been refused memory: -12, and no payload."""
     return step.grows and reply.status == -Errno.ENOMEM and not reply.payload
 
 
 def helper_was_refused(reply: Reply, step: Step) -> bool:
-    """Whether a run's result is the helper's want of memory."""
+    """Whether a run's result is the helper's error for out of memory."""
     return step.run_grows and not reply.status and reply.result() == -Errno.ENOMEM % 2**32
 
 
 def ask_again(host: Host, step: Step, reply: Reply, wanted: Reply) -> None:
-    """What was refused is done at the second asking; the key that the helper was refused is not there before."""
+    """A refused command succeeds when it is sent again; a key that the helper could not add is not in the map before."""
     if helper_was_refused(reply, step):
         missing = host.ask(frames.map_lookup_elem(0, MAP, number(1, 4)))
         if missing.status != -Errno.ENOENT or missing.payload:
@@ -133,7 +133,7 @@ def ask_again(host: Host, step: Step, reply: Reply, wanted: Reply) -> None:
 
 
 def play(bpfhost: str, steps: Sequence[Step], wanted: Sequence[Reply]) -> int | None:
-    """How many steps were refused memory; None where the host ended for want of it before any reply."""
+    """How many steps were refused memory; None if the host exited for lack of memory before any reply."""
     at = told = 0
     try:
         with Host(bpfhost, TENANTS) as host:
@@ -150,7 +150,7 @@ def play(bpfhost: str, steps: Sequence[Step], wanted: Sequence[Reply]) -> int | 
 
 
 def check_frames(bpfhost: str, refusals: Refusals, steps: Sequence[Step], wanted: Sequence[Reply]) -> None:
-    """Each frame's answer, whichever call for memory is refused."""
+    """The reply to each frame, whichever call for memory is refused."""
     at_start = in_frames = 0
     for call in refusals.runs():
         try:
@@ -169,7 +169,7 @@ def check_frames(bpfhost: str, refusals: Refusals, steps: Sequence[Step], wanted
 
 
 def check_words(program: str, refusals: Refusals, name: str, words: Sequence[str], given: bytes, wanted: Ended) -> None:
-    """One run of the program for each call for memory: refused, it writes one line to its standard error, and ends with 4."""
+    """One run of the program for each call for memory: if refused, it writes one line to standard error, and exits with status 4."""
     told = 0
     for call in refusals.runs():
         ended = ends(program, words, given)
@@ -183,8 +183,9 @@ def check_words(program: str, refusals: Refusals, name: str, words: Sequence[str
 
 
 def logs(lines: bytes) -> list[tuple[str, list[str], bytes, int]]:
-    """Runs of verifier_log: on a program that is accepted, and on one in which a register is missing on one way, for which
-    the pass over the program is made once more. With their statuses."""
+    """Runs of verifier_log, with their statuses: on a program that is accepted, and on one that reads a register which one path does not set;
+    for it the pass over the program is repeated.
+    """
     return [
         ("log", [MAP_ARGUMENT], lines, 0),
         ("log --dot", ["--dot", MAP_ARGUMENT], lines, 0),

@@ -2,8 +2,8 @@
 """Refuses random bytes to a built bpfhost, one call at a time, and compares what it does.
 usage: refused_seed.py BPFHOST LIBRARY
 
-`serve` draws the seed of its hash maps by some calls. Each of them is refused in a run of its own. `serve` has to end with
-`no random seed`, and may read and write nothing; words that are wrong have to be told as ever, and the other subcommands have to do
+`serve` draws the seed of its hash maps by some calls. Each of them is refused in a run of its own. `serve` has to exit with
+`no random seed`, and may read and write nothing; wrong arguments have to be reported as usual, and the other subcommands have to work
 without a seed.
 """
 
@@ -39,14 +39,14 @@ STREAM = b"".join(
 
 
 class Differs(Exception):
-    """What the program does is not what it has to do without a seed."""
+    """The program does not do what it has to do without a seed."""
 
 
 Served = tuple[Ended, int]
 
 
 def serves(bpfhost: str, stream: Path) -> Served:
-    """What `serve` ended with, and how many bytes of its input it read."""
+    """The status and output of `serve`, and how many bytes of its input it read."""
     with stream.open("rb", buffering=0) as given:
         ended = subprocess.run([bpfhost, *SERVE], stdin=given, capture_output=True, timeout=60, check=False)
         return (ended.returncode, ended.stdout, ended.stderr), given.tell()
@@ -54,7 +54,7 @@ def serves(bpfhost: str, stream: Path) -> Served:
 
 @dataclass(frozen=True)
 class Other:
-    """A run that takes no seed."""
+    """A run that needs no seed."""
 
     words: Sequence[str]
     given: bytes
@@ -67,7 +67,7 @@ class Other:
 
 
 def others(bpfhost: str) -> list[Other]:
-    """Runs that take no seed, with what they end with where there are random bytes."""
+    """Runs that need no seed, with their outcomes when random bytes are available."""
     lines = hex_lines(assemble(bpfhost, READS_INDEX)).encode()
     runs = [(["asm"], READS_INDEX.encode()), (["dis"], lines), (["verify", f"{MAP}:array:4:8:1"], lines)]
     answers = [Other(words, given, ends(bpfhost, words, given)) for words, given in runs]

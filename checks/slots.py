@@ -1,4 +1,4 @@
-"""What the model reads in a program's slots: its wide loads and its atomic operations; and slots of them that are spoiled."""
+"""The model's decoder of a program's slots: its wide loads and its atomic operations; and damaged slots of these."""
 
 from __future__ import annotations
 
@@ -10,7 +10,7 @@ from dataclasses import dataclass
 from atomics import OPERATIONS
 
 WIDE, ATOMIC_WORD, ATOMIC_DOUBLE = 0x18, 0xC3, 0xDB
-# No instruction begins so: an atomic operation on one byte or on two.
+# No instruction has these opcodes: an atomic operation on one byte or on two.
 NO_ATOMICS = (0xCB, 0xD3)
 NUMBERS = [it.number for it in OPERATIONS]
 FETCH, EXCHANGE, COMPARE = 0x01, 0xE1, 0xF1
@@ -41,7 +41,7 @@ class WideLoad(Slot):
         return int.from_bytes(self.second[4:], "little")
 
     def misspelled(self) -> int:
-        """The reason for which its slots are no instruction, or 0."""
+        """The reason for which its slots are not a valid instruction, or 0."""
         if self.src > 2 or self.off:
             return 102
         if self.dst > 10:
@@ -60,7 +60,7 @@ class Atomic(Slot):
 
 
 def first_slots(slots: bytes) -> Iterator[Slot]:
-    """The first slots of all instructions; the rest of a last one that is cut off is missing."""
+    """The first slots of all instructions; a last one that is cut off lacks its second slot."""
     at = 0
     while at < len(slots):
         opcode, registers, off, imm = struct.unpack("<BBHI", slots[at : at + 8])
@@ -73,17 +73,17 @@ def wide_loads(slots: bytes) -> list[WideLoad]:
 
 
 def atomics(slots: bytes) -> list[Atomic]:
-    """The atomic operations, and what is nearly one."""
+    """The atomic operations, and slots that are almost one."""
     return [Atomic(**vars(it)) for it in first_slots(slots) if it.opcode in (ATOMIC_WORD, ATOMIC_DOUBLE, *NO_ATOMICS)]
 
 
 def misspelled(slots: bytes) -> list[tuple[int, int]]:
-    """The reasons for which slots are no instruction, or 0, in the order of the slots."""
+    """The reasons for which slots are not a valid instruction, or 0, in the order of the slots."""
     found: list[WideLoad | Atomic] = [*wide_loads(slots), *atomics(slots)]
     return sorted((it.slot, it.misspelled()) for it in found)
 
 
-# Spoiled slots.
+# Damaged slots.
 
 
 def spoiled(draw: random.Random, slots: bytes) -> bytes:
@@ -95,7 +95,7 @@ def spoiled(draw: random.Random, slots: bytes) -> bytes:
 
 
 def with_wrong_load(draw: random.Random, slots: bytes, load: WideLoad) -> bytes:
-    """A wrong field of a wide load, or it is into the frame pointer, or its second slot is cut off."""
+    """A wrong field of a wide load, or the frame pointer as its destination, or its second slot cut off."""
     at, wrong = 8 * load.slot, bytearray(slots)
     if draw.random() < 0.1:
         return slots[: at + 8]
@@ -107,7 +107,7 @@ def with_wrong_load(draw: random.Random, slots: bytes, load: WideLoad) -> bytes:
 
 
 def with_wrong_atomic(draw: random.Random, slots: bytes, atomic: Atomic) -> bytes:
-    """A number that is of none of the four operations, now and then a size of one byte or two, or a register above 10."""
+    """The number of none of the four operations, now and then a size of one byte or two, or a register above 10."""
     at, wrong, draws = 8 * atomic.slot, bytearray(slots), draw.random()
     if draws < 0.15:
         wrong[at] = draw.choice(NO_ATOMICS)

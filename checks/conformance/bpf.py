@@ -1,4 +1,4 @@
-"""bpf(2) of Linux, as far as the commands of frames need it: maps, programs of the type SOCKET_FILTER, and test runs."""
+"""Linux's bpf(2), as far as the commands of frames need it: maps, programs of type SOCKET_FILTER, and test runs."""
 
 from __future__ import annotations
 
@@ -12,14 +12,14 @@ MAP_CREATE, MAP_LOOKUP, MAP_UPDATE, MAP_DELETE, MAP_NEXT_KEY, PROG_LOAD, TEST_RU
 SOCKET_FILTER = 1
 SYSCALLS = {"x86_64": 321, "aarch64": 280, "riscv64": 280}
 LOG_SIZE = 1 << 20
-# capset(2), of which a process keeps CAP_BPF alone: programs are verified by the rules for those that may not leak pointers.
+# capset(2), by which a process keeps only CAP_BPF: then the verifier applies its rules for programs that may not leak pointers.
 CAPSET = {"x86_64": 126, "aarch64": 91, "riscv64": 91}
 CAP_BPF, CAPABILITY_VERSION = 39, 0x20080522
 LIBC = ctypes.CDLL(None, use_errno=True)
 
 
 class Refused(Exception):
-    """A call that the kernel refused, by its error number, and what the verifier said."""
+    """A call that the kernel refused: its error number, and the verifier's log."""
 
     def __init__(self, number: int, log: str = "") -> None:
         super().__init__(errno.errorcode.get(number, str(number)))
@@ -27,7 +27,7 @@ class Refused(Exception):
 
 
 def call(command: int, attributes: bytes) -> int:
-    """The system call: what it answers, or Refused."""
+    """The system call: its result. Raises Refused."""
     room = ctypes.create_string_buffer(attributes, 160)
     answer = int(LIBC.syscall(SYSCALLS[platform.machine()], command, room, 160))
     if answer < 0:
@@ -36,7 +36,7 @@ def call(command: int, attributes: bytes) -> int:
 
 
 def why_not() -> str | None:
-    """Why bpf(2) may not be called here; none where it may."""
+    """Why bpf(2) is not available here; None if it is."""
     if platform.system() != "Linux" or platform.machine() not in SYSCALLS:
         return "this is no Linux on a processor whose number of bpf(2) is known here"
     try:
@@ -47,7 +47,7 @@ def why_not() -> str | None:
 
 
 def keep_cap_bpf_alone() -> bool:
-    """Gives up each capability but CAP_BPF for good; whether that could be done."""
+    """Drops all capabilities but CAP_BPF for good; returns whether that worked."""
     head = ctypes.create_string_buffer(struct.pack("<Ii", CAPABILITY_VERSION, 0))
     low, high = 0, 1 << (CAP_BPF - 32)
     data = ctypes.create_string_buffer(struct.pack("<6I", low, low, 0, high, high, 0))
@@ -55,7 +55,7 @@ def keep_cap_bpf_alone() -> bool:
 
 
 def room(content: bytes, size: int) -> ctypes.Array[ctypes.c_char]:
-    """Bytes that the kernel may read, and write up to this size."""
+    """Bytes that the kernel may read, or write up to this size."""
     return ctypes.create_string_buffer(content, max(size, len(content), 1))
 
 
@@ -74,7 +74,7 @@ def map_call(command: int, fd: int, key: bytes | None, other: ctypes.Array[ctype
 
 
 def prog_load(slots: bytes) -> int:
-    """A descriptor; where it is refused, with the verifier's log."""
+    """A descriptor. Raises Refused with the verifier's log."""
     code, licence = ctypes.create_string_buffer(slots, len(slots)), ctypes.create_string_buffer(b"Apache-2.0")
     log = ctypes.create_string_buffer(LOG_SIZE)
 
@@ -93,7 +93,7 @@ def prog_load(slots: bytes) -> int:
 
 
 def test_run(fd: int, packet: bytes) -> int:
-    """The low 32 bits of register 0, of a run on a packet that has an Ethernet header in front, which a socket filter does not see."""
+    """The low 32 bits of register 0 after a run on a packet, which has an Ethernet header in front that a socket filter does not see."""
     data = ctypes.create_string_buffer(bytes(14) + packet, 14 + len(packet))
     room = ctypes.create_string_buffer(struct.pack("<IIIIQQII", fd, 0, 14 + len(packet), 0, address(data), 0, 1, 0), 160)
     if LIBC.syscall(SYSCALLS[platform.machine()], TEST_RUN, room, 160) < 0:

@@ -1,4 +1,4 @@
-"""The worked cases of the test crates: the slots and the texts that their lines have, and which instructions those are of."""
+"""The worked cases of the test crates: the slots and the texts in their lines, and the instructions in these."""
 
 from __future__ import annotations
 
@@ -36,7 +36,7 @@ def slots_of(text: str) -> list[bytes]:
 
 
 def keys_of_slots(text: str) -> set[Key]:
-    """The instructions that slots have; the second slot of a wide load is none."""
+    """The instructions in slots; the second slot of a wide load is not one."""
     found, is_second = set(), False
     for slot in slots_of(text):
         if not is_second and (key := key_of(slot)) in BY_KEY:
@@ -46,7 +46,7 @@ def keys_of_slots(text: str) -> set[Key]:
 
 
 def text_lines(text: str) -> list[str]:
-    """The lines of a program's text on one line; of `{COUNT*PART}`, the part once."""
+    """The lines of a program's text on one line; for `{COUNT*PART}`, the part once."""
     text = re.sub(r"\{\d+\*|\}", ";", text)
     text = re.sub(r"\\x[0-9a-fA-F]{2}", " ", text)
     return [line.strip() for line in text.split(";") if line.strip()]
@@ -62,7 +62,7 @@ def keys_of_line(rest: str) -> set[Key]:
 
 @cache
 def counts() -> dict[str, Counter[Key]]:
-    """In how many cases each instruction stands, by what the case shows."""
+    """How many cases have each instruction, by what the case shows."""
     found = {}
     for what, (crate, words) in SHOWS.items():
         found[what] = Counter(key for rest in lines(crate, *words) for key in keys_of_line(rest))

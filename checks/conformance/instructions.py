@@ -1,6 +1,6 @@
-"""The instructions of RFC 9669 by opcode, and by what tells those of one opcode apart; and how a line of text writes each.
+"""The instructions of RFC 9669, by opcode and by the field that distinguishes those of one opcode; and the text of each.
 
-This is a second reading of docs/INSTRUCTIONS.md and of the RFC's tables (sections 3 to 5), made without the crates.
+This is a second implementation of docs/INSTRUCTIONS.md and of the RFC's tables (sections 3 to 5), independent of the crates.
 """
 
 from __future__ import annotations
@@ -21,7 +21,7 @@ OTHER_WIDE = {3: "address of a variable", 4: "address of code", 5: "map by index
 
 @dataclass(frozen=True, order=True)
 class Key:
-    """An opcode, and the field that tells its instructions apart where it has several: an offset, an imm or a source."""
+    """An opcode, and the field that distinguishes its instructions if it has several: the offset, the imm or the source."""
 
     opcode: int
     field: int = 0
@@ -41,7 +41,7 @@ class Instruction:
 
 
 def key_of(slot: bytes) -> Key:
-    """The instruction that a first slot would be of."""
+    """The instruction that begins with a slot."""
     opcode, src = slot[0], slot[1] >> 4
     offset, imm = int.from_bytes(slot[2:4], "little", signed=True), int.from_bytes(slot[4:8], "little")
     if opcode & 7 in (ALU, ALU64):
@@ -113,7 +113,7 @@ ATOMIC = re.compile(r"lock ?\* ?\( ?(u32|u64) ?\* ?\) ?\(.*\) ?([+|&^]=) ?r\d+")
 
 
 def key_of_text(line: str) -> Key | None:
-    """The instruction that a line of a program's text writes; none where it writes none, as a label."""
+    """The instruction that a line of a program's text writes; None if it writes none, as a label."""
     line = " ".join(line.partition("//")[0].split())
     for pattern, key in FIXED:
         if pattern.fullmatch(line):

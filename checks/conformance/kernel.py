@@ -1,4 +1,4 @@
-"""Gives Linux what frames say, by bpf(2), and sorts each difference of the answers by the rule that it is of."""
+"""Passes the contents of frames to Linux by bpf(2), and assigns each difference in the replies to its rule."""
 
 from __future__ import annotations
 
@@ -25,7 +25,7 @@ NO_DESCRIPTOR = 1 << 20
 
 @dataclass
 class Open:
-    """What a descriptor of a tenant names: the kernel's descriptor, and of a map its kind and sizes. A program has none of these."""
+    """What a descriptor of a tenant names: the kernel's descriptor, and the kind and sizes of a map. A program has none of these."""
 
     fd: int
     kind: int = 0
@@ -36,7 +36,7 @@ class Open:
 
 @dataclass
 class Tally:
-    """How many answers were compared, how many were the same, and the differences by their rule, each with an example."""
+    """How many replies were compared, how many were the same, and the differences by their rule, each with an example."""
 
     compared: Counter[str] = field(default_factory=Counter)
     same: Counter[str] = field(default_factory=Counter)
@@ -63,18 +63,18 @@ def with_descriptors(slots: bytes, fds: dict[int, int]) -> bytes:
 
 
 def reads_context(slots: bytes) -> bool:
-    """Whether a load may be of a word of the context behind the first, by its size and offset."""
+    """Whether a load may be of a word of the context after the first, by its size and offset."""
     return any(slots[at] == 0x61 and 4 <= struct.unpack_from("<h", slots, at + 2)[0] <= 40 for at in range(0, len(slots) - 7, 8))
 
 
 def reason_in_log(log: str) -> str:
-    """The sentence with which the kernel's verifier ends, without numbers."""
+    """The last message of the kernel's verifier, without numbers."""
     lines = [line for line in log.splitlines() if line and not re.match(r"\d+: |processed |from |verification time|stack depth|mark_|arg#", line)]
     return re.sub(r"-?\d+|0x[0-9a-f]+", "N", lines[-1])[:80] if lines else "without a sentence"
 
 
 class Kernel:
-    """A tenant as the kernel would have it: its descriptors, from 3 on, and what each names."""
+    """A tenant with the kernel's maps and programs: its descriptors, from 3 on, and what each names."""
 
     def __init__(self) -> None:
         self.open: dict[int, Open] = {}
@@ -101,7 +101,7 @@ class Kernel:
         return Open(fd, reads_context=reads_context(slots))
 
     def element(self, command: int, body: bytes) -> bytes:
-        """What a look-up, an update, a delete or a request for the next key gives."""
+        """The kernel's result of a lookup, an update, a delete or a request for the next key."""
         map_ = self.map_of(struct.unpack_from("<I", body)[0])
         flags, rest = (struct.unpack_from("<Q", body, 4)[0], body[12:]) if command == bpf.MAP_UPDATE else (0, body[4:])
         sizes = {map_.key + map_.value} if command == bpf.MAP_UPDATE else {map_.key, 0} if command == bpf.MAP_NEXT_KEY else {map_.key}
@@ -124,7 +124,7 @@ class NoLength(Exception):
 
 
 def asked(tenant: Kernel, command: int, body: bytes) -> tuple[int, bytes, Open | None, str]:
-    """The kernel's answer to a frame's body: status, payload, what was opened, and the verifier's log."""
+    """The kernel's reply to a frame's body: status, payload, what was opened, and the verifier's log."""
     try:
         if command in (bpf.MAP_CREATE, bpf.PROG_LOAD):
             return 0, b"", tenant.create(body) if command == bpf.MAP_CREATE else tenant.load(body), ""
@@ -142,7 +142,7 @@ def asked(tenant: Kernel, command: int, body: bytes) -> tuple[int, bytes, Open |
 
 
 def is_malformed(command: int, body: bytes) -> bool:
-    """Whether a body is refused for its length, or a load for its type, which the kernel is never shown here."""
+    """Whether a body is refused for its length, or a load for its type; these are not passed to the kernel."""
     exact, least = {0: 20, 256: 4}, {1: 4, 2: 12, 3: 4, 4: 4, 5: 4, 10: 44}
     return command not in NAMES or len(body) != exact.get(command, len(body)) or len(body) < least.get(command, 0) or (
         command == 5 and body[:4] != b"\1\0\0\0")
@@ -154,7 +154,7 @@ def refused_here(reply: Reply) -> str:
 
 
 def difference(reply: Reply, status: int, payload: bytes, log: str, named: Open | None) -> str | None:
-    """Why a reply and the kernel's answer differ; none where they are the same. A refusal with another error is a difference too."""
+    """Why a reply and the kernel's differ; None if they are the same. A refusal with another error is a difference too."""
     command = reply.command
     if reply.status < 0 and status < 0:
         return None if reply.status == status else f"refused by both, {errno.errorcode.get(-reply.status)} here and {errno.errorcode.get(-status)} there"
@@ -172,7 +172,7 @@ def difference(reply: Reply, status: int, payload: bytes, log: str, named: Open 
 
 
 def play(case: Case, program: str, tally: Tally) -> None:
-    """Gives the frames of a case to a new host and to the kernel."""
+    """Sends the frames of a case to a new host and to the kernel."""
     replies = list(read_replies(serve(program, case.tenants, b"".join(case.frames))))
     tenants = [Kernel() for _ in range(case.tenants)]
     try:
@@ -189,7 +189,7 @@ def compare(kernel: Kernel, body: bytes, reply: Reply, tally: Tally, name: str) 
     fd = struct.unpack_from("<I", body)[0]
     named = kernel.open.get(fd) if reply.command not in (bpf.MAP_CREATE, bpf.PROG_LOAD) else None
     if reply.command not in (bpf.MAP_CREATE, bpf.PROG_LOAD) and named is None and reply.status != -errno.EBADF:
-        return  # what it names was refused by the kernel, and that is told already
+        return  # the kernel refused to open what it names, and that was counted already
     try:
         status, payload, opened, log = asked(kernel, reply.command, body)
     except NoLength:
@@ -203,7 +203,7 @@ def compare(kernel: Kernel, body: bytes, reply: Reply, tally: Tally, name: str) 
 
 
 def judge(program: str, each: Verdict, tally: Tally) -> None:
-    """The verdict of the program and of the kernel on one program."""
+    """The verdicts of the host and of the kernel on one program."""
     fds: dict[int, int] = {}
     log, is_accepted = "", True
     try:

@@ -1,4 +1,4 @@
-"""Compares the program's assembler and disassembler with LLVM's (`llvm-mc`), a line at a time, and sorts what differs by the rule."""
+"""Compares the host's assembler and disassembler with LLVM's (`llvm-mc`), line by line, and assigns each difference to its rule."""
 
 from __future__ import annotations
 
@@ -15,7 +15,7 @@ from conformance.instructions import key_of, key_of_text
 
 NAMES = ("llvm-mc", *(f"llvm-mc-{version}" for version in range(24, 12, -1)))
 ENCODING = re.compile(r"# encoding: \[(.*)\]")
-# The rule by which LLVM may read or write a line in another way; the first that fits.
+# The rule by which LLVM may read or write a line in another way; the first that matches.
 RULES = [
     ("a wide load of a map or of its value: LLVM has no words for it", re.compile(r"map_(fd|value)")),
     ("an atomic operation on `u32` names its register `w`, where the host has `r`", re.compile(r"^lock ?\* ?\( ?u32")),
@@ -25,14 +25,14 @@ RULES = [
     ("a wide constant is written with a sign", re.compile(r"^r\d+ = \d{19,} ll")),
     ("more blanks in an atomic operation than LLVM reads", re.compile(r"^lock  ")),
 ]
-# Of a processor of version 3 besides.
+# For a processor of version 3 as well.
 ONLY_FROM_4_ON = ("an instruction that LLVM has not before its processors of version 4",
                   re.compile(r"s/=|%=|\(s(8|16|32)\)|bswap|^gotol|\*\(s(8|16|32) |^\*\(u\d+ \*\)\(.*\) = -?\d+$|^if \w+ & "))
 
 
 @dataclass
 class Compared:
-    """How many lines were the same, and those that differ, by the rule."""
+    """How many lines were the same, and the others by the rule."""
 
     rules: list[tuple[str, re.Pattern[str]]]
     same: int = 0
@@ -52,7 +52,7 @@ class Compared:
 
 
 def llvm_mc() -> tuple[str, str] | None:
-    """The newest llvm-mc that is here and knows BPF, with its version."""
+    """The newest installed llvm-mc that supports BPF, with its version."""
     found = []
     for name in NAMES:
         path = shutil.which(name)
@@ -63,7 +63,7 @@ def llvm_mc() -> tuple[str, str] | None:
 
 
 def corpus() -> list[str]:
-    """The lines of programs in the cases of texts, each once, without labels and what names one."""
+    """The lines of programs in the cases of texts, each once, without labels and lines that name one."""
     found: dict[str, None] = {}
     for rest in lines("cases_texts", "round", "asm"):
         found.update(dict.fromkeys(line for line in text_lines(rest) if not line.endswith(":")))
@@ -72,26 +72,26 @@ def corpus() -> list[str]:
 
 @cache
 def processor(path: str) -> str:
-    """The newest processor that it knows; version 4 has what RFC 9669 has beyond version 3."""
+    """The newest processor that it supports; version 4 has what RFC 9669 adds to version 3."""
     told = subprocess.run([path, "-triple", "bpfel", "-mcpu=help", "/dev/null"], capture_output=True, text=True, check=False)
     return "v4" if re.search(r"^ *v4 ", told.stderr, re.M) else "v3"
 
 
 def bytes_of_llvm(path: str, texts: list[str]) -> list[bytes | None]:
-    """What LLVM makes of each line, or none where it refuses the line."""
+    """LLVM's bytes of each line, or None if it rejects the line."""
     call = [path, "-triple", "bpfel", f"-mcpu={processor(path)}", "-show-encoding"]
     found: list[bytes | None] = []
     for text in texts:
         ended = subprocess.run(call, input=text + "\n", capture_output=True, text=True, check=False)
         encoding = ENCODING.search(ended.stdout)
         bytes_ = encoding[1].split(",") if encoding and ended.returncode == 0 else []
-        is_whole = bool(bytes_) and all(re.fullmatch("0x[0-9a-f]{2}", byte) for byte in bytes_)  # else a byte is to be filled in
+        is_whole = bool(bytes_) and all(re.fullmatch("0x[0-9a-f]{2}", byte) for byte in bytes_)  # otherwise LLVM leaves a byte to a fixup
         found.append(bytes(int(byte, 16) for byte in bytes_) if is_whole else None)
     return found
 
 
 def text_of_llvm(path: str, slots: bytes) -> str | None:
-    """How LLVM writes one instruction, or none where it knows none."""
+    """LLVM's text of one instruction, or None if it does not know it."""
     call = [path, "-triple", "bpfel", f"-mcpu={processor(path)}", "-disassemble"]
     ended = subprocess.run(call, input=" ".join(f"0x{byte:02x}" for byte in slots), capture_output=True, text=True, check=False)
     text = [" ".join(line.split()) for line in ended.stdout.splitlines() if line.strip() and not line.strip().startswith(".")]
@@ -104,7 +104,7 @@ def rules_of(path: str) -> list[tuple[str, re.Pattern[str]]]:
 
 @cache
 def assembled(program: str) -> list[tuple[str, bytes]]:
-    """The lines of the corpus that our assembler takes, with their bytes."""
+    """The lines of the corpus that the host's assembler accepts, with their bytes."""
     found = []
     for line in corpus():
         try:
@@ -115,12 +115,12 @@ def assembled(program: str) -> list[tuple[str, bytes]]:
 
 
 def misread(program: str) -> list[str]:
-    """The lines of which the tables by opcode would count another instruction than the assembler makes of them."""
+    """The lines for which the tables by opcode count another instruction than the assembler writes."""
     return [line for line, slots in assembled(program) if key_of(slots) != key_of_text(line)]
 
 
 def compare_bytes(program: str, path: str) -> Compared:
-    """Our assembler's bytes with LLVM's."""
+    """The bytes of the host's assembler compared with LLVM's."""
     compared, taken = Compared(rules_of(path)), assembled(program)
     for (line, ours), theirs in zip(taken, bytes_of_llvm(path, [line for line, _ in taken]), strict=True):
         if ours == theirs:
@@ -131,7 +131,7 @@ def compare_bytes(program: str, path: str) -> Compared:
 
 
 def compare_texts(program: str, path: str) -> Compared:
-    """Our disassembler's line with LLVM's, for the bytes of each line that our assembler takes."""
+    """The line of the host's disassembler compared with LLVM's, for the bytes of each line that the host's assembler accepts."""
     compared = Compared(rules_of(path))
     for _, slots in assembled(program):
         ours, theirs = disassemble(program, slots).strip(), text_of_llvm(path, slots)

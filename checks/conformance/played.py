@@ -1,4 +1,4 @@
-"""The frames of the worked cases: each case is a list of frames that a new host is given."""
+"""The frames of the worked cases: each case is a list of frames for a new host."""
 
 from __future__ import annotations
 
@@ -17,7 +17,7 @@ COMMANDS: dict[str, Callable[[int, int, bytes], bytes]] = {"lookup": frames.map_
 
 @dataclass(frozen=True)
 class Case:
-    """Frames for a host of so many tenants, each with the length in front; `name` is the heading above them."""
+    """Frames for a host of so many tenants, each with its length in front; `name` is the heading above them."""
 
     name: str
     tenants: int
@@ -26,7 +26,7 @@ class Case:
 
 @dataclass(frozen=True)
 class Verdict:
-    """A program's slots, and the maps that the descriptors which it names are."""
+    """A program's slots, and the maps of the descriptors that it names."""
 
     name: str
     slots: bytes
@@ -49,7 +49,7 @@ def program_text(line: str) -> str:
 
 
 def frame_of(program: str, word: str, rest: str) -> bytes | None:
-    """The frame that a line asks for; none of a line that asks for something else."""
+    """The frame that a line sends; None for another line."""
     if word == "frame":
         body = bytes_of(rest)
         return len(body).to_bytes(4, "little") + body

@@ -16,7 +16,7 @@ def cell(each: Instruction) -> str:
 
 
 def groups() -> str:
-    """How much of each group is here, and how many of its instructions stand in a case of each kind."""
+    """How much of each group is implemented, and how many of its instructions have a case of each kind."""
     rows = [f"| Group | Instructions | Here | {' | '.join(SHOWS)} |", "|---|---|---|" + "---|" * len(SHOWS)]
     for group, name in GROUPS.items():
         of_group = [each for each in INSTRUCTIONS if each.group == group]
@@ -35,7 +35,7 @@ def by_opcode() -> str:
 
 
 def refused() -> Counter[Key]:
-    """The instructions of the RFC that are left out here, and in how many cases of the codec they stand."""
+    """The instructions of the RFC that are not implemented, and how many cases of the codec each has."""
     found: Counter[Key] = Counter()
     for rest in lines("cases_texts", "codec"):
         if slots := slots_of(rest):

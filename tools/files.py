@@ -9,7 +9,7 @@ OUTPUTS = {"out", "target", "build", "dist", "__pycache__"}
 
 
 def tracked(top: Path, *patterns: str) -> list[Path]:
-    """The files below `top` that git has, also those that are not committed yet; without a history all that is no output of a build."""
+    """The files below `top` that git has, including those that are not committed yet; without a history, all that are not output of a build."""
     call = ["git", "ls-files", "-z", "--cached", "--others", "--exclude-standard", *patterns]
     try:
         names = subprocess.run(call, cwd=top, capture_output=True, text=True, check=True).stdout.split("\0")

@@ -1,4 +1,4 @@
-"""Words that make a page slow to read, and how often each page may have them at most."""
+"""Words that make a page slow to read, and how many of them each page may have."""
 
 from __future__ import annotations
 
@@ -6,7 +6,7 @@ import re
 from collections import Counter
 from collections.abc import Iterable
 
-# Each word with what to write in its place.
+# Each word with what to write instead.
 PLAIN = {
     "where": "if, when; or the place by its name",
     "alone": "only",
@@ -19,7 +19,7 @@ PLAIN = {
     "whoever": "who",
     "beside": "next to, besides",
 }
-# The forms that count, where a word has others than its own.
+# The forms that count, if a word has more than one.
 FORMS = {
     "where": "where|wherever",
     "stand": "stands?|stood|standing",
@@ -29,9 +29,9 @@ FORMS = {
     "want": "wants?|wanted|wanting",
 }
 WORD = {name: re.compile(rf"\b(?:{FORMS.get(name, name)})\b", re.I) for name in PLAIN}
-# What is no prose: blocks of code, code in a sentence, and where a link leads.
+# What is not prose: blocks of code, code in a sentence, and the target of a link.
 NO_PROSE = re.compile(r"^(```|~~~).*?^\1$|^(?: {4}|\t)[^\n]*$|`[^`\n]*`|\]\([^)\s]*\)", re.M | re.S)
-# The most that a page may have of these words together. A page that is not here may have none.
+# The most of these words, in all, that a page may have. A page that is not listed may have none.
 MOST: dict[str, int] = {
     "CHANGELOG.md": 9,
     "CONTRIBUTING.md": 14,
@@ -67,7 +67,7 @@ def bounds(pages: Iterable[tuple[str, str]]) -> str:
 
 
 def too_many(page: str, text: str) -> list[str]:
-    """What is wrong with a page that has more of these words than it may have."""
+    """The fault of a page that has more of these words than it may have."""
     found = count(text)
     if found.total() <= (most := MOST.get(page, 0)):
         return []

@@ -19,14 +19,14 @@ QUOTED = re.compile(r"(<!-- quoted: ([\w/.]+) (\w+) -->\n```\w*\n)(.*?)(^```$)",
 
 
 def filled(page: str, mark: str, text: str) -> str:
-    """The page with this text between a mark and the next end, where it has that mark."""
+    """The page with this text between a mark and the next end, if it has that mark."""
     between = re.compile(rf"(<!-- {mark} -->\n).*?(^<!-- end -->$)", re.M | re.S)
     return between.sub(lambda match: match[1] + text + match[2], page)
 
 
 @dataclass
 class Row:
-    """A row of a table: some names of a file, and what they are in the field's words."""
+    """A row of a table: some names of a file, and what they are in the field's terms."""
 
     place: Place
     names: list[str]
@@ -35,7 +35,7 @@ class Row:
 
 @dataclass
 class Section:
-    """A part of a page: lines of text, and behind them a table, if it has one."""
+    """A part of a page: lines of text, followed by a table, if it has one."""
 
     text: list[str] = field(default_factory=list)
     rows: list[Row] = field(default_factory=list)
@@ -65,7 +65,7 @@ def head_comment(place: Place) -> str:
 
 
 def fill(sections: list[Section], tier: Tier) -> None:
-    """Gives each row the names of its file that the tier has; a new name goes behind the one before it in its file."""
+    """Assigns to each row the names of its file that the tier has; a new name goes after the one before it in its file."""
     rows = [row for section in sections for row in section.rows]
     for place in tier.files:
         in_source = [word for word in file_of(place).texts if Name(place, word) in tier.names]
@@ -125,7 +125,7 @@ def kit_table() -> str:
 
 
 def quotation(path: str, word: str) -> str:
-    """A definition, or a function with its contract, as it stands in its file."""
+    """A definition, or a function with its contract, as it is in its file."""
     lines = (CRATES / path).read_text().splitlines()
     begins = re.compile(rf" *(?:pub )?(?:fn|trait|struct) {word}\b" if path.endswith(".rt") else "")
     at = next((at for at, line in enumerate(lines) if path.endswith(".rt") and begins.match(line)

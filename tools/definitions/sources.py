@@ -1,7 +1,7 @@
 """Reads files of definitions (.antt) and of code with contracts (.rt): what each defines, and which names a definition cites.
 
-The text is not parsed as a language: words are told from words by the project's layout. A name that is bound (by a λ, a
-parameter, a field, the left-hand side of an equation) is no citation, all others are looked up in the file and its imports.
+The text is not parsed as a language: words are recognized by the project's layout. A name that is bound (by a λ, a parameter, a field, the
+left-hand side of an equation) is no citation; all others are looked up in the file and its imports.
 """
 
 from __future__ import annotations
@@ -19,7 +19,7 @@ WORD = r"[^\W\d]\w*"
 DEFINES = re.compile(rf"(?:abbrev |unfoldable )?pub (?:record |data )?({WORD})")
 TOKEN = re.compile(rf"(?<![.\w]){WORD}(?:\.\w+)*|[λ(){{}}:]|\.(?= )|(?<![=<>])=(?!=)|\n")
 IMPORT = re.compile(r"Rattle\.(\w+)\.specs\.([\w.]+?)(?:\.\{(.*)\}| as (\w+))")
-# What a type of the code is called where it is declared.
+# The keyword of a type's declaration in the code.
 TYPE = r"^pub(?:\(crate\))? (?:struct|enum|trait) {}\b"
 
 
@@ -40,7 +40,7 @@ class Place:
 
 @dataclass(frozen=True, order=True)
 class Name:
-    """A definition: the file where it stands, and what it is called there."""
+    """A definition: its file, and its name in that file."""
 
     place: Place
     word: str
@@ -50,7 +50,7 @@ class Name:
 
 
 def declared(path: str) -> tuple[str, str | None]:
-    """The file of code that a path below `declared` stands for, and the type, if it is one that is named."""
+    """The file of code that a path below `declared` names, and the type, if it names one."""
     *module, kind = re.sub(r"^declared\.|\.The(Variants|Inside)$", "", path).split(".")
     return f"src/{'/'.join(module) or 'lib'}.rt", None if kind == "TheConstants" else kind
 
@@ -117,7 +117,7 @@ class File:
                 self.go_on(name, words, is_equation=indent == base)
 
     def go_on(self, name: str, words: str, is_equation: bool) -> None:
-        """One more line of a definition: a new equation, or more of the last one."""
+        """One more line of a definition: a new equation, or the continuation of the last one."""
         self.counts[name] += 1
         if is_equation:
             self.texts[name].append(words)
@@ -146,7 +146,7 @@ class File:
                 self.add(name, contract)
 
     def seen(self, name: str, body: str, text: str) -> str:
-        """What contracts see of a type: its fields, or its `Model`, and what its implementations of traits say of it."""
+        """What contracts see of a type: its fields, or its `Model`, and what its trait implementations state of it."""
         model = re.search(rf"^impl Model for {name} {{.*?ghost Value = {{(.*?)}};", text, re.M | re.S)
         if model:
             return model[1]
@@ -162,7 +162,7 @@ class File:
     # ---- what is cited
 
     def name_of(self, word: str) -> Name | None:
-        """The definition that a word stands for in this file, if it is one of this repository."""
+        """The definition that a word names in this file, if it is one of this repository."""
         head, _, rest = word.partition(".")
         found: Name | None
         if head in self.aliases and rest:
@@ -174,7 +174,7 @@ class File:
             found = self.imports.get(head)
         if found and found.place != self.place:
             file = file_of(found.place)
-            return found if found.word in file.texts else file.name_of(found.word)  # a variant, or passed on
+            return found if found.word in file.texts else file.name_of(found.word)  # a variant, or re-exported
         return found
 
     def is_variant(self, word: str) -> bool:
@@ -215,7 +215,7 @@ class File:
                 yield found
 
     def cited_of_kit(self, name: str) -> Iterator[tuple[str, str]]:
-        """The names of the kit that a definition cites, with their files; an operator where all its signs stand there."""
+        """The names of the kit that a definition cites, with their files; an operator counts if all its signs are there."""
         words = {word.partition(".")[0] for word in self.free_words(name)}
         text = " ".join(self.texts[name])
         for kit_name, file in self.kit.items():
@@ -243,7 +243,7 @@ def type_in(crate: str, name: str) -> Name | None:
 
 
 def closure(roots: list[Name], stops: frozenset[Name] = frozenset()) -> set[Name]:
-    """The names that these rest on, themselves among them; what a stop rests on is left out, and the stop too."""
+    """The names that these rest on, including these; stops and what they rest on are left out."""
     found: set[Name] = set()
     left = list(roots)
     while left:

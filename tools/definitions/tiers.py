@@ -1,7 +1,7 @@
-"""What the contract of `serve` rests on, in three tiers: each tier is what a reader needs for one claim more.
+"""What the contract of `serve` rests on, in three tiers: each tier is what a reader needs for one more claim.
 
-A tier ends at its stops: definitions whose names it cites and whose meaning it does not need. So the cut between two tiers is a list
-of names, which the next tier defines.
+A tier ends at its stops: definitions whose names it cites and whose meaning it does not need. So the cut between two tiers is a list of
+names, which the next tier defines.
 """
 
 from __future__ import annotations
@@ -15,7 +15,7 @@ def name(place: str, word: str) -> Name:
     return Name(Place(*place.split("/", 1)), word)
 
 
-# `serve` with the law that makes its clause `alone` noninterference, what a host begins with, and what the program hands to it.
+# `serve` with the law that makes its clause `alone` noninterference, what a host begins with, and what the program passes to it.
 ROOTS = [
     name("host_core/src/server.rt", "serve"),
     name("host_core/src/laws.rt", "same_frames_same_replies"),
@@ -24,7 +24,7 @@ ROOTS = [
 ]
 MACHINE, COMMAND, ERRNO = "tenant/specs/Machine.antt", "command_frames/specs/Command.antt", "tenant/specs/Errno.antt"
 STATE, VERDICT = "tenant/specs/State.antt", "verifier/specs/Verdict.antt"
-# Whatever these are, they are given a tenant's own frame and its own state: the machine, and what its state and its answers are.
+# Definitions that get only a tenant's own frame and its own state: the machine, its state and its replies.
 OF_THE_MACHINE = frozenset({
     *(name(MACHINE, word) for word in ("Answers", "Answer", "refuses")),
     *(name(COMMAND, word) for word in ("parsed", "Command")),
@@ -33,14 +33,14 @@ OF_THE_MACHINE = frozenset({
     name("tenant/src/errno.rt", "Errno"),
     name(ERRNO, "status_of"),
 })
-# The way from the contract of `serve` to the answer of a command.
+# The definitions between the contract of `serve` and the reply to a command.
 TO_AN_ANSWER = frozenset({
     name("host_core/src/server.rt", "serve"),
     name("host_core/specs/Served.antt", "ServesAlone"),
     *(name("tenant/specs/Alone.antt", word) for word in ("RepliesUnder", "AnswersFrame")),
     name(MACHINE, "Answers"),
 })
-# The crates whose definitions say, but for some, which programs are accepted.
+# The crates whose definitions, with some exceptions, say which programs are accepted.
 VERIFIER = ("verifier", "transfer", "reg_kinds", "interval")
 # The verdict on a program.
 OF_THE_VERDICT = frozenset({name(VERDICT, "IsAccepted"), name(VERDICT, "IsRefused")})
@@ -96,8 +96,9 @@ def of_verifier(tier: Tier) -> dict[str, list[str]]:
 
 
 def read_for_no_fault() -> frozenset[Name]:
-    """What a reader needs for "no test run faults": how a run is answered, what a program is run on, and what a fault is; and the way
-    from the contract of `serve` to the answer of a command."""
+    """What a reader needs for "no test run faults": how a run's reply is computed, what a program is run on, and what a fault is; and the
+    definitions between the contract of `serve` and the reply to a command.
+    """
     roots = [name(MACHINE, "run_of"), name(MACHINE, "loaded_program"), name("host_core/specs/Served.antt", "NoneFaults")]
     return frozenset(closure(roots, OF_THE_VERDICT)) | TO_AN_ANSWER
 

@@ -70,7 +70,7 @@ def _item(item: Item) -> str:
         title, _, text = re.sub(r"\s+", " ", item.comment.removeprefix("---- ")).partition(". ")
         return roff.heading(title.partition(":")[0].rstrip(".")) + (roff.paragraph(text) if text else "") + _item(Item("", item.code))
     if item.name:
-        # Further lines stand below the first argument.
+        # Further lines are below the first argument.
         prototype = re.sub(r"\n {14}", "\n", item.code.partition("\n{")[0].removeprefix("static inline "))
         return roff.example(f"{prototype};") + _below(item.comment)
     if item.code.startswith("typedef"):

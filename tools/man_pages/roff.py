@@ -8,7 +8,7 @@ from collections.abc import Callable, Iterator, Sequence
 from dataclasses import dataclass
 
 INLINE = re.compile(r"`(?P<code>[^`]+)`|\*\*(?P<bold>[^*]+)\*\*|(?<![\w*])\*(?=\S)(?P<italic>[^*]+)(?<=\S)\*(?![\w*])|!?\[(?P<link>[^\]]*)\]\([^)]*\)")
-# Lines of a page's source are no longer.
+# The longest line of a page's source.
 WIDTH = 80
 SENTENCE_END = re.compile(r"(?<=[.!?])\s+(?=[^a-z])")
 Row = Sequence[str]
@@ -20,7 +20,7 @@ def plain(text: str) -> str:
 
 
 def literal(text: str) -> str:
-    """Text to be typed: its signs are those of ASCII."""
+    """Text to be typed, in ASCII."""
     return plain(text).replace("-", "\\-").replace("^", "\\(ha").replace("~", "\\(ti")
 
 
@@ -43,7 +43,7 @@ def inline(text: str) -> str:
 
 
 def plain_lines(lines: Sequence[str]) -> str:
-    """Lines of text, of which none is a request."""
+    """Lines of text, none of which is a request."""
     return "\n".join(re.sub(r"^([.'])", r"\\&\1", line) for line in lines)
 
 
@@ -56,7 +56,7 @@ def heading(text: str) -> str:
 
 
 def tagged(tag: str, text: str) -> str:
-    """A tag, and behind it what it means."""
+    """A tag, followed by its meaning."""
     return f".TP\n{inline(tag)}\n{inline(text) or chr(92) + '&'}\n"
 
 
@@ -66,7 +66,7 @@ def example(lines: str) -> str:
 
 @dataclass(frozen=True)
 class Release:
-    """What a page tells in its borders: the version, and its day."""
+    """The header and the footer of a page: the version, and its day."""
 
     version: str
     day: str
@@ -115,7 +115,7 @@ def blocks_of(section: str) -> Iterator[Block]:
 
 
 def section_of(page: str, title: str) -> str:
-    """What stands below a heading of the second order, or below the first heading where the title is empty."""
+    """The text below a heading of the second level, or below the first heading if the title is empty."""
     begin = rf"^## {re.escape(title)}\n" if title else r"\A# [^\n]*\n"
     found = re.search(begin + r"(.*?)(?=^## |\Z)", page, re.M | re.S)
     if found is None:

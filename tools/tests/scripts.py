@@ -1,4 +1,4 @@
-"""Scripts of tools/ as modules, which have no ending in their names."""
+"""Scripts of tools/ as modules: their names have no suffix."""
 
 from __future__ import annotations
 

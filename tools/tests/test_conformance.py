@@ -1,4 +1,4 @@
-"""checks/conformance reads slots and lines as docs/INSTRUCTIONS.md says, and sorts what differs."""
+"""checks/conformance reads slots and lines as docs/INSTRUCTIONS.md says, and assigns each difference to its rule."""
 
 from __future__ import annotations
 

@@ -1,4 +1,4 @@
-"""tools/trusted reads the sources as they are laid out, parts them into tiers, and fills pages."""
+"""tools/trusted reads the sources by their layout, divides them into tiers, and fills pages."""
 
 from __future__ import annotations
 

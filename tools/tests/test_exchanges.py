@@ -1,4 +1,4 @@
-"""tools/exchanges reads frames as pages have them, tells what the program answers otherwise, and what it can't read."""
+"""tools/exchanges reads frames as pages have them, reports replies that differ, and frames that it can't read."""
 
 from __future__ import annotations
 
@@ -14,7 +14,7 @@ FIRST = "| `08000000 0100 0001 03000000` | a close | `08000000 0100 0001 0100000
 AGAIN = "| the same frame | again | `08000000 0100 0001 02000000` | |\n"
 LOAD = "| `10000000 0000 0500 01000000` and the slots below | a load | `08000000 0000 0500 01000000` | |\n"
 LISTING = "\nThe slots are those of\n\n    exit\n\nthat is `9500000000000000`.\n"
-# Answers each frame with how many its tenant has sent, and assembles each line as an exit.
+# Replies to each frame with the number of its tenant's frames so far, and assembles each line as an exit.
 PROGRAM = f"""#!{sys.executable}
 import sys
 read = sys.stdin.buffer.read()

@@ -1,4 +1,4 @@
-"""tools/first-page finds the commands of the page, what it shows of them, and what is too long."""
+"""tools/first-page finds the commands of the page, the outputs that it shows, and what is too long."""
 
 from __future__ import annotations
 

@@ -1,4 +1,4 @@
-"""tools/man makes pages of which man(1) has nothing to say, with each function of the header that a caller needs."""
+"""tools/man makes pages that man(1) accepts without a warning, with each function of the header that a caller needs."""
 
 from __future__ import annotations
 
@@ -38,7 +38,7 @@ class Man(unittest.TestCase):
     def test_each_function(self) -> None:
         functions = set(re.findall(r"(?m)^static inline .*?\b(bpfhost_\w+)\(", HEADER))
         self.assertLessEqual(header.PARTS, functions)
-        # What a caller is shown is no part of another function.
+        # What a caller sees is not a part of another function.
         used = "".join((TOP / name).read_text() for name in ("docs/EMBEDDING.md", "examples/embed/example.c", "examples/packet_path/packet_path.c"))
         self.assertEqual(header.PARTS & set(re.findall(r"\w+", used)), set())
         shown = header.libbpfhost(HEADER, roff.Release("1.2.3", "2026-01-01"))

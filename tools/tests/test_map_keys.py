@@ -1,4 +1,4 @@
-"""The keys of bench/maps collide, or do not, under the hash function as crates/seeded_hash/specs/Hashing.antt defines it."""
+"""The keys of bench/maps collide, or do not, under the hash function that crates/seeded_hash/specs/Hashing.antt defines."""
 
 from __future__ import annotations
 
@@ -18,7 +18,7 @@ from map_costs.keys import OTHER_SEED, RANDOM, SEED, Family, Keys, Searched, See
 
 WORD = 2**64
 SIZES, ENTRIES = (4, 16, 64, 512), 1024
-# Groups of a table with this many entries, eight on average, and more than any group is asked for where keys do not collide.
+# The groups of a table with so many entries, eight on average; and the most lookups of any group if keys do not collide.
 GROUPS, MANY = 128, 40
 COMPILER = os.environ.get("CC", "cc")
 
@@ -32,7 +32,7 @@ def word_at(key: bytes, at: int) -> int:
 
 
 def hash_of(seed: Seed, key: bytes) -> int:
-    """Of a key as the maps hash it: one of at most eight bytes as a number of eight."""
+    """The number of a key as the maps hash it: a key of at most eight bytes is extended to eight."""
     if len(key) <= 8:
         word = int.from_bytes(key, "little")
         turned = (word << 32 | word >> 32) % WORD
@@ -44,7 +44,7 @@ def hash_of(seed: Seed, key: bytes) -> int:
 
 
 def largest_group(seed: Seed, keys: Keys) -> int:
-    """How many of the keys one group of a table is asked for, at most."""
+    """The greatest number of keys whose lookup begins at the same group of a table."""
     hashes = (hash_of(seed, key) for key in keys)
     return max(Counter((hashed ^ hashed >> 32) % GROUPS for hashed in hashes).values())
 

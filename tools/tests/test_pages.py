@@ -1,4 +1,4 @@
-"""tools/pages finds dead links, names that nothing has or that another crate has, and tables that stand twice."""
+"""tools/pages finds dead links, names that do not exist or that another crate has, and tables that occur twice."""
 
 from __future__ import annotations
 
@@ -20,7 +20,7 @@ class Pages(unittest.TestCase):
         self.have("TOP", self.top)
 
     def have(self, name: str, value: Any) -> None:
-        """Gives the script another value of a constant while a test lasts."""
+        """Gives the script another value of a constant during a test."""
         patch = mock.patch.object(self.pages, name, value)
         patch.start()
         self.addCleanup(patch.stop)
@@ -52,7 +52,7 @@ class Pages(unittest.TestCase):
         self.assertEqual(wrong, ["page.md: there is no file gone.antt"])
 
     def crates(self) -> Any:
-        """Crates in which the names stand by which the tests call them: `upper` on `lower`, and `other` beside them."""
+        """Crates that have the names which the tests cite: `upper` depends on `lower`, and `other` on neither."""
         contract = "    ensures kept {{ {0}_promise }}\n\n    ensures {{ Holds{0} x }}\n{{\n    {0}_body();\n}}\n"
         for crate in ("upper", "lower", "other"):
             folder = self.top / "crates" / crate / "src"

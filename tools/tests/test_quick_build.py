@@ -1,4 +1,4 @@
-"""tools/quick-build with a kit that only pretends: what it asks of it, what it leaves, and what it says."""
+"""tools/quick-build with a fake kit: what it calls, what it leaves, and what it prints."""
 
 from __future__ import annotations
 
@@ -57,7 +57,7 @@ class QuickBuild(unittest.TestCase):
         self.assertEqual(ended.stdout.count("is built WITHOUT proofs"), 3)
 
     def test_what_it_compiles(self) -> None:
-        """The words of the kit's own call, on the whole kit's toolchain, and no sanitizer."""
+        """The words of the kit's own call, with the whole kit's toolchain, and no sanitizer."""
         self.assertEqual(self.build("out", "bpfhost").returncode, 0)
         compiled, linked = (self.scratch / "calls").read_text().splitlines()
         self.assertIn(f"--sysroot={self.scratch}/kit/toolchain -x ir -fPIE -O1 -c", compiled)
@@ -65,7 +65,7 @@ class QuickBuild(unittest.TestCase):
         self.assertIn(f"-o {self.scratch}/out/bpfhost", linked)
 
     def test_the_library(self) -> None:
-        """It is made of the repository's sources in a copy, and of code that any program may be linked with."""
+        """It is made from the repository's sources in a copy, and of code that any program may be linked with."""
         self.assertEqual(self.build("out", "library").returncode, 0)
         shown, compiled = (self.scratch / "calls").read_text().splitlines()
         self.assertIn("-S -emit-llvm", shown)

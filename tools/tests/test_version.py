@@ -1,4 +1,4 @@
-"""tools/version finds another number, and writes it where it does not stand by hand."""
+"""tools/version finds another number, and replaces it unless that has to be done by hand."""
 
 from __future__ import annotations
 

@@ -134,7 +134,7 @@ slots_on-take zero lines = omega arith
 slots_on-take (suc k) [] = omega arith
 slots_on-take (suc k) (l ∷ lines) = let more : slots_on (take k lines) ≤ slots_on lines = slots_on-take k lines in omega arith
 
--- where all slots are those that a program may have, a label is as far as it is
+-- if all slots are those that a program may have, a label's distance is the true one
 distance_is : (lines : List (Option Line)) (labels : Labels) (slot : ℕ) (name : List ℕ) → Finds lines labels → slots_on lines ≤ MAX_SLOTS → kept_distance (place_of labels name) slot ≡ distance lines slot name
 distance_is lines labels slot name finds room =
     let at : kept_slot (place_of labels name) ≡ label_slot lines name = ap kept_slot (finds name) ∙ kept_slot_is lines (label_line name lines) in
@@ -288,7 +288,7 @@ pub one_or_none : (one : Option Insn) (slice : List Insn) → MatchOption one (s
 one_or_none None slice h = h
 one_or_none (Some insn) slice h = h
 
--- ---- the answer
+-- the result
 
 pub assembled : (text : List ℕ) (read : List (List ℕ)) (lines : List (Option Line)) (insns : List Insn) → read ≡ text_lines text → AreRead read lines → ((i : ℕ) → fault_at lines i ≡ None) → map written insns ≡ forms_from lines 0 lines → slot_count insns ≡ slots_on lines → 0 < slot_count insns → IsAssembled text insns
 assembled text read lines insns e are none forms count some = record {

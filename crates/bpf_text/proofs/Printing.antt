@@ -12,12 +12,12 @@ use Rattle.text_line.specs.Form.{TokenLayout, constant, sign, word, space}
 use Rattle.text_line.specs.Written.{number_of, laid_out, printed_insn}
 use Rattle.bpf_text.specs.Printed.{printed, printed_line}
 
--- what follows a number stands after it
+-- what follows a number comes after it
 pub laid_out_constant : (z : ℤ) (rest : TokenLayout) → laid_out (constant (number_of z) rest) ≡ laid_out (constant (number_of z) []) ++ laid_out rest
 laid_out_constant (pos n) rest = ap (λ (t : List ℕ). t ++ laid_out rest) (sym (append-nil (decimal n)))
 laid_out_constant (negsuc n) rest = ap (λ (t : List ℕ). 45 ∷ (t ++ laid_out rest)) (sym (append-nil (decimal (suc n))))
 
--- a wide load of an address in a map's value: the name, the descriptor and the offset behind what stood before
+-- a wide load of an address in a map's value: the name, the descriptor and the offset follow the text before
 pub printed_map_value :
     (dst : ℕ) (fd : ℤ) (off : ℕ) (before named held : List ℕ)
     → named ≡ before ++ (register_name true dst ++ codes " = map_value ") → held ≡ named ++ laid_out (constant (number_of fd) [])

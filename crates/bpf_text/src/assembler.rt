@@ -101,7 +101,7 @@ fn labels<'a>(
     Ok(labels)
 }
 
-/// Where a label is defined.
+/// The place of a label's definition.
 fn place_of_label(labels: &HashMap<&str, Place>, name: &str) -> Option<Place>
     ensures { result ≡ place_of labels.now name.now }
 {

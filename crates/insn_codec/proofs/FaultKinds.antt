@@ -1,4 +1,4 @@
--- The fault at the front of bytes is one, and none where an instruction begins.
+-- The bytes have at most one fault at their front, and none if an instruction begins there.
 use Rattle.std.proofs.Common.{◌≡◌, ℕ, ◌≤◌, List, ◌++◌, length, take, drop, Some, refl, sym, ap, ◌∙◌, arith, subst, inl, inr}
 use Rattle.std.specs.Prelude.{slice_index}
 use Rattle.std.specs.List.{flat_map}

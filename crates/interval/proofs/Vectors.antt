@@ -93,7 +93,7 @@ ends r = (r.lo, r.hi)
 hull_of_ranges : ends (hull (span 1 4) (span 3 9)) ≡ (1, 9)
 hull_of_ranges = refl
 
--- ---- both edges of a jump: on how many bits, a condition, two operands, and what their ranges are where it holds and where not
+-- both edges of a jump: the number of bits, a condition, two operands, and their ranges if it holds and if it does not
 
 -- the ends of both ranges; None on an edge that can't be taken
 abbrev Edge : Type 0
@@ -119,7 +119,7 @@ edges_that_are_told : AreEdgeRows (
     ∷ [])
 edges_that_are_told = refl
 
--- low halves of greater numbers, signs and common bits tell nothing
+-- low halves of greater numbers, signs and common bits give no new range
 edges_that_tell_nothing : AreEdgeRows (
     (32, Below, span 0 255, constant 0x1_0000_0007, Some ((0, 255), (0x1_0000_0007, 0x1_0000_0007)), Some ((0, 255), (0x1_0000_0007, 0x1_0000_0007)))
     ∷ (64, SignedAbove, span 0 255, constant 7, Some ((0, 255), (7, 7)), Some ((0, 255), (7, 7)))

@@ -52,7 +52,7 @@ fn swapped(edge: Edge) -> Edge
     }
 }
 
-/// Where the operands are equal: both are in the intersection of the ranges.
+/// The edge on which the operands are equal: both are in the intersection of the ranges.
 fn where_equal(a: Range, b: Range) -> Edge
     ensures { result ≡ where_equal a b }
 {
@@ -65,7 +65,8 @@ fn where_equal(a: Range, b: Range) -> Edge
     Some((both, both))
 }
 
-/// Where the operands differ: if one is a constant, the other's range loses that number at its ends.
+/// The edge on which the operands differ: if one is a constant, the other's range loses that number
+/// at its ends.
 fn where_different(a: Range, b: Range) -> Edge
     ensures { result ≡ where_different a b }
 {
@@ -95,7 +96,7 @@ fn except(r: Range, value: u64) -> Option<Range>
     }
 }
 
-/// Where the first operand is above the second.
+/// The edge on which the first operand is above the second.
 fn where_above(a: Range, b: Range) -> Edge
     ensures { result ≡ where_above a b }
 {
@@ -107,7 +108,7 @@ fn where_above(a: Range, b: Range) -> Edge
     Some((above, below))
 }
 
-/// Where the first operand is at most the second.
+/// The edge on which the first operand is at most the second.
 fn where_at_most(a: Range, b: Range) -> Edge
     ensures { result ≡ where_at_most a b }
 {

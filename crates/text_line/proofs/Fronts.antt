@@ -74,7 +74,7 @@ none_found : {A : Type 0} (p q : A → Bool) (xs : List A) → ((x : A) → q x 
 none_found p q [] f each = refl
 none_found p q (x ∷ xs) f each = rw (f x each.0) (none_found p q xs f each.1)
 
--- the symbol's first byte stands in no name, or its second does not
+-- no name has the symbol's first byte, or no name has its second
 abbrev pub begins_no_name : List ℕ → Bool
 begins_no_name [] = false
 begins_no_name (x ∷ []) = not (is_name_byte x)

@@ -36,7 +36,7 @@ use Rattle.text_line.specs.Form.{TokenLayout, layout, sign, word, space, tokens_
 use Rattle.text_line.specs.Line.{Line, blank, label, spelled, IsWellFormed, NoLabel}
 use Rattle.text_line.specs.inside.Reading.{registers, leading_symbol, leading_name, leading_number, after_symbol, after_word, leading_register, number_from, leading_constant, leading_signed_number, leading_operand, parsed_destination, leading_address, atomic_size_of, at_end, match_option, parsed_jump, parsed_load, parsed_store, parsed_atomic, parsed_movsx, parsed_neg, parsed_end, parsed_constant_load, parsed_map_fd, parsed_map_value, parsed_wide_move, parsed_special_move, is_move, parsed_alu, parsed_assignment, parsed_assigned, parsed_goto, parsed_gotol, parsed_call, without_label, parsed_form, parsed_label, line_of, bool_eq, ◌>>=◌}
 
--- ---- options and tests, where a value comes out
+-- options and tests that have a value
 
 map_some : {A B : Type 0} (o : Option A) (f : A → B) (y : B) → option_map f o ≡ Some y → (x : A) × (o ≡ Some x) × (f x ≡ y)
 map_some None f y e = absurd (none-some y e)
@@ -62,7 +62,7 @@ is_eq x y e = (bytes_eq-Decides x y).0 e
 register_is : (n : List ℕ) (r : Bool × ℕ) → named registers n ≡ Some r → (n ≡ register_name r.0 r.1) × (r.1 ≤ 10)
 register_is n r e = (sym (name_of (λ r. register_name r.0 r.1) registers n r refl e), leb-true r.1 10 (found_named (λ _ r. leb r.1 10) registers n r refl e))
 
--- ---- tokens: they begin with what is read first, and the reading goes on behind it
+-- tokens: they begin with what is read first, and the reading continues after it
 
 symbol_then : {B P : Type 0} (ts : List Token) (k : List ℕ × List Token → Option B) (y : B) → (leading_symbol ts >>= k) ≡ Some y → ((s : List ℕ) (rest : List Token) → ts ≡ symbol s ∷ rest → k (s, rest) ≡ Some y → P) → P
 symbol_then (symbol s ∷ ts) k y e then = then s ts refl e
@@ -96,7 +96,7 @@ after_symbol_then s ts k y e then = option_and_then_some k (after_symbol s ts) y
 after_word_then : {B P : Type 0} (w : List ℕ) (ts : List Token) (k : List Token → Option B) (y : B) → (after_word w ts >>= k) ≡ Some y → ((rest : List Token) → ts ≡ name w ∷ rest → k rest ≡ Some y → P) → P
 after_word_then w ts k y e then = option_and_then_some k (after_word w ts) y e (λ rest found. then rest (after_word_is w ts rest found))
 
--- what holds behind the symbol or without it, holds
+-- what holds after the symbol or without it, holds
 symbol_or : {B : Type 0} (P : List Token → Type 0) (s : List ℕ) (ts : List Token) (d : Option B) (k : List Token → Option B) (y : B) → match_option (after_symbol s ts) d k ≡ Some y
     → ((rest : List Token) → k rest ≡ Some y → P (symbol s ∷ rest)) → (d ≡ Some y → P ts) → P ts
 symbol_or P s ts d k y e behind without = elim (either (after_symbol s ts) d k y e) [
@@ -387,7 +387,7 @@ move_name : (op : AluOp) → is_move op ≡ true → alu_symbol op ≡ codes "="
 move_name Mov e = refl
 move_name _ e = absurd (false≢true e)
 
--- behind the register and the operator
+-- after the register and the operator
 operated_is : (wide : Bool) (dst : ℕ) (op : AluOp) (ts : List Token) (f : Form) → dst ≤ 10
     → match_option (parsed_alu wide op dst ts) (cond (is_move op) (parsed_special_move wide dst ts) None) (λ f. Some f) ≡ Some f → Spelled (name (register_name wide dst) ∷ symbol (alu_symbol op) ∷ ts) f
 operated_is wide dst op ts f fits e = elim (either (parsed_alu wide op dst ts) _ _ f e) [

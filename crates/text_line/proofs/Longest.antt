@@ -92,7 +92,7 @@ contained : {A : Type 0} (p : A → Bool) (xs : List A) (s : A) → find p xs �
 contained p [] s e = absurd (none-some s e)
 contained p (x ∷ xs) s e = contained_step x xs s (find p xs) (p x) (contained p xs s) e
 
--- each is as long as those behind it, or longer
+-- each is as long as those after it, or longer
 abbrev longest_first : List (List ℕ) → Bool
 longest_first [] = true
 longest_first (x ∷ xs) = list_all (λ y. leb (length y) (length x)) xs && longest_first xs

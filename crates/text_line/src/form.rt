@@ -28,7 +28,7 @@ pub enum SourceOperand {
     Reg(Reg),
 }
 
-/// Where a jump leads, as it is written.
+/// The target of a jump, as it is written.
 #[derive(Clone, Copy, Debug, PartialEq, Eq)]
 pub enum JumpTarget {
     /// An offset in slots from the next slot. The range is -2 ^ 15 to 2 ^ 15 - 1, and of a long jump -2 ^ 31 to 2 ^ 31 - 1.

@@ -24,7 +24,7 @@ in_stack n (negsuc y) h =
     let same : place (negsuc y) ≡ 511 - y = ap unsigned_abs above in
     (omega (arith, ints), omega (arith, ints))
 
--- an aligned access ends in the slot where it begins
+-- an aligned access ends in the slot in which it begins
 pub in_one_slot : (size : AccessSize) (p : ℕ) → p % bytes_of size ≡ 0 → p % 8 + bytes_of size ≤ 8
 in_one_slot Byte p h = omega arith
 in_one_slot Half p h = omega arith

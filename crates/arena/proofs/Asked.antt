@@ -1,4 +1,4 @@
--- What is asked of the memory within a part.
+-- What a run requests of the memory within a part.
 use Rattle.std.proofs.Common.{◌≡◌, ℕ, ◌+◌, ◌≤◌, List, length, Option, Some, refl, sym, ap, ◌∙◌, arith}
 use Rattle.words.specs.Bytes.{number_of, low_bytes}
 use Rattle.words.specs.ByteLaws.{bytes_within, length-bytes_at, length-low_bytes}

@@ -288,7 +288,7 @@ pub one_or_none : (one : Option Insn) (slice : List Insn) → MatchOption one (s
 one_or_none None slice h = h
 one_or_none (Some insn) slice h = h
 
--- the result
+-- ---- the result
 
 pub assembled : (text : List ℕ) (read : List (List ℕ)) (lines : List (Option Line)) (insns : List Insn) → read ≡ text_lines text → AreRead read lines → ((i : ℕ) → fault_at lines i ≡ None) → map written insns ≡ forms_from lines 0 lines → slot_count insns ≡ slots_on lines → 0 < slot_count insns → IsAssembled text insns
 assembled text read lines insns e are none forms count some = record {

@@ -1,4 +1,4 @@
--- What the bytes of frames and of replies tell.
+-- What the bytes of frames and of replies determine.
 use Rattle.std.proofs.Common.{◌≡◌, ℕ, zero, suc, ◌+◌, ◌<◌, ◌≤◌, ◌^◌, List, [], ◌∷◌, ◌++◌, length, take, drop, get_or, refl, sym, ap, ap₂, subst, ◌∙◌, arith, le_refl, append_assoc, length-append, length-take, length-take-le, length-drop, take-append-drop, inl, inr}
 use Rattle.std.specs.Prelude.{ℤ, FitsSigned, ◌⊎◌}
 use Rattle.std.specs.Int.{w32, cast_signed, cast_unsigned, from_le_bytes}
@@ -21,7 +21,7 @@ half_of_bytes n rest small = omega arith
 
 -- ---- frames
 
--- what two lists of one length have behind them is told apart
+-- two lists of one length, each with more after it: if the whole is equal, so are the lists, and so is the rest
 same_halves : (f g xs ys : List ℕ) → length f ≡ length g → f ++ xs ≡ g ++ ys → (f ≡ g) × (xs ≡ ys)
 same_halves f g xs ys len e =
     let f_is : f ≡ g = sym (take_at f xs (length f) refl) ∙ ap (take (length f)) e ∙ take_at g ys (length f) (sym len) in

@@ -9,7 +9,7 @@ later k bytes =
     let same : 4 * suc k ≡ 4 + 4 * k = omega arith in
     ap (λ n. drop n bytes) same ∙ sym (drop-drop (4 * k) 4 bytes)
 
--- numbers that stand one after the other
+-- numbers one after the other
 words_read : (n : ℕ) (bytes found : List ℕ) → length found ≡ n → ((k : ℕ) → k < n → get_or found k 0 ≡ little_number 4 (drop (4 * k) bytes)) → found ≡ words n bytes
 unfolding words
 words_read zero bytes [] len each = refl

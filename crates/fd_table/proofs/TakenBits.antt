@@ -1,4 +1,4 @@
--- The bits of a word that tells which places are taken.
+-- The bits of a word that has a bit for each taken place.
 use Rattle.std.proofs.Common.{◌≡◌, ℕ, ◌+◌, ◌-◌, ◌*◌, ◌%◌, ◌<◌, ◌≤◌, ◌^◌, Bool, true, false, cond, List, length, get_or, set, Option, Some, None, refl, sym, ap, subst, ◌∙◌, ◌⊎◌, inl, inr, arith, get_or-set_same, get_or-set_other}
 use Rattle.std.specs.Prelude.{nat_lt, is_none, position, bit_and, bit_or}
 use Rattle.std.specs.List.{position_or_len}
@@ -32,7 +32,7 @@ module _ {A : Type 0} where
       let free = free_bit (is_none (get_or places (trailing_ones w64 word) None)) (bit_at word (trailing_ones w64 word)) here (tells (trailing_ones w64 word) within) in
       (within, position_or_len_is is_none places (trailing_ones w64 word) None (omega arith) (λ k lt. taken_bit (is_none (get_or places k None)) (bit_at word k) (before k lt) (tells k (omega arith))) (λ _. free))
 
-  -- where there is no 0, no place is free
+  -- if there is no 0, no place is free
   at_full : (word : ℕ) (places : List (Option A)) → length places ≡ 64 → word ≡ 2 ^ 64 - 1 → TellsTaken word places
       → (trailing_ones w64 word ≡ 64) × (position_or_len is_none places ≡ 64)
   at_full word places len full tells =
@@ -46,7 +46,7 @@ module _ {A : Type 0} where
       let (ones, none) = at_full word places len (omega arith) tells in
       none ∙ sym ones
 
-  -- where a bit is 0, the ones below the lowest tell the first free place
+  -- if a bit is 0, the ones below the lowest 0 give the first free place
   pub some_free : (word place : ℕ) (places seen : List (Option A)) → places ≡ seen → length places ≡ 64 → word < 2 ^ 64 → TellsTaken word places → place ≡ trailing_ones w64 word → place < 64
       → Some place ≡ position is_none seen
   some_free word place places seen same len small tells ones lt =
@@ -55,7 +55,7 @@ module _ {A : Type 0} where
       let here : Some place ≡ position is_none places = rw (first, len, within) refl in
       here ∙ ap (position is_none) same
 
-  -- and where none is, no place is free
+  -- and if there is none, no place is free
   pub none_free : (word place : ℕ) (places seen : List (Option A)) → places ≡ seen → length places ≡ 64 → word < 2 ^ 64 → TellsTaken word places → place ≡ trailing_ones w64 word → 64 ≤ place
       → None ≡ position is_none seen
   none_free word place places seen same len small tells ones above =
@@ -88,13 +88,13 @@ module _ {A : Type 0} where
       → TellsTaken (bit_and word (bit_not w64 (1 * 2 ^ place % 2 ^ 64))) (set places place None)
   taken_less word places place len lt tells k low = less_at word places place (omega arith) lt tells k low (cases_eq k place)
 
--- and what stands there is nothing
+-- and there is nothing at that place
 pub left_free : {A : Type 0} (word : ℕ) (places : List (Option A)) (place : ℕ) (left : Option A) → length places ≡ 64 → place < 64 → TellsTaken word places → left ≡ None
     → TellsTaken (bit_and word (bit_not w64 (1 * 2 ^ place % 2 ^ 64))) (set places place left)
 left_free {A = A} word places place left len lt tells gone =
     subst (λ (o : Option A). TellsTaken (bit_and word (bit_not w64 (1 * 2 ^ place % 2 ^ 64))) (set places place o)) (sym gone) (taken_less word places place len lt tells)
 
--- no bit is set where nothing is open
+-- no bit is set if nothing is open
 pub none_taken : (A : Type 0) (places : List (Option A)) → places ≡ nothing_open → TellsTaken 0 places
 none_taken A places none k lt =
     bit_at-zero k ∙ sym (ap (λ (os : List (Option A)). cond (is_none (get_or os k None)) 0 1) none ∙ ap (λ (o : Option A). cond (is_none o) 0 1) (get_or-replicate 64 k None None lt))

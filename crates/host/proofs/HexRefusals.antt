@@ -14,7 +14,7 @@ use Rattle.host.specs.declared.program.failure.Failure.TheVariants.{Memory}
 
 -- ---- the lines
 
--- the fault of the lines is told, or want of memory
+-- the fault of the lines is returned, or out of memory
 pub lines_refused : (text : List ℕ) (fault : TextFault) → IsUtf8 text
     → ((own : TextFault) → IsHexFault text own → (fault ≡ own) ⊎ (fault ≡ memory_fault))
     → (refusal : Failure) → IsUnreadable text refusal → (text_failure fault ≡ refusal) ⊎ (text_failure fault ≡ Memory)
@@ -35,14 +35,14 @@ lines_not_refused text utf8 faultless refusal (inr refused) = faultless refused.
 slots_of : {input : List ℕ} {refusal : Failure} → (is : IsProgramRefused input refusal) → IsSlotText input is.bytes
 slots_of is = record { utf8 = is.utf8; lines = is.slots }
 
--- where the lines are refused, that is told, or want of memory
+-- if the lines are refused, that refusal is returned, or out of memory
 pub input_refused : (input : List ℕ) (failure : Failure) → ((refusal : Failure) → IsUnreadable input refusal → (failure ≡ refusal) ⊎ (failure ≡ Memory))
     → ((slots : List ℕ) → IsSlotText input slots → failure ≡ Memory)
     → (refusal : Failure) → IsNoProgramText input refusal → (failure ≡ refusal) ⊎ (failure ≡ Memory)
 input_refused input failure lines memory refusal (inl unreadable) = lines refusal unreadable
 input_refused input failure lines memory refusal (inr refused) = inr (memory refused.bytes (slots_of refused))
 
--- the fault of the slots is told, or want of memory
+-- the fault of the slots is returned, or out of memory
 pub slots_refused : (input slots : List ℕ) (fault : CodecFault) → ((refusal : Failure) → ¬ IsUnreadable input refusal)
     → ((other : List ℕ) → IsSlotText input other → slots ≡ other)
     → ((own : CodecFault) → IsProgramFault slots own → (fault ≡ own) ⊎ IsMemoryFault slots fault)

@@ -23,7 +23,7 @@ one_verdict one maps input slots told only is None (other, insns, text, judged) 
 one_verdict one maps input slots told only is (Some refusal) (other, text, judged) =
     ap refusal_in (one maps slots told (Err refusal) is (subst (λ bytes. Judges maps bytes (Err refusal)) (sym (only other text)) judged))
 
--- where slots that the input has are not told, memory ran out
+-- if the slots of the input are not returned, memory ran out
 pub memory_told : (maps : List Named) (input : List ℕ) (failure : Failure) → ((slots : List ℕ) → IsSlotText input slots → failure ≡ Memory)
     → (refusal : Option Refusal) → IsJudgement maps input refusal → failure ≡ Memory
 memory_told maps input failure memory None (slots, insns, text, judged) = memory slots text

@@ -13,12 +13,12 @@ use Rattle.host.specs.declared.program.failure.Failure.TheVariants.{Memory}
 pub said : {text : List ℕ} (input output : List ℕ) → text ≡ input → (is : IsAssembly input output) → IsAssembled text is.insns
 said input output same is = subst (λ t. IsAssembled t is.insns) (sym same) is.program
 
--- a text that is a program is refused for want of memory only
+-- a text that is a program is refused only if memory runs out
 pub refused_by_memory : {text : List ℕ} (input : List ℕ) (fault : TextFault) → text ≡ input → ((insns : List Insn) → IsAssembled text insns → fault ≡ memory_fault)
     → (output : List ℕ) → IsAssembly input output → text_failure fault ≡ Memory
 refused_by_memory input fault same only output is = ap text_failure (only is.insns (said input output same is))
 
--- a text's own fault is told, or want of memory
+-- a text's own fault is returned, or out of memory
 pub refused_by_fault : {text : List ℕ} (input : List ℕ) (fault : TextFault) → text ≡ input → IsUtf8 input
     → ((own : TextFault) → IsOwnFault text own → (fault ≡ own) ⊎ (fault ≡ memory_fault))
     → (refusal : Failure) → IsNoText input refusal ⊎ IsTextRefused input refusal → (text_failure fault ≡ refusal) ⊎ (text_failure fault ≡ Memory)

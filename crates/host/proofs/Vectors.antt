@@ -12,7 +12,7 @@ use Rattle.host.specs.program.Arguments.{Verifies, asked_by_arguments, chosen_su
 array_of_8_bytes : MapShape
 array_of_8_bytes = record { kind = Array; key_size = 4; value_size = 8; max_entries = 1; listed = refl }
 
--- leading zeros count for nothing
+-- leading zeros do not change a number
 array_word : IsMapArgument (codes "003:array:04:8:1") (record { fd = 3; target = Map array_of_8_bytes })
 unfolding array_of_8_bytes
 array_word =

@@ -93,7 +93,7 @@ ends r = (r.lo, r.hi)
 hull_of_ranges : ends (hull (span 1 4) (span 3 9)) ≡ (1, 9)
 hull_of_ranges = refl
 
--- both edges of a jump: the number of bits, a condition, two operands, and their ranges if it holds and if it does not
+-- ---- both edges of a jump: the number of bits, a condition, two operands, and their ranges if it holds and if it does not
 
 -- the ends of both ranges; None on an edge that can't be taken
 abbrev Edge : Type 0

@@ -37,7 +37,7 @@ impl Watcher for Recorder {
     }
 }
 
-/// A program's verdict, with the facts that it rests on.
+/// A program's verdict, with the facts that it depends on.
 #[derive(Drop)]
 pub(crate) struct Judged {
     /// What is known before each instruction that the pass reached, in order.

@@ -128,7 +128,7 @@ whole_packet : (loaded (set 2 (pos 0)) ≡ Value 0) × (loaded_bytes (set 2 (pos
 unfolding run begins_at gathered known_helpers
 whole_packet = (refl, refl)
 
--- past the end it answers -14 and leaves zeros; an offset has 31 bits
+-- past the end it returns -14 and writes zeros; an offset has 31 bits
 past_the_end :
     (loaded (set 2 (pos 1)) ≡ Value 4294967282)
     × (loaded_bytes (set 2 (pos 1)) ≡ Value 0)
@@ -148,7 +148,7 @@ hash entries = record {
 abbrev key_1 : MapsByDescriptor
 key_1 = only (hash ((1 ∷ 0 ∷ 0 ∷ 0 ∷ [], 5 ∷ 0 ∷ 0 ∷ 0 ∷ 0 ∷ 0 ∷ 0 ∷ 0 ∷ []) ∷ []))
 
--- looks up key 1, deletes it, puts key 2 and writes through the pointer to the deleted value; 1 where key 1 is absent
+-- looks up key 1, deletes it, adds key 2 and writes through the pointer to the deleted value; 1 if key 1 is absent
 abbrev replaces_the_key : List Insn
 replaces_the_key =
     (put Word 10 (minus 4) (pos 1) ∷ copy 2 10 ∷ less 2 4 ∷ MapFd 1 (pos 3) ∷ Call (pos 1) ∷ Jump true Equal 0 (Imm (pos 0)) (pos 18) ∷ copy 6 0 ∷ [])

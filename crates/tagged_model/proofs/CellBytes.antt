@@ -5,7 +5,7 @@ use Rattle.std.specs.List.{All}
 use Rattle.words.specs.Bytes.{number_of}
 use Rattle.tagged_model.specs.Cells.{Cell, and_then, byte_at, gathered}
 
--- all that stands in the cell is a byte
+-- all that the cell has is a byte
 abbrev pub AreBytes : Cell → Type 0
 AreBytes c = (i b : ℕ) → byte_at c i ≡ Some b → b < 256
 

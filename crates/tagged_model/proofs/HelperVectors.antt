@@ -11,7 +11,7 @@ use Rattle.tagged_model.specs.Helpers.{packet_bytes, packet_answer, updated, rem
 abbrev packet : List ℕ
 packet = 1 ∷ 2 ∷ 3 ∷ 4 ∷ []
 
--- the offset is read in 32 bits; where the bytes leave the packet, zeros are written and the answer is -14
+-- the offset is read in 32 bits; if the bytes leave the packet, zeros are written and the result is -14
 bytes_of_the_packet :
     (packet_bytes packet 0 4 ≡ packet)
     × (packet_bytes packet 0x1_0000_0001 2 ≡ 2 ∷ 3 ∷ [])
@@ -42,7 +42,7 @@ new_key :
     × (one.values 0 ≡ 5 ∷ 6 ∷ [])
 new_key = (refl, refl, refl)
 
--- where memory is refused the answer is -12, and the refusal is noted
+-- if memory is refused the result is -12, and the refusal is noted
 refused_key :
     ((updated true empty (7 ∷ []) (5 ∷ 6 ∷ []) 0).answer ≡ 2 ^ 64 - 12)
     × ((updated true empty (7 ∷ []) (5 ∷ 6 ∷ []) 0).refused ≡ true)

@@ -1,4 +1,4 @@
--- Bytes that are read across slots of the stack, where facts tell that they are there.
+-- Bytes that are read across slots of the stack, if the facts say that they are written.
 use Rattle.std.proofs.Common.{◌≡◌, ℕ, zero, suc, ◌+◌, ◌*◌, ◌/◌, ◌%◌, ◌<◌, ◌≤◌, ltb, ◌==◌, bit_and, ℤ, Bool, true, false, not, if◌then◌else◌, List, length, Some, None, Result, Ok, Err, refl, sym, subst, ◌∙◌, ⊎_elim, arith}
 use Rattle.std.specs.Int.{bit_at}
 use Rattle.std.proofs.lemmas.Bool.{cond-true, and_from, eqb-true, lt-ltb, cases_lt, false≢true, or_parts, not-false}
@@ -28,7 +28,7 @@ none_below (suc n) test e i lt =
     let h = or_parts (test n) (any_below n test) e in
     ⊎_elim (λ below. none_below n test h.1 i below) (λ le. let same : n ≡ i = omega arith in subst (λ k. test k ≡ false) same h.0) (cases_lt i n)
 
--- ---- what the facts tell
+-- ---- what the facts say
 
 record MayRead (f : Facts) (x : ℤ) (n : ℕ) : Type 0 where
   within : is_in_stack x n ≡ true

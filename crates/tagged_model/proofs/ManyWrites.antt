@@ -75,7 +75,7 @@ module _ (i : ℕ) (c : Cell) (p : ℕ) (new : List ℕ) where
           same_some : (x y : ℕ) → Some x ≡ Some y → x ≡ y
           same_some x y e = cc
 
-  -- ---- what is told of the slot
+  -- ---- what is known of the slot
 
   bits_there : (lo : ℕ) → lo ≤ length new → HasBytes (bits_in p lo i) (cell_over i c p new)
   bits_there lo le j few one = let h = only_in p lo i j one in let to = h.1 in new_there j few h.0 (omega arith)

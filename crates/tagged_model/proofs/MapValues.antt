@@ -1,4 +1,4 @@
--- A map of objects and the map of what they stand for, for any two kinds of object.
+-- A map of objects and the map of the values that they represent, for any two kinds of object.
 use Rattle.std.proofs.Common.{◌≡◌, ℕ, zero, suc, ◌+◌, ◌==◌, Bool, true, false, cond, List, [], ◌∷◌, length, map, Option, Some, None, is_some, option_map, refl, ap, ◌∙◌, nat_le, if◌then◌else◌}
 use Rattle.std.specs.Result.{result_map_both}
 use Rattle.tagged_model.specs.declared.shape.MapKind.{MapKind}

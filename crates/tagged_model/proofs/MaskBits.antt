@@ -1,4 +1,4 @@
--- The bits that stand for the bytes of an access.
+-- The bits that represent the bytes of an access.
 use Rattle.std.proofs.Common.{◌≡◌, ℕ, ◌+◌, ◌-◌, ◌*◌, ◌%◌, ◌^◌, ◌<◌, ◌≤◌, min, max, bit_and, bit_or, sym, ap, ◌∙◌, ◌⊎◌, ⊎_elim, arith}
 use Rattle.std.specs.Int.{bit_at}
 use Rattle.std.proofs.lemmas.Bool.{cases_lt}
@@ -71,7 +71,7 @@ only_in p n i j one =
 both_set : (x y z : ℕ) → z ≡ min x y → z ≡ y → y ≡ 1 → x < 2 → x ≡ 1
 both_set x y z e f g h = omega arith
 
--- where all bits of an access are in a mask, each is
+-- if all bits of an access are in a mask, each is
 pub in_mask : (mask p n i : ℕ) → i < n → bit_and mask (byte_bits p n) ≡ byte_bits p n → bit_at mask (p % 8 + i) ≡ 1
 in_mask mask p n i h e =
     let bits = byte_bits p n in let j = p % 8 + i in
@@ -84,7 +84,7 @@ one_set x y z e f g h = grind arith
 pub of_either : (x y i : ℕ) → bit_at (bit_or x y) i ≡ 1 → (bit_at x i ≡ 1) ⊎ (bit_at y i ≡ 1)
 of_either x y i e = one_set (bit_at x i) (bit_at y i) (bit_at (bit_or x y) i) (bit_at_or x y i) e (bit_at-lt x i) (bit_at-lt y i)
 
--- where all of these bits are in a mask, so is each of them
+-- if all of these bits are in a mask, so is each of them
 pub each_in_mask : (mask bits j : ℕ) → bit_and mask bits ≡ bits → bit_at bits j ≡ 1 → bit_at mask j ≡ 1
 each_in_mask mask bits j e one =
     both_set (bit_at mask j) (bit_at bits j) (bit_at (bit_and mask bits) j) (bit_at_and mask bits j) (ap (λ m. bit_at m j) e) one (bit_at-lt mask j)

@@ -18,7 +18,7 @@ refused r y e = cc
 pub same_ok : {A : Type 0} (x y : A) → ◌≡◌ {A = Result A Reason} (Ok x) (Ok y) → x ≡ y
 same_ok x y e = cc
 
--- what goes ahead where a test holds
+-- the result goes ahead if a test holds
 pub chosen : {A : Type 0} (b : Bool) (x y : A) (r : Reason) → (if b then Ok x else Err r) ≡ Ok y → (b ≡ true) × (x ≡ y)
 chosen true x y r e = (refl, same_ok x y e)
 chosen false x y r e = absurd (refused r y e)

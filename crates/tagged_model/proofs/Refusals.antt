@@ -1,4 +1,5 @@
--- Runs in which memory may be refused: their states tell it. A run without maps puts no key, so it is refused none.
+-- Runs in which memory may be refused: their states record it. A run without maps adds no key, so it is refused
+-- none.
 use Rattle.std.proofs.Common.{◌≡◌, ℕ, zero, suc, ◌+◌, ◌/◌, ◌%◌, ℤ, pos, ◌+ℤ◌, Bool, true, false, ◌||◌, List, [], length, Option, Some, None, option_map, Result, Ok, Err, refl, sym, ap, ◌∙◌}
 use Rattle.std.proofs.Math.Bool.{or-false}
 use Rattle.std.proofs.lemmas.Bool.{or_parts, or_from, true≢false, cond_both}
@@ -35,7 +36,7 @@ all_none : {A B : Type 0} (o : Option A) (f : A → Option B) → ((x : A) → f
 all_none None f h = refl
 all_none (Some x) f h = h x
 
--- what is told of a step from s to t: whether memory was refused at it, which needs a refusal, and is noted; where it was not,
+-- what is known of a step from s to t: whether memory was refused at it, which needs a refusal, and is noted; if it was not,
 -- the step is the one without refusals; and it is refused none without a map, and makes none
 record IsTold (refused : Bool) (s t : RunState) (Same : Type 0) : Type 0 where
   now : Bool
@@ -232,7 +233,7 @@ module _ (refused : Bool) (s : RunState) where
 
   -- ---- a step, and the rest of the run
 
-  -- where the rest ends with a clear flag it is the one without refusals, and so is the whole
+  -- if the rest ends with a clear flag it is the one without refusals, and so is the whole
   after_tells : (a b : Step) (f g : RunState → Ending) → StepTells a b → ((t : RunState) → (f t).state.refused ≡ false → (t.refused ≡ false) × (f t ≡ g t)) → (ending_after a s f).state.refused ≡ false → (s.refused ≡ false) × (ending_after a s f ≡ ending_after b s g)
   after_tells (goes t) b f g h rest e =
       let r = rest t e in

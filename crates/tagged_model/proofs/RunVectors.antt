@@ -1,5 +1,5 @@
--- Known answers of runs: what small programs answer, and where they fault (RFC 9669, sections 4 and 5). The comments spell
--- the programs; each ends with `exit`, unless it says otherwise.
+-- Known answers of runs: the results of small programs, and the instructions at which they fault (RFC 9669, sections 4 and
+-- 5). The comments spell the programs; each ends with `exit`, unless it says otherwise.
 use Rattle.std.proofs.Common.{◌≡◌, ℕ, ℤ, pos, neg_ℤ, true, false, List, [], ◌∷◌, ◌++◌, map, None, refl}
 use Rattle.words.specs.declared.operator.AluOp.TheVariants.{Add, Sub, Div, SignedDiv, Mod, SignedMod, Mov, ShiftLeft, ShiftRight}
 use Rattle.words.specs.declared.operator.ByteOrder.TheVariants.{Big}
@@ -28,11 +28,11 @@ context len = len ∷ 0 ∷ 0 ∷ 0 ∷ 0 ∷ 0 ∷ 0 ∷ 0 ∷ 0 ∷ 0 ∷ 0 �
 abbrev no_maps : MapsByDescriptor
 no_maps m = None
 
--- what a program answers on an empty packet
+-- the result of a program on an empty packet
 abbrev answer : List Insn → Outcome
 answer code = result_of code no_maps (context 0) []
 
--- programs without their `exit`, and what they answer on an empty packet
+-- programs without their `exit`, and their results on an empty packet
 abbrev AreAnswers : List (List Insn × Outcome) → Type 0
 AreAnswers rows = map (λ (row : List Insn × Outcome). answer (row.0 ++ (Exit ∷ []))) rows ≡ map (λ (row : List Insn × Outcome). row.1) rows
 
@@ -119,7 +119,7 @@ six_steps = (refl, refl, refl)
 -- ---- faults of registers
 
 faults_of_registers : AreAnswers (
-    -- pointer answered: r0 = r10
+    -- pointer returned: r0 = r10
     (copy 0 10 ∷ [], Fault)
     -- pointer cut: w0 = w10
     ∷ (Alu false Mov 0 (Reg 10) ∷ [], Fault)
@@ -161,7 +161,7 @@ faults_of_memory : AreAnswers (
     ∷ (put Double 10 (minus 520) (pos 1) ∷ set 0 (pos 0) ∷ [], Fault)
     -- store not aligned: *(u64 *)(r10 - 12) = 1; r0 = 0
     ∷ (put Double 10 (minus 12) (pos 1) ∷ set 0 (pos 0) ∷ [], Fault)
-    -- load behind the context: r3 = *(u32 *)(r1 + 44); r0 = 0
+    -- load after the context: r3 = *(u32 *)(r1 + 44); r0 = 0
     ∷ (get Word 3 1 (pos 44) ∷ set 0 (pos 0) ∷ [], Fault)
     -- byte of the context: r3 = *(u8 *)(r1 + 0); r0 = 0
     ∷ (get Byte 3 1 (pos 0) ∷ set 0 (pos 0) ∷ [], Fault)

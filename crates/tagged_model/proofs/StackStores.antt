@@ -84,7 +84,7 @@ abbrev IsKnown : Kind → Type 0
 IsKnown kind.Unreadable = ⊥
 IsKnown k = Unit {0}
 
--- where a pointer may be written, it is written whole
+-- if a pointer may be written, it is written whole
 spill_written : (witness : Witness) (u : Slot) (c : Cell) (p : ℕ) (size : AccessSize) (k : Kind) (v : Tagged) → is_pointer k ≡ true → p % bytes_of size ≡ 0 → AreBytes c → IsOfKind witness k v → (if is_double size then Ok (slot.Spill k) else Err PartOfSpill) ≡ Ok u → IsWritten witness u c (p % 8) size v
 spill_written witness u c p Double k v t even small h e = subst (λ u. IsWritten witness u c (p % 8) Double v) (same_ok (slot.Spill k) u e) (pointer_written witness k c (p % 8) v t even small h)
 spill_written witness u c p size k v t even small h e = absurd (refused PartOfSpill u e)

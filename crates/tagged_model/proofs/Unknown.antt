@@ -16,7 +16,7 @@ pub has_kind : (witness : Witness) (k : Kind) (o : Option Tagged) (v : Tagged) �
 has_kind witness Unreadable o v e h = tt
 has_kind witness k o v e h = (v, e, h)
 
--- such facts admit a state where each of them holds of it
+-- such facts admit a state if each of them holds of it
 pub admitted_by : (witness : Witness) (kinds : ℕ → Kind) (slots : ℕ → Slot) (s : RunState) → ((r : ℕ) → HasKind witness (kinds r) (s.registers r)) → ((i : ℕ) → HasSlot witness (slots i) (s.cells i)) → ((m : ℕ) → witness.objects m ≤ objects_of (s.maps m)) → AdmitsBy witness (facts_of kinds slots) s
 admitted_by witness kinds slots s of_registers of_slots of_objects =
     record {

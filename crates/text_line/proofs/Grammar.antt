@@ -36,7 +36,7 @@ use Rattle.text_line.specs.Form.{TokenLayout, layout, sign, word, space, tokens_
 use Rattle.text_line.specs.Line.{Line, blank, label, spelled, IsWellFormed, NoLabel}
 use Rattle.text_line.specs.inside.Reading.{registers, leading_symbol, leading_name, leading_number, after_symbol, after_word, leading_register, number_from, leading_constant, leading_signed_number, leading_operand, parsed_destination, leading_address, atomic_size_of, at_end, match_option, parsed_jump, parsed_load, parsed_store, parsed_atomic, parsed_movsx, parsed_neg, parsed_end, parsed_constant_load, parsed_map_fd, parsed_map_value, parsed_wide_move, parsed_special_move, is_move, parsed_alu, parsed_assignment, parsed_assigned, parsed_goto, parsed_gotol, parsed_call, without_label, parsed_form, parsed_label, line_of, bool_eq, ◌>>=◌}
 
--- options and tests that have a value
+-- ---- options and tests that have a value
 
 map_some : {A B : Type 0} (o : Option A) (f : A → B) (y : B) → option_map f o ≡ Some y → (x : A) × (o ≡ Some x) × (f x ≡ y)
 map_some None f y e = absurd (none-some y e)
@@ -62,7 +62,7 @@ is_eq x y e = (bytes_eq-Decides x y).0 e
 register_is : (n : List ℕ) (r : Bool × ℕ) → named registers n ≡ Some r → (n ≡ register_name r.0 r.1) × (r.1 ≤ 10)
 register_is n r e = (sym (name_of (λ r. register_name r.0 r.1) registers n r refl e), leb-true r.1 10 (found_named (λ _ r. leb r.1 10) registers n r refl e))
 
--- tokens: they begin with what is read first, and the reading continues after it
+-- ---- tokens: they begin with what is read first, and the reading continues after it
 
 symbol_then : {B P : Type 0} (ts : List Token) (k : List ℕ × List Token → Option B) (y : B) → (leading_symbol ts >>= k) ≡ Some y → ((s : List ℕ) (rest : List Token) → ts ≡ symbol s ∷ rest → k (s, rest) ≡ Some y → P) → P
 symbol_then (symbol s ∷ ts) k y e then = then s ts refl e

@@ -74,7 +74,7 @@ same_begin text t u r s h k =
     let same = same_front_bytes text h.bytes k.bytes r s h.parts k.parts n in
     (one_token k.bytes t u (subst (λ (bytes : List ℕ). IsToken bytes t) same.0 h.is_token) k.is_token, same.1)
 
--- if there is a token, one is taken
+-- ---- if there is a token, one is taken
 
 record IsBare (text : List ℕ) : Type 0 where
   symbol_none : symbol_at text ≡ None

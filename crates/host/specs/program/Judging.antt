@@ -1,4 +1,4 @@
--- The answer of `verify` to the slots on hex lines. This project's own.
+-- The result of `verify` for the slots on hex lines. This project's own.
 use Rattle.std.specs.Prelude.{ℕ, List, Option, Some, None, Ok, Err, IfSome}
 use Rattle.clap.specs.Words.{Text}
 use Rattle.insn_set.specs.declared.insn.Insn.{Insn}

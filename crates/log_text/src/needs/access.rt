@@ -167,7 +167,7 @@ fn spill_among(facts: &Facts, first: i64, last: i64) -> Option<(i64, Kind)> {
     None
 }
 
-/// Writes where a spill is, and what it holds.
+/// Writes which bytes a spill has, and the kind of its pointer.
 fn write_spill(text: &mut String, lowest: i64, kind: Kind) -> Result<(), AllocError> {
     let highest = lowest.saturating_add(7);
     write!(

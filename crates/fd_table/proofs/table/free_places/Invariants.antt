@@ -1,4 +1,4 @@
--- So many places are free so far.
+-- The number of free places so far.
 use Rattle.std.proofs.Common.{◌≡◌, None}
 use Rattle.std.specs.Prelude.{replicate}
 use Rattle.fd_table.proofs.table.free_places.Given as goal

@@ -64,7 +64,7 @@ IsInputRefused Disassemble input failure = IsNoProgramText input failure
 
 -- ---- the streams
 
--- the bytes that the reader has left and those that the writer holds, where they are known, and how many calls of each
+-- the bytes that the reader has left and those that the writer holds, if they are known, and how many calls of each
 -- failed so far
 pub record Streams : Type 0 where
   pub input : Option (List ℕ)

@@ -42,7 +42,7 @@ static uint32_t number_of(const struct source *it, const uint8_t *at)
     return it->is_big_endian ? n >> 24 | (n >> 8 & 0xff00) | (n << 8 & 0xff0000) | n << 24 : n;
 }
 
-/* The first number tells the order of the bytes, and whether times have microseconds or nanoseconds, which nothing here asks. */
+/* The first number gives the byte order, and whether times have microseconds or nanoseconds, which is not used here. */
 struct source open_capture(const char *name)
 {
     struct source it = {.name = name, .file = fopen(name, "rb"), .socket = -1};
@@ -62,11 +62,11 @@ struct source open_capture(const char *name)
         fail("%s: it is cut off in its header", name);
     unsigned version = it.is_big_endian ? (unsigned)(head[4] << 8 | head[5]) : bpfhost_get16(head + 4);
     if (version != 2)
-        fail("%s: it has version %u of pcap, and only 2 is known", name, version);
+        fail("%s: it has version %u of pcap, and only 2 is supported", name, version);
     return it;
 }
 
-/* Reads a packet to where there is room for the longest one. false: there is none. */
+/* Reads a packet to an address with room for the longest one. false: there is none. */
 static bool next_of_capture(struct source *it, uint8_t *room, size_t *length)
 {
     uint8_t head[16];

@@ -1,11 +1,11 @@
 #!/usr/bin/env python3
-"""Measures what a run of a filter on a capture costs the client, beside what it costs the host.
+"""Measures the cost of a filter's run on a capture for the client, compared with the cost for the host.
 
 usage: packets.py [BPFHOST] [--packets N] [--rounds N]
 
-Captures of packets of 64 to 1,500 bytes are made in a temporary folder, one in each format, and a filter of two instructions is run on
-them in turn as `python3 -m bpfhost run` does. What is printed is processor time, of this process and of the host, for each packet. A
-busy machine makes both longer: so all rounds are printed, and the one that cost the client least.
+It makes captures of packets of 64 to 1,500 bytes in a temporary folder, one in each format, and runs a filter of two instructions on
+them in turn, as `python3 -m bpfhost run` does. It prints the processor time for each packet, of this process and of the host. A busy
+machine makes both longer: so it prints all rounds, and the one that cost the client least.
 """
 
 from __future__ import annotations
@@ -57,7 +57,7 @@ def processor_time(whose: int) -> float:
 
 
 def run_filter(program: str, capture: Path) -> Outcome:
-    """Runs the filter on the capture; the host has ended then."""
+    """Runs the filter on the capture, and ends the host."""
     with open_capture(capture) as opened, Host(program) as host:
         loaded = host.tenant().prog_load(assemble(program, LENGTH))
         return Filter([TestRuns(host, 0, loaded)]).run(opened)

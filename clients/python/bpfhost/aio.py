@@ -87,7 +87,7 @@ class AsyncHost:
     async def ask(self, frame: bytes) -> Reply:
         """Sends a whole frame and waits for its reply."""
         if len(frame) < 4 or int.from_bytes(frame[:4], "little") != len(frame) - 4:
-            raise ValueError(f"{len(frame)} bytes that are no whole frame")
+            raise ValueError(f"{len(frame)} bytes are not a whole frame")
         reply = await self._put(frame)
         assert isinstance(reply, Reply)
         return reply

@@ -36,7 +36,7 @@ class HostError(BpfhostError):
         """`what` exited with a status, or, if that is negative, was ended by a signal; `fault` is what it wrote to standard error."""
         said = "; ".join(line for line in fault.decode(errors="replace").splitlines() if line.strip())
         by = f"by {_signal_name(-status)}" if status < 0 else f"with status {status}"
-        return cls(f"{what} ended {by}: {said or 'it did not say why'}", said, written, status)
+        return cls(f"{what} ended {by}: {said or 'it gave no reason'}", said, written, status)
 
 
 def _signal_name(number: int) -> str:
@@ -122,7 +122,7 @@ class MissingPackage(BpfhostError):
         self.module = module
         found = f"the Python package {module} is missing"
         if not _is_debians_python() and (_DEBIANS_PACKAGES / module).is_dir():
-            super().__init__(f"{found} for {sys.executable}, and {_DEBIANS_PYTHON} has it: call that one")
+            super().__init__(f"{found} for {sys.executable}, and {_DEBIANS_PYTHON} has it: use that one")
         elif not _is_debians_python() and _DEBIANS_PYTHON.exists():
             own = f"which {_DEBIANS_PYTHON} sees, and {sys.executable} does not"
             super().__init__(f"{found}: apt-get install {debian}, {own}")

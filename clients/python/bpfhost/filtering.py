@@ -197,7 +197,7 @@ class Filter:
                 first = results
                 yield turn, results
             elif results != first:
-                raise TenantsDiffer(f"tenant {self._runs.index(turn.runs)} is told something else than tenant 0")
+                raise TenantsDiffer(f"tenant {self._runs.index(turn.runs)} gets another reply than tenant 0")
 
     def _turns(self, pieces: Iterable[Piece], outcome: Outcome) -> Iterator[_Turn]:
         clock = _Clock()

@@ -53,7 +53,7 @@ class Host:
     def __init__(self, program: Program | None = None, tenants: int = 1) -> None:
         """Starts the program for 1 to 64 tenants; without a path, `find_program` finds it."""
         if not 1 <= tenants <= MOST_TENANTS:
-            raise ValueError(f"a host serves 1 to {MOST_TENANTS} tenants, and not {tenants}")
+            raise ValueError(f"a host serves 1 to {MOST_TENANTS} tenants, not {tenants}")
         self.program = find_program(program)
         self.tenants = tenants
         self._lock = threading.RLock()
@@ -198,7 +198,7 @@ class Host:
                 self._move()
             elif left < 0:
                 taken = f"bpfhost takes {self.most_frames:,} frames in one run, and was sent {self._sent:,}"
-                raise HostError(f"{taken}; it can't go on in a new one, as {unreadable}: close that program, and it can")
+                raise HostError(f"{taken}; it can't move to a new run, as {unreadable}: close that program first")
         self._sent += many
 
     def _move(self) -> None:
@@ -258,7 +258,7 @@ class Host:
 def _whole(frame: bytes) -> bytes:
     """The frame, if its length field is right: else the host would wait for the rest of it, and the caller for the reply."""
     if len(frame) < 4 or int.from_bytes(frame[:4], "little") != len(frame) - 4:
-        raise ValueError(f"{len(frame)} bytes that are no whole frame")
+        raise ValueError(f"{len(frame)} bytes are not a whole frame")
     return frame
 
 

@@ -96,7 +96,7 @@ def made_anew(states: Iterable[State], ask: AskBytes) -> int:
         for frame, reply in zip(frames, ask(frames), strict=True):
             wanted, status = wanted_status(made, frame), status_of(reply)
             if status != wanted:
-                raise HostError(f"tenant {state.tenant} can't go on in a new run of bpfhost: it answers {status} in place of {wanted}")
+                raise HostError(f"tenant {state.tenant} can't move to a new run of bpfhost: it returns {status} in place of {wanted}")
             made.note(frame, status)
         sent += len(frames)
     return sent

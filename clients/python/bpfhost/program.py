@@ -68,7 +68,7 @@ def assemble(program: Program, text: str, name: str = "the text") -> bytes:
     try:
         return bytes.fromhex(written.decode())
     except ValueError as error:
-        raise HostError(f"{os.fspath(program)} asm does not write hex lines: it is no bpfhost", written=written, status=0) from error
+        raise HostError(f"{os.fspath(program)} asm does not write hex lines: it is not bpfhost", written=written, status=0) from error
 
 
 def disassemble(program: Program, slots: bytes, name: str = "the slots") -> str:

@@ -183,5 +183,5 @@ class TestRuns:
     def _result(self, reply: Reply) -> int:
         reply.done()
         if reply.tenant | reply.command << 16 != self._whose:
-            raise ReplyError(f"a test run has the reply of something else: {reply}")
+            raise ReplyError(f"the reply is not to this test run: {reply}")
         return reply.result()

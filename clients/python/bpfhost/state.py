@@ -136,7 +136,7 @@ def _walked(host: AsksBytes, tenant: int, maps: Mapping[LiveMap, int]) -> Steps[
 
 def _payload(reply: bytes) -> bytes:
     if status_of(reply):
-        raise StateError(f"a map can't be read: the host answers {status_of(reply)}")
+        raise StateError(f"a map can't be read: the host returns {status_of(reply)}")
     return reply[REPLY_HEAD:]
 
 

@@ -133,7 +133,7 @@ class Stream:
         if self._frames.closed:
             raise HostError("bpfhost serve was ended before this frame")
         if self._is_torn:
-            raise HostError("bpfhost serve is of no more use: an interruption or an error left a frame or a reply in its middle")
+            raise HostError("bpfhost serve can't be used any more: an interruption or an error cut off a frame or a reply")
 
     def close(self) -> None:
         """Ends the stream of frames, and with it the program. Raises HostError if its status is not 0."""

@@ -102,6 +102,6 @@ class Tenant:
 def answered(frame: bytes, reply: Reply) -> Reply:
     """The reply to a frame. Raises ReplyError if it is the reply to something else, and Refused if the command is refused."""
     if reply.tenant | reply.command << 16 != int.from_bytes(frame[4:8], "little"):
-        raise ReplyError(f"a command has the reply of something else: {reply}")
+        raise ReplyError(f"the reply is not to this command: {reply}")
     reply.done()
     return reply

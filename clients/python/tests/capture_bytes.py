@@ -42,14 +42,14 @@ def interface(order: str, link_type: int = 1, options: bytes = b"", longest: int
 
 
 def enhanced(order: str, packet: bytes, ticks: int, length: int, of: int = 0, kept: int | None = None) -> bytes:
-    """An enhanced packet block; `kept` is what it says of the packet's length."""
+    """An enhanced packet block; `kept` is the packet's length that it states."""
     kept = len(packet) if kept is None else kept
     body = struct.pack(f"{order}5I", of, ticks >> 32, ticks & 0xFFFFFFFF, kept, length)
     return block(6, body + packet, order)
 
 
 def pcapng(records: list[Record] = RECORDS, order: str = "<") -> bytes:
-    """A pcapng file with microseconds, which it has where nothing else is said."""
+    """A pcapng file with microseconds, the default resolution."""
     ticks = [stamp.seconds * 1_000_000 + stamp.nanoseconds // 1000 for _, stamp in records]
     blocks = (enhanced(order, packet, tick, stamp.length) for tick, (packet, stamp) in zip(ticks, records))
     return section(order) + interface(order) + b"".join(blocks)
@@ -61,5 +61,5 @@ def simple(order: str, packet: bytes, length: int) -> bytes:
 
 
 def old(order: str, packet: bytes, ticks: int, length: int) -> bytes:
-    """A packet block of the old kind, of the first interface."""
+    """An obsolete packet block, of the first interface."""
     return block(2, struct.pack(f"{order}HHIIII", 0, 7, ticks >> 32, ticks & 0xFFFFFFFF, len(packet), length) + packet, order)

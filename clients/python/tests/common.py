@@ -1,4 +1,4 @@
-"""What tests share: the program under test, a limit of time, and programs that only pretend to be bpfhost."""
+"""What tests share: the program under test, a time limit, and programs that pretend to be bpfhost."""
 
 from __future__ import annotations
 
@@ -24,7 +24,7 @@ def _hangs(_number: int, _frame: object) -> None:
 
 
 class TimedTest(unittest.TestCase):
-    """A test that may not hang."""
+    """A test with a time limit."""
 
     def setUp(self) -> None:
         signal.signal(signal.SIGALRM, _hangs)
@@ -35,7 +35,7 @@ class TimedTest(unittest.TestCase):
         self.scratch = Path(scratch.name)
 
     def pretender(self, script: str) -> str:
-        """A program in Python that stands where bpfhost should."""
+        """A Python program that takes the place of bpfhost."""
         path = self.scratch / "pretender"
         path.write_text(f"#!{sys.executable}\nimport os, sys, time\nread = sys.stdin.buffer.read\n{script}\n")
         path.chmod(path.stat().st_mode | stat.S_IXUSR)

@@ -1,11 +1,11 @@
-"""Damages captures and reads them: each ends in packets, or in packets and a sentence, within seconds.
+"""Damages captures and reads them: each read ends with packets, or with packets and an error, within seconds.
 
 usage: python3 -m tests.damaged_captures [--count N] [--seed N] [--runs N]   (in clients/python)
 
 It takes captures of both formats and both byte orders, and one with all kinds of blocks, sections of both orders and several
-interfaces. Each is damaged as objects are (`tests.damaging`) and read in pieces of several sizes: all tell the same packets, with the
-same times, and the same fault, and so does one that is read from a pipe, where nothing is read twice. `--runs` gives that many to
-the command `run` too, which asks the program of the variable BPFHOST. A capture that is not treated so is kept, and named.
+interfaces. Each is damaged as objects are (`tests.damaging`) and read in pieces of several sizes: all reads give the same packets, with
+the same times, and the same fault; so does a read from a pipe, in which nothing is read twice. `--runs` passes that many to the command
+`run` too, with the program of the variable BPFHOST. A capture for which this does not hold is kept, and its name printed.
 """
 
 from __future__ import annotations
@@ -26,7 +26,7 @@ from tests.capture_bytes import NANO, RAW_IP, block, enhanced, interface, old, p
 from tests.damaging import Original, Trial, limit
 
 OBJECT = Path(__file__).resolve().parents[3] / "examples/capture/counter.o"
-# Lengths about those of an Ethernet header, of a word, and of what fills a block up.
+# Lengths near those of an Ethernet header, of a word, and of the padding of a block.
 _LENGTHS = (0, 1, 5, 13, 14, 15, 16, 60, 61, 62, 63, 200)
 _PIECES = (1, 2, 3, 1024)
 
@@ -61,7 +61,7 @@ def _all_kinds(chance: random.Random) -> bytes:
 
 
 def told_of(path: Path | str, most: int) -> Told:
-    """The packets of a capture with their link types and stamps, read in pieces of so many, and the fault behind them."""
+    """The packets of a capture with their link types and timestamps, read in pieces of so many, and the fault after them."""
     packets: list[tuple[bytes, int, Stamp]] = []
     try:
         with open_capture(path) as capture:
@@ -75,7 +75,7 @@ def told_of(path: Path | str, most: int) -> Told:
 
 
 def told_through_pipe(content: bytes, most: int) -> Told:
-    """The same of a capture that comes through a pipe."""
+    """The same for a capture that comes through a pipe."""
     read, write = os.pipe()
 
     def feed() -> None:
@@ -92,7 +92,7 @@ def told_through_pipe(content: bytes, most: int) -> Told:
 
 
 def outcome_of(path: Path) -> str:
-    """What comes of reading a capture: `read` to its end, or `refused`, at once or behind some packet."""
+    """The outcome of reading a capture: `read` to its end, or `refused`, at once or after some packet."""
     with limit():
         told = [told_of(path, most) for most in _PIECES]
         told.append(told_through_pipe(path.read_bytes(), _PIECES[-1]))
@@ -101,7 +101,7 @@ def outcome_of(path: Path) -> str:
 
 
 def outcome_of_run(path: Path, program: str) -> str:
-    """What comes of the command `run`, with its status. Its errors are one sentence, and one for each link type."""
+    """The outcome of the command `run`, with its status. Its errors are one sentence, and one for each link type."""
     written, errors = io.StringIO(), io.StringIO()
     with limit(), contextlib.redirect_stdout(written), contextlib.redirect_stderr(errors):
         status = command(["run", "--bpfhost", program, "--json", str(OBJECT), str(path)])
@@ -112,7 +112,7 @@ def outcome_of_run(path: Path, program: str) -> str:
     return f"run with status {status}"
 
 
-# What is told of packets beside faults.
+# What a capture says about packets besides faults.
 _NOTES = ("are passed to the filter as they are", "cut short in it: skb->len is", "longer than 65,536 bytes, and run")
 
 TRIAL = Trial("capture", "", lambda chance, _: originals(chance), outcome_of, outcome_of_run)

@@ -1,4 +1,4 @@
-"""Damage to files that are read: what `tests.objects.damage` and `tests.damaged_captures` do to good ones, and what may come of it."""
+"""Damages files that are read, for `tests.objects.damage` and `tests.damaged_captures`, and checks the outcome."""
 
 from __future__ import annotations
 
@@ -13,7 +13,7 @@ from collections.abc import Callable, Iterator, Sequence
 from dataclasses import dataclass
 from pathlib import Path
 
-# What takes longer hangs.
+# A longer time counts as a hang.
 SECONDS = 20
 
 
@@ -28,9 +28,9 @@ class Original:
 
 @dataclass(frozen=True)
 class Trial:
-    """What is damaged, and what is tried with it: `what` a file is, and the ending of its name.
+    """What to damage and what to try with it: `what` a file is, and its suffix.
 
-    `read` gives what comes of reading a file, and `command` what comes of a word of the command, which asks a program of this path.
+    `read` returns the outcome of reading a file, and `command` that of a command, which calls the program of this path.
     """
 
     what: str
@@ -40,7 +40,7 @@ class Trial:
     command: Callable[[Path, str], str]
 
     def run(self, count: int, seed: int, commands: int, program: str) -> Counter[str]:
-        """Damages so many files, gives so many of them to the command, and counts what came of them."""
+        """Damages so many files, passes so many of them to the command, and counts the outcomes."""
         chance = random.Random(seed)
         counts: Counter[str] = Counter()
         with tempfile.TemporaryDirectory() as folder:
@@ -61,7 +61,7 @@ class Trial:
         return counts
 
     def main(self, name: str, does: str, word: str) -> int:
-        """The command that does so; the numbers of files, and of those that are given to a word of the command, are its own."""
+        """Parses the arguments and runs the damage; the defaults are the numbers of files, and of those that a command gets."""
         parser = argparse.ArgumentParser(prog=name, description=f"Damages {self.what}s and {does} them.")
         parser.add_argument("--count", type=int, default=5000, help=f"so many {self.what}s")
         parser.add_argument("--seed", type=int, default=1, help="of the random numbers")
@@ -73,7 +73,7 @@ class Trial:
 
 
 def damaged(good: bytes, places: Sequence[range], chance: random.Random) -> bytes:
-    """The bytes with some damage, in one of these places each time."""
+    """The bytes with some damage, in one of these ranges each time."""
     content = bytearray(good)
     for _ in range(chance.choice((1, 1, 1, 2, 3, 8))):
         if not content:
@@ -84,7 +84,7 @@ def damaged(good: bytes, places: Sequence[range], chance: random.Random) -> byte
 
 
 def _damage(content: bytearray, at: int, chance: random.Random) -> None:
-    """Does one thing to the bytes from a place on."""
+    """Changes the bytes from an offset on in one way."""
     size = chance.choice((1, 2, 4, 8))
     match chance.randrange(8):
         case 0 | 1 | 2:
@@ -94,7 +94,7 @@ def _damage(content: bytearray, at: int, chance: random.Random) -> None:
         case 4:
             content[at : at + size] = chance.choice((b"\0", b"\xff", b"\x7f", b"\x80")) * min(size, len(content) - at)
         case 5:
-            # Small numbers lead into other records more often than wild ones.
+            # Small numbers lead into other records more often than large ones.
             content[at] = chance.randrange(32)
         case 6:
             other = chance.randrange(len(content))
@@ -104,7 +104,7 @@ def _damage(content: bytearray, at: int, chance: random.Random) -> None:
 
 
 class Hangs(BaseException):
-    """What is no Exception, so that nothing that catches those takes it for an answer."""
+    """Not an Exception, so that no code that catches those takes it for a result."""
 
 
 def _hangs(_number: int, _frame: object) -> None:

@@ -1,4 +1,4 @@
-"""The host for asyncio: the same replies as of the blocking one, many calls at once, and errors for whom they belong to."""
+"""The host for asyncio: the same replies as the blocking one, many calls at once, and errors for their own callers."""
 
 from __future__ import annotations
 
@@ -14,7 +14,7 @@ from tests.test_host import EXCHANGE
 
 class Async(HostTest, unittest.IsolatedAsyncioTestCase):
     async def asyncSetUp(self) -> None:
-        # It would tell of every step that takes long on a busy machine.
+        # It would log every step that takes long on a busy machine.
         asyncio.get_running_loop().set_debug(False)
 
     async def test_the_exchange_of_the_protocol(self) -> None:
@@ -51,7 +51,7 @@ class Async(HostTest, unittest.IsolatedAsyncioTestCase):
             tenant = host.tenant()
             told = await asyncio.gather(tenant.close(9), tenant.prog_load(LENGTH), tenant.close(10), return_exceptions=True)
             self.assertEqual([type(each).__name__ for each in told], ["Refused", "AsyncProg", "Refused"])
-            with self.assertRaisesRegex(ValueError, "no whole frame"):
+            with self.assertRaisesRegex(ValueError, "are not a whole frame"):
                 await host.ask(b"abc")
             self.assertRaisesRegex(ValueError, "tenant 1 is not served", host.tenant, 1)
         with self.assertRaisesRegex(HostError, "was ended before"):

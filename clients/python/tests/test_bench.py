@@ -1,4 +1,4 @@
-"""The bench, with few packets: it runs, and the filter keeps every byte of both captures, else it would end with a fault."""
+"""The benchmark, with few packets: it runs, and the filter keeps every byte of both captures, else it would exit with an error."""
 
 from __future__ import annotations
 

@@ -1,4 +1,4 @@
-"""Captures of both formats, right and wrong, and those that are written."""
+"""Captures of both formats, valid and damaged, and the writer."""
 
 from __future__ import annotations
 
@@ -24,13 +24,13 @@ class CaptureTest(TimedTest):
     def written(self, content: bytes) -> Path:
         """A file with these bytes."""
         path = self.scratch / "capture"
-        # A new file is made faster than an old one is written over.
+        # A new file is faster to create than an old one is to overwrite.
         path.unlink(missing_ok=True)
         path.write_bytes(content)
         return path
 
     def read(self, content: bytes, most: int = 1024) -> list[Record]:
-        """The packets of a capture with their stamps."""
+        """The packets of a capture with their timestamps."""
         with open_capture(self.written(content)) as capture:
             return [(piece[at], piece.stamp(at)) for piece in capture.pieces(most) for at in range(len(piece))]
 
@@ -83,7 +83,7 @@ class Pcap(CaptureTest):
 
     def test_it_is_cut_off(self) -> None:
         whole = pcap()
-        self.assertEqual(self.read_to_fault(whole[:3]), ([], "capture: it is no capture, neither pcap nor pcapng"))
+        self.assertEqual(self.read_to_fault(whole[:3]), ([], "capture: it is neither a pcap nor a pcapng file"))
         for end in range(4, 24):
             self.assertEqual(self.read_to_fault(whole[:end]), ([], "capture: it is cut off in its header"))
         ends = {24: 0, 45: 1, 61: 2, len(whole): 3}
@@ -101,7 +101,7 @@ class Pcap(CaptureTest):
 
     def test_another_version(self) -> None:
         content = struct.pack("<IHHiIII", MICRO, 3, 0, 0, 0, 65_536, 1)
-        self.assertEqual(self.read_to_fault(content), ([], "capture: it has version 3 of pcap, and only 2 is known"))
+        self.assertEqual(self.read_to_fault(content), ([], "capture: it has version 3 of pcap, and only 2 is supported"))
 
 
 @needs_dpkt
@@ -131,13 +131,13 @@ class Pcapng(CaptureTest):
         self.assertEqual(self.read(content), [(b"a", Stamp(5, 7, 1)), (b"b", Stamp(103, 500_000_000, 1))])
 
     def test_options_end(self) -> None:
-        """A comment that is no UTF-8, a code that is not known, and behind the end what is none."""
+        """A comment that is not UTF-8, an unknown code, and invalid options after the end."""
         options = struct.pack("<HH4sHHB3xHHHH", 1, 3, b"\xff\xfe\xfd", 9, 1, 9, 0xBEEF, 0, 0, 0) + b"\xff" * 8
         content = section("<") + interface("<", options=options) + enhanced("<", b"a", 5_000_000_007, 1)
         self.assertEqual(self.read(content), [(b"a", Stamp(5, 7, 1))])
 
     def test_time_is_in_proportion_to_the_bytes(self) -> None:
-        """A great many interfaces, and a great many options of one: each is read once."""
+        """Very many interfaces, and very many options of one: each is read once."""
         last = enhanced("<", b"a", 5_000_000, 1, of=99_999)
         self.assertEqual(self.read(section("<") + interface("<") * 100_000 + last), [(b"a", Stamp(5, 0, 1))])
         options = struct.pack("<HH", 2, 0) * 1_000_000
@@ -170,22 +170,22 @@ class Pcapng(CaptureTest):
             begun + packet[:-4] + b"\0\0\0\0": "it has a block with two lengths before packet 1",
             begun + struct.pack("<II", 6, 8) + bytes(8): "it has a block of 8 bytes before packet 1",
             begun + struct.pack("<II", 6, 0x7FFFFFF0) + bytes(8): "it has a block of 2,147,483,632 bytes before packet 1",
-            begun + enhanced("<", b"abcd", 0, 4, kept=5): "the block of packet 1 has not what it says",
+            begun + enhanced("<", b"abcd", 0, 4, kept=5): "the block of packet 1 does not match its lengths",
             begun + enhanced("<", bytes(262_145), 0, 262_145): "packet 1 has 262,145 bytes, and no capture has one of more than 262,144",
             begun + struct.pack("<7I", 6, 37, 0, 0, 0, 4, 4) + b"abcde" + struct.pack("<I", 37): "it has a block of 37 bytes before packet 1",
-            begun + enhanced("<", b"abcd", 0, 4, kept=65_537): "the block of packet 1 has not what it says",
-            begun + enhanced("<", b"abcd", 0, 4, of=1): "the block of packet 1 has not what it says",
-            section("<") + packet: "the block of packet 1 has not what it says",
-            section("<") + block(3, struct.pack("<I", 4) + b"abcd", "<"): "the block of packet 1 has not what it says",
-            begun + block(6, bytes(8), "<"): "the block of packet 1 has not what it says",
-            section("<")[:8] + bytes(20): "it has a section of no byte order",
-            begun + packet + begun[:8] + bytes(20): "it has a section of no byte order",
-            section("<") + block(1, b"", "<"): "it has an interface whose block is wrong",
-            section("<") + interface("<", options=b"\x01\x00\x05\x00text"): "it has an interface whose block is wrong",
-            section("<") + interface("<", options=struct.pack("<HH", 9, 0)): "it has an interface whose block is wrong",
+            begun + enhanced("<", b"abcd", 0, 4, kept=65_537): "the block of packet 1 does not match its lengths",
+            begun + enhanced("<", b"abcd", 0, 4, of=1): "the block of packet 1 does not match its lengths",
+            section("<") + packet: "the block of packet 1 does not match its lengths",
+            section("<") + block(3, struct.pack("<I", 4) + b"abcd", "<"): "the block of packet 1 does not match its lengths",
+            begun + block(6, bytes(8), "<"): "the block of packet 1 does not match its lengths",
+            section("<")[:8] + bytes(20): "it has a section without a byte order",
+            begun + packet + begun[:8] + bytes(20): "it has a section without a byte order",
+            section("<") + block(1, b"", "<"): "it has an invalid block of an interface",
+            section("<") + interface("<", options=b"\x01\x00\x05\x00text"): "it has an invalid block of an interface",
+            section("<") + interface("<", options=struct.pack("<HH", 9, 0)): "it has an invalid block of an interface",
         }
         for content, fault in wrong.items():
-            # A wrong block is read in another way where it is the last one.
+            # A wrong block is read by other code if it is the last one.
             for rest in (b"", packet, packet * 5):
                 self.assertEqual(self.read_to_fault(content + rest), ([b"abcd"] * content.startswith(begun + packet), f"capture: {fault}"))
 
@@ -194,7 +194,7 @@ class Wrong(CaptureTest):
     @needs_dpkt
     def test_files_that_are_none(self) -> None:
         for content in (b"", b"\x7fELF" + bytes(100), bytes(100)):
-            self.assertEqual(self.read_to_fault(content), ([], "capture: it is no capture, neither pcap nor pcapng"))
+            self.assertEqual(self.read_to_fault(content), ([], "capture: it is neither a pcap nor a pcapng file"))
 
     def test_files_that_can_not_be_read(self) -> None:
         for path, fault in ((self.scratch / "nothing", "No such file or directory"), (self.scratch, "Is a directory")):
@@ -264,7 +264,7 @@ class Compressed(CaptureTest):
         whole = gzip.compress(pcap(RECORDS * 20_000))
         wrong = bytearray(whole)
         wrong[len(wrong) // 2 : len(wrong) // 2 + 40] = bytes(40)
-        for content, told in ((whole[: len(whole) // 2], "cut off"), (bytes(wrong), "capture"), (whole[:-8], "cut off behind packet 60,000")):
+        for content, told in ((whole[: len(whole) // 2], "cut off"), (bytes(wrong), "capture"), (whole[:-8], "cut off after packet 60,000")):
             with open_capture(self.written(content)) as capture, self.assertRaisesRegex(CaptureError, told):
                 self.assertGreater(sum(len(piece) for piece in capture.pieces()), -1)
         with self.assertRaisesRegex(CaptureError, "compressed bytes"), open_capture(self.written(whole[:12])):
@@ -303,7 +303,7 @@ class Writer(CaptureTest):
     def test_link_types_that_are_not_in_one_file(self) -> None:
         content = section("<") + interface("<") + interface("<", RAW_IP)
         content += enhanced("<", b"a", 0, 1) + enhanced("<", b"b", 0, 1, of=1)
-        told = "written: a pcap file has room for one link type, so 1 packet is left out, 1 of link type 101: name a file .*pcapng"
+        told = "written: a pcap file has only one link type, so 1 packet is left out, 1 of link type 101: name a file .*pcapng"
         self.assertRaisesRegex(CaptureError, told, self.copied, content)
         self.assertEqual((self.scratch / "written").read_bytes(), pcap([(b"a", Stamp(0, 0, 1))], magic=NANO))
 

@@ -1,4 +1,4 @@
-"""The command: what it writes, and one sentence and a status for each input that is wrong."""
+"""The command: what it writes, and one sentence and a status for each wrong input."""
 
 from __future__ import annotations
 
@@ -65,7 +65,7 @@ class CommandTest(HostTest):
         return self.shell(shlex.join(words), given, **variables)
 
     def shell(self, words: str, given: bytes = b"", **variables: str) -> Ended:
-        """The same with what the shell makes of these words, as of `replies > FILE`."""
+        """The same with the shell's redirections, as in `replies > FILE`."""
         environment = {**os.environ, "PYTHONPATH": str(PACKAGE), "BPFHOST": PROGRAM, "VERIFIER_LOG": "", **variables}
         call = ["bash", "-c", f"{shlex.quote(sys.executable)} -m bpfhost {words}"]
         ended = subprocess.run(call, input=given, capture_output=True, check=False, cwd=self.scratch, env=environment)
@@ -77,7 +77,7 @@ class CommandTest(HostTest):
         self.assertEqual((ended.stdout.decode(), ended.stderr.decode(), ended.returncode), (wanted, "", 0))
 
     def refuses(self, status: int, wanted: str, *words: str, given: bytes = b"", **variables: str) -> None:
-        """The command tells one sentence that has this in it, and nothing else."""
+        """The command prints one sentence that has this in it, and nothing else."""
         self.is_refusal(self.command(*words, given=given, **variables), status, wanted)
 
     def is_refusal(self, ended: Ended, status: int, wanted: str) -> None:
@@ -94,13 +94,13 @@ class CommandTest(HostTest):
 
 
 def _bytes_of(stream: io.TextIOWrapper) -> bytes:
-    """What was written to a stream over bytes."""
+    """What was written to a stream in bytes."""
     assert isinstance(stream.buffer, io.BytesIO)
     return stream.buffer.getvalue()
 
 
 class Process(CommandTest):
-    """`python3 -m bpfhost` in a process of its own: its streams and its status are those that the other tests see in theirs."""
+    """`python3 -m bpfhost` in a process of its own: its streams and its status are as in the other tests."""
 
     def test_a_text_and_what_is_wrong_with_one(self) -> None:
         self.assertEqual(self.process("asm", given=b"r0 = 1\nexit\n"), Ended(hex_lines(ONE).encode(), b"", 0))
@@ -117,7 +117,7 @@ class Process(CommandTest):
         self.assertEqual(alone, here)
 
     def test_it_is_interrupted(self) -> None:
-        """A host that never answers, and then the signal that Ctrl-C sends."""
+        """A host that never replies, and then the signal that Ctrl-C sends."""
         waits = self.pretender("open('begun', 'w'); time.sleep(1000)")
         environment = {**os.environ, "PYTHONPATH": str(PACKAGE)}
         call = [sys.executable, "-m", "bpfhost", "asm", "--bpfhost", waits]
@@ -139,8 +139,8 @@ class Words(CommandTest):
             (): "the following arguments are required: WORD",
             ("walk",): "invalid choice: 'walk'",
             ("run",): "the following arguments are required: OBJECT",
-            ("run", "a"): "the following arguments are required: CAPTURE, or --interface IF in its place",
-            ("run", "a", "b", "--interface", "lo"): "the following arguments are required: CAPTURE, or --interface IF in its place",
+            ("run", "a"): "the following arguments are required: CAPTURE or --interface IF",
+            ("run", "a", "b", "--interface", "lo"): "the following arguments are required: CAPTURE or --interface IF",
             ("run", "a", "b", "--every", "soon"): "invalid time, as 1s or 500ms",
             ("run", "a", "b", "--set", "limit"): "invalid NAME=VALUE",
             ("run", "a", "b", "--time", "len"): "invalid choice: 'len'",
@@ -195,10 +195,10 @@ class Texts(CommandTest):
         self.refuses(3, "/nowhere does not start: No such file or directory", "asm", "--bpfhost", "/nowhere")
         self.refuses(3, "there is no program bpfhost", "asm", BPFHOST="", PATH="") if not self.is_built() else None
         other = self.pretender("print('what was', read())")
-        self.refuses(3, f"{other} asm does not write hex lines: it is no bpfhost", "asm", "--bpfhost", other)
+        self.refuses(3, f"{other} asm does not write hex lines: it is not bpfhost", "asm", "--bpfhost", other)
 
     def is_built(self) -> bool:
-        """Whether the clone that the package stands in has a program."""
+        """Whether the clone that has this package has a built program."""
         return (PACKAGE.parents[1] / "crates/bpfhost/out/bpfhost").exists()
 
 
@@ -263,8 +263,8 @@ class Check(CommandTest):
         text = self.command("dis", "refused.o").stdout.decode()
         self.assertTrue(text.startswith("// keep_class, section socket\n// refused.c:"), text)
         self.assertIn("return table[class];\n", text)
-        self.refuses(1, "an object is read from a file that is named", "dis", given=(EXAMPLE / "refused.o").read_bytes())
-        self.is_refusal(self.shell("dis <(cat refused.o)"), 1, "an object is read from a regular file, and not from a pipe")
+        self.refuses(1, "an object can't be read from standard input", "dis", given=(EXAMPLE / "refused.o").read_bytes())
+        self.is_refusal(self.shell("dis <(cat refused.o)"), 1, "an object can't be read from a pipe: name a regular file")
 
 
 @needs_packages
@@ -347,7 +347,7 @@ class Run(CommandTest):
         self.assertEqual((json.loads(ended.stdout)["results"], ended.stderr, ended.returncode), ({"5": 1}, b"", 0))
 
     def test_a_capture_that_goes_on(self) -> None:
-        """Whoever wants two packets gets their results, though the third one never comes."""
+        """A caller that takes two packets gets their results, though the third packet never comes."""
         os.mkfifo(self.scratch / "pipe")
         call = [sys.executable, "-m", "bpfhost", "run", "counter.o", "pipe", "--json", "--limit", "2"]
         environment = {**os.environ, "PYTHONPATH": str(PACKAGE), "BPFHOST": PROGRAM}
@@ -379,7 +379,7 @@ class Run(CommandTest):
         ended = self.command("run", "counter.o", "capture", "--limit", "2")
         self.assertEqual(ended.returncode, 0)
         ended = self.command("run", "counter.o", "capture", "--short", "as-is")
-        told = b"bpfhost: capture: 1 packet is cut short in it: skb->len is what the capture has\n"
+        told = b"bpfhost: capture: 1 packet is cut short in it: skb->len is the captured length\n"
         self.assertEqual(ended.stderr, told + b"bpfhost: capture: it is cut off in the block of packet 3, or before it\n")
         self.assertRegex(ended.stdout.decode().splitlines()[1], r"\Apackets +2\Z")
         self.assertEqual(ended.returncode, 1)
@@ -389,7 +389,7 @@ class Run(CommandTest):
         self.refuses(1, "nothing.o", "run", "nothing.o", "sample.pcap")
         self.refuses(1, "cut.o", "run", "cut.o", "sample.pcap")
         self.refuses(1, "sample.pcap", "run", "sample.pcap", "sample.pcap")
-        self.refuses(1, "flows.o: it is no capture", "run", "counter.o", "flows.o")
+        self.refuses(1, "flows.o: it is neither a pcap nor a pcapng file", "run", "counter.o", "flows.o")
         self.refuses(1, "nothing: No such file or directory", "run", "counter.o", "nothing")
         self.refuses(1, "nowhere/kept: No such file", "run", "counter.o", "sample.pcap", "--accepted", "nowhere/kept")
 
@@ -405,7 +405,7 @@ class Run(CommandTest):
             ended = self.process("run", "counter.o", "sample.pcap", PYTHONPATH=path)
             self.is_refusal(ended, 3, f"the Python package {module} is missing: apt-get install {package}")
             with mock.patch("bpfhost.errors._DEBIANS_PYTHON", Path("/bin/true")), mock.patch("bpfhost.errors._DEBIANS_PACKAGES", self.scratch):
-                told = f"the Python package {module} is missing for {sys.executable}, and /bin/true has it: call that one"
+                told = f"the Python package {module} is missing for {sys.executable}, and /bin/true has it: use that one"
                 self.assertEqual(str(MissingPackage(module, package)), told)
                 told = f"the Python package other is missing: apt-get install {package}, which /bin/true sees, and {sys.executable} does not"
                 self.assertEqual(str(MissingPackage("other", package)), told)

@@ -17,7 +17,7 @@ class Damaged(TimedTest):
     def test_each_ends_in_packets_and_a_sentence_at_most(self) -> None:
         counts = TRIAL.run(1000, 37, 60 if PROGRAM and HAS_ALL else 0, PROGRAM)
         self.assertEqual(counts["read"] + counts["refused"], 1000)
-        # Damage that is never noticed, or always, would try little.
+        # Damage that is never noticed, or always, would test little.
         self.assertGreater(counts["read"], 200)
         self.assertGreater(counts["refused"], 200)
 

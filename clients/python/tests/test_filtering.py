@@ -19,14 +19,14 @@ from bpfhost.filtering import Filter, Outcome, TenantsDiffer, accept_none, accep
 
 # Keeps packets of at least 3 bytes, and of these 4 bytes at most.
 FOUR_BYTES = "r0 = *(u32 *)(r1 + 0)\nif r0 > 2 goto +2\nr0 = 0\nexit\nif r0 < 4 goto +1\nr0 = 4\nexit\n"
-# Counts its runs in the one value of the map of descriptor 3, and answers the count.
+# Counts its runs in the one value of the map of descriptor 3, and returns the count.
 COUNT = "r1 = map_value 3 + 0 ll\nr0 = *(u64 *)(r1 + 0)\nr0 += 1\n*(u64 *)(r1 + 0) = r0\nexit\n"
 RECORDS = [(bytes(length), Stamp(length, 1000 * length, length + 1)) for length in (0, 2, 3, 4, 5, 70)] * 300
 
 
 
 class FramesOfCaptures(TimedTest):
-    """Captures tell the types of packets, and the frames are those of packets that come without."""
+    """Captures have the types of packets, and the frames are the same as for packets without them."""
 
     def test_types_in_both_formats_and_byte_orders(self) -> None:
         heads = [bytes.fromhex(word) for word in ("0800", "86dd", "0806", "8100", "05ff", "0600", "0000", "ffff")]
@@ -53,7 +53,7 @@ class FramesOfCaptures(TimedTest):
 
 class Filtering(HostTest):
     def run_on(self, content: bytes, slots: bytes, tenants: int = 1, limit: int | None = None, written: str = "") -> Outcome:
-        """What a program answers to the packets of a capture."""
+        """What a program returns for the packets of a capture."""
         path = self.scratch / "capture"
         path.write_bytes(content)
         with open_capture(path) as capture, Host(PROGRAM, tenants) as host:
@@ -99,7 +99,7 @@ class Filtering(HostTest):
         path.write_bytes(pcap(RECORDS))
         with open_capture(path) as capture, Host(PROGRAM, 2) as host:
             runs = [TestRuns(host, at, host.tenant(at).prog_load(assemble(PROGRAM, f"r0 = {at}\nexit\n"))) for at in range(2)]
-            with self.assertRaisesRegex(TenantsDiffer, "tenant 1 is told something else than tenant 0"):
+            with self.assertRaisesRegex(TenantsDiffer, "tenant 1 gets another reply than tenant 0"):
                 Filter(runs).run(capture)
             self.assertEqual(host.tenant().prog_load(LENGTH), 4)
 

@@ -1,4 +1,4 @@
-"""A running host: frames one at a time and many at once, and programs that end or answer wrongly."""
+"""A running host: frames one at a time and many at once, and programs that exit or reply wrongly."""
 
 from __future__ import annotations
 
@@ -51,8 +51,8 @@ class Asking(HostTest):
     def test_bytes_that_are_no_whole_frame_are_not_sent(self) -> None:
         with Host(PROGRAM) as host:
             for bad in (b"", b"\x04\0\0", b"\x05\0\0\0\0\0\0\0", frames.close(0, 3) * 2):
-                self.assertRaisesRegex(ValueError, "no whole frame", host.ask, bad)
-                self.assertRaisesRegex(ValueError, "no whole frame", list, host.ask_all([bad]))
+                self.assertRaisesRegex(ValueError, "are not a whole frame", host.ask, bad)
+                self.assertRaisesRegex(ValueError, "are not a whole frame", list, host.ask_all([bad]))
             self.assertEqual(host.ask(bytes.fromhex("03000000 626164")).status, -22)
 
     def test_a_frame_that_is_too_long_is_answered(self) -> None:
@@ -103,7 +103,7 @@ class ManyAtOnce(HostTest):
 
         with Host(PROGRAM) as host:
             self.assertRaisesRegex(KeyError, "no more frames", list, host.ask_all(asked()))
-            self.assertRaisesRegex(ValueError, "no whole frame", list, host.ask_bytes([*[frames.close(0, 3)] * 30_000, b"bad"]))
+            self.assertRaisesRegex(ValueError, "are not a whole frame", list, host.ask_bytes([*[frames.close(0, 3)] * 30_000, b"bad"]))
             self.assertEqual(host.tenant().prog_load(ONE), 3)
 
     def test_it_does_not_wait_for_frames_that_come_late(self) -> None:
@@ -138,7 +138,7 @@ class Ends(TimedTest):
         self.assertIn("ended with status 3: write fault", str(self.error_of(script)))
 
     def test_it_ends_by_a_signal(self) -> None:
-        self.assertIn("ended by SIGKILL: it did not say why", str(self.error_of("os.kill(os.getpid(), 9)")))
+        self.assertIn("ended by SIGKILL: it gave no reason", str(self.error_of("os.kill(os.getpid(), 9)")))
 
     def test_it_ends_with_another_status_than_0_at_the_end(self) -> None:
         program = self.pretender("read(); print('too many frames', file=sys.stderr); sys.exit(1)")
@@ -157,9 +157,9 @@ class Ends(TimedTest):
                 list(host.ask_bytes([frames.close(0, 3)]))
 
     def test_it_answers_something_else(self) -> None:
-        """A close that is done, where a close of another tenant or a look-up was asked."""
+        """The reply to a close, when another tenant's close or a lookup was sent."""
         program = self.pretender("read(12); os.write(1, bytes.fromhex('0800000000000001 00000000')); read()")
-        told = "a command has the reply of something else: tenant 0, CLOSE: done"
+        told = "the reply is not to this command: tenant 0, CLOSE: done"
         with self.assertRaisesRegex(ReplyError, told), Host(program, 2) as host:
             host.tenant(1).close(3)
         with self.assertRaisesRegex(ReplyError, told), Host(program, 2) as host:

@@ -1,4 +1,4 @@
-"""Whatever ends a run, or does not fit, what was counted is shown, and what was left out is told."""
+"""When a run ends early or something does not fit, the counts are printed, and what was left out is reported."""
 
 from __future__ import annotations
 
@@ -27,7 +27,7 @@ class RunTest(CommandTest):
         self.example("counter.o")
 
     def report(self, content: bytes, *words: str) -> tuple[dict[str, object], str, int]:
-        """What a run on a capture tells as JSON, what it notes, and its status."""
+        """What a run on a capture prints as JSON, its notices, and its status."""
         (self.scratch / "capture").write_bytes(content)
         ended = self.command("run", "counter.o", "capture", "--json", *words)
         return json.loads(ended.stdout), ended.stderr.decode(), ended.returncode
@@ -41,7 +41,7 @@ class RunTest(CommandTest):
 
 @needs_packages
 class Interrupted(RunTest):
-    """A capture that goes on, behind a pipe, and Ctrl-C, which goes to all processes in front of the terminal."""
+    """A capture that goes on, through a pipe, and Ctrl-C, which goes to all processes in the foreground of the terminal."""
 
     def interrupted(self, number: int, *words: str) -> tuple[str, str, int]:
         """What is written by a run that a signal ends while it waits for more packets."""
@@ -50,7 +50,7 @@ class Interrupted(RunTest):
         script = f"(cat begun; exec sleep 1000) | {sys.executable} -m bpfhost run counter.o - {' '.join(words)} --accepted kept"
         call = ["bash", "-c", f"{script}; exit ${{PIPESTATUS[1]}}"]
         pipe = subprocess.PIPE
-        # The shell waits for its children, whatever comes.
+        # The shell waits for its children.
         call[2] = f"trap : INT TERM; {call[2]}"
         process = subprocess.Popen(call, stdout=pipe, stderr=pipe, text=True, cwd=self.scratch, env=environment, start_new_session=True)
         with process:
@@ -105,12 +105,12 @@ class ShortPackets(RunTest):
         for content in (pcap(self.CUT), pcapng(self.CUT)):
             report, told, status = self.report(content)
             self.assertEqual((self.counted(report), status), ([3, 4500, 1500], 0))
-            self.assertRegex(told, r"\Abpfhost: capture: 3 packets are cut short in it: skb->len is the length on the wire, .* zeros\n\Z")
+            self.assertRegex(told, r"\Abpfhost: capture: 3 packets are cut short in it: skb->len is the length on the wire, and zeros .*\n\Z")
 
     def test_as_the_capture_has_them(self) -> None:
         report, told, status = self.report(pcap(self.CUT), "--short", "as-is")
         self.assertEqual((self.counted(report), status), ([3, 192, 64], 0))
-        self.assertEqual(told, "bpfhost: capture: 3 packets are cut short in it: skb->len is what the capture has\n")
+        self.assertEqual(told, "bpfhost: capture: 3 packets are cut short in it: skb->len is the captured length\n")
 
 
 @needs_packages
@@ -123,7 +123,7 @@ class Accepted(RunTest):
     def test_a_pcap_file_has_one(self) -> None:
         report, told, status = self.report(self.CONTENT, "--accepted", "kept.pcap")
         self.assertEqual((report["packets"], status), (5, 1))
-        self.assertIn("kept.pcap: a pcap file has room for one link type, so 2 packets are left out, 2 of link type 101", told)
+        self.assertIn("kept.pcap: a pcap file has only one link type, so 2 packets are left out, 2 of link type 101", told)
         self.assertEqual(self.packets_of("kept.pcap"), [(1, 0), (1, 2), (1, 4)])
 
     def test_a_pcapng_file_has_both(self) -> None:
@@ -173,5 +173,5 @@ class Compressed(RunTest):
         report, told, status = self.report(whole[: len(whole) // 2])
         assert isinstance(report["packets"], int)
         self.assertGreater(report["packets"], 500)
-        self.assertRegex(told, r"compressed bytes are damaged or cut off behind packet [0-9,]+\n\Z")
+        self.assertRegex(told, r"compressed bytes are damaged or cut off after packet [0-9,]+\n\Z")
         self.assertEqual(status, 1)

@@ -62,7 +62,7 @@ class Hash(HostTest):
             del self.map[b"x"]
 
     def test_the_keys_are_walked_again(self) -> None:
-        """Whatever was done to the keys meanwhile, a second walk finds those that there are."""
+        """Whatever changed the keys meanwhile, a second iteration finds those that exist."""
         large = self.tenant.map_create(MapType.HASH, 4, 8, 400)
         keys = [number.to_bytes(4, "little") for number in range(400)]
         for at in (399, 0, 57, 200, 58):

@@ -1,4 +1,4 @@
-"""A host that goes on in a new run of the program, and threads that share one."""
+"""A host that moves to a new run of the program, and threads that share one."""
 
 from __future__ import annotations
 
@@ -9,12 +9,12 @@ from unittest import mock
 from bpfhost import Host, HostError, Map, MapType, Packets, Tenant, assemble, frames
 from tests.common import LENGTH, ONE, PROGRAM, HostTest
 
-# Counts its runs in the first eight bytes of the one value of the map of descriptor 3, and answers the count.
+# Counts its runs in the first eight bytes of the one value of the map of descriptor 3, and returns the count.
 COUNT = "r1 = map_value 3 + 0 ll\nr0 = *(u64 *)(r1 + 0)\nr0 += 1\n*(u64 *)(r1 + 0) = r0\nexit\n"
 
 
 class GoesOn(HostTest):
-    """Hosts that take fewer frames than they do: the client goes on as often as it has to."""
+    """Hosts whose runs take fewer frames than usual: the client moves as often as needed."""
 
     def host(self, most: int, tenants: int = 1) -> Host:
         """A host whose runs take so many frames."""
@@ -41,7 +41,7 @@ class GoesOn(HostTest):
         self.assertEqual([tenant.prog_test_run(program) for _ in range(500)], list(range(1, 501)))
 
     def test_all_that_tenants_have(self) -> None:
-        """Descriptors with gaps, maps of both kinds with their order, programs below their maps: the same before and behind."""
+        """Descriptors with gaps, maps of both kinds with their order, programs below their maps: the same before and after."""
         host = self.host(3000, tenants=3)
         for number in range(3):
             tenant = host.tenant(number)
@@ -65,7 +65,7 @@ class GoesOn(HostTest):
         self.assertEqual(host.tenant(1).prog_load(ONE), 3)
 
     def seen(self, tenant: Tenant) -> list[object]:
-        """What frames tell of each descriptor of a tenant."""
+        """What frames show of each descriptor of a tenant."""
         told: list[object] = []
         for descriptor in range(3, 15):
             run = tenant.host.ask(frames.prog_test_run(tenant.number, descriptor))
@@ -77,7 +77,9 @@ class GoesOn(HostTest):
         return told
 
     def test_a_map_that_can_not_be_read(self) -> None:
-        """A program keeps a map whose descriptor is closed: all frames of the run are used, and the next one says why it is refused."""
+        """A program keeps a map whose descriptor is closed: all frames of the run can be used, and the next one raises an error with the
+        reason.
+        """
         host = self.host(60)
         tenant = host.tenant()
         counter = tenant.map_create(MapType.ARRAY, 4, 8, 1)
@@ -96,7 +98,7 @@ class GoesOn(HostTest):
 
 class Threads(HostTest):
     def together(self, *calls: Callable[[], object]) -> None:
-        """Makes calls at once, each in a thread, and raises what one of them raises."""
+        """Makes calls at the same time, each in a thread, and raises what one of them raises."""
         faults: list[BaseException] = []
 
         def caught(call: Callable[[], object]) -> None:
@@ -148,9 +150,9 @@ class Threads(HostTest):
 
 class Interrupted(HostTest):
     def test_a_reply_that_was_left_in_its_middle(self) -> None:
-        """Whoever asks afterwards is told, and gets no other frame's reply."""
+        """A later caller gets the error, and no other frame's reply."""
         host = Host(PROGRAM)
         self.addCleanup(host.kill)
         with mock.patch.object(host._stream, "read_reply", side_effect=KeyboardInterrupt), self.assertRaises(KeyboardInterrupt):
             host.ask(frames.close(0, 3))
-        self.assertRaisesRegex(HostError, "is of no more use: an interruption", host.ask, frames.close(0, 3))
+        self.assertRaisesRegex(HostError, "can't be used any more: an interruption", host.ask, frames.close(0, 3))

@@ -1,4 +1,4 @@
-"""What the pages show is what happens: the tutorial's commands and outputs, and the programs of it, of the README and of FILTERS.md."""
+"""The pages are right: the tutorial's commands and outputs, and its programs and those of the README and of FILTERS.md."""
 
 from __future__ import annotations
 
@@ -16,7 +16,7 @@ from tests.test_command import EXAMPLE, PACKAGE, needs_packages
 TUTORIAL = PACKAGE.parents[1] / "docs/TUTORIAL.md"
 FILTERS = PACKAGE / "FILTERS.md"
 CLANG = shutil.which("clang-14")
-# The time of a run is another one each time.
+# The time of a run differs each time.
 TIME = re.compile(r"time a packet: [0-9.]+ us")
 
 
@@ -27,7 +27,7 @@ def blocks(page: str, kind: str) -> list[str]:
 
 class Pages(HostTest):
     def test_the_cargo_that_is_new_enough(self) -> None:
-        """Debian's `cargo` is older than the pages ask for: where they name a version, they name the package that has it."""
+        """Debian's `cargo` is older than the pages require: each page that names a version names the package that has it."""
         top = PACKAGE.parents[1]
         for page in ("CONTRIBUTING.md", "docs/EMBEDDING.md"):
             text = " ".join((top / page).read_text().split())
@@ -37,7 +37,7 @@ class Pages(HostTest):
         """What a command writes, on both outputs, in the scratch folder."""
         path = f"{self.scratch}/bin:{os.environ['PATH']}"
         environment = {**os.environ, "PATH": path, "PYTHONPATH": str(PACKAGE), "BPFHOST": f"{self.scratch}/bin/bpfhost", "COLUMNS": "80"}
-        # The pages show verdicts without the log, which has lines of its own where there is a program verifier_log.
+        # The pages show verdicts without the log, which adds lines if there is a program verifier_log.
         environment["VERIFIER_LOG"] = ""
         call = ["bash", "-c", command]
         ended = subprocess.run(call, stdout=subprocess.PIPE, stderr=subprocess.STDOUT, text=True, cwd=self.scratch, env=environment)

@@ -85,7 +85,7 @@ class Subcommands(HostTest):
 
 
 def without_log() -> contextlib.AbstractContextManager[object]:
-    """An environment in which nothing names a program `verifier_log`, and no build has left one."""
+    """An environment that names no program `verifier_log`, and without a build that left one."""
     stack = contextlib.ExitStack()
     stack.enter_context(mock.patch.dict(os.environ, {"PATH": ""}))
     stack.enter_context(mock.patch("bpfhost.program._BUILT_LOG", Path("/nowhere/verifier_log")))
@@ -148,7 +148,7 @@ class Log(TimedTest):
         self.enterContext(without_log())
 
     def log_of(self, script: str) -> str | None:
-        """The log of a program `verifier_log` that stands beside another one."""
+        """The log of a program `verifier_log` next to another program."""
         os.rename(self.pretender(script), self.scratch / "verifier_log")
         return verifier_log(self.scratch / "bpfhost", ONE, {3: MapShape(MapType.HASH, 4, 8, 2)})
 

@@ -24,7 +24,7 @@ class Frames(TimedTest):
             self.assertEqual(told, b"".join(frames.prog_test_run(7, 9, packet, context) for packet in packets))
 
     def test_protocol_is_the_type_of_ethernet(self) -> None:
-        # As the kernel: ETH_P_IP stands as in the packet; a length (IEEE 802.3) is ETH_P_802_2; where no header fits, nothing.
+        # As in the kernel: ETH_P_IP is in network byte order; a length (IEEE 802.3) is ETH_P_802_2; 0 if no header fits.
         wanted = {
             ADDRESSES + b"\x08\x00": 0x0008,
             ADDRESSES + b"\x86\xdd" + bytes(40): 0xDD86,

@@ -1,4 +1,4 @@
-"""The check's types: the same with the types of other packages that Debian's python3-typeshed has, and without."""
+"""mypy's result is the same with and without the types of other packages in Debian's python3-typeshed."""
 
 from __future__ import annotations
 

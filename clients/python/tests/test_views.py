@@ -1,4 +1,4 @@
-"""What a run shows, and what it is told beforehand: addresses, orders, CSV, values of variables, the time of packets, a live view."""
+"""What a run prints, and its settings: addresses, orders, CSV, values of variables, timestamps, a live view."""
 
 from __future__ import annotations
 
@@ -79,14 +79,14 @@ class Values(CommandTest, ClangTest):
 
     def test_values_that_are_wrong(self) -> None:
         wrong = {
-            "limit=x": "limit is of type const volatile unsigned int, and 'x' is no value of it: a whole number is wanted",
+            "limit=x": "limit is of type const volatile unsigned int, and 'x' is no value of it: an integer is needed",
             "limit=-1": "it has room for 0 to 4,294,967,295",
-            "color=BLUE": "a whole number is wanted",
+            "color=BLUE": "an integer is needed",
             "table=1,2,3,4": "it has 3 elements, and 4 are given",
-            "allowed=::1": "an address of 4 bytes is wanted",
-            "allowed=1.2.3.4.5": "a whole number is wanted",
-            "name=12345678": "it has room for 7 bytes and the zero behind them",
-            "on=maybe": "true or false is wanted",
+            "allowed=::1": "an address of 4 bytes is needed",
+            "allowed=1.2.3.4.5": "an integer is needed",
+            "name=12345678": "it has room for 7 bytes and the zero after them",
+            "on=maybe": "true or false is needed",
             "mac=1:2": "six bytes in hexadecimal digits",
             "limits=1": "there is no variable limits to set: it has allowed, color, limit, mac, name, on, table; clang keeps a const one only if",
         }
@@ -203,17 +203,17 @@ class Interfaces(CommandTest):
         shutil.copy(EXAMPLE / "counter.o", self.scratch)
         self.refuses(1, "nowhere: No such device", "run", "counter.o", "--interface", "nowhere")
         with mock.patch("socket.socket", side_effect=PermissionError(1, "Operation not permitted")):
-            self.refuses(1, "lo: packets of an interface are read by root, or with CAP_NET_RAW, alone", "run", "counter.o", "--interface", "lo")
+            self.refuses(1, "lo: only root, or a process with CAP_NET_RAW, reads packets of an interface", "run", "counter.o", "--interface", "lo")
 
 
 class Versions(CommandTest):
     def test_a_program_with_and_without_proofs(self) -> None:
         program = self.scratch / "bpfhost"
         program.symlink_to(Path(PROGRAM).resolve())
-        self.assertIn(f"{program}; no file UNPROVED is beside it", self.command("--version", BPFHOST=str(program)).stdout.decode())
+        self.assertIn(f"{program}, built with its proofs (no file UNPROVED next to it)", self.command("--version", BPFHOST=str(program)).stdout.decode())
         (self.scratch / version.UNPROVED).touch()
         told = self.command("--version", BPFHOST=str(program))
-        self.assertIn(f"{program} is built without proofs (UNPROVED beside it says so)\n", told.stdout.decode())
+        self.assertIn(f"{program} is built without proofs (file UNPROVED next to it)\n", told.stdout.decode())
         self.assertEqual(told.returncode, 0)
 
     @needs_packages
@@ -226,7 +226,7 @@ class Versions(CommandTest):
         self.assertEqual((told.stderr.decode(), told.returncode), (f"bpfhost: {program} is built without proofs\n", 0))
 
     def test_completion(self) -> None:
-        """Words are completed by argcomplete, where it is there, for `python3 -m bpfhost`."""
+        """argcomplete, if it is installed, completes words for `python3 -m bpfhost`."""
         try:
             import argcomplete  # noqa: F401
         except ModuleNotFoundError:

@@ -140,7 +140,7 @@ def open_interface(name: str, pause: float = 0.2) -> Iterator[InterfaceCapture]:
     try:
         opened = socket.socket(socket.AF_PACKET, socket.SOCK_RAW, socket.htons(_ETH_P_ALL))
     except PermissionError as error:
-        raise CaptureError(f"{name}: packets of an interface are read by root, or with CAP_NET_RAW, alone") from error
+        raise CaptureError(f"{name}: only root, or a process with CAP_NET_RAW, reads packets of an interface") from error
     except (AttributeError, OSError) as error:
         raise CaptureError(f"{name}: this system has no packet sockets") from error
     with opened:

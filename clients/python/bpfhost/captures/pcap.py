@@ -45,14 +45,14 @@ class PcapCapture(Capture):
         number = int.from_bytes(magic, "big")
         kind = pcap.MAGIC_TO_PKT_HDR.get(number) if len(magic) == 4 else None
         if kind is None:
-            raise self.error("it is no capture, neither pcap nor pcapng")
+            raise self.error("it is neither a pcap nor a pcapng file")
         header = magic + self._read(pcap.FileHdr.__hdr_len__ - len(magic))
         if len(header) < pcap.FileHdr.__hdr_len__:
             raise self.error("it is cut off in its header")
         order = kind.__hdr_fmt__[0]
         read = (pcap.LEFileHdr if order == "<" else pcap.FileHdr)(header)
         if read.v_major != pcap.PCAP_VERSION_MAJOR:
-            raise self.error(f"it has version {read.v_major} of pcap, and only 2 is known")
+            raise self.error(f"it has version {read.v_major} of pcap, and only 2 is supported")
         self.bytes_read = len(header)
         self.has_nanoseconds = number in _NANOSECONDS
         self._link_type = self.link_type = read.linktype & _LINK_TYPE

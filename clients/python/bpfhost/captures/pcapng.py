@@ -154,7 +154,7 @@ class PcapngCapture(Capture):
         if data[at : at + 4] == SECTION:
             order = _ORDERS.get(data[at + 8 : at + 12])
             if order is None:
-                raise self.error("it has a section of no byte order")
+                raise self.error("it has a section without a byte order")
             self._has_order(order)
         length: int = self._pair(data, at)[1]
         if length % 4 or not _SHORTEST_BLOCK <= length <= _LONGEST_BLOCK:
@@ -201,7 +201,7 @@ class PcapngCapture(Capture):
         return self._one(data, at + _BEFORE_SIMPLE, length, whole, interface.link_type, pcapng.PCAPNG_BT_SPB)
 
     def _wrong_packet(self) -> CaptureError:
-        return self.error(f"the block of {self._next_packet()} has not what it says")
+        return self.error(f"the block of {self._next_packet()} does not match its lengths")
 
     def _interface(self, block: bytes) -> _Interface:
         body = block[:-4]
@@ -211,7 +211,7 @@ class PcapngCapture(Capture):
             parts = options.get(pcapng.PCAPNG_OPT_IF_TSRESOL, b"\x06")[0]
             (offset,) = struct.unpack(f"{self._order}q", options.get(pcapng.PCAPNG_OPT_IF_TSOFFSET, bytes(8)))
         except (struct.error, IndexError) as error:
-            raise self.error("it has an interface whose block is wrong") from error
+            raise self.error("it has an invalid block of an interface") from error
         per_second = 2 ** (parts & 0x7F) if parts & 0x80 else 10**parts
         return _Interface(link_type, longest, per_second, offset)
 

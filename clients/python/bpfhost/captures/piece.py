@@ -185,7 +185,7 @@ class Capture(ABC):
         try:
             read = (by or self._file.read)(size)
         except (EOFError, BadGzipFile, zlib.error) as error:
-            raise self.error(f"its compressed bytes are damaged or cut off behind packet {self.packets_read:,}") from error
+            raise self.error(f"its compressed bytes are damaged or cut off after packet {self.packets_read:,}") from error
         except OSError as error:
             raise self.error(error.strerror or "it can't be read") from error
         self.bytes_read += len(read)

@@ -147,7 +147,7 @@ class CaptureWriter:
             types = " and ".join(f"{count:,} of link type {link_type}" for link_type, count in sorted(self._others.items()))
             many = sum(self._others.values())
             left = f"{many:,} packet{'s are' if many > 1 else ' is'} left out, {types}"
-            return CaptureError(f"{self.name}: a pcap file has room for one link type, so {left}: name a file *{_PCAPNG}, which has room for all")
+            return CaptureError(f"{self.name}: a pcap file has only one link type, so {left}: name a file *{_PCAPNG}, which can have several")
         if self._without_time:
             many = self._without_time
             return CaptureError(f"{self.name}: the file has no room for the time of {many:,} packet{'s' if many > 1 else ''}, left out")

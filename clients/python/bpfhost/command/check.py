@@ -39,4 +39,4 @@ def run(said: argparse.Namespace) -> int:
 
 
 def _no_graph() -> str:
-    raise HostError("there is no program verifier_log, which writes graphs: name it by the variable VERIFIER_LOG")
+    raise HostError("graphs need the program verifier_log: name it by the variable VERIFIER_LOG")

@@ -74,11 +74,11 @@ def _noted(name: str, outcome: Outcome, dropped: int, unwritten: CaptureError | 
 def _refuse_words(said: argparse.Namespace) -> None:
     """Raises InputError if the arguments contradict each other."""
     if len(said.filters) > MOST_TENANTS:
-        raise InputError(f"each filter has a tenant of its own, and {MOST_TENANTS} are the most")
+        raise InputError(f"each filter needs a tenant of its own, and {MOST_TENANTS} are the most")
     if said.accepted is not None and len(said.filters) > 1:
-        raise InputError("--accepted writes what one filter keeps, and more are named")
+        raise InputError("--accepted writes what one filter keeps, but several are named")
     if [*files_of(said), said.capture].count(_STANDARD_INPUT) > 1:
-        raise InputError("standard input is read once, and is named more often")
+        raise InputError("standard input can be read only once, but is named more often")
 
 
 def _begun(capture: Capture, stopping: Stopping) -> tuple[Iterator[Piece], int]:
@@ -100,7 +100,7 @@ def _tell_words(programs: list[ClassicProgram]) -> None:
     for program in programs:
         words = [word for word in program.context_words() if word not in _TOLD]
         if words:
-            print(f"bpfhost: {program.name} reads {', '.join(words)}, which a capture does not tell, and which is 0", file=sys.stderr)
+            print(f"bpfhost: {program.name} reads {', '.join(words)}, which a capture does not have: it is 0", file=sys.stderr)
 
 
 @contextlib.contextmanager

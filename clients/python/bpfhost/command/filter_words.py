@@ -36,13 +36,13 @@ def _add(words: _Words, name: str, call: Callable[[argparse.Namespace], int], do
     """An argument with the function that it calls, and the arguments that name filters and say how to read them."""
     parser = words.add_parser(name, help=does)
     parser.set_defaults(run=call)
-    parser.add_argument("--filter", metavar="EXPRESSION", dest="filters", action="append", type=_expression, help="a filter as tcpdump has it")
+    parser.add_argument("--filter", metavar="EXPRESSION", dest="filters", action="append", type=_expression, help="a filter as written for tcpdump")
     parser.add_argument(
         "--classic", metavar="FILE", dest="filters", action="append", type=_file,
         help="a classic program as tcpdump -dd or -ddd writes it, or iptables' bytecode; - is standard input",
     )  # fmt: skip
     parser.add_argument(
-        "--semantics", choices=[each.value for each in Semantics], default=Semantics.LIBPCAP.value, help="whose results, where they differ"
+        "--semantics", choices=[each.value for each in Semantics], default=Semantics.LIBPCAP.value, help="whose results to return if they differ"
     )
     if not is_run:
         link_type = named(_link_type, "link type")

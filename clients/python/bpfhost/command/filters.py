@@ -116,7 +116,7 @@ def build(said: argparse.Namespace) -> int:
 
     programs = read_filters(said, said.link_type)
     if len(programs) > 1:
-        raise InputError("a file has one filter, and more are named")
+        raise InputError("a file has one filter, but several are named")
     for file in files_of(said):
         if Path(said.output).exists() and Path(file).exists() and Path(said.output).samefile(file):
             raise InputError(f"{said.output}: the program can't be written over the file that it is read from")

@@ -63,7 +63,7 @@ def run(said: argparse.Namespace) -> int:
 def input_of(said: argparse.Namespace) -> str:
     """The path of the capture, or the name of the interface; wrong arguments unless exactly one of them is given."""
     if (said.capture is None) == (said.interface is None):
-        said.wrong("the following arguments are required: CAPTURE, or --interface IF in its place")
+        said.wrong("the following arguments are required: CAPTURE or --interface IF")
     if said.interface is not None:
         return str(said.interface)
     return _STANDARD_INPUT if said.capture == "-" else str(said.capture)
@@ -124,9 +124,9 @@ def _notes(treatment: Treatment, outcome: Outcome) -> Iterator[str]:
         if link_type != ETHERNET:
             yield f"its packets of link type {link_type_name(link_type)} are passed to the filter as they are"
     if outcome.short and treatment.short is Short.PAD:
-        yield f"{_packets(outcome.short)} cut short in it: skb->len is the length on the wire, and behind what the capture has are zeros"
+        yield f"{_packets(outcome.short)} cut short in it: skb->len is the length on the wire, and zeros follow the captured bytes"
     elif outcome.short:
-        yield f"{_packets(outcome.short)} cut short in it: skb->len is what the capture has"
+        yield f"{_packets(outcome.short)} cut short in it: skb->len is the captured length"
     if outcome.long:
         done = "left out" if outcome.skipped else f"run on the first {LONGEST_PACKET:,}"
         yield f"{_packets(outcome.long)} longer than {LONGEST_PACKET:,} bytes, and {done}"

@@ -208,7 +208,7 @@ def write_tables(report: Report, output: TextIO) -> None:
 
 
 def _parts(report: Report) -> Iterator[str | Table]:
-    tenants = f", by each of {report.tenants} tenants, which are told the same" if report.tenants > 1 else ""
+    tenants = f", by each of {report.tenants} tenants, with the same results" if report.tenants > 1 else ""
     yield f"{report.program} of {report.object_file.path} on {report.capture}{tenants}"
     yield _counts(report.outcome)
     yield _time(report.outcome)

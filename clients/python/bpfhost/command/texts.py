@@ -46,9 +46,9 @@ def dis(said: argparse.Namespace) -> int:
 
 def _dis_object(said: argparse.Namespace, program: str) -> int:
     if not said.file:
-        raise InputError("an object is read from a file that is named, and not from standard input")
+        raise InputError("an object can't be read from standard input: name its file")
     if not Path(said.file).is_file():
-        raise InputError(f"{said.file}: an object is read from a regular file, and not from a pipe")
+        raise InputError(f"{said.file}: an object can't be read from a pipe: name a regular file")
     object_file = read_object(said, said.file)
     from bpfhost.loading import first_descriptors, lowered_program, with_sources
     from bpfhost.lowering import LoweringError, as_is
@@ -60,7 +60,7 @@ def _dis_object(said: argparse.Namespace, program: str) -> int:
         except LoweringError as error:
             if each.calls:
                 raise
-            print(f"// as compiled, for it is in no other form: {error}")
+            print(f"// as compiled, as there is no accepted form: {error}")
             lowered = as_is(each)
         print("".join(f"// {change}\n" for change in lowered.changes), end="")
         text = disassemble(program, lowered.program.linked(first_descriptors(object_file)), said.file)

@@ -27,8 +27,8 @@ def version() -> str:
     except HostError as error:
         told = str(error)
     else:
-        unproved = f"{program} is built without proofs ({UNPROVED} beside it says so)"
-        told = unproved if is_unproved(program) else f"{program}; no file {UNPROVED} is beside it, so it is a build with its proofs"
+        unproved = f"{program} is built without proofs (file {UNPROVED} next to it)"
+        told = unproved if is_unproved(program) else f"{program}, built with its proofs (no file {UNPROVED} next to it)"
     return f"bpfhost, the client in Python, {__version__}\nbpfhost, the program: {told}"
 
 

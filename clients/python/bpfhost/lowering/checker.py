@@ -204,7 +204,7 @@ class _Walk:
     def _go(self, target: int, slot: int, behind: Origin | None, state: State) -> None:
         """Checks an edge of the form, from the place at which the program continues."""
         if target <= slot or target not in self._form:
-            raise WrongForm(f"slot {slot} leads to slot {target}, where no later instruction begins")
+            raise WrongForm(f"slot {slot} leads to slot {target}, at which no later instruction begins")
         if behind is None:
             raise WrongForm(f"slot {slot} goes on, and the program ends there")
         self._arrive(target, behind, state)

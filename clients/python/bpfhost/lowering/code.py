@@ -110,7 +110,7 @@ def _check(function: Function) -> None:
     """Raises LoweringError for the first instruction that is invalid or jumps out of the function."""
     for slot, found in function.instructions.items():
         if not is_known(found) or max(found.dst, found.src) > 10:
-            raise LoweringError(f"{function.where(slot)}: no instruction has the bytes of slot {slot} of {function.declared.name}")
+            raise LoweringError(f"{function.where(slot)}: there is no valid instruction at slot {slot} of {function.declared.name}")
         for following in function._successors(slot, found):
             if following not in function.instructions:
                 raise LoweringError(f"{function.where(slot)}: {_leads_nowhere(function, slot, following)}")
@@ -119,7 +119,7 @@ def _check(function: Function) -> None:
 def _leads_nowhere(function: Function, slot: int, following: int) -> str:
     name = function.declared.name
     if following == function.after(slot) and not function.instructions[slot].is_goto:
-        return f"the last instruction of {name}, slot {slot}, can go on past its end"
+        return f"the last instruction of {name}, slot {slot}, can continue past its end"
     inside = following - 1 in function.instructions and following < function.after(following - 1)
     target = "the second half of a wide load" if inside else "a slot outside of the function"
     return f"the jump at slot {slot} of {name} leads to slot {following}, {target}"

@@ -135,7 +135,7 @@ class _Lowering:
             return self._refusal(plain, refused)
         more = len(accepted.written.origins) - len(plain.origins)
         copies = f"{_counted(accepted.copies, 'copy', 'copies')}, {more} slots more"
-        self._changes["copies"] = f"blocks that several edges lead to are written once for each: {copies}"
+        self._changes["copies"] = f"blocks with several incoming edges are copied for each edge: {copies}"
         return self._form(accepted.written, None)
 
     def _without_loops(self, graph: dict[int, Block]) -> dict[int, Block]:
@@ -167,8 +167,8 @@ class _Lowering:
             return
         reached = {origin.slot for origin in plain.origins}
         is_less = any(slot not in reached for slot, found in self._functions[0].instructions.items() if not found.is_goto)
-        what = " and those that no path reaches are left out" if is_less else ""
-        self._changes["order"] = f"blocks stand in the order of their paths{what}"
+        what = " and unreachable ones are left out" if is_less else ""
+        self._changes["order"] = f"blocks are put in topological order{what}"
 
     def _where(self, origin: Origin) -> str:
         return self._functions[self._frames[origin.frame].function].where(origin.slot)

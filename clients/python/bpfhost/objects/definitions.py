@@ -73,7 +73,7 @@ class MapChanges:
     def check_flags(self, number: int, where: str) -> None:
         """Drops BPF_F_NO_PREALLOC, and refuses other flags."""
         if number == _NO_PREALLOC and not self.is_strict:
-            self.told.append(f"{where}: BPF_F_NO_PREALLOC is dropped, since no map takes memory for its keys before they come")
+            self.told.append(f"{where}: BPF_F_NO_PREALLOC is dropped, since no map allocates memory for its keys in advance")
         elif number:
             raise ObjectError(f"{where} has map_flags {number}, and the host has none")
 
@@ -82,7 +82,7 @@ class MapChanges:
         if number and self.is_strict:
             raise ObjectError(f"{where} has pinning {number}, and the host has none")
         if number:
-            self.told.append(f"{where}: pinning is left out, since the host has no files for maps")
+            self.told.append(f"{where}: pinning is dropped, since the host has no files for maps")
 
 
 @dataclass(frozen=True)
@@ -110,7 +110,7 @@ def _map_type(number: int, where: str) -> MapType:
         return MapType(number)
     except ValueError:
         name = f" ({_MAP_TYPES[number]})" if number in _MAP_TYPES else ""
-        raise ObjectError(f"{where} has type {number}{name}, and the host has HASH (1) and ARRAY (2) alone") from None
+        raise ObjectError(f"{where} has type {number}{name}, and the host has only HASH (1) and ARRAY (2)") from None
 
 
 def _symbols(elf: ElfObject, section: Section) -> list[Symbol]:
@@ -201,14 +201,14 @@ class _Attributes:
         """The type set by `__type`: the member is a pointer to it."""
         found = resolve(self._btf, member.type)
         if not isinstance(found, Pointer):
-            raise ObjectError(f"{self._where} has a member {member.name} that is no pointer: __type tells it")
+            raise ObjectError(f"{self._where} has a member {member.name} that is no pointer, which __type declares")
         return found.target
 
     def _number(self, member: Member) -> int:
         """The number set by `__uint`: the member is a pointer to an array of that length."""
         found = resolve(self._btf, self._target(member))
         if not isinstance(found, Array):
-            raise ObjectError(f"{self._where} has a member {member.name} that is no pointer to an array: __uint tells it")
+            raise ObjectError(f"{self._where} has a member {member.name} that is no pointer to an array, which __uint declares")
         return found.count
 
     def _size(self, what: str) -> int:
@@ -226,7 +226,7 @@ class _Attributes:
         try:
             return size_of(self._btf, self._types[what])
         except ObjectError as error:
-            raise ObjectError(f"{self._where}: its {what} has no size, for {error}") from error
+            raise ObjectError(f"{self._where}: its {what} has no size: {error}") from error
 
 
 # By struct bpf_map_def.
@@ -250,7 +250,7 @@ def _by_struct(elf: ElfObject, section: Section, changes: MapChanges) -> Iterato
 def _legacy(name: str, definition: bytes, where: str, changes: MapChanges) -> ObjectMap:
     size = 4 * len(_FIELDS)
     if any(definition[size:]):
-        raise ObjectError(f"{where} has fields behind those of struct bpf_map_def that are not 0")
+        raise ObjectError(f"{where} has fields after those of struct bpf_map_def that are not 0")
     kind, key_size, value_size, max_entries, flags = struct.unpack("<5I", definition[:size].ljust(size, b"\0"))
     changes.check_flags(flags, where)
     declared = ObjectMap(name, changes.map_type(kind, where), key_size, value_size, max_entries, None, None, None)

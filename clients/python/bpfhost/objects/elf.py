@@ -180,7 +180,7 @@ def _reader(content: bytes) -> Any:
     except ImportError as error:
         raise MissingPackage("elftools", "python3-pyelftools") from error
     if content[:4] != b"\x7fELF":
-        raise ObjectError("the file is no ELF object")
+        raise ObjectError("the file is not an ELF object")
     return _told("the ELF header", lambda: ELFFile(io.BytesIO(content)))
 
 
@@ -191,9 +191,9 @@ def _check_header(reader: Any) -> None:
         raise ObjectError(f"the object is an ELF file of {reader.elfclass} bits, and one of BPF has 64")
     machine, kind = reader["e_machine"], reader["e_type"]
     if machine != "EM_BPF":
-        raise ObjectError(f"the object is of machine {machine}, and not of BPF (clang -target bpf)")
+        raise ObjectError(f"the object is of machine {machine}, not of BPF (clang -target bpf)")
     if kind != "ET_REL":
-        raise ObjectError(f"the file is of type {kind}, and no relocatable object (clang -c)")
+        raise ObjectError(f"the file is of type {kind}, not a relocatable object (clang -c)")
 
 
 def _check_range(content: bytes, part: str, offset: int, size: int) -> None:

@@ -39,7 +39,7 @@ def resolve_id(btf: Btf, type_id: int) -> int:
         if not isinstance(found, Typedef | Modifier):
             return type_id
         type_id = found.target
-    raise ObjectError(f"type {first} of section .BTF has no end, or one behind more than {DEEPEST} other types")
+    raise ObjectError(f"type {first} of section .BTF has no end after {DEEPEST} other types")
 
 
 def size_of(btf: Btf, type_id: int) -> int:

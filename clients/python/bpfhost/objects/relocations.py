@@ -59,9 +59,9 @@ class Linker:
             return self._called(place, slots, slot, relocation.symbol)
         if relocation.kind != _WIDE_LOAD:
             kind = _KINDS.get(relocation.kind, f"of number {relocation.kind}")
-            raise place.refused(slot, f"has a relocation {kind} for symbol {name}, which is none of a wide load or a call")
+            raise place.refused(slot, f"has a relocation {kind} for symbol {name}, which is for neither a wide load nor a call")
         if not is_wide_load(slots, slot):
-            raise place.refused(slot, f"has a relocation for symbol {name} where no wide load is")
+            raise place.refused(slot, f"has a relocation for symbol {name}, and there is no wide load")
         return self._address(place, slots, slot, relocation.symbol)
 
     def _called(self, place: Place, slots: bytearray, slot: int, symbol: Symbol) -> Callee:
@@ -69,7 +69,7 @@ class Linker:
         if symbol.section is None:
             raise place.refused(slot, f"calls function {symbol.name}, which the object does not define")
         if slot not in calls_of(slots):
-            raise place.refused(slot, f"has a relocation for symbol {symbol.name or 'without a name'} where no call is")
+            raise place.refused(slot, f"has a relocation for symbol {symbol.name or 'without a name'}, and there is no call")
         return self._callee(place, slots, slot, self.elf.sections[symbol.section], symbol.value)
 
     def _callee(self, place: Place, slots: bytearray, slot: int, section: Section, base: int) -> Callee:
@@ -78,7 +78,7 @@ class Linker:
         functions = (symbol for symbol in self.elf.symbols_of(section) if symbol.kind == "STT_FUNC")
         function = next((symbol for symbol in functions if symbol.value == begin), None)
         if function is None:
-            raise place.refused(slot, f"calls byte {begin} of section {section.name}, where no function begins")
+            raise place.refused(slot, f"calls byte {begin} of section {section.name}, at which no function begins")
         return Callee(slot, section, function)
 
     def _address(self, place: Place, slots: bytearray, slot: int, symbol: Symbol) -> MapSlot:
@@ -97,7 +97,7 @@ class Linker:
             if each.section == section.index and each.offset == offset:
                 _fill(slots, slot, _MAP, 0)
                 return MapSlot(slot, index)
-        raise place.refused(slot, f"loads {_address_in(section, offset, symbol)}, where no map begins")
+        raise place.refused(slot, f"loads {_address_in(section, offset, symbol)}, at which no map begins")
 
     def _variable(self, place: Place, slots: bytearray, slot: int, section: Section, offset: int, symbol: Symbol) -> MapSlot:
         address = _address_in(section, offset, symbol)

@@ -80,12 +80,12 @@ def _whole(text: str) -> int:
     try:
         return int(text, 0)
     except ValueError:
-        raise ValueError("a whole number is wanted, as 10, -1 or 0x1f") from None
+        raise ValueError("an integer is needed, as 10, -1 or 0x1f") from None
 
 
 def _number(number: int | None, size: int, signed: bool) -> bytes:
     if number is None:
-        raise ValueError("true or false is wanted")
+        raise ValueError("true or false is needed")
     bits = 8 * size
     least, most = (-(1 << bits - 1), (1 << bits - 1) - 1) if signed else (0, (1 << bits) - 1)
     if not least <= number <= most:
@@ -97,11 +97,11 @@ def _address(text: str, size: int) -> bytes:
     """The bytes of an address in network byte order."""
     if size == 6:
         if not _MAC.fullmatch(text):
-            raise ValueError("six bytes in hexadecimal digits are wanted, as 02:00:00:00:00:01")
+            raise ValueError("six bytes in hexadecimal digits are needed, as 02:00:00:00:00:01")
         return bytes(int(part, 16) for part in text.split(":"))
     address = ipaddress.ip_address(text).packed
     if len(address) != size:
-        raise ValueError(f"an address of {size} bytes is wanted")
+        raise ValueError(f"an address of {size} bytes is needed")
     return address
 
 
@@ -110,7 +110,7 @@ def _array(btf: Btf, element: int, count: int, text: str) -> bytes:
     if isinstance(found, Int) and found.size == 1 and (found.char or found.name == "char"):
         data = text.encode()
         if len(data) >= count:
-            raise ValueError(f"it has room for {count - 1} bytes and the zero behind them")
+            raise ValueError(f"it has room for {count - 1} bytes and the zero after them")
         return data.ljust(count, b"\0")
     parts = [part.strip() for part in text.split(",")]
     if len(parts) > count:

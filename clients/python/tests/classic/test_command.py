@@ -80,7 +80,7 @@ class Run(FilterTest):
 
     def test_words_that_a_capture_does_not_tell(self) -> None:
         ended = self.command("run", "--filter", "outbound", "sample.pcap")
-        told = "bpfhost: the expression 'outbound' reads pkt_type, which a capture does not tell, and which is 0\n"
+        told = "bpfhost: the expression 'outbound' reads pkt_type, which a capture does not have: it is 0\n"
         self.assertEqual((ended.stderr.decode(), ended.returncode), (told, 0))
 
     def test_whose_length(self) -> None:
@@ -247,11 +247,11 @@ class Wrong(FilterTest):
         self.refuses(1, "it is no count of instructions"[3:], "dis", "--classic", "-", given=b"\xff\xfe")
 
     def test_what_is_named_twice(self) -> None:
-        self.refuses(1, "standard input is read once", "run", "--classic", "-", "-", given=b"")
+        self.refuses(1, "standard input can be read only once", "run", "--classic", "-", "-", given=b"")
         self.refuses(1, "--accepted writes what one filter keeps", "run", "--filter", "ip", "--filter", "ip6", "sample.pcap", "--accepted", "a")
         self.refuses(1, "a file has one filter", "build", "--filter", "ip", "--filter", "ip6", "-o", "file")
         words = [word for _ in range(65) for word in ("--filter", "ip")]
-        self.refuses(1, "each filter has a tenant of its own, and 64 are the most", "run", *words, "sample.pcap")
+        self.refuses(1, "each filter needs a tenant of its own, and 64 are the most", "run", *words, "sample.pcap")
 
     def test_nothing_is_written_over(self) -> None:
         (self.scratch / "program").write_text(DECIMALS)

@@ -1,1 +1,1 @@
-"""Tests of lowering: the steps, the checker that stands apart from them, and forms beside the programs that they are of."""
+"""Tests of lowering: the steps, the independent checker, and forms compared with their programs."""

@@ -1,4 +1,4 @@
-"""The checker: forms that are right pass, and wrong ones do not, each by one change of what was right, or by a step that is wrong."""
+"""The checker: right forms pass; wrong ones do not, each made by one change of a right form, or by a wrong step."""
 
 from __future__ import annotations
 
@@ -22,7 +22,7 @@ from tests.lowering.common import LoweringTest, decoded_functions, object_of
 
 WRONG = 400
 
-# Each instruction of a program is another one, so that none can stand for another.
+# All instructions of a program differ, so that none can replace another.
 BACKWARD = """
     r0 = *(u32 *)(r1 + 0)
     if r0 > 40 goto far
@@ -91,7 +91,7 @@ end:
 
 @dataclass(frozen=True)
 class Form:
-    """What the checker is given."""
+    """The arguments of the checker."""
 
     name: str
     functions: tuple[Function, ...]
@@ -115,7 +115,7 @@ def _slots(form: Form) -> list[int]:
 
 
 def _field(form: Form, chance: random.Random) -> Form | None:
-    """One bit of an instruction, the distances of jumps apart."""
+    """One bit of an instruction, except in the distances of jumps."""
     slot = chance.choice(_slots(form))
     byte = chance.choice((0, 1, 4, 5, 6, 7))
     if decoded(form.slots)[slot].is_goto:
@@ -139,7 +139,7 @@ def _jump(form: Form, chance: random.Random) -> Form | None:
 
 
 def _left_out(form: Form, chance: random.Random) -> Form | None:
-    """An instruction that is missing, with its origin; jumps over it have its new distance."""
+    """A missing instruction, with its origin; jumps over it have their new distance."""
     slot = chance.choice(_slots(form))
     found = decoded(form.slots)
     if found[slot].is_goto and not found[slot].offset:
@@ -182,7 +182,7 @@ def _other_origin(form: Form, chance: random.Random) -> Form | None:
 
 
 def _opposite(form: Form, chance: random.Random) -> Form | None:
-    """A comparison that is turned, with the edges as they were."""
+    """An opposite comparison, with the edges as they were."""
     found = decoded(form.slots)
     slots = [slot for slot, each in found.items() if each.is_comparison and each.opposite() is not None]
     if not slots:
@@ -208,7 +208,7 @@ def _decided(form: Form, chance: random.Random) -> Form | None:
 
 
 def _frame(form: Form, chance: random.Random) -> Form | None:
-    """A frame that is stated otherwise."""
+    """A frame that is stated wrongly."""
     number = chance.randrange(len(form.frames))
     frame = form.frames[number]
     other = chance.choice(
@@ -227,7 +227,7 @@ def _frame(form: Form, chance: random.Random) -> Form | None:
 
 
 def _cut(form: Form, chance: random.Random) -> Form | None:
-    """A form that ends too early, or goes on."""
+    """A form that ends too early, or continues past the end."""
     if chance.random() < 0.5:
         return replace(form, slots=form.slots[:-8], origins=form.origins[:-1])
     return replace(form, slots=form.slots + form.at(0), origins=(*form.origins, form.origins[0]))
@@ -248,7 +248,7 @@ KINDS: tuple[Callable[[Form, random.Random], Form | None], ...] = (
 
 class CheckerTest(LoweringTest):
     def right(self) -> Iterator[Form]:
-        """Forms that are right: of blocks in another order, of calls, of loops, and of copies."""
+        """Right forms: with blocks in another order, calls, loops, and copies."""
         for name, found in (
             ("order", object_of(f=BACKWARD)),
             ("calls", object_of(f=CALLS, inner=INNER)),
@@ -291,7 +291,7 @@ class Wrong(CheckerTest):
 
 
 class WrongSteps(CheckerTest):
-    """What comes of a step that is wrong throughout is refused."""
+    """The result of a step that is wrong everywhere is rejected."""
 
     def refused(self, found: ObjectFile) -> None:
         functions = decoded_functions(found)

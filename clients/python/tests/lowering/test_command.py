@@ -1,4 +1,4 @@
-"""The words of the command on objects that are lowered: what is told, what is written, and what a refusal points at."""
+"""The command on objects that are lowered: what it prints and writes, and which slot a refusal names."""
 
 from __future__ import annotations
 
@@ -19,7 +19,7 @@ struct {
     __uint(max_entries, 16);
 } sizes SEC(".maps");
 """
-# A call, a loop, and a map with a value for each processor.
+# A call, a loop, and a per-CPU map.
 COUNT = (
     HEAD
     + """
@@ -104,7 +104,7 @@ class Lowered(LoweredTest):
         name = self.object(text)
         shown = self.command("dis", name)
         self.assertEqual(shown.returncode, 0)
-        self.assertIn("// as compiled, for it is in no other form: count.c:", shown.stdout.decode())
+        self.assertIn("// as compiled, as there is no accepted form: count.c:", shown.stdout.decode())
         plain = self.command("dis", "--as-is", name)
         self.assertIn("goto -", plain.stdout.decode())
         self.refuses(1, "no bound of this loop, slots ", "build", name, "-o", "count.json")

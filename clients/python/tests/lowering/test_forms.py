@@ -1,4 +1,4 @@
-"""Forms of random programs: what each answers on the host is what its program answers, run by the book; and how long lowering takes."""
+"""Forms of random programs: the result of each on the host equals that of its program in the interpreter; and how long lowering takes."""
 
 from __future__ import annotations
 
@@ -16,7 +16,7 @@ from tests.lowering.interpreter import Faulty, result_of
 
 PROGRAMS = 150
 PACKETS = tuple(bytes((7 * at + size) % 256 for at in range(size)) for size in (0, 1, 3, 8, 21, 64))
-# Lowering of 1,000 slots takes 200 ms at most; a machine that is busy is given more.
+# Lowering of 1,000 slots takes at most 200 ms; a busy machine gets more.
 SECONDS, SLACK = 0.2, 3
 
 
@@ -31,7 +31,7 @@ class Writer:
         self._moved: list[list[str]] = []
 
     def function(self, depth: int) -> str:
-        """The text of a function, with blocks that are moved behind its exit."""
+        """The text of a function, with blocks that are moved after its exit."""
         self._lines += ["r6 = *(u32 *)(r1 + 0)" if depth == 0 else "r6 = r1", "r7 = 3", "r8 = 4", "r0 = 5"]
         self._lines += [f"*(u64 *)(r10 - {8 * at}) = {at}" for at in (1, 2)]
         if depth == 0:
@@ -82,7 +82,7 @@ class Writer:
         self._lines = outer
 
     def _loop(self, depth: int) -> None:
-        # The counter is below the places that other lines write.
+        # The counter is below the offsets that other lines write.
         place, label, turns = 16 + 8 * depth, self._label(), self._chance.randrange(1, 5)
         self._lines += [f"*(u64 *)(r10 - {place}) = 0", f"{label}:"]
         self._block(depth - 1)
@@ -133,7 +133,7 @@ class RandomPrograms(LoweringTest):
 
 class Speed(LoweringTest):
     def seconds(self, found: ObjectFile) -> float:
-        """The processor time of lowering but for the verdicts, the least of some tries."""
+        """The processor time of lowering without the verdicts, the least of some tries."""
         times = []
         for _ in range(5):
             begun = time.process_time()

@@ -1,4 +1,4 @@
-"""Ranges: operators on numbers beside the host, which computes them by the proved equations; and ranges beside their members."""
+"""Ranges: operators on numbers compared with the host, which computes them by the proved equations; and ranges compared with their members."""
 
 from __future__ import annotations
 
@@ -22,7 +22,7 @@ def _wide(register: int, number: int) -> bytes:
 
 
 class Numbers(HostTest):
-    """Each operator and comparison on numbers gives what the host gives."""
+    """Each operator and comparison on numbers returns what the host returns."""
 
     def setUp(self) -> None:
         super().setUp()

@@ -1,4 +1,4 @@
-"""Each step by itself: order, copies, inlining, loops; what is told of it, and what stops it."""
+"""Each step separately: order, copies, inlining, loops; the changes that it reports, and what stops it."""
 
 from __future__ import annotations
 
@@ -17,7 +17,7 @@ PACKETS = tuple(bytes(range(1, size + 1)) for size in (0, 1, 5, 9, 16, 40))
 
 class StepTest(LoweringTest):
     def changed(self, found: ObjectFile, *changes: str) -> None:
-        """The form is accepted, answers what the program answers, and this is told of it."""
+        """The form is accepted, returns what the program returns, and reports this change."""
         lowered = self.accepted(found)
         self.assertEqual(lowered.changes, changes, self.text(lowered))
         with Host(PROGRAM) as host:
@@ -37,7 +37,7 @@ class StepTest(LoweringTest):
 
 
 class Order(StepTest):
-    BACKWARD = "blocks stand in the order of their paths"
+    BACKWARD = "blocks are put in topological order"
 
     def test_a_program_that_is_accepted_stays(self) -> None:
         found = object_of(f="r0 = *(u32 *)(r1 + 0)\nif r0 > 4 goto +1\nr0 = 1\nexit")
@@ -51,7 +51,7 @@ class Order(StepTest):
 
     def test_what_no_path_reaches(self) -> None:
         text = "r0 = 1\ngoto end\nr0 = 2\nend:\nexit"
-        self.changed(object_of(f=text), f"{self.BACKWARD} and those that no path reaches are left out")
+        self.changed(object_of(f=text), f"{self.BACKWARD} and unreachable ones are left out")
         self.writes(object_of(f=text), "r0 = 1\nexit")
 
     def test_a_far_jump_becomes_a_near_one(self) -> None:
@@ -67,13 +67,13 @@ class Order(StepTest):
         self.writes(object_of(f=text), "r0 = *(u32 *)(r1 + 0)\nif r0 & 4 goto +1\ngoto +1\nr0 = 7\nexit")
 
     def test_jumps_that_lead_nowhere(self) -> None:
-        # The first is found by the verifier, whose reason no form cures; with a call only the decoder finds it.
+        # The verifier finds the first, and no form avoids its reason; with a call only the decoder finds it.
         refused = self.lowered(object_of(f="goto +1\nr1 = 5 ll\nr0 = 0\nexit")).refused
         self.assertEqual(refused, (0, 1))
         for text, told in (
             ("goto +1\nr1 = 5 ll\ncall g\nexit", "f.c:1: goto +1: the jump at slot 0 of f leads to slot 2, the second half of a wide load"),
             ("call g\ngoto +7\nexit", "f.c:2: goto +7: the jump at slot 1 of f leads to slot 9, a slot outside of the function"),
-            ("call g\nr0 = 1", "f.c:2: r0 = 1: the last instruction of f, slot 1, can go on past its end"),
+            ("call g\nr0 = 1", "f.c:2: r0 = 1: the last instruction of f, slot 1, can continue past its end"),
         ):
             self.stops(object_of(f=text, g="r0 = 0\nexit"), told)
 
@@ -81,12 +81,12 @@ class Order(StepTest):
         found = object_of(f="call g\nr0 = 0\nexit", g="r0 = 0\nexit")
         program = only(found)
         damaged = replace(program, slots=program.slots[:8] + b"\xff" + program.slots[9:])
-        self.stops(replace(found, programs=(damaged,)), "f.c:2: r0 = 0: no instruction has the bytes of slot 1 of f")
+        self.stops(replace(found, programs=(damaged,)), "f.c:2: r0 = 0: there is no valid instruction at slot 1 of f")
 
 
 class Copies(StepTest):
     def test_a_pointer_or_a_number(self) -> None:
-        """Both ways are right, and where they meet one register is a pointer on one and a number on the other."""
+        """Both paths are right, and where they meet a register is a pointer on one and a number on the other."""
         text = """
             r6 = *(u32 *)(r1 + 0)
             r2 = 8
@@ -99,7 +99,7 @@ class Copies(StepTest):
             r0 = *(u64 *)(r2 - 8)
         end:
             exit"""
-        self.changed(object_of(f=text), "blocks that several edges lead to are written once for each: 2 copies, 4 slots more")
+        self.changed(object_of(f=text), "blocks with several incoming edges are copied for each edge: 2 copies, 4 slots more")
 
     def test_along_a_path(self) -> None:
         text = """
@@ -119,7 +119,7 @@ class Copies(StepTest):
             r0 = *(u64 *)(r2 + 0)
         end:
             exit"""
-        self.changed(object_of(f=text), "blocks that several edges lead to are written once for each: 2 copies, 3 slots more")
+        self.changed(object_of(f=text), "blocks with several incoming edges are copied for each edge: 2 copies, 3 slots more")
 
     def test_what_is_refused_on_a_path_stays_refused(self) -> None:
         found = object_of(f="r6 = *(u32 *)(r1 + 0)\nif r6 > 4 goto +1\nr6 = 1\nr0 = r3\nexit")

@@ -1,1 +1,1 @@
-"""Tests of objects. C sources stand in `sources`; objects that clang does not write are built by `elf_builder` and `btf_builder`."""
+"""Tests of objects. `sources` has C sources; `elf_builder` and `btf_builder` build objects that clang does not write."""

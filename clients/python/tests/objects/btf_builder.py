@@ -1,4 +1,4 @@
-"""BTF by its records, right or wrong: kinds that the clang at hand does not write, and damage.
+"""BTF by its records, valid or not: kinds that the installed clang does not write, and damage.
 
 Source: the kernel's Documentation/bpf/btf.rst.
 """
@@ -26,14 +26,14 @@ class BtfBuilder:
         return at if name else 0
 
     def record(self, kind: int, name: str, size: int, *words: int, count: int = 0, flag: bool = False) -> int:
-        """A type's number: `size` is a size or another type, and the words stand behind the head."""
+        """The number of a new type: `size` is a size or another type, and the words follow the header."""
         info = int(flag) << 31 | kind << 24 | count
         self.records += struct.pack(f"<{3 + len(words)}I", self.name(name), info, size, *words)
         self.count += 1
         return self.count
 
     def integer(self, name: str, size: int, encoding: int = 0, bits: int | None = None, offset: int = 0) -> int:
-        """A whole number."""
+        """An integer."""
         return self.record(1, name, size, encoding << 24 | offset << 16 | (8 * size if bits is None else bits))
 
     def array(self, element: int, count: int) -> int:

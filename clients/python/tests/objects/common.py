@@ -35,7 +35,7 @@ def clang() -> str | None:
 
 
 def compile_object(source: Path, made: Path, *flags: str) -> Path:
-    """Compiles a source for BPF with types and lines, and fails the test where that fails."""
+    """Compiles a source for BPF with types and lines; the test fails if that fails."""
     words = [clang() or "clang", "-O2", "-g", "-target", "bpf", f"-I{SOURCES}", *flags, "-c", str(source), "-o", str(made)]
     ended = subprocess.run(words, capture_output=True, text=True, check=False)
     if ended.returncode:
@@ -59,7 +59,7 @@ class ObjectTest(TimedTest):
         return path
 
     def refusal_of(self, path: Path | str, form: Form = Form.LOWERED) -> str:
-        """The sentence that an object is refused with, behind its path."""
+        """The text of an object's refusal, after its path."""
         with self.assertRaises(ObjectError) as caught:
             load_object(path, form)
         sentence = str(caught.exception)
@@ -81,7 +81,7 @@ class ClangTest(ObjectTest):
         return load_object(compile_object(SOURCES / name, self.scratch / "made.o", *flags))
 
     def text(self, text: str, *flags: str) -> ObjectFile:
-        """The object of a source that is given as text, behind bpf.h."""
+        """The object of a source that is given as text, after an include of bpf.h."""
         return load_object(self.compiled(text, *flags))
 
     def compiled(self, text: str, *flags: str) -> Path:

@@ -1,12 +1,12 @@
-"""Damages objects and loads them: each ends in a sentence or in a load, within seconds.
+"""Damages objects and loads them: each ends with an error or a load, within seconds.
 
 usage: python3 -m tests.objects.damage [--count N] [--seed N] [--checks N]   (in clients/python)
 
-It takes the objects of `sources`, where a clang compiles for BPF, and one that is built. In each it flips bits, writes other
-bytes, clears, cuts, or repeats a range, most often in the parts that are read: headers, symbols, relocations, types, lines,
-code. Of what is loaded all is tried: slots with descriptors, lines, values in their types, and lowering with verdicts that accept
-all forms or none. `--checks` gives that many to the command `check` too, which asks the program of the variable BPFHOST. An object that
-is not treated so is kept, and named.
+It takes the objects of `sources`, if a clang compiles for BPF, and one that is built. In each it flips bits, writes other bytes, clears,
+cuts, or repeats a range, most often in the parts that are read: headers, symbols, relocations, types, lines, code. It tries everything
+that was loaded: slots with descriptors, lines, values in their types, and lowering with verdicts that accept all forms or none.
+`--checks` passes that many to the command `check` too, with the program of the variable BPFHOST. An object for which this does not
+hold is kept, and its name printed.
 """
 
 from __future__ import annotations
@@ -66,14 +66,14 @@ def originals(scratch: Path) -> list[Original]:
 
 
 def try_all(found: ObjectFile) -> None:
-    """Tries all that a loaded object can do. An ObjectError is an answer; another exception is none."""
+    """Tries everything that a loaded object can do. An ObjectError is a valid outcome; any other exception is not."""
     descriptors = list(range(3, 3 + len(found.maps)))
     for program in found.programs:
         slots = program.linked(descriptors)
         assert len(slots) == len(program.slots) and len(slots) % 8 == 0
         for slot in range(len(slots) // 8):
             program.line_of(slot)
-        # Copies are tried of short programs alone, as they take long.
+        # Copies are tried only for short programs, as they take long.
         for refused in (None, (0, 2), *([(len(slots) // 16, 20)] if len(slots) < 8 * 64 else [])):
             with contextlib.suppress(LoweringError):
                 try_lowering(found, program, refused)
@@ -87,7 +87,7 @@ def try_all(found: ObjectFile) -> None:
 
 
 def try_lowering(found: ObjectFile, program: ObjectProgram, refused: tuple[int, int] | None) -> None:
-    """Lowers a program while this is the verdict on it and on each form. A LoweringError is an answer, if it is no WrongForm."""
+    """Lowers a program with this verdict on it and on each form. A LoweringError is a valid outcome, unless it is a WrongForm."""
     try:
         lowered = lower(found, program, lambda _: refused)
     except WrongForm as error:
@@ -98,7 +98,7 @@ def try_lowering(found: ObjectFile, program: ObjectProgram, refused: tuple[int, 
 
 
 def outcome_of(path: Path) -> str:
-    """What comes of loading an object: `loaded`, or `refused` with a sentence."""
+    """The outcome of loading an object: `loaded`, or `refused` with a sentence."""
     with limit():
         try:
             found = load_object(path)
@@ -111,7 +111,7 @@ def outcome_of(path: Path) -> str:
 
 
 def outcome_of_check(path: Path, program: str) -> str:
-    """What comes of the command `check`, with its status. Its errors are one sentence."""
+    """The outcome of the command `check`, with its status. Its errors are one sentence."""
     written, errors = io.StringIO(), io.StringIO()
     with limit(), contextlib.redirect_stdout(written), contextlib.redirect_stderr(errors):
         status = command(["check", "--bpfhost", program, str(path)])

@@ -1,4 +1,4 @@
-"""ELF objects by their parts, right or wrong: what no compiler can be made to write.
+"""ELF objects by their parts, valid or not: those that no compiler writes.
 
 Source: System V Application Binary Interface, chapter 4.
 """

@@ -12,7 +12,7 @@ class Damaged(ObjectTest):
     def test_each_ends_in_a_sentence_or_a_load(self) -> None:
         counts = TRIAL.run(600, 37, 30 if PROGRAM else 0, PROGRAM)
         self.assertEqual(counts["refused"] + counts["loaded"], 600)
-        # Damage that is never noticed, or always, would try little.
+        # Damage that is never noticed, or always, would test little.
         self.assertGreater(counts["refused"], 100)
         self.assertGreater(counts["loaded"], 100)
 
@@ -22,7 +22,7 @@ class Damaged(ObjectTest):
         self.assertEqual(found.types.show(found.maps[0].value_type, found.maps[0].initial or b""), "{ .number = 5 }")
 
     def test_every_byte_of_the_built_object(self) -> None:
-        """Each byte is made another one, alone."""
+        """Each byte is changed, one at a time."""
         good = built()
         for at, byte in enumerate(good):
             for other in {255, byte ^ 1} - {byte}:

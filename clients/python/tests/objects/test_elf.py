@@ -41,15 +41,15 @@ class Compiled(ClangTest):
 
     def test_other_machines(self) -> None:
         self.assertEqual(
-            self.refused("-target", "x86_64-linux-gnu"), "the object is of machine EM_X86_64, and not of BPF (clang -target bpf)"
+            self.refused("-target", "x86_64-linux-gnu"), "the object is of machine EM_X86_64, not of BPF (clang -target bpf)"
         )
         self.assertEqual(self.refused("-target", "i386-linux-gnu"), "the object is an ELF file of 32 bits, and one of BPF has 64")
 
     def test_bitcode(self) -> None:
-        self.assertEqual(self.refused("-target", "bpf", "-emit-llvm"), "the file is no ELF object")
+        self.assertEqual(self.refused("-target", "bpf", "-emit-llvm"), "the file is not an ELF object")
 
     def test_every_section_cut(self) -> None:
-        """An object that ends early is refused at each of some hundred places; at most its last bytes are not missed."""
+        """An object that is cut off is rejected at each of some hundred lengths; only its last bytes may be missing."""
         content = compile_object(SOURCES / "variables.c", self.scratch / "made.o").read_bytes()
         for size in range(0, len(content), len(content) // 100):
             with self.subTest(size):
@@ -64,7 +64,7 @@ class Files(ObjectTest):
 
     def test_what_is_no_elf(self) -> None:
         for content in (b"", b"\x7fEL", b"int f;", b"\x7fELG" + bytes(100)):
-            self.assertEqual(self.refusal_of(self.written(content)), "the file is no ELF object")
+            self.assertEqual(self.refusal_of(self.written(content)), "the file is not an ELF object")
 
     def test_too_large(self) -> None:
         self.assertEqual(self.refusal_of(self.written(bytes(LARGEST_FILE + 1))), "the file has more than 8,388,608 bytes")
@@ -107,9 +107,9 @@ class Built(ObjectTest):
     def test_headers(self) -> None:
         self.assertEqual(self.refused(self.with_bytes(4, 7)), "the ELF header is damaged or cut off")
         self.assertEqual(self.refused(self.with_bytes(5, 7)), "the ELF header is damaged or cut off")
-        self.assertEqual(self.refused(self.with_bytes(16, 2)), "the file is of type ET_EXEC, and no relocatable object (clang -c)")
-        self.assertEqual(self.refused(self.with_bytes(18, 62)), "the object is of machine EM_X86_64, and not of BPF (clang -target bpf)")
-        self.assertEqual(self.refused(self.with_bytes(18, 0x34, 0x12)), "the object is of machine 4660, and not of BPF (clang -target bpf)")
+        self.assertEqual(self.refused(self.with_bytes(16, 2)), "the file is of type ET_EXEC, not a relocatable object (clang -c)")
+        self.assertEqual(self.refused(self.with_bytes(18, 62)), "the object is of machine EM_X86_64, not of BPF (clang -target bpf)")
+        self.assertEqual(self.refused(self.with_bytes(18, 0x34, 0x12)), "the object is of machine 4660, not of BPF (clang -target bpf)")
         self.assertEqual(self.refused(good().to_bytes()[:63]), "the ELF header is damaged or cut off")
 
     def test_tables_of_sections(self) -> None:
@@ -159,7 +159,7 @@ class Built(ObjectTest):
         )
 
     def test_kinds_of_sections(self) -> None:
-        """A section of a kind that is nothing to this package is left alone, or tells that it is damaged."""
+        """A section of a kind that this package does not use is ignored, or reported as damaged."""
         for kind in (*range(2, 20), 0x6FFFFFF6, 0x6FFFFFFD, 0x6FFFFFFE, 0x6FFFFFFF, 0x70000003):
             builder = good()
             builder.parts.append(Part("odd", bytes(7), kind))

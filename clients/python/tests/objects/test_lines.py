@@ -57,7 +57,7 @@ class Built(unittest.TestCase):
         return str(caught.exception)
 
     def test_lines(self) -> None:
-        # Rows may be longer than what is known of them, and stand in any order; of two for one instruction the last counts.
+        # Rows may be longer than the known fields, and in any order; of two for one instruction the last counts.
         rows = self.rows(20, (16, 8, 12, 7 << 10 | 3), (0, 8, 12, 6 << 10 | 1), (16, 8, 12, 9 << 10 | 4))
         found = read_btf_ext(self.section(rows), self.STRINGS)
         expected = (LineInfo(0, "f.c", 6, 1, "return 1;"), LineInfo(16, "f.c", 9, 4, "return 1;"))

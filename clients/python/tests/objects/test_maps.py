@@ -1,4 +1,4 @@
-"""Maps of objects: those that an object defines, by BTF and by struct bpf_map_def, and sections of variables."""
+"""Maps of objects: those defined by BTF and by struct bpf_map_def, and sections of variables."""
 
 from __future__ import annotations
 
@@ -14,7 +14,7 @@ class ByBtf(ClangTest):
     def test_kinds_of_definitions(self) -> None:
         found = self.source("maps.c")
         shapes = [(each.name, each.map_type, each.key_size, each.value_size, each.max_entries) for each in found.maps]
-        # In the order of their places in .maps: clang puts static variables behind those that other files see.
+        # In the order of their offsets in .maps: clang puts static variables after global ones.
         self.assertEqual(
             sorted(shapes),
             [
@@ -52,7 +52,7 @@ class ByBtf(ClangTest):
         self.assertEqual(self.refusal(text, form=form), f"map m in section .maps{told}")
 
     def changed(self, members: str, map_type: MapType, *told: str) -> None:
-        """A map that the host does not have is taken as one that it has, which is told; a strict reading refuses it."""
+        """A map that the host does not have is replaced by one that it has, with a notice; strict reading refuses it."""
         text = f'struct {{ {members} __type(key, __u32); __type(value, __u32); __uint(max_entries, 1); }} m SEC(".maps");\n{PROGRAM}'
         found = self.text(text)
         self.assertEqual([each.map_type for each in found.maps], [map_type])
@@ -62,8 +62,8 @@ class ByBtf(ClangTest):
         one = "since one processor runs all programs"
         self.changed("__uint(type, 6);", MapType.ARRAY, f"PERCPU_ARRAY is taken as ARRAY, {one}")
         self.changed("__uint(type, 5);", MapType.HASH, f"PERCPU_HASH is taken as HASH, {one}")
-        dropped = "BPF_F_NO_PREALLOC is dropped, since no map takes memory for its keys before they come"
-        pinning = "pinning is left out, since the host has no files for maps"
+        dropped = "BPF_F_NO_PREALLOC is dropped, since no map allocates memory for its keys in advance"
+        pinning = "pinning is dropped, since the host has no files for maps"
         self.changed("__uint(type, 1); __uint(map_flags, 1);", MapType.HASH, dropped)
         self.changed("__uint(type, 1); __uint(pinning, 1);", MapType.HASH, pinning)
         all_of_them = "__uint(type, 5); __uint(pinning, 1); __uint(map_flags, 1);"
@@ -71,7 +71,7 @@ class ByBtf(ClangTest):
 
     def test_other_types(self) -> None:
         rest = "__type(key, __u32); __type(value, __u32); __uint(max_entries, 1);"
-        has = "and the host has HASH (1) and ARRAY (2) alone"
+        has = "and the host has only HASH (1) and ARRAY (2)"
         self.refused(f"__uint(type, BPF_MAP_TYPE_LRU_HASH); {rest}", f" has type 9 (LRU_HASH), {has}")
         for form in (Form.STRICT, Form.AS_IS):
             self.refused(f"__uint(type, BPF_MAP_TYPE_PERCPU_ARRAY); {rest}", f" has type 6 (PERCPU_ARRAY), {has}", form)
@@ -86,8 +86,8 @@ class ByBtf(ClangTest):
             self.refused(f"{rest} __uint(map_flags, 1);", " has map_flags 1, and the host has none", form)
             self.refused(f"{rest} __uint(pinning, 1);", " has pinning 1, and the host has none", form)
         self.refused(f"{rest} __uint(unheard_of, 1);", " has a member unheard_of, which is not known")
-        self.refused(f"{rest} int map_flags;", " has a member map_flags that is no pointer: __type tells it")
-        self.refused(f"{rest} int *numa_node;", " has a member numa_node that is no pointer to an array: __uint tells it")
+        self.refused(f"{rest} int map_flags;", " has a member map_flags that is no pointer, which __type declares")
+        self.refused(f"{rest} int *numa_node;", " has a member numa_node that is no pointer to an array, which __uint declares")
 
     def test_sizes(self) -> None:
         head = "__uint(type, 1); __uint(max_entries, 1);"
@@ -95,9 +95,9 @@ class ByBtf(ClangTest):
         self.refused(f"{head} __type(key, int);", " has neither value nor value_size")
         self.refused(f"{head} __type(key, int); __uint(key_size, 8); __type(value, int);", " has key_size 8, and its key has 4 bytes")
         self.refused(
-            f"{head} __type(key, int); struct nowhere *value;", ": its value has no size, for the type struct nowhere has no size"
+            f"{head} __type(key, int); struct nowhere *value;", ": its value has no size: the type struct nowhere has no size"
         )
-        self.refused(f"{head} __type(key, int); void *value;", ": its value has no size, for the type void has no size")
+        self.refused(f"{head} __type(key, int); void *value;", ": its value has no size: the type void has no size")
 
     def test_limits(self) -> None:
         def of(key: int, value: int, entries: int, kind: int = 1) -> str:
@@ -183,7 +183,7 @@ class BuiltByStruct(ObjectTest):
         where = "map m in section maps"
         for builder, told in (
             (self.built(self.definition(2)), f"{where} has map_flags 2, and the host has none"),
-            (self.built(self.definition(0, 5)), f"{where} has fields behind those of struct bpf_map_def that are not 0"),
+            (self.built(self.definition(0, 5)), f"{where} has fields after those of struct bpf_map_def that are not 0"),
             (self.built(self.definition()[:12]), f"{where} has 12 bytes, and struct bpf_map_def has at least 16"),
             (self.built(self.definition(), 20), f"{where} ends at byte 20, and the section has 16"),
         ):
@@ -191,7 +191,7 @@ class BuiltByStruct(ObjectTest):
 
     def test_a_flag_that_is_dropped(self) -> None:
         path = self.written(self.built(self.definition(1)).to_bytes())
-        dropped = "map m in section maps: BPF_F_NO_PREALLOC is dropped, since no map takes memory for its keys before they come"
+        dropped = "map m in section maps: BPF_F_NO_PREALLOC is dropped, since no map allocates memory for its keys in advance"
         self.assertEqual(load_object(path).changes, (dropped,))
         self.assertEqual(self.refusal_of(path, Form.STRICT), "map m in section maps has map_flags 1, and the host has none")
 
@@ -202,7 +202,7 @@ class BuiltByStruct(ObjectTest):
         builder.symbol("g", section, 0, 24)
         self.assertEqual(
             self.refusal_of(self.written(builder.to_bytes())),
-            "function g in section socket/inside loads the address of m, at offset 4 of section maps, where no map begins, at slot 0",
+            "function g in section socket/inside loads the address of m, at offset 4 of section maps, at which no map begins, at slot 0",
         )
 
     def test_without_a_symbol(self) -> None:

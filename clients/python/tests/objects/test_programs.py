@@ -1,4 +1,4 @@
-"""Programs of objects: which functions they are, their slots, and what is refused of them."""
+"""Programs of objects: which functions they are, their slots, and what is rejected."""
 
 from __future__ import annotations
 
@@ -46,7 +46,7 @@ class Programs(ClangTest):
 
 
 class Lacking(ClangTest):
-    """What the host does not have is refused by function, section and line."""
+    """What the host does not have is rejected with function, section and line."""
 
     def lacks(self, what: str, slot: int, body: str, *flags: str, form: Form = Form.LOWERED) -> None:
         line = f'SEC("socket") int f(struct __sk_buff *skb) {{ {body} }}'
@@ -114,7 +114,7 @@ class Lacking(ClangTest):
         self.assertIn(f"function f in section socket has a CO-RE relocation of type struct wide, {instead}, at slot 0 (filter.c:3", told)
 
     def test_core_relocations_of_the_context(self) -> None:
-        """Its fields are found by their names, wherever the object's own struct has them: that of vmlinux.h, a part of it, a flavor."""
+        """The fields are found by their names, at any offset in the object's own struct: that of vmlinux.h, a part of it, a flavor."""
         whole = "struct __sk_buff { unsigned len, pkt_type, mark, queue_mapping, protocol; }"
         part = "struct __sk_buff { unsigned short other; unsigned protocol, len; }"
         flavor = "struct __sk_buff___mine { unsigned protocol, len; }"
@@ -224,7 +224,7 @@ class Built(ObjectTest):
 
     def test_calls(self) -> None:
         where = "function f in section socket"
-        self.assertEqual(self.built("8510000000000000"), f"{where} calls byte 8 of section socket, where no function begins, at slot 0")
+        self.assertEqual(self.built("8510000000000000"), f"{where} calls byte 8 of section socket, at which no function begins, at slot 0")
         no_calls = "and calls between functions are not supported"
         self.assertEqual(
             self.built("85100000ffffffff", form=Form.AS_IS), f"{where} calls function f in section socket, {no_calls}, at slot 0"
@@ -243,7 +243,7 @@ class Built(ObjectTest):
         text = builder.program(".text", NONE * 3)
         functions = [builder.symbol(f"g{number}", text, 16 * number, 16) for number in range(3)]
         builder.relocations(section, (0, 10, builder.symbol("", text, kind=SECTION)), (16, 10, functions[2]))
-        with self.assertRaisesRegex(Exception, "calls byte 16 of section socket, where no function begins, at slot 1"):
+        with self.assertRaisesRegex(Exception, "calls byte 16 of section socket, at which no function begins, at slot 1"):
             load_object(self.written(builder.to_bytes()))
         builder.parts[section - 1].data = bytes.fromhex("8510000001000000 b700000000000000 85100000ffffffff 9500000000000000")
         found = load_object(self.written(builder.to_bytes()))
@@ -254,7 +254,7 @@ class Built(ObjectTest):
         builder = ElfBuilder()
         section = builder.program("socket", NONE)
         builder.relocations(section, (0, 10, builder.symbol("f", section, 0, 16)))
-        told = "function f in section socket has a relocation for symbol f where no call is, at slot 0"
+        told = "function f in section socket has a relocation for symbol f, and there is no call, at slot 0"
         self.assertEqual(self.refusal_of(self.written(builder.to_bytes())), told)
 
     def test_second_slots_are_no_instructions(self) -> None:
@@ -308,8 +308,8 @@ class Relocations(ObjectTest):
         where = "function f in section socket has a relocation for symbol .data"
         for offset, told in (
             (4, f"{where} inside of an instruction, at slot 0"),
-            (8, f"{where} where no wide load is, at slot 1"),
-            (16, f"{where} where no wide load is, at slot 2"),
+            (8, f"{where}, and there is no wide load, at slot 1"),
+            (16, f"{where}, and there is no wide load, at slot 2"),
             (24, "a relocation for symbol .data is at offset 24 of section socket, in no function"),
             (2**64 - 8, "a relocation for symbol .data is at offset 18446744073709551608 of section socket, in no function"),
         ):
@@ -321,7 +321,7 @@ class Relocations(ObjectTest):
     def test_twice_the_same(self) -> None:
         builder, section, _data, symbol = self.builder()
         builder.relocations(section, (0, 1, symbol), (0, 1, symbol))
-        self.assertIn("where no wide load is", self.refused(builder))
+        self.assertIn("and there is no wide load", self.refused(builder))
 
     def test_kinds(self) -> None:
         for number, name in ((0, "R_BPF_NONE"), (2, "R_BPF_64_ABS64"), (3, "R_BPF_64_ABS32"), (77, "of number 77")):
@@ -331,7 +331,7 @@ class Relocations(ObjectTest):
                 self.assertEqual(
                     self.refused(builder),
                     f"function f in section socket has a relocation {name} for symbol .data, "
-                    "which is none of a wide load or a call, at slot 0",
+                    "which is for neither a wide load nor a call, at slot 0",
                 )
 
     def test_symbols(self) -> None:

@@ -1,4 +1,4 @@
-"""Values in the words of their types: kinds that clang writes, kinds that it does not yet, and damage."""
+"""Values written by their types: kinds that clang writes, kinds that it does not write yet, and damage."""
 
 from __future__ import annotations
 
@@ -243,7 +243,7 @@ class Built(unittest.TestCase):
         array = self.builder.array(4, 2)
         self.assertEqual(self.builder.array(array, 1), 4)
         struct = self.builder.composite("itself", 8, ("again", 5, 0))
-        self.refused(1, bytes(8), "type 1 of section .BTF has no end, or one behind more than 32 other types")
+        self.refused(1, bytes(8), "type 1 of section .BTF has no end after 32 other types")
         self.refused(array, bytes(8), "type 3 of section .BTF is nested more than 32 times")
         self.refused(struct, bytes(8), "the type struct itself has too many parts to be shown")
         types = self.types()
@@ -269,7 +269,7 @@ class Built(unittest.TestCase):
 
 
 class Damage(unittest.TestCase):
-    """Sections that are no BTF."""
+    """Sections that are not valid BTF."""
 
     def told(self, section: bytes) -> str:
         with self.assertRaises(ObjectError) as caught:

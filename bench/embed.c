@@ -119,7 +119,7 @@ static struct call by_call(const struct frames *frames)
 struct pipes {
     int to, from;
     pid_t process;
-    uint8_t *frames; /* AT_ONCE of them, one behind the other */
+    uint8_t *frames; /* AT_ONCE of them, one after another */
     size_t frame_length, reply_length;
     long at_once;
     uint8_t replies[AT_ONCE * BPFHOST_LONGEST_REPLY];

@@ -1,8 +1,8 @@
-/* Filters of tcpdump on packets: translated, by calls of the library for a batch of packets each, and by libpcap's bpf_filter in a loop.
- * README.md says what is measured.
- * usage: filters WAY SLOTS CLASSIC PACKETS PASSES. SLOTS has a slot of 16 hex digits on each line, CLASSIC is what tcpdump -ddd writes,
- * PACKETS has before each packet its length, as a number of 32 bits of this machine. With 0 passes over all packets the nanoseconds of a
- * packet are printed, else so many are run, and the answers of the last are printed. */
+/* tcpdump's filters on packets: translated, by calls of the library for a batch of packets each, and by libpcap's bpf_filter in a loop.
+ * README.md explains what is measured.
+ * usage: filters WAY SLOTS CLASSIC PACKETS PASSES. SLOTS has a slot of 16 hex digits on each line, CLASSIC is the output of tcpdump -ddd,
+ * PACKETS has before each packet its length, as a 32-bit number of this machine. With 0 passes over all packets it prints the nanoseconds
+ * per packet; otherwise it makes so many passes and prints the results of the last. */
 #define _GNU_SOURCE
 #include <bpfhost.h>
 #include <inttypes.h>

@@ -142,7 +142,7 @@ def main() -> None:
         cases = list(made_cases(Path(folder), arguments.only))
         for case in cases:
             if len({way.says(case, 1) for way in ways}) > 1:
-                sys.exit(f"{case.name}: {', '.join(way.name for way in ways)} answer differently")
+                sys.exit(f"{case.name}: {', '.join(way.name for way in ways)} give different results")
         print_times(cases, ways, arguments.rounds)
         tool, count = (None, None) if arguments.no_counts else counter()
         if tool and count:

@@ -132,7 +132,7 @@ def same_replies(streams: Streams, programs: Programs, hosts: list[Host]) -> Non
         stream = streams.of(runs_of, program, 100)
         asked = [host for host in hosts if host.runs(program)]
         if len({host.replies(stream) for host in asked}) > 1:
-            sys.exit(f"{name}: {' and '.join(host.name for host in asked)} answer differently")
+            sys.exit(f"{name}: {' and '.join(host.name for host in asked)} give different results")
 
 
 def measured_runs(streams: Streams, programs: Programs, hosts: list[Host], rounds: int) -> Found:

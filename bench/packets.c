@@ -1,6 +1,6 @@
-/* A program on many packets: by one call, by a frame for each, and in the plain interpreter. README.md says what is measured.
+/* A program on many packets: by one call, by a frame for each, and in the plain interpreter. README.md explains what is measured.
  * usage: packets WAY STREAM SIZE BATCH BATCHES; the last frame of the stream is a test run of the program on one packet, which is filled
- * up to the size. With 0 batches the nanoseconds of a packet are printed, else so many are run, and the answers of the last are printed.
+ * up to the size. With 0 batches it prints the nanoseconds per packet; otherwise it runs so many and prints the results of the last.
  *
  * With -DDPDK the one way is that of DPDK's interpreter (rte_bpf_exec_burst of librte_bpf). */
 #define _GNU_SOURCE
@@ -16,7 +16,7 @@
 #define MOST_FRAMES 8
 #define ROUNDS 20
 #define ROUND_SECONDS 1e-3
-/* Where the address of the sender ends, by which packets differ. */
+/* The end of the sender's address, in which the packets differ. */
 #define SENDER 29
 
 static void must(bool holds, const char *what)
@@ -114,7 +114,7 @@ static const struct way {
 static bpfhost *host;
 static bpfhost_context context;
 static size_t ends[MOST_BATCH];
-/* Each packet behind the head of its frame. */
+/* Each packet after the head of its frame. */
 static uint8_t frames[MOST_BATCH * (BPFHOST_TEST_RUN_HEAD + MOST_SIZE)];
 
 /* Both hosts get the maps and the program, and have the same descriptors. */

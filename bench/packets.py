@@ -64,7 +64,7 @@ class Way:
 def same_answers(case: Case, ways: list[Way]) -> None:
     """All ways return the same for the packets of a third batch."""
     if len({way.says(case, 3) for way in ways}) > 1:
-        sys.exit(f"{case.name}: {', '.join(way.name for way in ways)} answer differently")
+        sys.exit(f"{case.name}: {', '.join(way.name for way in ways)} give different results")
 
 
 def print_times(cases: list[Case], ways: list[Way], rounds: int) -> None:

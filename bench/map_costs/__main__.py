@@ -105,7 +105,7 @@ def same_replies(bench: Bench, shape: Shape) -> None:
         with scratch() as files:
             stream = files.of(streams_of(name, keys, 3 * shape.entries).whole)
             if len({host.run(stream).stdout for host in asked}) > 1:
-                sys.exit(f"{name}: {' and '.join(host.name for host in asked)} answer differently")
+                sys.exit(f"{name}: {' and '.join(host.name for host in asked)} give different results")
 
 
 def print_commands(bench: Bench) -> None:

@@ -1,4 +1,4 @@
-/* The kernel's hash map by bpf(2). Where the kernel makes no map, the process says why and ends with status 3. */
+/* The kernel's hash map by bpf(2). If the kernel does not create a map, the process prints why and exits with status 3. */
 #include "frames.h"
 #include <errno.h>
 #include <linux/bpf.h>

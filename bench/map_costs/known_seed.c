@@ -1,5 +1,5 @@
-/* getentropy(3) for a program whose seed is to be known, by LD_PRELOAD: it gives the bytes of BENCH_SEED, which is two words in
- * hexadecimal digits. The first call says so on standard error: a program that does not take it from here says nothing. */
+/* getentropy(3) for a program that is to get a known seed, by LD_PRELOAD: it returns the bytes of BENCH_SEED, which is two hexadecimal
+ * words. The first call prints a line to standard error: without that line the program takes its seed from elsewhere. */
 #include <errno.h>
 #include <stdint.h>
 #include <stdio.h>

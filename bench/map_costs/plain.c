@@ -1,6 +1,6 @@
-/* A hash map in plain C, beside which bpfhost's is measured: chains in one array of entries, a ring of the entries in the order in
- * which they were added, a list of the free ones. It has the hash function of crates/seeded_hash and takes the seed from BENCH_SEED,
- * or draws it. */
+/* A hash map in plain C, for comparison with bpfhost's: chains in one array of entries, a ring of the entries in the order in which they
+ * were added, a list of the free ones. It has the hash function of crates/seeded_hash and takes the seed from BENCH_SEED, or draws
+ * it. */
 #include "frames.h"
 #include "seeded_hash.h"
 #include <errno.h>
@@ -16,7 +16,7 @@ struct entry {
 
 static struct shape shape;
 static struct hash_seed seed;
-/* The entry behind the last one is where the ring begins and ends; NONE ends a chain. */
+/* The ring begins and ends at the entry after the last one; NONE ends a chain. */
 static struct entry *entries;
 static uint32_t *chains, mask, free_entry, end;
 static uint8_t *keys, *values;
@@ -82,7 +82,7 @@ static uint32_t hash_of(const uint8_t *key)
     return table_hash(short_hash(seed, word));
 }
 
-/* Where the entry of a key is chained, or would be: the link holds NONE if the key is absent. */
+/* The link to the entry of a key, or the link to which it would be added: it is NONE if the key is absent. */
 static uint32_t *link_of(const uint8_t *key, uint32_t hash)
 {
     uint32_t *link = &chains[hash & mask];

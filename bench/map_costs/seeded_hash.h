@@ -42,7 +42,7 @@ static inline uint64_t long_hash(struct hash_seed seed, const uint8_t *key, size
     return folded_product(state, seed.factor);
 }
 
-/* The 32 bits of a hash that an index table uses: the lowest ones tell the group, the highest eight the tag. */
+/* The 32 bits of a hash that an index table uses: the lowest ones are the group, the highest eight the tag. */
 static inline uint32_t table_hash(uint64_t hash)
 {
     return (uint32_t)(hash ^ hash >> 32);

@@ -168,7 +168,7 @@ def play(bpfhost: str, case: Case, slots: bytes) -> tuple[str | None, bool]:
     if ran.status != (0 if accepted else -Errno.EBADF):
         return f"the run: {ran}", accepted
     if of(FLIPPED, told) != replies(bpfhost, ours):
-        return "alone the tenant is answered something else", accepted
+        return "as the only tenant it gets other replies", accepted
     return None, accepted
 
 

@@ -187,7 +187,7 @@ def check(bpfhost: str, seed: int) -> Counter[tuple[str, str]]:
     told = list(read_replies(serve(bpfhost, TENANTS, b"".join(sent))))
     for at, (frame, reply, want) in enumerate(zip(sent, told, wanted)):
         if reply.to_bytes() != want:
-            what = f"{reply.to_bytes()[:60].hex()} where {want[:60].hex()} is wanted"
+            what = f"{reply.to_bytes()[:60].hex()}, and the model has {want[:60].hex()}"
             sys.exit(f"stream {seed}, frame {at}, {frame[:60].hex()}: {what}")
         stream.seen["all", "done"] += reply.status >= 0
         stream.note_load(frame, reply)
@@ -203,7 +203,7 @@ def tell(seen: Counter[tuple[str, str]], kind: str) -> None:
     told = ", ".join(f"{many} for reason {reason}" for reason, many in reasons)
     print(f"{kind}: {of['loads']} programs, of which {of['accepted']} are accepted, and refused are {told};", end=" ")
     print(f"{of['runs']} runs, of which {of['runs after a close']} when a map of theirs is closed,", end=" ")
-    print(f"and {of['look-ups']} look-ups behind them")
+    print(f"and {of['look-ups']} lookups after them")
 
 
 def main() -> None:

@@ -1,10 +1,9 @@
 /*
  * Refuses memory once to a program that is started with this library in LD_PRELOAD: the call of malloc or realloc whose number,
- * counted from 1, is in REFUSED_CALL answers null. Then it makes the file that REFUSED_FILE names, so that one sees that it did.
+ * counted from 1, is in REFUSED_CALL returns null. Then it creates the file that REFUSED_FILE names, to report that it did.
  *
- * A list that grows asks for more than it needs, and where that is refused once more, for what it needs. Both are one growth: the
- * call that follows the refused one, for the same block and for no more, is refused too, if nothing was given back or written
- * between them.
+ * A list that grows requests more than it needs, and if that is refused, only what it needs. Both are one growth: the call that follows
+ * the refused one, for the same block and for no more, is refused too, if nothing was freed or written between them.
  */
 #include <fcntl.h>
 #include <stdlib.h>

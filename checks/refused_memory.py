@@ -129,7 +129,7 @@ def ask_again(host: Host, step: Step, reply: Reply, wanted: Reply) -> None:
         raise Differs(f"{reply}, in place of {wanted}")
     second = host.ask(step.frame)
     if second != wanted:
-        raise Differs(f"at the second asking {second}, in place of {wanted}")
+        raise Differs(f"sent again, {second}, in place of {wanted}")
 
 
 def play(bpfhost: str, steps: Sequence[Step], wanted: Sequence[Reply]) -> int | None:
@@ -162,9 +162,9 @@ def check_frames(bpfhost: str, refusals: Refusals, steps: Sequence[Step], wanted
         elif told == 1:
             in_frames += 1
         elif told or refusals.refused():
-            raise Differs(f"serve, call {call} refused: {told} refusals told")
+            raise Differs(f"serve, call {call} refused: {told} refusals reported")
     if not at_start or in_frames != call - 1 - at_start:
-        raise Differs(f"serve, {call - 1} calls refused: {at_start} told at the start, {in_frames} in frames")
+        raise Differs(f"serve, {call - 1} calls refused: {at_start} reported at the start, {in_frames} in frames")
     print(f"serve: {at_start} refusals before the first frame, {in_frames} in frames")
 
 
@@ -178,7 +178,7 @@ def check_words(program: str, refusals: Refusals, name: str, words: Sequence[str
         elif refusals.refused() or ended != wanted:
             raise Differs(f"{name}, call {call}: {ended}")
     if not told or told != call - 1:
-        raise Differs(f"{name}, {call - 1} calls refused: {told} told")
+        raise Differs(f"{name}, {call - 1} calls refused: {told} reported")
     print(f"{name}: {told} refusals")
 
 
@@ -200,7 +200,7 @@ def main() -> None:
     with Host(bpfhost, TENANTS) as host:
         wanted = [host.ask(step.frame) for step in steps]
     if any(reply.status < 0 for reply in wanted):
-        raise Differs("a reply is an error where memory is ample")
+        raise Differs("a reply is an error though no memory is refused")
     lines = hex_lines(reads).encode()
     runs = [
         (bpfhost, "asm", ["asm"], READS_INDEX.encode(), 0),
@@ -211,7 +211,7 @@ def main() -> None:
     answers = [ends(program, words, given) for program, _, words, given, _ in runs]
     for (_, name, _, _, status), answer in zip(runs, answers):
         if answer[0] != status:
-            raise Differs(f"{name} fails where memory is ample")
+            raise Differs(f"{name} fails though no memory is refused")
     with tempfile.TemporaryDirectory() as folder:
         refusals = Refusals(library, folder)
         check_frames(bpfhost, refusals, steps, wanted)

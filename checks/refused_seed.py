@@ -72,7 +72,7 @@ def others(bpfhost: str) -> list[Other]:
     runs = [(["asm"], READS_INDEX.encode()), (["dis"], lines), (["verify", f"{MAP}:array:4:8:1"], lines)]
     answers = [Other(words, given, ends(bpfhost, words, given)) for words, given in runs]
     if any(other.wanted[0] for other in answers):
-        raise Differs("a subcommand fails where there are random bytes")
+        raise Differs("a subcommand fails though random bytes are available")
     return [*answers, Other(["serve", "--tenants", "0"], STREAM, WRONG_WORDS)]
 
 
@@ -95,11 +95,11 @@ def main() -> None:
         stream.write_bytes(STREAM)
         wanted = serves(bpfhost, stream)
         if wanted[0][0] or wanted[0][2] or wanted[1] != len(STREAM):
-            raise Differs(f"serve, where there are random bytes: {wanted}")
+            raise Differs(f"serve, with random bytes: {wanted}")
         calls = check_calls(bpfhost, Refusals(library, folder), stream, wanted, unseeded)
     if not calls:
         raise Differs("serve asks getentropy for no seed")
-    print(f"seed: {calls} refusals, each told before a frame is read")
+    print(f"seed: {calls} refusals, each reported before a frame is read")
 
 
 if __name__ == "__main__":

@@ -1,4 +1,4 @@
-/* What the tests share: a check that tells its line, numbers out of nothing, a seed, and two programs. */
+/* What the tests share: a check that prints its line, pseudo-random numbers, a seed, and two programs. */
 #ifndef COMMON_H
 #define COMMON_H
 
@@ -29,7 +29,7 @@ static const bpfhost_seed test_seed = {{0x0123456789abcdef, 0xfedcba9876543210}}
 /* r0 = the packet's length; exit */
 static const uint8_t answers_length[16] = {0x61, 0x10, 0, 0, 0, 0, 0, 0, 0x95};
 
-/* Adds one to the value under index 0 of the array of descriptor 3, and answers it. */
+/* Adds one to the value at index 0 of the array of descriptor 3, and returns it. */
 static const uint8_t counts[13 * 8] = {
     0x62, 0x0a, 0xfc, 0xff, 0x00, 0x00, 0x00, 0x00, /* *(u32 *)(r10 - 4) = 0 */
     0x18, 0x11, 0x00, 0x00, 0x03, 0x00, 0x00, 0x00, /* r1 = map_fd 3 ll */

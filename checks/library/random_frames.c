@@ -45,7 +45,7 @@ static size_t some_length(void)
     return random_number(&state) % (kind < 8 ? 2048 : 64);
 }
 
-/* Bytes of which half are small, behind a head that mostly names a tenant and a command that are there. */
+/* Bytes of which half are small, after a head that mostly has a valid tenant and command. */
 static void fill(size_t length)
 {
     static const uint16_t commands[] = {0, 1, 2, 3, 4, 5, 10, 256};

@@ -8,8 +8,8 @@
 #define MOST_ASKED 6
 #define MARK 0x3c
 
-/* What the proved functions are to return, how often one was called, since the test said so and ever, and what the last call was
- * given. */
+/* What the proved functions return, how often one was called, since the test reset the count and in all, and the arguments of the last
+ * call. */
 static struct {
     int32_t code;
     int calls;
@@ -19,7 +19,7 @@ static struct {
     uint32_t words[10];
 } asked;
 
-/* Tells what the header does wrong, and ends the test. */
+/* Reports what the header does wrong, and ends the test. */
 static void fails(const char *what);
 
 /* An object that a proved function is given. */
@@ -29,7 +29,7 @@ struct piece {
     bool is_written;
 };
 
-/* Whether two objects have a byte in common: the ends are compared, where the header subtracts. */
+/* Whether two objects have a byte in common: it compares the ends, while the header subtracts. */
 static bool share_a_byte(struct piece a, struct piece b)
 {
     uintptr_t from = (uintptr_t)a.at, other = (uintptr_t)b.at;

@@ -32,7 +32,7 @@ static void fail(const char *what)
     exit(1);
 }
 
-/* ---- JSON: `at` is where the reader stands in a text that ends with a zero byte. */
+/* ---- JSON: `at` is the reader's position in a text that ends with a zero byte. */
 
 static const char *at;
 
@@ -266,7 +266,7 @@ static char *text_of(const char *path)
 
 static uint8_t frame[BPFHOST_LONGEST_FRAME + 4];
 
-/* Asks the host, and answers a descriptor or the result of a test run. */
+/* Sends a command to the host, and returns a descriptor or the result of a test run. */
 static uint32_t done(size_t length)
 {
     bpfhost_reply reply;

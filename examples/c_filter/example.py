@@ -1,7 +1,7 @@
 #!/usr/bin/env python3
 """A filter written in C, run on three packets. usage: example.py BPFHOST [CLANG OBJCOPY]
 
-With a clang and an llvm-objcopy the slots are those that they make of filter.c, and without them those of filter.txt.
+With a clang and an llvm-objcopy, the slots are compiled from filter.c; without them, they are those of filter.txt.
 """
 
 import struct
@@ -17,13 +17,13 @@ sys.path.insert(0, str(HERE.parents[1] / "clients/python"))
 from bpfhost import Host, HostError, MapType, ReplyError, assemble, disassemble, frames  # noqa: E402
 
 TENANT, KEPT, FILTER = 0, 3, 4
-# The version of clang that made filter.txt; another one may make other slots of the same C.
+# The version of clang that made filter.txt; another one may compile the same C to other slots.
 CLANG_OF_TEXT = "version 14."
 UDP, TCP = 17, 6
 
 
 def tool(*words):
-    """Calls a compiler's tool, and ends where it fails."""
+    """Calls a compiler's tool, and exits if it fails."""
     try:
         ended = subprocess.run([str(word) for word in words], capture_output=True, text=True, check=False)
     except OSError as error:
@@ -34,7 +34,7 @@ def tool(*words):
 
 
 def compiled(clang, objcopy):
-    """The slots of filter.c: the section "socket" of what clang makes of it."""
+    """The slots of filter.c: section "socket" of clang's object."""
     with tempfile.TemporaryDirectory() as scratch:
         made, cut_out = Path(scratch, "filter.o"), Path(scratch, "filter.bin")
         tool(clang, "-O2", "-target", "bpf", "-c", HERE / "filter.c", "-o", made)

@@ -1,5 +1,5 @@
-/* Keeps DNS queries: UDP over IPv4 over Ethernet, to port 53. A socket filter tells how many bytes to keep, so the
- * result is the packet's length for these and 0 for all others. The map of descriptor 3 counts those that are kept. */
+/* Keeps DNS queries: UDP over IPv4 over Ethernet, to port 53. A socket filter returns how many bytes of the packet to keep, so
+ * the result is the packet's length for these and 0 for all others. The map of descriptor 3 counts those that are kept. */
 
 #include "bpfhost.h"
 

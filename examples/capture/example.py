@@ -1,8 +1,8 @@
 #!/usr/bin/env python3
 """Filters written in C, run on a capture by the command of clients/python. usage: example.py BPFHOST [CLANG]
 
-With a clang the objects are those that it makes of the C, and without it those of this folder. Where there is a tcpdump, what it
-keeps of the capture by the same rule, and how many packets it finds of each flow, are compared.
+With a clang, it compiles the objects from the C, and without it uses those of this folder. If tcpdump is installed, it compares which
+packets tcpdump keeps by the same rule, and how many packets it finds of each flow.
 """
 
 from __future__ import annotations
@@ -19,16 +19,16 @@ from typing import Any
 HERE = Path(__file__).resolve().parent
 PACKAGE = HERE.parents[1] / "clients/python"
 NAMES = ("flows", "counter", "refused")
-# The version of clang that made the objects of this folder; another one may make others of the same C.
+# The version of clang that made the objects of this folder; another one may compile the same C to other objects.
 CLANG_OF_OBJECTS = "version 14."
-# What flows.c keeps, in the words of pcap-filter(7).
+# What flows.c keeps, as an expression of pcap-filter(7).
 KEPT = "tcp or udp or (vlan and (tcp or udp))"
-# Bytes of a capture's header, which differs in what it says of the longest packet.
+# Bytes of a capture's header, which differs in its snapshot length.
 HEADER = 24
 
 
 def called(*words: object, cwd: Path = HERE) -> bytes:
-    """What a program writes; the example ends where it fails."""
+    """The output of a program; the example exits if it fails."""
     ended = subprocess.run([str(word) for word in words], capture_output=True, check=False, cwd=cwd)
     if ended.returncode:
         sys.exit(f"capture: {words[0]} failed: {ended.stderr.decode(errors='replace').strip()}")
@@ -43,7 +43,7 @@ def command(scratch: Path, *words: str) -> subprocess.CompletedProcess[str]:
 
 
 def show(scratch: Path, *words: str) -> None:
-    """Shows the command and what it writes, but for the time, which is another one in each run, and for a verifier's log."""
+    """Prints the command and its output, without the time, which differs in each run, and without a verifier's log."""
     ended = command(scratch, *words)
     print(f"$ python3 -m bpfhost {' '.join(words)}")
     print("".join(line for line in ended.stdout.splitlines(True) if not line.startswith("time a packet")), end="")
@@ -65,7 +65,7 @@ def make_objects(scratch: Path, clang: str | None) -> None:
 
 
 def compare_objects(scratch: Path) -> None:
-    """The objects of this folder have the programs that clang makes of the C, with the same lines."""
+    """The objects of this folder have the programs that clang compiles from the C, with the same lines."""
     for name in NAMES:
         texts = [command(folder, "dis", f"{name}.o").stdout for folder in (HERE, scratch)]
         if not texts[0] or texts[0] != texts[1]:
@@ -102,7 +102,7 @@ def compare_flows(scratch: Path) -> None:
 
 
 def rule_of(flow: dict[str, Any]) -> str:
-    """A flow in the words of pcap-filter(7)."""
+    """A flow as an expression of pcap-filter(7)."""
     source, destination = (".".join(map(str, flow[side])) for side in ("source", "destination"))
     protocol = str(flow["protocol"]).lower()
     hosts = f"src host {source} and dst host {destination}"
@@ -110,7 +110,7 @@ def rule_of(flow: dict[str, Any]) -> str:
 
 
 def main() -> None:
-    """Shows the runs, and compares what can be compared."""
+    """Prints the runs, and compares them with tcpdump's."""
     if len(sys.argv) not in (2, 3):
         sys.exit("usage: example.py BPFHOST [CLANG]")
     os.environ["BPFHOST"] = str(Path(sys.argv[1]).resolve())

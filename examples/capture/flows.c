@@ -1,4 +1,4 @@
-/* Keeps TCP and UDP over IPv4 and IPv6, behind one VLAN tag or none. Counts packets and bytes by protocol, and of IPv4
+/* Keeps TCP and UDP over IPv4 and IPv6, after one VLAN tag or none. Counts packets and bytes by protocol, and of IPv4
  * by flow, and has the ten busiest flows in a map of their own. */
 
 #include "../c_filter/bpfhost.h"
@@ -77,7 +77,7 @@ struct ports {
     unsigned short source, destination;
 };
 
-/* Counts a packet under a key, and answers how many it has now. */
+/* Counts a packet under a key, and returns the new count. */
 static inline unsigned long count(void *map, const void *key, unsigned long bytes)
 {
     struct count first = { 1, bytes };
@@ -90,7 +90,7 @@ static inline unsigned long count(void *map, const void *key, unsigned long byte
     return counted->packets += 1;
 }
 
-/* The type behind the addresses, or behind one VLAN tag, and where the next header begins; 0 where it is cut off. */
+/* The type after the addresses, or after one VLAN tag, and the offset of the next header; 0 if it is cut off. */
 static inline unsigned short type_at(struct __sk_buff *skb, unsigned int *at)
 {
     struct ethernet ethernet;

@@ -1,8 +1,8 @@
 #!/usr/bin/env python3
-"""Makes the capture of this example, the same bytes in each run. usage: make_capture.py FILE
+"""Makes the capture of this example, with the same bytes in each run. usage: make_capture.py FILE
 
 It has what a filter meets: ARP, IPv4 and IPv6, TCP, UDP and ICMP, fragments and VLAN tags; and packets that are cut off in each
-of their headers, or say of themselves what they are not. It wants dpkt (Debian: python3-dpkt).
+of their headers, or have wrong fields. It needs dpkt (Debian: python3-dpkt).
 """
 
 from __future__ import annotations
@@ -23,7 +23,7 @@ from dpkt.tcp import TCP
 from dpkt.udp import UDP
 
 CLIENT, SERVER = bytes.fromhex("02000000000a"), bytes.fromhex("020000000035")
-# Of the packets of a flow, in the order of the flows; the ten busiest are clear.
+# How many packets each flow has, in the order of the flows; the ten busiest are unambiguous.
 PACKETS_OF_FLOW = (40, 33, 27, 21, 16, 12, 9, 7, 5, 4, 2, 1, 1)
 SEED = 37
 START = 1_700_000_000
@@ -62,7 +62,7 @@ def tcp(size: int, port: int = 443, host: int = 1) -> TCP:
 
 
 def flow(host: int, size: int) -> bytes:
-    """A packet of the flow of a host: TCP of even ones, UDP of odd ones."""
+    """A packet of the flow of a host: TCP for even numbers, UDP for odd ones."""
     if host % 2:
         return ipv4(udp(size, host=host), dpkt.ip.IP_PROTO_UDP, host)
     return ipv4(tcp(size, host=host), dpkt.ip.IP_PROTO_TCP, host)
@@ -95,7 +95,7 @@ def others() -> Iterator[bytes]:
 
 
 def tagged() -> Iterator[bytes]:
-    """Packets behind VLAN tags: one, of each of three types, and two."""
+    """Packets with VLAN tags: one tag of each of three types, and two tags."""
     inner = ipv4(udp(30), dpkt.ip.IP_PROTO_UDP)
     segment = ipv4(tcp(30), dpkt.ip.IP_PROTO_TCP)
     for packet in (inner, segment, ipv6(udp(9), dpkt.ip.IP_PROTO_UDP)):
@@ -105,7 +105,7 @@ def tagged() -> Iterator[bytes]:
 
 
 def cut_off() -> Iterator[bytes]:
-    """Packets that end too early: in each header, and before and behind each byte that a filter looks at."""
+    """Packets that end too early: in each header, and before and after each byte that a filter reads."""
     segment, datagram = ipv4(tcp(10), dpkt.ip.IP_PROTO_TCP), ipv6(udp(10), dpkt.ip.IP_PROTO_UDP)
     fragment = ipv6(bytes([dpkt.ip.IP_PROTO_TCP]) + bytes(7), dpkt.ip.IP_PROTO_FRAGMENT)
     yield from (segment[:length] for length in (0, 1, 13, 14, 23, 24, 33, 34, 37, 38, 53, 54))
@@ -116,7 +116,7 @@ def cut_off() -> Iterator[bytes]:
 
 
 def malformed() -> Iterator[bytes]:
-    """Packets that are whole, and wrong: by lengths, versions and types."""
+    """Packets that are whole but wrong: in lengths, versions and types."""
     datagram = bytearray(ipv4(udp(10), dpkt.ip.IP_PROTO_UDP))
     for at, value in ((IP_HEAD, 0x41), (IP_HEAD, 0x4F), (IP_HEAD, 0x65), (IP_HEAD + 2, 0xFF), (UDP_HEAD + 4, 0xFF)):
         wrong = bytearray(datagram)
@@ -130,7 +130,7 @@ def malformed() -> Iterator[bytes]:
 
 
 def records() -> Iterator[tuple[bytes, int]]:
-    """All packets, each with the bytes that it had when it was captured."""
+    """All packets, each with its captured length."""
     for packet in (*flows(), *others(), *tagged(), *cut_off(), *malformed()):
         yield packet, len(packet)
     long = ipv4(udp(1400), dpkt.ip.IP_PROTO_UDP)

@@ -1,5 +1,5 @@
 #!/usr/bin/env python3
-"""A map that a program counts in: read, walked and changed from outside, and closed. usage: example.py BPFHOST"""
+"""A map that a program counts in: it is read, iterated and changed from outside, and closed. usage: example.py BPFHOST"""
 
 import sys
 from pathlib import Path
@@ -12,7 +12,7 @@ from bpfhost import Host, HostError, MapType, ReplyError, Update, assemble, fram
 from bpfhost.numbers import LARGEST_AREA, LONGEST_VALUE  # noqa: E402
 
 TENANT, COUNTS, PROGRAM = 0, 3, 4
-# Of the longest values; a tenant's maps have room for four times as many.
+# The number of the longest values; a tenant's maps have room for four times as many.
 MOST_VALUES = LARGEST_AREA // LONGEST_VALUE
 
 
@@ -32,7 +32,7 @@ class Session:
             self.step(f"run on {packet.decode()!r}", frames.prog_test_run(TENANT, PROGRAM, packet))
 
     def walk(self):
-        """Goes from key to key, and looks each one up."""
+        """Gets each key after the one before, and looks it up."""
         reply = self.host.ask(frames.map_get_next_key(TENANT, COUNTS))
         while reply.status == 0:
             key = reply.payload

@@ -1,5 +1,5 @@
-/* Two tenants of one host in this process: a filter that counts UDP packets where they lie, and a neighbour that is hostile.
- * README.md says how to build it. */
+/* Two tenants of one host in this process: a filter that counts UDP packets in place, without a copy, and a hostile neighbour.
+ * README.md explains how to build it. */
 #include <bpfhost.h>
 #include <stdio.h>
 #include <stdlib.h>
@@ -10,8 +10,8 @@ enum { HONEST, HOSTILE, TENANTS };
 #define COUNTS 3
 #define FILTER 4
 
-/* filter.txt, assembled by `bpfhost asm`: answers the length of a UDP packet over IPv4 over Ethernet, and counts it in the map of
- * descriptor 3; 0 for all others. */
+/* filter.txt, assembled by `bpfhost asm`: returns the length of a UDP packet over IPv4 over Ethernet, and counts it in the map of
+ * descriptor 3; returns 0 for all others. */
 static const uint8_t filter[] = {
     0xbf, 0x16, 0x00, 0x00, 0x00, 0x00, 0x00, 0x00, /* r6 = r1 */
     0xb7, 0x02, 0x00, 0x00, 0x17, 0x00, 0x00, 0x00, /* r2 = 23 */
@@ -86,7 +86,7 @@ static void load(const char *what, uint16_t tenant, const uint8_t *slots, size_t
         printf("  %s: status %d, slot %u, reason %u\n", what, (int)reply.status, (unsigned)reply.slot, (unsigned)reply.reason);
 }
 
-/* The packet stays where it is: only the head in front of it is written. */
+/* The packet is not copied: only the head in front of it is written. */
 static void run(const char *what, struct received *it)
 {
     size_t head = bpfhost_frame_test_run_head(it->head, sizeof it->head, HONEST, FILTER, NULL);
@@ -109,7 +109,7 @@ static void look_up(const char *who, uint16_t tenant)
 static struct received received_packet(uint8_t protocol)
 {
     struct received it = {{0}, {0}};
-    it.packet[12] = 0x08; /* IPv4 behind the addresses of Ethernet */
+    it.packet[12] = 0x08; /* IPv4 after the addresses of Ethernet */
     it.packet[14] = 0x45;
     it.packet[23] = protocol;
     return it;

@@ -1,5 +1,5 @@
 #!/usr/bin/env python3
-"""Frames and their replies, in bytes and in words: the exchange of docs/PROTOCOL.md, and another tenant who asks for its program.
+"""Frames and their replies, in bytes and in words: the exchange of docs/PROTOCOL.md, and another tenant that asks for its program.
 
 usage: example.py BPFHOST
 """
@@ -19,7 +19,7 @@ FIRST = 3
 
 
 def asked() -> list[tuple[str, bytes]]:
-    """What each frame asks, and the frame."""
+    """What each frame asks for, and the frame."""
     load, run = frames.prog_load(0, bytes.fromhex("".join(PROGRAM.values()))), frames.prog_test_run
     return [
         ("tenant 0: PROG_LOAD, a socket filter: " + "; ".join(PROGRAM), load),
@@ -29,7 +29,7 @@ def asked() -> list[tuple[str, bytes]]:
 
 
 def spelled(octets: bytes) -> str:
-    """Bytes as the pages write them: length, tenant, command, words; what ends in zeros says how many."""
+    """Bytes as the pages write them: length, tenant, command, words; zeros at the end are given by their number."""
     digits, zeros = octets.hex(), len(octets) - len(octets.rstrip(b"\0"))
     if zeros > 16:
         digits = digits[: 2 * (len(octets) - zeros + -(len(octets) - zeros) % 4)]

@@ -1,8 +1,8 @@
-/* A filter as tcpdump writes it, as a program of the host: pcap_compile makes the classic program, and each of its instructions becomes
- * some slots with the same result on every packet, as libpcap's bpf_filter has it. README.md says how to build and use it.
+/* A filter written as for tcpdump, as a program of the host: pcap_compile makes the classic program, and each of its instructions becomes
+ * some slots with the same result on every packet as libpcap's bpf_filter. README.md explains how to build and use it.
  * usage: expression LINKTYPE EXPRESSION
  *        expression -                      the classic program on standard input, as tcpdump -ddd writes it
- * The slots are written as hex lines, as `bpfhost asm` writes them. The status is 1 where the filter is refused. */
+ * The slots are written as hex lines, as `bpfhost asm` writes them. The status is 1 if the filter is rejected. */
 #include <pcap/pcap.h>
 #include <stdint.h>
 #include <stdio.h>
@@ -15,13 +15,13 @@ enum { A = 7, X = 8, CONTEXT = 6, STACK = 10, BUFFER = -8 };
 #define SCRATCH(word) (-16 - 4 * (int)(word))
 #define ANCILLARY 0xffe00000u
 #define FARTHEST 0x7fffffffu
-/* Where a load out of the packet goes, behind the last instruction. */
+/* The target of a load beyond the packet: the slot after the last instruction. */
 #define DROP(program) ((program)->bf_len)
 
 struct slots {
     uint8_t bytes[8 * MOST];
     size_t count;
-    /* Where the slots of each instruction begin, once they are known, and whether a path leads to it. */
+    /* The first slot of each instruction, once it is known, and whether a path leads to it. */
     size_t begins[MOST + 2];
     char is_reached[MOST + 2];
 };
@@ -254,7 +254,7 @@ int main(int count, char **words)
     }
     if (program.bf_len == 0 || program.bf_len > MOST)
         refuse("a program has 1 to 4,096 instructions", 0);
-    /* The first time no slot is where it will be; the second time all are. */
+    /* In the first pass the slots' places are not known; in the second all are. */
     translate_all(&slots, &program);
     translate_all(&slots, &program);
     for (size_t at = 0; at < 8 * slots.count; at++)

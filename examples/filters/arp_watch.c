@@ -1,4 +1,4 @@
-/* Watches ARP: which station says that it has an address, and how often another one said so before. */
+/* Watches ARP: which station claims an address, and how often the claim has changed to another station. */
 #include "filters.h"
 
 struct station {

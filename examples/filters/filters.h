@@ -53,7 +53,7 @@ struct ports {
     u16 source, destination;
 };
 
-/* Reads a byte, or two in the order of the network; the answer is not 0 where the packet ends before, and the number is 0 then. */
+/* Reads a byte, or two in network byte order; if the packet ends before, the result is not 0, and the number is 0. */
 static __always_inline int load_byte(struct __sk_buff *skb, u32 at, u8 *to)
 {
     return bpf_skb_load_bytes(skb, at, to, 1) != 0;

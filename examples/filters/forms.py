@@ -1,10 +1,10 @@
 #!/usr/bin/env python3
 """Compiles the filters of this folder in many ways, lowers them, and runs them. usage: forms.py BPFHOST [--write]
 
-It compares what comes of it with table.md, or writes that page with --write. A filter is compiled by each clang that there is, with each
-of -O1, -O2 and -Os and for each processor of BPF that the compiler knows. What is accepted runs on two captures, as packets that came in
-and as packets that go out: as it was compiled, lowered, and in topological order where it needs none. All forms of a filter have to answer
-the same and to leave the same in their maps. Where a compiler is missing, its columns are not looked at, which is told.
+It compares the results with table.md, or writes that page with --write. A filter is compiled by each installed clang, with each of -O1, -O2
+and -Os and for each BPF processor that the compiler knows. What is accepted runs on two captures, as incoming and as outgoing packets: as
+it was compiled, lowered, and in topological order if it needs no lowering. All forms of a filter have to return the same and to leave the
+same in their maps. If a compiler is missing, its columns are not checked, and a notice is printed.
 """
 
 from __future__ import annotations
@@ -36,7 +36,7 @@ TABLE = HERE / "table.md"
 COMPILERS = ("14", "19")
 LEVELS = ("-O1", "-O2", "-Os")
 PROCESSORS = ("v1", "v2", "v3", "v4")
-# The words of linux/if_packet.h: a packet that came in, and one that goes out.
+# The constants of linux/if_packet.h for an incoming and an outgoing packet.
 CONTEXTS = (Context(pkt_type=0), Context(pkt_type=4))
 STEPS = ("maps", "calls", "loops", "order", "copies")
 PASSED, DIFFERS = 0, 1
@@ -44,7 +44,7 @@ PASSED, DIFFERS = 0, 1
 
 @dataclass
 class Tally:
-    """What came of one filter by one compiler: how many programs there are, are accepted as compiled, and are lowered."""
+    """The counts for one filter and one compiler: programs in all, those accepted as compiled, and those lowered."""
 
     programs: int = 0
     compiled: int = 0
@@ -61,7 +61,7 @@ class Tally:
 
 @dataclass
 class Filter:
-    """What came of a filter: a tally for each compiler, and what its forms answered."""
+    """The outcome for a filter: a tally for each compiler, and the results of its forms."""
 
     name: str
     tallies: dict[str, Tally]
@@ -71,7 +71,7 @@ class Filter:
 
 @functools.cache
 def clang(version: str) -> str | None:
-    """The compiler of a version, if it is there and compiles for BPF."""
+    """The compiler of a version, if it is installed and compiles for BPF."""
     found = shutil.which(f"clang-{version}")
     if found is None:
         return None
@@ -126,7 +126,7 @@ def forms_of(bpfhost: str, made: Path, tally: Tally) -> Iterator[tuple[ObjectFil
 
 
 def ordered(bpfhost: str, found: ObjectFile) -> Lowered:
-    """The program in another form, also where it is accepted as it is."""
+    """The program in another form, even if it is accepted as it is."""
     program = found.programs[0]
 
     def ask(form: ObjectProgram) -> tuple[int, int] | None:
@@ -136,7 +136,7 @@ def ordered(bpfhost: str, found: ObjectFile) -> Lowered:
 
 
 def answers(host: Host, found: ObjectFile, form: Lowered, captures: Sequence[Path]) -> tuple[str, int]:
-    """What a form answers to all packets and leaves in its maps, as one number, and how many packets it keeps."""
+    """The results of a form on all packets and the contents of its maps, as one number, and how many packets it keeps."""
     tenant = host.tenant()
     loaded = load_program(tenant, found, form)
     results: list[int] = []
@@ -154,7 +154,7 @@ def answers(host: Host, found: ObjectFile, form: Lowered, captures: Sequence[Pat
 
 
 def left(found: ObjectFile, loaded: LoadedProgram) -> Mapping[str, object]:
-    """What is in the maps, by their names; variables by their names too, as compilers put them into their sections in any order."""
+    """The contents of the maps, by their names; variables by their names too, as compilers put them into their sections in any order."""
     assert found.types is not None
     values: dict[str, object] = {}
     for each in loaded.maps:
@@ -172,7 +172,7 @@ def left(found: ObjectFile, loaded: LoadedProgram) -> Mapping[str, object]:
 
 
 def tried(job: tuple[str, str, tuple[str, ...]]) -> Filter:
-    """What comes of one filter."""
+    """The outcome for one filter."""
     bpfhost, name, captures = job
     tallies = {version: Tally() for version in COMPILERS if clang(version)}
     told: dict[str, list[str]] = {}
@@ -189,7 +189,7 @@ def tried(job: tuple[str, str, tuple[str, ...]]) -> Filter:
     faults = [fault for tally in tallies.values() for fault in tally.faults]
     if len(told) > 1:
         first, *others = told.values()
-        faults += [f"{few[0]} answers otherwise than {first[0]}" for few in others]
+        faults += [f"{few[0]} returns something else than {first[0]}" for few in others]
     return Filter(name, tallies, kept, faults)
 
 
@@ -202,7 +202,7 @@ def about(name: str) -> str:
 
 
 def rows(found: Sequence[Filter]) -> list[list[str]]:
-    """The table's rows; a compiler that is missing has empty cells."""
+    """The table's rows; a missing compiler has empty cells."""
     return [[f"`{each.name}`", about(each.name), f"{each.kept:,}", *cells_of(each)] for each in found]
 
 
@@ -239,7 +239,7 @@ def total(found: Sequence[Filter]) -> dict[str, Tally]:
 
 
 def compared(found: Sequence[Filter]) -> list[str]:
-    """Where the page says otherwise than what was found, in the columns of the compilers that there are."""
+    """The differences between the page and the results, in the columns of the installed compilers."""
     has = {version: clang(version) is not None for version in COMPILERS}
     columns = [True] * 3 + [has[version] for version in COMPILERS for _ in CELLS]
     written = [line for line in (TABLE.read_text() if TABLE.exists() else "").splitlines() if line.startswith("| `")]
@@ -253,7 +253,7 @@ def compared(found: Sequence[Filter]) -> list[str]:
 
 
 def found_of(bpfhost: str) -> list[Filter]:
-    """What comes of all filters, each tried in a process of its own."""
+    """The outcomes for all filters, each in a process of its own."""
     names = sorted(path.stem for path in HERE.glob("*.c"))
     with tempfile.TemporaryDirectory() as scratch:
         traffic = Path(scratch) / "traffic.pcap"
@@ -264,7 +264,7 @@ def found_of(bpfhost: str) -> list[Filter]:
 
 
 def main(words: Sequence[str]) -> int:
-    """Tries all filters; the status is 1 where a form differs, a program is refused, or the page is another."""
+    """Tests all filters; the status is 1 if forms differ, a program is rejected, or the page is wrong."""
     if not words or words[1:] not in ([], ["--write"]):
         sys.exit("usage: forms.py BPFHOST [--write]")
     missing = [version for version in COMPILERS if clang(version) is None]

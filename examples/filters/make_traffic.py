@@ -1,8 +1,8 @@
 #!/usr/bin/env python3
-"""Makes the capture that the filters run on, the same bytes in each run. usage: make_traffic.py FILE
+"""Makes the capture that the filters run on, with the same bytes in each run. usage: make_traffic.py FILE
 
 It has what they look at: flows of TCP and UDP, names in DNS and TLS, DHCP, ARP, NTP, HTTP, ICMP, tunnels, fragments, VLAN tags,
-extension headers of IPv6; and of each some packets that are cut off or changed somewhere.
+extension headers of IPv6; and for each some packets that are cut off or changed.
 """
 
 from __future__ import annotations
@@ -13,7 +13,7 @@ import sys
 from collections.abc import Iterator
 
 SEED = 56
-# So many packets that are cut off or changed come from each that is whole.
+# How many packets that are cut off or changed are made from each whole one.
 DAMAGED = 3
 SYN, ACK = 2, 16
 
@@ -24,7 +24,7 @@ def ethernet(kind: int, inner: bytes, source: int = 1, destination: bytes = byte
 
 
 def checksum(header: bytes) -> int:
-    """The sum of RFC 1071."""
+    """The checksum of RFC 1071."""
     total: int = sum(struct.unpack(f">{len(header) // 2}H", header))
     total = (total & 0xFFFF) + (total >> 16)
     return 0xFFFF - (total & 0xFFFF) - (total >> 16)
@@ -47,24 +47,24 @@ def ipv6(following: int, inner: bytes, host: int = 1) -> bytes:
 
 
 def udp(source: int, destination: int, data: bytes) -> bytes:
-    """A datagram."""
+    """A UDP datagram."""
     return struct.pack(">HHHH", source, destination, 8 + len(data), 0) + data
 
 
 def tcp(source: int, destination: int, data: bytes = b"", flags: int = ACK, options: bytes = b"") -> bytes:
-    """A segment."""
+    """A TCP segment."""
     offset = 5 + len(options) // 4
     return struct.pack(">HHIIBBHHH", source, destination, 1, 2, offset << 4, flags, 512, 0, 0) + options + data
 
 
 def question(name: str, kind: int = 1) -> bytes:
-    """A question of DNS."""
+    """A DNS query."""
     labels = b"".join(bytes([len(label)]) + label.encode() for label in name.split(".") if label)
     return struct.pack(">HHHHHH", 1, 0x100, 1, 0, 0, 0) + labels + b"\0" + struct.pack(">HH", kind, 1)
 
 
 def hello(name: str | None, before: int = 2) -> bytes:
-    """A ClientHello of TLS with so many extensions before that of the server's name."""
+    """A TLS ClientHello with so many extensions before that of the server's name."""
     extensions = b"".join(struct.pack(">HH", 10 + number, number) + bytes(number) for number in range(before))
     if name is not None:
         host = b"\0" + struct.pack(">H", len(name)) + name.encode()
@@ -77,13 +77,13 @@ def hello(name: str | None, before: int = 2) -> bytes:
 
 
 def dhcp(kind: int, before: int) -> bytes:
-    """A message of DHCP, whose type stands behind so many other options."""
+    """A DHCP message, whose type follows so many other options."""
     options = b"\0".join(bytes([60 + number, number]) + bytes(number) for number in range(before))
     return bytes([1, 1, 6, 0]) + bytes(232) + bytes.fromhex("63825363") + options + (bytes([53, 1, kind]) if kind else b"") + b"\xff"
 
 
 def arp(operation: int, sender: int, address: int, target: int, mac: int | None = None) -> bytes:
-    """A request or a reply of ARP."""
+    """An ARP request or reply."""
     head = struct.pack(">HHBBH", 1, 0x0800, 6, 4, operation)
     body = bytes([2, 0, 0, 0, 0, mac or sender, 192, 0, 2, address]) + bytes(6) + bytes([192, 0, 2, target])
     return ethernet(0x0806, head + body, sender, b"\xff" * 6)
@@ -102,7 +102,7 @@ def flows(chance: random.Random) -> Iterator[bytes]:
 
 
 def names() -> Iterator[bytes]:
-    """Questions of DNS and hellos of TLS."""
+    """DNS queries and TLS ClientHellos."""
     for at, name in enumerate(("example.org", "www.example.com", "a.b.c.d.e", "x", "a-very-long-name.with.many.labels.example.net")):
         for kind in (1, 28, 15, 65, 255):
             yield ipv4(17, udp(53_000 + at, 53, question(name, kind)), 1 + at)
@@ -159,7 +159,7 @@ def headers() -> Iterator[bytes]:
 
 
 def tagged() -> Iterator[bytes]:
-    """Frames behind tags of VLAN, and to groups."""
+    """Frames with VLAN tags, and to multicast addresses."""
     frame = ipv4(17, udp(1, 2, b"data"))
     for tags in ("8100 0005", "88a8 0006", "88a8 0007 8100 0008", "8100 0009 8100 000a 8100 000b"):
         yield frame[:12] + bytes.fromhex(tags) + frame[12:]
@@ -168,7 +168,7 @@ def tagged() -> Iterator[bytes]:
 
 
 def damaged(packet: bytes, chance: random.Random) -> bytes:
-    """A packet that is cut off somewhere, or has another byte."""
+    """A packet that is cut off, or has another byte."""
     at = chance.randrange(len(packet))
     if chance.random() < 0.6:
         return packet[:at]

@@ -1,4 +1,4 @@
-/* Keeps what goes to one of the ports of a table, which a loader may fill; some stand in it from the start. */
+/* Keeps packets to one of the ports of a table, which a loader may fill; some are in it from the start. */
 #include "filters.h"
 
 struct {

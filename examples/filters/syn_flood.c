@@ -1,4 +1,4 @@
-/* Floods of SYN: by destination how many more were opened than answered; one with more than a few is kept. */
+/* Floods of SYN: for each destination, how many more were opened than answered; one with more than a few is kept. */
 #include "filters.h"
 
 #define SYN 2

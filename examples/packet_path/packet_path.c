@@ -2,9 +2,9 @@
  * usage: packet_path [--each] [--rate] [--by-frames] CAPTURE FILTER..
  *        packet_path [--each] [--rate] [--by-frames] --interface NAME SECONDS FILTER..
  * FILTER is PROGRAM[,MAP]..: a file with a slot on each line, as `bpfhost asm` writes it, and for each map array:K:V:N or hash:K:V:N, the
- * bytes of a key and of a value, and the entries. The maps have the descriptors 3, 4, ... A filter answers how many bytes of a packet it
- * keeps, and 0 for none. --each prints each answer, --rate counts a second, --by-frames runs each packet by a frame of its own.
- * The status is 1 if a file, the interface or a filter is refused, or the capture is cut off, which is told behind the counts. */
+ * bytes of a key and of a value, and the entries. The maps have the descriptors 3, 4, ... A filter returns how many bytes of a packet
+ * to keep; 0 drops it. --each prints each result, --rate counts per second, --by-frames runs each packet by a frame of its own.
+ * The status is 1 if a file, the interface or a filter is rejected, or if the capture is cut off, which is printed after the counts. */
 #include "packets.h"
 
 #include <bpfhost.h>

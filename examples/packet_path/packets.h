@@ -9,13 +9,13 @@
 
 enum { BATCH = 64, LONGEST_PACKET = 65536 };
 
-/* Packets one after another: packet i ends before byte ends[i], where the next one begins. */
+/* Packets one after another: packet i ends before byte ends[i], and the next one begins there. */
 struct batch {
     size_t count, ends[BATCH];
     uint8_t bytes[BATCH * LONGEST_PACKET];
 };
 
-/* Where packets come from: a capture in the format pcap, or an interface until some moment. `wrong` tells why no more came, and is
+/* A source of packets: a capture in the pcap format, or an interface until some time. `wrong` says why no more came, and is
  * null if all came. */
 struct source {
     const char *name, *wrong;
@@ -25,8 +25,8 @@ struct source {
     double until;
 };
 
-/* Opens a capture, of either byte order, with microseconds or nanoseconds; or an interface, for so many seconds. What is refused is told,
- * and the program ends with status 1. */
+/* Opens a capture, of either byte order, with microseconds or nanoseconds; or an interface, for so many seconds. If it is rejected, the
+ * program prints why and exits with status 1. */
 struct source open_capture(const char *name);
 struct source open_interface(const char *name, double seconds);
 
@@ -36,7 +36,7 @@ bool next_batch(struct source *source, struct batch *batch);
 /* Seconds of a clock that only goes forward. */
 double now(void);
 
-/* Tells what is wrong on standard error, and ends the program with status 1. */
+/* Prints what is wrong to standard error, and ends the program with status 1. */
 _Noreturn void fail(const char *form, ...);
 
 #endif

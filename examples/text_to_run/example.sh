@@ -27,10 +27,10 @@ echo "serve loads them for tenant 0, and runs them on packets of 60, 14, 13 and 
     done
 } | "$bpfhost" serve --tenants 1 | client replies
 
-# What is wrong is told by a line and a status.
+# An error is a line and a status.
 told() { "$bpfhost" "$@" 2>&1 || echo "(status $?)"; }
 
 echo "a line that is no instruction, the second one:"
 printf 'r0 = 0\nr0 =+ 1\nexit\n' | told asm
-echo "a program that answers what nobody wrote:"
+echo "a program that returns an unwritten register:"
 printf 'exit\n' | "$bpfhost" asm | told verify

@@ -1,4 +1,4 @@
-"""What the hostile tenant tries. At first it has one array, at descriptor 3, and nothing else."""
+"""The attacks of the hostile tenant. At first it has one array, at descriptor 3, and nothing else."""
 
 from dataclasses import dataclass
 
@@ -13,7 +13,7 @@ FOREIGN_MAP, FOREIGN_PROGRAM = 4, 5
 
 @dataclass(frozen=True)
 class Attack:
-    """Frames of the hostile tenant. Where `is_refused` is not set, some may be within the tenant's own rights."""
+    """Frames of the hostile tenant. Unless `is_refused` is set, some may be within the tenant's own rights."""
 
     does: str
     frames: tuple
@@ -22,7 +22,7 @@ class Attack:
 
 OWN_MAP_FRAME = frames.map_create(HOSTILE, MapType.ARRAY, 4, 8, 1)
 
-# Looks index 0 of the own map up, and leaves register 0 as the answer.
+# Looks up index 0 of the own map, and returns register 0.
 LOOK_UP = f"""
     *(u32 *)(r10 - 4) = 0
     r1 = map_fd {OWN_MAP} ll
@@ -30,7 +30,7 @@ LOOK_UP = f"""
     r2 += -4
     call 1
 """
-# Goes on with register 0 at the value, which has eight bytes.
+# Continues with register 0 at the value, which has eight bytes.
 AT_VALUE = LOOK_UP + """
     if r0 != 0 goto there
     exit
@@ -82,7 +82,7 @@ FRAMES = {
 }
 
 
-# An accepted program: it leaves 0xff all over its stack, its map's value and the registers.
+# An accepted program: it writes 0xff all over its stack, its map's value and the registers.
 LITTER = (
     AT_VALUE
     + "*(u64 *)(r0 + 0) = -1\n"

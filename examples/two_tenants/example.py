@@ -15,14 +15,14 @@ from attacks import HONEST, attacks  # noqa: E402
 
 TENANTS = 2
 TOTALS, NAMES, FILTER = 3, 4, 5
-# How many of the honest tenant's frames open what the attacks reach for.
+# How many of the honest tenant's frames open what the attacks aim at.
 OPENING = 3
 SEEDS = range(8)
 BEFORE_LIE = 10
 
 
 def honest_frames(bpfhost):
-    """Two maps, a program that adds up the lengths of packets, and what one does with them."""
+    """Two maps, a program that adds up the lengths of packets, and commands on them."""
     slots = assemble(bpfhost, (HERE / "totals.txt").read_text())
     index, keys = bytes(4), [b"one", b"two", b"six"]
     runs = [frames.prog_test_run(HONEST, FILTER, b"x" * length) for length in (3, 50, 1500)]
@@ -47,7 +47,7 @@ def honest_frames(bpfhost):
 
 
 def merged(ours, theirs, ours_next):
-    """Both lists in one, each in its own order; `ours_next` is asked with what is left of each."""
+    """Both lists in one, each in its own order; `ours_next` is called with what is left of each."""
     ours, theirs, stream = list(ours), list(theirs), []
     while ours or theirs:
         ours_now = not theirs or bool(ours) and ours_next(len(ours), len(theirs))
@@ -56,7 +56,7 @@ def merged(ours, theirs, ours_next):
 
 
 def in_proportion(ours, theirs):
-    """The opening, and then the rest of both, spread evenly."""
+    """The frames that open, and then the rest of both, spread evenly."""
     share = (len(ours) - OPENING) / len(theirs)
     return ours[:OPENING] + merged(ours[OPENING:], theirs, lambda left, others: left > share * others)
 
@@ -98,7 +98,7 @@ def in_words(same):
 
 
 def show_mixed(bpfhost, ours, theirs, alone):
-    """Whether both are told in each mixed stream what they are told alone."""
+    """Whether each tenant gets the same replies in every mixed stream as it gets when its frames are sent without the other's."""
     mixed = {
         "the attacks first": [theirs + ours],
         "the attacks last": [ours + theirs],
@@ -117,7 +117,7 @@ def show_mixed(bpfhost, ours, theirs, alone):
 
 
 def show_cut_off(bpfhost, ours, alone):
-    """A frame whose length is a lie: the frames behind it are taken for its body."""
+    """A frame with a false length: the frames after it are taken for its body."""
     print(f"Between {BEFORE_LIE} frames of tenant 1 and the others, a frame that says it has 4 GiB:")
     lie = b"\xff\xff\xff\xff" + bytes(4)
     try:

@@ -1,15 +1,15 @@
 """tools/exchanges [BPFHOST]
 
-Plays the exchanges that the pages show (those at the top of the repository and in docs/): gives the frames to the program that the build
-leaves, or to the one that is its argument, and compares each reply with the page, byte for byte. Where the frames are of several tenants,
-those of each are played by themselves too, and the replies have to be the same.
+Plays the exchanges of the pages (those at the top of the repository and in docs/): sends the frames to the program of the build, or to the
+given one, and compares each reply with the page, byte for byte. If the frames are of several tenants, it also sends the frames of each tenant
+separately, and the replies have to be the same.
 
 An exchange is a table with the columns Frame and Reply, or two blocks of one section: the frames, and then the replies. Bytes are hex
-digits. In a table they stand in `code`, and a frame may have several parts with "and" between them: hex digits, "40 zero bytes", "the
+digits. In a table they are in `code`, and a frame may have several parts with "and" between them: hex digits, "40 zero bytes", "the
 slots below". "the same frame" is that of the row above. The slots below a table are a program's text and then `code`; the text is
-assembled and compared with them. In a block hex digits stand at the front of each line, and two blanks end them.
+assembled and compared with them. In a block each line begins with its hex digits, which end before two blanks.
 
-The status is 1 where the program answers otherwise, and where a page has frames in another form; it is 2 where there is no program to try.
+The status is 1 if a reply differs, or if a page has frames in another form; it is 2 if there is no program.
 """
 
 from __future__ import annotations
@@ -31,7 +31,7 @@ MOST_TENANTS = 64
 
 
 class Unreadable(Exception):
-    """Frames of a page that are written in a form which is not known here."""
+    """Frames of a page in a form that this script does not know."""
 
     def __init__(self, line: int, why: str) -> None:
         super().__init__(f"{line}: {why}")
@@ -39,7 +39,7 @@ class Unreadable(Exception):
 
 @dataclass(frozen=True)
 class Block:
-    """Lines of a page that stand together, with their numbers; its kind is heading, table, text (indented or fenced) or prose."""
+    """Consecutive lines of a page, with their numbers; the kind is heading, table, text (indented or fenced) or prose."""
 
     kind: str
     lines: list[tuple[int, str]]
@@ -114,7 +114,7 @@ def is_whole(octets: bytes) -> bool:
 
 
 def split(octets: bytes) -> list[bytes]:
-    """Frames or replies that stand one behind another; where the last is not whole, it is the rest."""
+    """Consecutive frames or replies; if the last is not whole, it is the rest."""
     found = []
     while octets:
         end = 4 + int.from_bytes(octets[:4], "little")
@@ -215,7 +215,7 @@ def spelled(octets: bytes) -> str:
 
 
 def differences(program: str, tenants: int, frames: list[Piece], replies: list[Piece], where: str) -> list[str]:
-    """What the program answers otherwise than the page says."""
+    """The differences between the program's replies and the page."""
     call, stream = [program, "serve", "--tenants", str(tenants)], b"".join(frame.octets for frame in frames)
     told = split(subprocess.run(call, input=stream, stdout=subprocess.PIPE, timeout=60).stdout)
     missing = [Piece(replies[-1].line, b"")] * (len(told) - len(replies))

@@ -1,8 +1,8 @@
 """tools/version [--set NUMBER]
 
-The version of this repository stands in the file VERSION: three numbers with points between them. Each other place that has it, or some of
-its numbers, is compared, and the status is 1 where one has another version or none. --set writes the number to all of them but those that
-are written by hand: the entries of changes, and what has the library's soname. CONTRIBUTING.md says what may change in which version.
+The version of this repository is in the file VERSION: three numbers with points between them. Each other place that has it, or some of its
+numbers, is compared, and the status is 1 if one has another version or none. --set writes the number to all of them except those that are
+written by hand: the entries of changes, and the library's soname. CONTRIBUTING.md says what may change in which version.
 """
 
 from __future__ import annotations

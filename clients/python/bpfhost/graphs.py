@@ -1,7 +1,7 @@
-"""Control-flow graphs of the verifier, for Graphviz, as a reader of the source wants them.
+"""Control-flow graphs of the verifier, for Graphviz, with the lines of the source.
 
-`verifier_log --dot` writes blocks of instructions, with the verdict below the instruction that is refused (docs/VERIFIER.md). Here each block
-gets the lines of the source that it comes from, and the names of maps and helpers; the middle of a long block is left out.
+`verifier_log --dot` writes blocks of instructions, with the verdict below the rejected instruction (docs/VERIFIER.md). This module adds to
+each block the lines of the source that it comes from, and the names of maps and helpers; it leaves out the middle of a long block.
 """
 
 from __future__ import annotations
@@ -51,13 +51,13 @@ def _instructions(lines: Sequence[str]) -> list[list[str]]:
 
 
 def _folded(instructions: Sequence[list[str]]) -> Iterator[list[str]]:
-    """The instructions of a block; of a long one those at its ends and the refused one, and how many are left out between them."""
+    """The instructions of a block; for a long one, those at its ends and the rejected one, with the number of those left out between them."""
     count = len(instructions)
     is_shown = [at < _ENDS or at >= count - _ENDS or len(lines) > 1 for at, lines in enumerate(instructions)]
     at = 0
     while at < count:
         end = next(each for each in range(at, count) if is_shown[each])
-        # One instruction takes no more room than the line that tells of it.
+        # A single instruction takes no more room than the line that would replace it.
         if end - at > 1:
             yield [f"... {end - at} more"]
             at = end
@@ -71,5 +71,5 @@ def _slot(line: str) -> int | None:
 
 
 def _escaped(text: str) -> str:
-    """A text as it stands in a label."""
+    """A text as a label has it."""
     return text.replace("\\", "\\\\").replace('"', '\\"')

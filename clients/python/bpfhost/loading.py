@@ -1,4 +1,4 @@
-"""Programs of objects, lowered where that is needed, and loaded with their maps for a tenant; and refusals that point at the source."""
+"""Programs of objects, lowered if needed, and loaded with their maps for a tenant; and rejections with the line of the source."""
 
 from __future__ import annotations
 
@@ -21,10 +21,9 @@ from bpfhost.words import reason_words
 
 
 def refused_at(bpfhost: Program, object_file: ObjectFile, lowered: Lowered, slot: int, reason: int) -> SourceRefused:
-    """The error of a program that is refused at a slot for a reason.
+    """The error for a program that is rejected at a slot for a reason.
 
-    Its text has the line of the source, the reason in words, what was known against what was needed, where there is a log that tells it, and
-    what to change.
+    Its text has the line of the source, the reason in words, what was known and what was needed, if the log says so, and what to change.
     """
     place, moved, program = _place(object_file, lowered.program, slot), lowered.place(slot), lowered.program
     log = _raw_log(bpfhost, object_file, lowered)
@@ -37,7 +36,7 @@ def refused_at(bpfhost: Program, object_file: ObjectFile, lowered: Lowered, slot
 
 
 def _place(object_file: ObjectFile, program: ObjectProgram, slot: int) -> str:
-    """The line of the source that a slot is of, as `filter.c:23: return table[i];`, or else the function and its section."""
+    """The line of the source that a slot comes from, as `filter.c:23: return table[i];`, or else the function and its section."""
     line = program.line_of(slot)
     if line is None:
         return f"{object_file.path}: {program.name} in section {program.section}"
@@ -50,7 +49,7 @@ def shape_of(declared: ObjectMap) -> MapShape:
 
 
 def first_descriptors(object_file: ObjectFile) -> list[int]:
-    """The descriptors that the object's maps are given by a tenant that has nothing else."""
+    """The descriptors that the object's maps get from a tenant that has nothing else open."""
     return [FIRST_DESCRIPTOR + number for number in range(len(object_file.maps))]
 
 
@@ -62,7 +61,7 @@ def shapes_of(object_file: ObjectFile) -> dict[int, MapShape]:
 def lowered_program(bpfhost: Program, object_file: ObjectFile, program: ObjectProgram) -> Lowered:
     """A program of an object in a form that the verifier accepts, or else in the plainest one, by the verdicts of `bpfhost verify`.
 
-    A LoweringError where the program can't be written in any form. Of an object that is taken as it is, the program is as it is.
+    Raises LoweringError if the program can't be written in any form. If the object is taken as it is, so is the program.
     """
     descriptors, shapes = first_descriptors(object_file), shapes_of(object_file)
 
@@ -75,10 +74,10 @@ def lowered_program(bpfhost: Program, object_file: ObjectFile, program: ObjectPr
 
 
 def log_of(bpfhost: Program, object_file: ObjectFile, lowered: Lowered) -> str | None:
-    """The verifier's log on a program, or why there is none; None where there is no program to write it.
+    """The verifier's log on a program, or why there is none; None if there is no program to write it.
 
-    It has the lines of the source, each before the first instruction that comes from it, the names of maps and helpers, and large numbers in
-    hexadecimal digits.
+    It has the lines of the source, each before the first instruction that comes from it, the names of maps and helpers, and large numbers
+    in hexadecimal digits.
     """
     log = _raw_log(bpfhost, object_file, lowered)
     return None if log is None else _readable(log, object_file, lowered)
@@ -108,10 +107,10 @@ def _map_names(object_file: ObjectFile) -> dict[int, str]:
 
 
 def with_sources(text: str, lowered: Lowered) -> str:
-    """Lines of a text or of a log of a program, with a line of the source before those that come from it.
+    """The lines of a program's text or log, with each line of the source before the first line that comes from it.
 
-    A line that begins with a slot is of that slot, and in a text that has such lines the others are of none. Else a line is of the slot
-    behind the line before.
+    A line that begins with a slot belongs to that slot; in a text that has such lines, the others belong to none. Otherwise each line
+    belongs to the slot after that of the line before.
     """
     lines = text.splitlines()
     parts, last = [], ""
@@ -123,7 +122,7 @@ def with_sources(text: str, lowered: Lowered) -> str:
 
 
 def _slots_of(lines: Sequence[str]) -> Sequence[int | None]:
-    """The slot of each line of a text or of a log, where it has one."""
+    """The slot of each line of a text or of a log, if it has one."""
     numbers = [line.partition(": ")[0] for line in lines]
     if any(number.isdecimal() for number in numbers):
         return [int(number) if number.isdecimal() else None for number in numbers]
@@ -131,7 +130,7 @@ def _slots_of(lines: Sequence[str]) -> Sequence[int | None]:
 
 
 def _source(lowered: Lowered, slot: int) -> str:
-    """The line of the source that a slot is of, with the number of the copy, as a comment; none of a jump that was added."""
+    """The line of the source of a slot, with the number of the copy, as a comment; empty for a jump that was added."""
     line, (copy, count) = lowered.program.line_of(slot), lowered.copy_of(slot)
     if line is None or lowered.is_added(slot):
         return ""
@@ -139,7 +138,7 @@ def _source(lowered: Lowered, slot: int) -> str:
 
 
 def choose_program(object_file: ObjectFile, named: str | None = None) -> ObjectProgram:
-    """The program of a section, or the function, of this name; without a name the only one. An InputError where it is not one."""
+    """The program of a section or the function of this name; without a name, the only one. Raises InputError unless it is exactly one."""
     programs = object_file.programs
     if named is not None:
         in_section = tuple(program for program in programs if program.section == named)
@@ -186,10 +185,10 @@ class LoadedProgram:
 
 
 def load_program(tenant: Tenant, object_file: ObjectFile, program: ObjectProgram | Lowered) -> LoadedProgram:
-    """Makes the maps of an object, with their first values, and loads one of its programs, lowered where that is needed.
+    """Creates the maps of an object, with their initial values, and loads one of its programs, lowered if needed.
 
-    A SourceRefused where the program is refused at a slot, and a LoweringError where it has no form, before anything is made; a Refused
-    where it is refused for another reason, and an InputError where a map is.
+    Raises SourceRefused if the program is rejected at a slot, and LoweringError if it has no accepted form, before anything is created;
+    Refused if it is refused for another reason, and InputError if a map is.
     """
     bpfhost = tenant.host.program
     lowered = lowered_program(bpfhost, object_file, program) if isinstance(program, ObjectProgram) else program

@@ -1,7 +1,7 @@
-"""Why a program is refused, in one message: the line of the source, what was known and what was needed, and what to change.
+"""Why a program is rejected, in one message: the line of the source, what was known and what was needed, and what to change.
 
-What was known is told by the verifier's log (docs/VERIFIER.md). It names maps by their descriptors and helpers by their numbers; here they
-get the names that the source has.
+What was known comes from the verifier's log (docs/VERIFIER.md), which names maps by their descriptors and helpers by their numbers; this
+module replaces them by the names in the source.
 """
 
 from __future__ import annotations
@@ -51,12 +51,12 @@ _HINTS = {
 
 
 def hint(reason: int, slots: bytes, slot: int) -> str | None:
-    """What to change in C where a program is refused at a slot for a reason; None where that is not known."""
+    """What to change in C if a program is rejected at a slot for a reason; None if that is not known."""
     return _HINTS.get(_LOOP if reason == _BACKWARD and is_loop(slots, slot) else reason)
 
 
 def is_loop(slots: bytes, slot: int) -> bool:
-    """Whether the jump at a slot is of a loop: its target leads to it again. Else it is how the compiler laid blocks out."""
+    """Whether the jump at a slot belongs to a loop: its target leads to it again. If not, it comes from the compiler's order of the blocks."""
     edges = {at: _targets(slots, at) for at in first_slots(slots)}
     reached: set[int] = set()
     ahead = list(edges.get(slot, ()))
@@ -69,7 +69,7 @@ def is_loop(slots: bytes, slot: int) -> bool:
 
 
 def _targets(slots: bytes, at: int) -> list[int]:
-    """The slots that an instruction leads to."""
+    """The successors of an instruction."""
     opcode = slots[SLOT_SIZE * at]
     offset = int.from_bytes(slots[SLOT_SIZE * at + 2 : SLOT_SIZE * at + 4], "little", signed=True)
     constant = int.from_bytes(slots[SLOT_SIZE * at + 4 : SLOT_SIZE * at + 8], "little", signed=True)
@@ -91,7 +91,7 @@ _MAP = re.compile(r"\bmap (\d+)\b")
 _MAP_LOAD = re.compile(r"\bmap_(?:fd|value) (\d+)\b")
 _NUMBER = re.compile(r"(?<![\w.])\d{10,20}(?!\w)")
 _LARGE = 1 << 31
-# Where a line's notes begin.
+# The position at which a line's notes begin.
 _COLUMN = 40
 
 
@@ -120,7 +120,7 @@ def told_with_names(told: str, maps: Mapping[int, str]) -> str:
 
 
 def need_of(log: str, maps: Mapping[int, str]) -> str | None:
-    """What was known against what was needed, as the last line of a log tells it behind the reason's words; None where it tells nothing."""
+    """What was known and what was needed, from the last line of a log, after the reason's words; None if the line does not have it."""
     lines = log.splitlines()
     if len(lines) < 2 or not lines[-2].startswith("refused: slot "):
         return None

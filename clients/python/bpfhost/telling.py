@@ -1,4 +1,4 @@
-"""What the commands of this package share: how their words are read, and how they end: by one sentence on standard error and a status."""
+"""What the commands of this package share: they parse arguments, and report an error as one sentence on standard error and a status."""
 
 from __future__ import annotations
 
@@ -21,7 +21,7 @@ _AS_MODULE = "python3 -m "
 
 
 class Parser(argparse.ArgumentParser):
-    """The words of a command `python3 -m NAME`, or of an installed script; wrong ones are one sentence, with the status 2."""
+    """The arguments of a command `python3 -m NAME`, or of an installed script; a wrong one is reported in one sentence, with status 2."""
 
     def error(self, message: str) -> NoReturn:
         self.exit(WRONG_WORDS, f"{self.prog.removeprefix(_AS_MODULE).split()[0]}: {message}\n")
@@ -33,7 +33,9 @@ def called(script: str, module: str) -> str:
 
 
 def named(read: Callable[[str], Value], name: str) -> Callable[[str], Value]:
-    """What reads a word, and the name of what the word should be; a wrong one, which is a ValueError, is told by it."""
+    """A parser of an argument, and the name of what the argument should be; a wrong one, for which the parser raises ValueError, is reported
+    with it.
+    """
 
     def value(word: str) -> Value:
         return read(word)
@@ -43,7 +45,7 @@ def named(read: Callable[[str], Value], name: str) -> Callable[[str], Value]:
 
 
 def in_range(read: Callable[[str], Number], name: str, least: Number, most: float = math.inf) -> Callable[[str], Number]:
-    """The same of a number, which is not below `least` and not above `most`."""
+    """The same for a number from `least` to `most`."""
 
     def number(word: str) -> Number:
         found = read(word)
@@ -55,12 +57,12 @@ def in_range(read: Callable[[str], Number], name: str, least: Number, most: floa
 
 
 def add_program(parser: argparse.ArgumentParser) -> None:
-    """The word that names the program."""
+    """The argument that names the program."""
     parser.add_argument("--bpfhost", metavar="PATH", help="the program; else that of the variable BPFHOST, of PATH, or of this clone")
 
 
 def status_of(name: str, call: Callable[[], int], statuses: Mapping[type[Exception], int] | None = None) -> int:
-    """Runs the command of a name, and gives its status; an error is told behind the name.
+    """Runs the command of a name and returns its status; an error is printed after the name.
 
     `statuses` has those of this command's own errors.
     """
@@ -69,7 +71,7 @@ def status_of(name: str, call: Callable[[], int], statuses: Mapping[type[Excepti
         sys.stdout.flush()
         return status
     except BrokenPipeError:
-        # Nobody reads any more, so nothing is to be written at the end either.
+        # Nobody reads any more, so nothing may be written at the end either.
         os.dup2(os.open(os.devnull, os.O_WRONLY), sys.stdout.fileno())
         return _told(name, "what reads the output has ended", REFUSED)
     except ModuleNotFoundError as error:
@@ -84,7 +86,7 @@ def status_of(name: str, call: Callable[[], int], statuses: Mapping[type[Excepti
             print(error.log or "", end="", file=sys.stderr)
         return status
     except OSError as error:
-        # What has no name is one of the standard streams.
+        # A stream without a name is one of the standard streams.
         return _told(name, f"{error.filename or 'standard input or output'}: {error.strerror or error}", REFUSED)
     except KeyboardInterrupt:
         return _told(name, "interrupted", INTERRUPTED)

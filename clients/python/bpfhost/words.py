@@ -79,7 +79,7 @@ def errno_name(status: int) -> str:
 
 
 def errno_words(status: int) -> str:
-    """What a negative status means."""
+    """The meaning of a negative status."""
     try:
         return ERRNO_WORDS[Errno(-status)]
     except ValueError:
@@ -87,7 +87,7 @@ def errno_words(status: int) -> str:
 
 
 def reason_words(reason: int) -> str:
-    """What the reason of a refused program means."""
+    """The meaning of the reason for which a program is rejected."""
     return REASONS.get(reason, "not a reason of the verifier")
 
 

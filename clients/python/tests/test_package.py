@@ -1,4 +1,4 @@
-"""The package builds without a network, as an sdist and as a wheel, and its scripts run where the wheel is installed."""
+"""The package builds without a network, as an sdist and as a wheel, and its scripts run after the wheel is installed."""
 
 from __future__ import annotations
 
@@ -15,7 +15,7 @@ from bpfhost import __version__, hex_lines
 from tests.common import ONE, PROGRAM, TimedTest
 
 PACKAGE = Path(__file__).resolve().parents[1]
-# What builds by the hooks of the standard, where there is no package `build`.
+# Builds by the standard's hooks, if the package `build` is missing.
 HOOKS = "import sys, setuptools.build_meta as hooks; hooks.build_sdist(sys.argv[1]); hooks.build_wheel(sys.argv[1])"
 
 
@@ -27,7 +27,7 @@ class PackageTest(TimedTest):
             self.skipTest(f"no wheel and no sdist is built, as {' and '.join(missing)} is missing")
 
     def call(self, *words: str, folder: Path, **variables: str) -> str:
-        """What a program writes to standard output; nothing of this process's modules is seen by it, and no proxy leads anywhere."""
+        """What a program writes to standard output; it sees nothing of this process's modules, and no proxy leads to a network."""
         offline = {"PIP_NO_INDEX": "1", "PIP_DISABLE_PIP_VERSION_CHECK": "1", "http_proxy": "http://127.0.0.1:1", "https_proxy": "http://127.0.0.1:1"}
         environment = {name: value for name, value in os.environ.items() if name != "PYTHONPATH"} | offline | variables
         ended = subprocess.run(words, cwd=folder, env=environment, capture_output=True, text=True)
@@ -35,13 +35,13 @@ class PackageTest(TimedTest):
         return ended.stdout
 
     def sources(self) -> Path:
-        """A copy of the package, since setuptools writes beside its sources; the copy has no git history."""
+        """A copy of the package, since setuptools writes files next to its sources; the copy has no git history."""
         copy = self.scratch / "python"
         ignored = shutil.ignore_patterns("__pycache__", "build", "*.egg-info")
         return Path(shutil.copytree(PACKAGE, copy, ignore=ignored))
 
     def built(self) -> Path:
-        """The folder in which the sdist is, and the wheel that is built of it."""
+        """The folder in which the sdist is, and the wheel that is built from it."""
         out = self.scratch / "dist"
         if importlib.util.find_spec("build"):
             self.call(sys.executable, "-m", "build", "--no-isolation", "--outdir", str(out), str(self.sources()), folder=self.scratch)

@@ -1,4 +1,4 @@
-"""Why a program is refused: one message, and a log with the names of the source."""
+"""Why a program is rejected: one message, and a log with the names of the source."""
 
 from __future__ import annotations
 
@@ -70,7 +70,7 @@ outside a map's value: it changes bytes 8 to 15 of a value of 8 bytes (map sizes
         self.assertEqual(labels(told), [[*lines[:2], "... 3 more", *lines[5:9], "... 4 more", *lines[-2:]]])
 
     def test_a_graph_has_the_lines_of_the_source(self) -> None:
-        """Each block begins with its line, also where the block above ends with the same one."""
+        """Each block begins with its line, even if the block above ends with the same one."""
         source = {0: '// a.c:1: f("\\n");', 1: "// a.c:2: g();", 3: "// a.c:2: g();"}
         graph = graph_of_lines(["0: r0 = 1", "1: r1 = map_fd 3 ll"], ["3: call 1", "4: exit"], edge=' [label="taken:\\nr1 = map 3; r2 = 4294967295"]')
         told = annotated(graph, lambda slot: source.get(slot, ""), {3: "sizes"})
@@ -161,7 +161,7 @@ class Page(unittest.TestCase):
             self.assertRegex((top / page).read_text(), r"\([\w./]*\bVERIFIER\.md#fixes-in-c\)", page)
 
     def test_it_has_each_reason(self) -> None:
-        """The table of fixes has each reason that a program is refused for, but for want of memory."""
+        """The table of fixes has each reason for which a program is rejected, except out of memory."""
         section = (PACKAGE.parents[1] / PAGE).read_text().partition("## Fixes in C\n")[2].partition("\n### ")[0]
         listed = [int(number) for cell in re.findall(r"^\| ([\d, ]+) \|", section, re.M) for number in cell.split(", ")]
         self.assertEqual(sorted(listed), sorted(reason for reason in REASONS if reason < NO_MEMORY))

@@ -107,7 +107,7 @@ class PcapngCapture(Capture):
         )
 
     def _enhanced_packets(self, data: bytes, at: int, most: int) -> tuple[Piece | None, int]:
-        """The packets of whole enhanced packet blocks of one link type, from `at` up to the first other block, and where they end.
+        """The packets of whole enhanced packet blocks of one link type, from `at` up to the first other block, and the offset after them.
 
         It reads the end of a block together with the header of the next one, with one read for each packet. So if the bytes end before the
         type in the next packet's header, that block is left out.

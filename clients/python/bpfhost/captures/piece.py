@@ -119,7 +119,7 @@ class Capture(ABC):
 
     @abstractmethod
     def _next_piece(self, data: bytes, at: int, most: int) -> tuple[Piece | None, int]:
-        """The whole packets in bytes from `at` on, up to a number, and where they end; None if no whole packet is left.
+        """The whole packets in bytes from `at` on, up to a number, and the offset after them; None if no whole packet is left.
 
         Raises CaptureError if the bytes at `at` are wrong.
         """
@@ -135,7 +135,7 @@ class Capture(ABC):
             raise self._cut_off()
 
     def _pieces_in(self, data: bytes, most: int) -> Generator[Piece, None, int]:
-        """Yields the pieces in bytes; returns where the last one ends."""
+        """Yields the pieces in bytes; returns the offset after the last one."""
         at = 0
         while True:
             piece, at = self._next_piece(data, at, most)

@@ -1,4 +1,4 @@
-"""The words of the command."""
+"""The arguments of the command."""
 
 from __future__ import annotations
 
@@ -21,7 +21,7 @@ _Words: TypeAlias = "argparse._SubParsersAction[Parser]"
 
 _seconds = named(seconds, "time, as 1s or 500ms")
 _setting = named(setting, "NAME=VALUE")
-# Words of the context that a run leaves 0, and whose names say nothing of a packet that a capture tells.
+# Words of the context that a run leaves 0: their names do not stand for anything that a capture has.
 _TIMED = ("mark", "priority", "queue_mapping")
 _number = in_range(int, "number of at least 0", 0)
 _tenants = in_range(int, f"number from 1 to {MOST_TENANTS}", 1, MOST_TENANTS)
@@ -44,7 +44,7 @@ def _parser(is_about_filters: bool) -> Parser:
 
 
 def _word(words: _Words, name: str, call: Callable[[argparse.Namespace], int], does: str) -> Parser:
-    """A word with what it calls, and what that does."""
+    """A subcommand with the function that it calls, and a description."""
     parser = words.add_parser(name, help=does)
     parser.set_defaults(run=call)
     return parser
@@ -83,7 +83,7 @@ def _add_section(parser: Parser) -> None:
 
 
 def _add_form(parser: Parser) -> None:
-    """The words that say in which form an object is taken."""
+    """The arguments that name the form in which an object is read."""
     forms = parser.add_mutually_exclusive_group()
     forms.add_argument("--strict", action="store_true", help="refuse maps that the host does not have, and change none")
     forms.add_argument("--as-is", action="store_true", help="take programs as they are compiled, and change nothing")
@@ -126,9 +126,9 @@ def _add_frames(words: _Words) -> None:
 
 
 def parse(words: Sequence[str] | None) -> argparse.Namespace:
-    """The words of the command; wrong ones end the process with the status 2.
+    """The parsed arguments; wrong ones end the process with status 2.
 
-    Shells are given what completes them by argcomplete, where it is there (Debian: python3-argcomplete).
+    argcomplete completes them in a shell, if it is installed (Debian: python3-argcomplete).
     """
     said = sys.argv[1:] if words is None else words
     parser = _parser(filters.is_about_filters(said))

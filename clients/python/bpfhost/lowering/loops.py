@@ -1,8 +1,8 @@
-"""Loops, unrolled: a copy of a loop's blocks for each turn, as far as numbers that are known decide whether there is one more.
+"""Loops, unrolled: a copy of a loop's blocks for each iteration, as long as known numbers decide whether there is one more.
 
-The blocks are followed from the program's first one, each copy once, in topological order, with what is known on the edges that lead there
-(`values`). A comparison that is decided is left out. So a loop ends where its count is bounded: by constants, or by a range, as that of
-`size < 16 ? size : 16`.
+The blocks are followed from the program's first one, each copy once, in topological order, with what is known on the incoming edges
+(`values`). A comparison that is decided is left out. So a loop ends if its count is bounded: by constants, or by a range, as that of `size
+< 16 ? size : 16`.
 """
 
 from __future__ import annotations
@@ -16,23 +16,23 @@ from bpfhost.lowering.graph import Block, Graph, Origin
 from bpfhost.lowering.values import State, edges
 from bpfhost.numbers import MOST_SLOTS
 
-# Which copy of a block: by the places of loops and block in topological order, and between them the turns of the loops.
+# Names a copy of a block: the places of loops and block in topological order, and between them the iterations of the loops.
 Key = tuple[int, ...]
 Where = Callable[[Origin], str]
 
 
 @dataclass(frozen=True)
 class Nest:
-    """For each block its place in topological order, within each loop around it, and the headers of these loops, outermost first."""
+    """For each block, its place in topological order, within each loop around it, and the headers of these loops, outermost first."""
 
     places: Mapping[int, tuple[int, ...]]
     headers: Mapping[int, tuple[int, ...]]
 
 
 def unrolled(graph: Graph, where: Where) -> dict[int, Block]:
-    """The graph without cycles. `where` tells the line of an origin.
+    """The graph without cycles. `where` returns the line of an origin.
 
-    A LoweringError where the bound of a loop is not found, or there are more slots than a program has.
+    Raises LoweringError if the bound of a loop is not found, or if there are more slots than a program may have.
     """
     return _Unrolling(graph, _nest(graph, where), where).graph()
 
@@ -55,7 +55,7 @@ def _nest(graph: Graph, where: Where) -> Nest:
 
 
 def _header(graph: Graph, region: set[int], component: set[int], outer: int | None, where: Where) -> int:
-    """The block at which a loop is entered; there is one in what compilers write."""
+    """The block at which a loop is entered; compilers write loops with exactly one."""
     entered = {each for number in region - component for each in graph[number].successors() if each in component and each != outer}
     if 0 in component:
         entered.add(0)
@@ -66,7 +66,7 @@ def _header(graph: Graph, region: set[int], component: set[int], outer: int | No
 
 
 def _slots(graph: Graph, blocks: Collection[int]) -> str:
-    """The slots of a loop, in the function that it is of: those of functions that it calls are others."""
+    """The slots of a loop, in the function that has it; those of functions that it calls are not counted."""
     origins = [graph[number].origin for number in blocks]
     origins += [step.origin for number in blocks for step in (*graph[number].steps, *filter(None, (graph[number].jump,)))]
     frame = min(origin.frame for origin in origins)
@@ -75,7 +75,7 @@ def _slots(graph: Graph, blocks: Collection[int]) -> str:
 
 
 def _components(graph: Graph, region: set[int], header: int | None) -> list[set[int]]:
-    """The blocks of a region in topological order, those together that lead to one another without its header (Tarjan's algorithm)."""
+    """The blocks of a region in topological order; blocks that lead to one another without its header are together (Tarjan's algorithm)."""
     return _Tarjan(lambda number: [each for each in graph[number].successors() if each in region and each != header]).components(region)
 
 
@@ -135,7 +135,7 @@ class _Unrolling:
         self._waiting: list[tuple[Key, int]] = []
         self._found: dict[int, Block] = {}
         self._slots = 0
-        # The loops, by their headers, in which a comparison was decided for one more turn.
+        # The loops, by their headers, in which a comparison was decided for one more iteration.
         self._counted: set[int] = set()
         self._headers: dict[tuple[Key, int], State] = {}
 
@@ -148,13 +148,13 @@ class _Unrolling:
         return self._found
 
     def _key(self, block: int, turns: tuple[int, ...]) -> Key:
-        """The key of a block in such turns of the loops around it, and in the first turn of those that are further inside."""
+        """The key of a block in such iterations of the loops around it, and in the first iteration of inner loops."""
         places, count = self._nest.places[block], len(self._nest.headers[block])
         filled = (*turns, *(0 for _ in range(count - len(turns))))
         return tuple(number for pair in zip(places, filled) for number in pair) + places[count:]
 
     def _arrive(self, key: Key, block: int, state: State) -> int:
-        """Adds an edge to a copy of a block, and gives its number."""
+        """Adds an edge to a copy of a block, and returns its number."""
         copy = key, block
         if copy not in self._numbers:
             self._numbers[copy] = len(self._numbers)
@@ -164,7 +164,7 @@ class _Unrolling:
         return number
 
     def _follow(self, key: Key, number: int) -> None:
-        """Follows a copy of a block to those behind it."""
+        """Follows a copy of a block to its successors."""
         block, copy = self._graph[number], self._numbers[key, number]
         state = self._states.pop(copy)
         if self._nest.headers[number] and self._nest.headers[number][-1] == number:
@@ -193,7 +193,7 @@ class _Unrolling:
         return replace(block, next=self._edge(key, number, target, behind or state), jump=None, taken=None)
 
     def _edge(self, key: Key, number: int, target: int, state: State) -> int:
-        """Follows an edge: to the header of a loop around its block it leads into the next turn."""
+        """Follows an edge: an edge to the header of a loop around its block leads into the next iteration."""
         around, there = self._nest.headers[number], self._nest.headers[target]
         common = 0
         while common < min(len(around), len(there)) and around[common] == there[common]:
@@ -204,11 +204,11 @@ class _Unrolling:
         return self._arrive(self._key(target, tuple(turns)), target, state)
 
     def _decided(self, number: int, left_out: int) -> None:
-        """Notes that a comparison is decided which else leaves a loop."""
+        """Notes that a comparison is decided that otherwise leaves a loop."""
         self._counted |= set(self._nest.headers[number]) - set(self._nest.headers[left_out])
 
     def _check_progress(self, key: Key, header: int, state: State) -> None:
-        """A LoweringError where nothing is known at a loop's header that was not known a turn ago: then no turn is the last one."""
+        """Raises LoweringError if nothing is known at a loop's header that was not known an iteration ago: then no iteration is the last one."""
         count = len(self._nest.headers[header])
         turn = key[2 * count - 1]
         if turn:
@@ -234,7 +234,7 @@ class _Unrolling:
         return _slots(self._graph, [number for number, headers in self._nest.headers.items() if header in headers])
 
     def _line(self, header: int) -> str:
-        """The line of a loop: of the comparison that leaves it, which most often has the loop's condition, or else of its first block."""
+        """The line of a loop: of the comparison that leaves it, which mostly has the loop's condition, or else of its first block."""
         for number, block in self._graph.items():
             inside = [header in self._nest.headers[each] for each in block.successors()]
             if header in self._nest.headers[number] and block.jump is not None and not all(inside):

@@ -11,7 +11,7 @@ from bpfhost.objects.btf import Array, Btf, Composite, DataSection, Enum, Float,
 from bpfhost.objects.errors import ObjectError
 from bpfhost.objects.layout import DEEPEST, POINTER_SIZE, resolve, size_of, spelling
 
-# A value with more parts is not shown: a map's value has 4,096 bytes, so only a type that is no compiler's is that large.
+# A value with more parts is not shown: a map's value has at most 4,096 bytes, so no compiler's type is that large.
 MOST_PARTS = 65_536
 
 
@@ -77,7 +77,7 @@ def texts(value: Value) -> object:
 
 
 def decode(btf: Btf, type_id: int, data: bytes) -> Value:
-    """The value that the first bytes are. An ObjectError where there are too few, or where the type has no values."""
+    """The value of the first bytes. Raises ObjectError if there are too few, or if the type has no values."""
     size = size_of(btf, type_id)
     if len(data) < size:
         raise ObjectError(f"a value of type {spelling(btf, type_id)} has {size} bytes, and there are {len(data)}")
@@ -94,7 +94,7 @@ class _Decoder:
     left: int = MOST_PARTS
 
     def value(self, type_id: int, at: int, depth: int) -> Value:
-        """The value of a type at an offset in bytes, with so many types in one another at most."""
+        """The value of a type at an offset in bytes, with a limit on nested types."""
         self._count(depth)
         found = resolve(self.btf, type_id)
         size = address_size(self.btf, type_id)
@@ -136,7 +136,7 @@ class _Decoder:
             written = _string(self._bytes(at, found.count))
             if written is not None:
                 return written
-        # Elements without bytes are as many as one: none of them tells anything.
+        # Elements without bytes are shown once: all are the same.
         count = found.count if size else 0
         return Elements(tuple(self.value(found.element, at + number * size, depth - 1) for number in range(count)))
 
@@ -147,7 +147,7 @@ class _Decoder:
             if member.name:
                 fields.append((member.name, value))
             elif isinstance(value, Fields):
-                # C reads the members of an anonymous struct or union as those of the type around it.
+                # C treats the members of an anonymous struct or union as members of the type around it.
                 fields.extend(value.members)
         return fields
 
@@ -180,19 +180,19 @@ class _Decoder:
         return self.data[at : at + size]
 
     def _bits(self, first: int, count: int) -> int:
-        """The number of the bits from one on, the lowest bit of the lowest byte first (a little-endian machine)."""
+        """The number in a range of bits, from the lowest bit of the lowest byte on (little-endian)."""
         at = first // 8
         whole = int.from_bytes(self._bytes(at, (first + count + 7) // 8 - at), "little")
         return whole >> first % 8 & (1 << count) - 1
 
 
-# Types of linux/types.h whose values are addresses, and the sizes of arrays of bytes that are taken for some: of IPv4, Ethernet and IPv6.
+# Types of linux/types.h whose values are addresses, and the sizes of arrays of bytes that are shown as addresses: IPv4, Ethernet and IPv6.
 _ADDRESS = "__be32"
 _ADDRESS_SIZES = (4, 6, 16)
 
 
 def address_size(btf: Btf, type_id: int) -> int | None:
-    """The bytes of an address, where a type is one: `__be32`, or an array of 4, 6 or 16 unsigned bytes; else None."""
+    """The bytes of an address, if the type is one: `__be32`, or an array of 4, 6 or 16 unsigned bytes; else None."""
     named = type_id
     for _ in range(DEEPEST):
         each = btf.type(named)
@@ -210,7 +210,7 @@ def address_size(btf: Btf, type_id: int) -> int | None:
 
 
 def _address(found: object, data: bytes) -> Leaf:
-    """An address as text; for JSON it stays the number, or the list of bytes, that its type has."""
+    """An address as text; for JSON, the number or the list of bytes of its type."""
     text = data.hex(":") if len(data) == 6 else str(ipaddress.ip_address(data))
     return Leaf(list(data) if isinstance(found, Array) else int.from_bytes(data, "little"), text)
 
@@ -249,7 +249,7 @@ def _float(data: bytes) -> Leaf:
 
 
 def _string(data: bytes) -> Leaf | None:
-    """The string of an array of char: printable ASCII, and behind it zeros alone; None where it is something else."""
+    """The string in an array of char: printable ASCII, followed only by zeros; None if it is something else."""
     written = data.rstrip(b"\0")
     if not all(0x20 <= byte < 0x7F for byte in written):
         return None

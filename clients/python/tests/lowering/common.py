@@ -11,7 +11,7 @@ from bpfhost.lowering.code import Function, functions_of
 from bpfhost.objects import CallSlot, ObjectFile, ObjectMap, ObjectProgram, SourceLine
 from tests.common import PROGRAM, HostTest
 
-# The number of a helper that there is not stands for a call of a function until its slot is written.
+# The number of a helper that does not exist; it marks a call of a function until its slot is written.
 _FIRST_CALL = 1000
 _CALL = re.compile(r"call (\w*[a-z]\w*)")
 
@@ -60,7 +60,7 @@ def decoded_functions(found: ObjectFile) -> tuple[Function, ...]:
 
 
 class LoweringTest(HostTest):
-    """A test that lowers programs and asks the verifier."""
+    """A test that lowers programs with the verifier's verdicts."""
 
     def lowered(self, found: ObjectFile) -> Lowered:
         """The program of an object, lowered by the verdicts of the program under test."""

@@ -1,4 +1,4 @@
-"""Objects on a running host: what their programs answer, and what they leave in maps and variables."""
+"""Objects on a running host: the results of their programs, and the contents of maps and variables."""
 
 from __future__ import annotations
 
@@ -82,7 +82,7 @@ class OnHost(ClangTest):
         self.assertEqual(loaded.run("text", mark=5), ord("o") + 7)
 
     def test_optimizations(self) -> None:
-        """The answers do not hang on how clang is told to compile."""
+        """The results do not depend on clang's options."""
         for flags in (("-O1",), ("-O3", "-mcpu=v3"), ("-O2", "-g0"), ("-Os",)):
             with self.subTest(flags):
                 loaded = Loaded(self.host, self.source("variables.c", *flags))
@@ -106,7 +106,7 @@ class OnHost(ClangTest):
         self.assertTrue(refused.exception.has(Errno.EMFILE))
 
     def test_every_limit_is_the_hosts(self) -> None:
-        """What is loaded at a limit is no refusal of the host."""
+        """An object at a limit is loaded, and the host does not refuse it."""
         size = 'struct { __uint(type, 1); __uint(key_size, 512); __uint(value_size, 4096); __uint(max_entries, 16); } m%d SEC(".maps");'
         found = self.text("\n".join(size % number for number in range(4)) + 'SEC("socket") int f(struct __sk_buff *skb) { return 5; }')
         self.assertEqual(Loaded(self.host, found).run("f"), 5)

@@ -14,6 +14,7 @@ from bpfhost.classic.steps import (
     Graph,
     LoadContext,
     LoadHeader,
+    LoadLength,
     LoadPacket,
     LoadScratch,
     Operate,
@@ -65,7 +66,7 @@ def live(graph: Graph, order: list[Place]) -> Live:
 
 def uses_context(step: Step) -> bool:
     """Whether a step reads the context, or hands it to a call."""
-    return isinstance(step, LoadContext | LoadPacket | Fetch)
+    return isinstance(step, LoadContext | LoadLength | LoadPacket | Fetch)
 
 
 def after_calls(graph: Graph, order: list[Place]) -> set[Place]:
@@ -149,30 +150,36 @@ def _greatest_result(operator: Operator, a: int, b: int, is_number: bool) -> int
 
 
 def in_packet_order(graph: Graph, order: list[Place], needed: Live) -> dict[Place, int]:
-    """Loads of the packet into A, and the tests of what they load, for which the packet's byte order does as well; each with the size.
+    """Loads of the packet, and the tests of what they load, for which the packet's byte order does as well; each with the size.
 
     Such a number is tested for equality and for common bits with numbers alone, and each of its tests sees loads of one size alone.
     """
-    groups = _Groups()
-    # The step that wrote A last, or where ways meet one of those that did, which then have one group if A is read later.
+    return _in_packet_order(graph, order, needed, Register.A) | _in_packet_order(graph, order, needed, Register.MOVED)
+
+
+def _in_packet_order(graph: Graph, order: list[Place], needed: Live, register: Register) -> dict[Place, int]:
+    """Those into one register."""
+    groups = _Groups(register)
+    # The step that wrote it last, or where ways meet one of those that did, which then have one group if it is read later.
     sources: dict[Place, Place | str] = {graph.entry: _START}
     for place in order:
         step, source = graph.steps[place], sources[place]
         is_needed = needed.needs(place, step)
-        if is_needed and Register.A in reads(step):
+        if is_needed and register in reads(step):
             groups.join(place, source)
-        behind = place if is_needed and written(step) is Register.A else source
+        behind = place if is_needed and written(step) is register else source
         for follower in graph.followers[place]:
             met = sources.setdefault(follower, behind)
-            if met != behind and Register.A in needed.before[follower]:
+            if met != behind and register in needed.before[follower]:
                 groups.join(met, behind)
     return groups.of_one_size(graph)
 
 
 class _Groups:
-    """Steps that have to agree on the byte order of A, each led by one of them."""
+    """Steps that have to agree on the byte order of a register, each led by one of them."""
 
-    def __init__(self) -> None:
+    def __init__(self, register: Register) -> None:
+        self._register = register
         self._leaders: dict[Place | str, Place | str] = {}
 
     def _leader(self, each: Place | str) -> Place | str:
@@ -190,23 +197,21 @@ class _Groups:
         sizes: dict[Place | str, set[int]] = {}
         members = [(each, self._leader(each)) for each in list(self._leaders)]
         for each, leader in members:
-            if not _is_test_of_bytes(graph, each):
-                sizes.setdefault(leader, set()).add(_loaded_size(graph, each))
+            if not self._is_test_of_bytes(graph, each):
+                sizes.setdefault(leader, set()).add(self._loaded_size(graph, each))
         agreed = {leader: size for leader, (size, *others) in sizes.items() if size > 1 and not others}
         return {each: agreed[leader] for each, leader in members if leader in agreed and isinstance(each, Place)}
 
+    def _is_test_of_bytes(self, graph: Graph, each: Place | str) -> bool:
+        """Whether this is a test that does as well with the bytes of the register and of a number in another order."""
+        match graph.steps[each] if isinstance(each, Place) else None:
+            case Branch(register=register, test=Test.EQ | Test.SET, operand=int()):
+                return register is self._register
+        return False
 
-def _is_test_of_bytes(graph: Graph, each: Place | str) -> bool:
-    """Whether this is a test that does as well with the bytes of A and of a number in another order."""
-    match graph.steps[each] if isinstance(each, Place) else None:
-        case Branch(register=Register.A, test=Test.EQ | Test.SET, operand=int()):
-            return True
-    return False
-
-
-def _loaded_size(graph: Graph, each: Place | str) -> int:
-    """The size of a load of the packet into A; 0 of all else, which needs the number itself or makes one."""
-    match graph.steps[each] if isinstance(each, Place) else None:
-        case LoadHeader(to=Register.A, size=size) | LoadPacket(to=Register.A, size=size):
-            return size
-    return 0
+    def _loaded_size(self, graph: Graph, each: Place | str) -> int:
+        """The size of a load of the packet; 0 of all else, which needs the number itself or makes one."""
+        match graph.steps[each] if isinstance(each, Place) else None:
+            case LoadHeader(to=register, size=size) | LoadPacket(to=register, size=size):
+                return size if register is self._register else 0
+        return 0

@@ -9,10 +9,10 @@ from bpfhost.numbers import SLOT_SIZE
 
 R0, R1, R2, R3, R4, R5, R10 = 0, 1, 2, 3, 4, 5, 10
 # Opcodes: a `W` works on 32 bits, a `K` has a number for its operand, an `X` a register.
-MOVE_K_W, MOVE_X_W, MOVE_X, ADD_K, ADD_K_W, ADD_X = 0xB4, 0xBC, 0xBF, 0x07, 0x04, 0x0F
+MOVE_K, MOVE_K_W, MOVE_X_W, MOVE_X, ADD_K, ADD_K_W, ADD_X = 0xB7, 0xB4, 0xBC, 0xBF, 0x07, 0x04, 0x0F
 LEFT_K_W, OR_X_W, NEGATE_W, TO_BIG_ENDIAN = 0x64, 0x4C, 0x84, 0xDC
 JUMP, CALL, EXIT = 0x05, 0x85, 0x95
-JUMP_NOT_EQUAL_K, JUMP_ABOVE_K = 0x55, 0x25
+JUMP_NOT_EQUAL_K, JUMP_ABOVE_K, JUMP_BELOW_K_W, JUMP_NOT_BELOW_K_W = 0x55, 0x25, 0xA6, 0x36
 STORE_WORD, STORE_WORD_K = 0x63, 0x62
 LOAD = {4: 0x61, 2: 0x69, 1: 0x71}
 LOAD_BYTES = 26

@@ -5,7 +5,7 @@ from __future__ import annotations
 from collections.abc import Hashable
 
 from bpfhost.classic import slots_writer as op
-from bpfhost.classic.ancillary import ContextWord
+from bpfhost.classic.ancillary import LENGTH, ContextWord
 from bpfhost.classic.instructions import Operator
 from bpfhost.classic.knowledge import Known
 from bpfhost.classic.slots_writer import SlotsWriter
@@ -15,6 +15,7 @@ from bpfhost.classic.steps import (
     Headers,
     LoadContext,
     LoadHeader,
+    LoadLength,
     LoadPacket,
     LoadScratch,
     Negate,
@@ -26,7 +27,7 @@ from bpfhost.classic.steps import (
     StoreScratch,
 )
 
-NUMBERS = {Register.A: 7, Register.X: 8}
+NUMBERS = {Register.A: 7, Register.X: 8, Register.LENGTH: 9, Register.MOVED: 4}
 CONTEXT = 6
 _ALU, _BY_REGISTER = 0x04, 0x08
 _FARTHEST = 2**31 - 1
@@ -53,6 +54,8 @@ class StepSlots:
                 put(op.MOVE_X_W, NUMBERS[to], NUMBERS[source])
             case LoadContext(to=to, word=word):
                 self._load_word(NUMBERS[to], context, word)
+            case LoadLength():
+                self._load_word(NUMBERS[Register.LENGTH], context, LENGTH)
             case LoadScratch(to=to, word=each):
                 put(op.LOAD[4], NUMBERS[to], op.R10, offset=scratch(each))
             case StoreScratch(word=each, value=int() as number):
@@ -97,24 +100,26 @@ class StepSlots:
 
     # Calls of the helper that copies bytes of the packet.
 
-    def fetch(self, headers: Headers, context: int, shorter: Hashable) -> None:
-        """Headers come to the stack; a jump to a label where the packet is shorter."""
+    def fetch(self, headers: Headers, context: int) -> None:
+        """Headers come to the stack."""
         self.number(op.R2, headers.first)
-        self._call(context, self._layout.place(headers.first), headers.count, shorter)
+        self._call(context, self._layout.place(headers.first), headers.count)
 
-    def load(self, step: LoadPacket, context: int, known: Known, drop: Hashable) -> None:
-        """Bytes of the packet come to the buffer; a jump to a label where the packet ends before."""
+    def load(self, step: LoadPacket, context: int, known: Known, shorter: Hashable | None) -> None:
+        """Bytes of the packet come to the buffer; a jump to a label where the packet ends before, if it may."""
         if step.is_behind_x:
-            self._offset_behind_x(step, known, drop)
+            self._offset_behind_x(step, known, shorter)
         else:
             self.number(op.R2, step.offset)
-        self._call(context, BUFFER, step.size, drop)
+        self._call(context, BUFFER, step.size)
+        if shorter is not None:
+            self._writer.jump(shorter, op.JUMP_NOT_EQUAL_K, op.R0)
 
     def take(self, step: LoadPacket, in_order: bool) -> None:
         """The register becomes what the buffer has."""
         self._load_stack(NUMBERS[step.to], BUFFER, step.size, in_order)
 
-    def _offset_behind_x(self, step: LoadPacket, known: Known, drop: Hashable) -> None:
+    def _offset_behind_x(self, step: LoadPacket, known: Known, drop: Hashable | None) -> None:
         """X and an offset in register 2: the helper looks at 32 bits of it, so a sum that needs more is refused first."""
         put = self._writer.put
         put(op.MOVE_X_W, op.R2, NUMBERS[Register.X])
@@ -122,16 +127,15 @@ class StepSlots:
             return
         if step.wraps or known[Register.X] + step.offset < 2**32:
             put(op.ADD_K_W, op.R2, number=step.offset)
-        else:
+        elif drop is not None:
             put(op.ADD_K, op.R2, number=step.offset)
             self._writer.jump(drop, op.JUMP_ABOVE_K, op.R2, number=_FARTHEST)
 
-    def _call(self, context: int, place: int, size: int, shorter: Hashable) -> None:
+    def _call(self, context: int, place: int, size: int) -> None:
         put = self._writer.put
         if context != op.R1:
             put(op.MOVE_X, op.R1, context)
-        put(op.MOVE_X, op.R3, op.R10)
-        put(op.ADD_K, op.R3, number=place)
+        put(op.MOVE_K, op.R3, number=place)
+        put(op.ADD_X, op.R3, op.R10)
         self.number(op.R4, size)
         put(op.CALL, number=op.LOAD_BYTES)
-        self._writer.jump(shorter, op.JUMP_NOT_EQUAL_K, op.R0)

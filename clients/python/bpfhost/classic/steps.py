@@ -5,18 +5,24 @@ from __future__ import annotations
 from collections.abc import Iterator, Mapping
 from dataclasses import dataclass, field
 from enum import Enum
+from typing import NamedTuple
 
 from bpfhost.classic.ancillary import ContextWord
 from bpfhost.classic.instructions import Operator, Test
 
 
 class Register(Enum):
-    """The registers of a classic program."""
+    """The registers of a classic program, and two of its translation."""
 
     A = "A"
     X = "X"
+    # The packet's length, and what a test reads that was moved to another place.
+    LENGTH = "length"
+    MOVED = "moved"
 
 
+# In place of an instruction's number: the end that a load out of the packet leads to.
+NO_INSTRUCTION = -1
 # What steps read and write: a register, a word of scratch memory by its number, or the run's context.
 CONTEXT = "context"
 Storage = Register | int | str
@@ -31,9 +37,14 @@ class Headers:
     first: int
     count: int
 
+    @property
+    def end(self) -> int:
+        """Where they end: a packet that has them has so many bytes at least."""
+        return self.first + self.count
+
     def has(self, offset: int, size: int) -> bool:
         """Whether these bytes of the packet are among them."""
-        return self.first <= offset and offset + size <= self.first + self.count
+        return self.first <= offset and offset + size <= self.end
 
 
 @dataclass(frozen=True)
@@ -94,7 +105,8 @@ class LoadHeader:
 class LoadPacket:
     """The register becomes bytes of the packet, by a call; the second follower is where the packet ends before them.
 
-    They stand at an offset, or at X and the offset together, whose sum has 32 bits where it wraps, and else as many as it needs.
+    There is none where the packet is known to have them. They stand at an offset, or at X and the offset together, whose sum has 32 bits
+    where it wraps, and else as many as it needs.
     """
 
     to: Register
@@ -128,8 +140,20 @@ class Branch:
 
 
 @dataclass(frozen=True)
+class LoadLength:
+    """The register for the packet's length becomes it."""
+
+
+@dataclass(frozen=True)
+class TestLength:
+    """The first follower is where the packet has so many bytes at least, and the second is where it is shorter."""
+
+    least: int
+
+
+@dataclass(frozen=True)
 class Fetch:
-    """Headers come to the stack; the second follower is where the packet ends before them."""
+    """Headers come to the stack, of a packet that is known to have them."""
 
     headers: Headers
 
@@ -142,26 +166,43 @@ class Return:
 
 
 Step = (
-    Pass | SetNumber | Copy | LoadContext | LoadScratch | StoreScratch | LoadHeader | LoadPacket | Operate | Negate | Branch | Fetch | Return
+    Pass
+    | SetNumber
+    | Copy
+    | LoadContext
+    | LoadLength
+    | LoadScratch
+    | StoreScratch
+    | LoadHeader
+    | LoadPacket
+    | Operate
+    | Negate
+    | Branch
+    | TestLength
+    | Fetch
+    | Return
 )
 
 
-@dataclass(frozen=True)
-class View:
+class View(NamedTuple):
     """What is known where an instruction stands: which headers lie on the stack, and what their first bytes of IPv4 are.
 
-    `usual` is the offset of a byte that was seen to be 0x45, as IPv4 without options begins; `is_x_usual` is whether X is the header's
-    length that this byte tells, and so no register is needed for it.
+    `fetched` is None where no headers are looked for any more: the packet is too short for some, or has options. `usual` is the offset of
+    a byte that was seen to be 0x45, as IPv4 without options begins; `is_x_usual` is whether X is the header's length that this byte
+    tells, and so no register is needed for it.
     """
 
-    headers: Headers | None = None
+    fetched: tuple[Headers, ...] | None = None
     usual: int | None = None
     is_x_usual: bool = False
 
+    def has(self, offset: int, size: int) -> bool:
+        """Whether these bytes of the packet lie on the stack."""
+        return any(headers.has(offset, size) for headers in self.fetched or ())
 
-@dataclass(frozen=True)
-class Place:
-    """A step by its instruction, the view there, and its number among the steps of that instruction."""
+
+class Place(NamedTuple):
+    """A step by its instruction, the view there, and its number among the steps of that instruction; copies have numbers below 0."""
 
     at: int
     view: View
@@ -175,6 +216,17 @@ class Graph:
     entry: Place
     steps: dict[Place, Step] = field(default_factory=dict)
     followers: dict[Place, tuple[Place, ...]] = field(default_factory=dict)
+
+    def copy(self) -> Graph:
+        """The same steps in a graph of its own."""
+        return Graph(self.entry, dict(self.steps), dict(self.followers))
+
+    def end(self, view: View) -> Place:
+        """The end with the result 0 that a load out of the packet leads to."""
+        place = Place(NO_INSTRUCTION, View(view.fetched))
+        self.steps.setdefault(place, Return(0))
+        self.followers.setdefault(place, ())
+        return place
 
     def order(self) -> list[Place]:
         """The places that a path leads to, each before its followers.
@@ -211,6 +263,8 @@ def reads(step: Step) -> tuple[Storage, ...]:
             return (value,)
         case LoadPacket(is_behind_x=True):
             return (Register.X,)
+        case TestLength():
+            return (Register.LENGTH,)
         case Operate(to=to, operand=Register() as operand):
             return (to, operand)
         case Operate(to=to):
@@ -233,6 +287,8 @@ def written(step: Step) -> Storage | None:
             return word
         case Negate():
             return Register.A
-        case Pass() | Branch() | Fetch() | Return():
+        case LoadLength():
+            return Register.LENGTH
+        case Pass() | Branch() | TestLength() | Fetch() | Return():
             return None
     return step.to

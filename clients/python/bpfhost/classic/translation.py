@@ -8,6 +8,8 @@ from dataclasses import dataclass
 from bpfhost.classic.checking import check
 from bpfhost.classic.errors import ClassicError
 from bpfhost.classic.instructions import Instruction
+from bpfhost.classic.lengths import with_few_tests
+from bpfhost.classic.moving import with_tests_moved
 from bpfhost.classic.semantics import Meaning
 from bpfhost.classic.stack import MOST_HEADERS
 from bpfhost.classic.steps import Graph, Headers, LoadHeader
@@ -15,9 +17,8 @@ from bpfhost.classic.unfolding import Plan, unfolded
 from bpfhost.classic.writing import written_slots
 from bpfhost.numbers import MOST_SLOTS, SLOT_SIZE
 
-# Where no load ends within so many bytes, packets that end there are common enough for a bound of their own: the headers of IPv4 are so
-# much shorter than those of IPv6.
-_GAP = 16
+# So many bytes come to the stack by one call at most: what lies farther is brought by a call of its own, for the packets that need it.
+_MOST_BY_CALL = 40
 _PLAIN = Plan()
 
 
@@ -51,7 +52,7 @@ def translate(instructions: Sequence[Instruction], meaning: Meaning = Meaning(),
         graph = unfolded(instructions, plan, meaning)
         if graph is None:
             continue
-        written = written_slots(graph)
+        written = written_slots(with_few_tests(with_tests_moved(graph)))
         if written.slots is not None:
             return Translation(written.slots, written.lines, plan != _PLAIN)
         count = written.count
@@ -61,7 +62,7 @@ def translate(instructions: Sequence[Instruction], meaning: Meaning = Meaning(),
 def _plans(instructions: Sequence[Instruction], meaning: Meaning) -> Iterator[Plan]:
     """Ways to bring headers to the stack, the one with the most slots first, and the one without headers last."""
     all_loads = unfolded(instructions, Plan((Headers(0, MOST_HEADERS),), has_usual=True), meaning)
-    headers = _bounds(all_loads) if all_loads else ()
+    headers = _headers(all_loads) if all_loads else ()
     if headers:
         yield Plan(headers, has_usual=True)
         if len(headers) > 1:
@@ -70,13 +71,14 @@ def _plans(instructions: Sequence[Instruction], meaning: Meaning) -> Iterator[Pl
     yield _PLAIN
 
 
-def _bounds(graph: Graph) -> tuple[Headers, ...]:
-    """The headers that loads need: all of them, and those below the widest gap, where one is wide. None where one load is all there is."""
-    loads = sorted((step.offset + step.size, step.offset) for step in graph.steps.values() if isinstance(step, LoadHeader))
-    if len(loads) < 2:
-        return ()
-    first, ends = min(offset for _, offset in loads), [end for end, _ in loads]
-    # Below a gap there are two loads at least: for one a call of its own is as good.
-    gap, end = max(((above - below, below) for below, above in zip(ends[1:], ends[2:])), default=(0, 0))
-    whole = Headers(first, ends[-1] - first)
-    return (whole, Headers(first, end - first)) if gap >= _GAP else (whole,)
+def _headers(graph: Graph) -> tuple[Headers, ...]:
+    """The bytes that loads need, each with others that lie close to it. For one load a call of its own is as good."""
+    found: list[Headers] = []
+    loads = sorted({(step.offset, step.size) for step in graph.steps.values() if isinstance(step, LoadHeader)})
+    while loads:
+        first = loads[0][0]
+        close = [(offset, size) for offset, size in loads if offset + size <= first + _MOST_BY_CALL]
+        if len(close) > 1:
+            found.append(Headers(first, max(offset + size for offset, size in close) - first))
+        loads = [each for each in loads if each not in close]
+    return tuple(found)

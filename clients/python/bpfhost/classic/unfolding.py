@@ -3,7 +3,7 @@
 from __future__ import annotations
 
 from collections.abc import Sequence
-from dataclasses import dataclass, replace
+from dataclasses import dataclass
 
 from bpfhost.classic.ancillary import LENGTH, WIRE_LENGTH, context_word, is_exclusive_or, without_word
 from bpfhost.classic.checking import refused_at
@@ -28,6 +28,7 @@ from bpfhost.classic.steps import (
     Headers,
     LoadContext,
     LoadHeader,
+    LoadLength,
     LoadPacket,
     LoadScratch,
     Negate,
@@ -40,6 +41,7 @@ from bpfhost.classic.steps import (
     SetNumber,
     Step,
     StoreScratch,
+    TestLength,
     View,
 )
 
@@ -50,9 +52,8 @@ USUAL_BYTE, USUAL_LENGTH = 0x45, 20
 _FARTHEST = 2**31 - 1
 _SHIFTS = (Operator.LSH, Operator.RSH)
 _DIVISIONS = (Operator.DIV, Operator.MOD)
-_SHORT = View()
-# Behind the last instruction: the end that a load out of the packet leads to.
-_DROP = -1
+# Nothing is on the stack, and nothing comes to it: each load of the packet is a call.
+_BY_CALLS = View()
 # A graph with more steps would have more slots than a program may have, or take too long to look at: a program can be made so that each
 # of its instructions stands for hundreds of views.
 _MOST_STEPS = 8 * MOST_INSTRUCTIONS
@@ -60,10 +61,14 @@ _MOST_STEPS = 8 * MOST_INSTRUCTIONS
 
 @dataclass(frozen=True)
 class Plan:
-    """How headers come to the stack: which are tried first, second and so on, and whether the usual IPv4 header is a case of its own."""
+    """Which headers come to the stack, each where the first load of them stands, and whether the usual IPv4 header is a case of its own."""
 
     headers: tuple[Headers, ...] = ()
     has_usual: bool = False
+
+    def with_bytes(self, offset: int, size: int) -> Headers | None:
+        """The headers that have these bytes of the packet."""
+        return next((each for each in self.headers if each.has(offset, size)), None)
 
 
 def unfolded(instructions: Sequence[Instruction], plan: Plan, meaning: Meaning) -> Graph | None:
@@ -79,17 +84,15 @@ class _Unfolding:
         self._instructions = instructions
         self._plan = plan
         self._meaning = meaning
-        first = Place(0, View(plan.headers[0]), -1) if plan.headers else Place(0, _SHORT)
+        first = Place(0, View(()), -1) if plan.headers else Place(0, _BY_CALLS)
         self._graph = Graph(first)
         self._place = first
         self._left: list[Place] = []
 
     def graph(self) -> Graph | None:
         """All steps that a path leads to, if they are not too many."""
-        for headers, following in zip(self._plan.headers, (*self._plan.headers[1:], None)):
-            shorter = Place(0, View(following), -1) if following else Place(0, _SHORT)
-            self._place = Place(0, View(headers), -1)
-            self._end(Fetch(headers), Place(0, View(headers)), shorter)
+        if self._plan.headers:
+            self._end(LoadLength(), Place(0, View(())))
         self._left.append(self._graph.entry)
         while self._left:
             if len(self._graph.steps) > _MOST_STEPS:
@@ -119,19 +122,18 @@ class _Unfolding:
         self._left += followers
 
     def _next_part(self) -> Place:
-        return replace(self._place, part=self._place.part + 1)
+        return self._place._replace(part=self._place.part + 1)
 
     def _drop(self) -> Place:
         """The end with the result 0."""
-        place = Place(_DROP, _SHORT)
-        self._graph.steps.setdefault(place, Return(0))
-        self._graph.followers.setdefault(place, ())
-        return place
+        return self._graph.end(self._place.view)
 
     def _unfold(self, place: Place) -> None:
         at, view = place.at, place.view
         instruction = self._instructions[at]
         form, k = FORMS[instruction.code], instruction.k
+        if self._fetches(view, form, k):
+            return
         following = Place(at + 1, self._view_behind(view, form))
         to = X if form.is_x else A
         match form.kind:
@@ -166,7 +168,7 @@ class _Unfolding:
     def _view_behind(view: View, form: Form) -> View:
         """The view behind an instruction that is no jump: whether it writes X."""
         writes_x = form.mnemonic == "tax" or (form.is_x and form.kind in (Kind.NUMBER, Kind.SCRATCH, Kind.LENGTH))
-        return replace(view, is_x_usual=False) if writes_x else view
+        return view._replace(is_x_usual=False) if writes_x else view
 
     @staticmethod
     def _x(view: View) -> Operand:
@@ -191,7 +193,7 @@ class _Unfolding:
         if operand is X and operator in _DIVISIONS:
             self._add_branch(Branch(X, Test.EQ, 0), self._drop())
         elif operand is X and operator in _SHIFTS and self._meaning.semantics is Semantics.LIBPCAP:
-            far = replace(self._place, part=self._place.part + 2)
+            far = self._place._replace(part=self._place.part + 2)
             self._graph.steps[far], self._graph.followers[far] = SetNumber(A, 0), (following,)
             self._add_branch(Branch(X, Test.GT, 31), far)
         self._end(Operate(A, operator, operand), following)
@@ -204,6 +206,38 @@ class _Unfolding:
 
     # Loads of the packet.
 
+    def _fetches(self, view: View, form: Form, k: int) -> bool:
+        """Whether an instruction is a load of headers that come to the stack first: then it is unfolded once more, in the view behind that.
+
+        A packet that is too short for them goes the way with a call for each load.
+        """
+        offset = self._offset(view, form, k)
+        headers = None if offset is None else self._plan.with_bytes(offset, form.size)
+        if view.fetched is None or headers is None or headers in view.fetched:
+            return False
+        shorter = self._place._replace(view=_BY_CALLS)
+        if view.is_x_usual:
+            by_calls, shorter = shorter, self._place._replace(part=self._place.part + 2)
+            self._graph.steps[shorter], self._graph.followers[shorter] = SetNumber(X, USUAL_LENGTH), (by_calls,)
+            self._left.append(by_calls)
+        fetched = tuple(each for each in self._plan.headers if each == headers or each in view.fetched)
+        self._add(TestLength(headers.end), shorter)
+        self._end(Fetch(headers), Place(self._place.at, view._replace(fetched=fetched)))
+        return True
+
+    def _offset(self, view: View, form: Form, k: int) -> int | None:
+        """Where a load of the packet has its bytes, if that is known."""
+        match form.kind:
+            case Kind.INDIRECT if view.is_x_usual:
+                return self._offset_behind_x(k)
+            case Kind.ABSOLUTE | Kind.HEADER_LENGTH:
+                return k
+        return None
+
+    def _offset_behind_x(self, k: int) -> int:
+        """X + k where X is known."""
+        return (k + USUAL_LENGTH) % 2**32 if self._meaning.semantics is Semantics.KERNEL else k + USUAL_LENGTH
+
     def _load_at(self, at: int, k: int, size: int, following: Place) -> None:
         """A load at k, or an ancillary one."""
         if k >= LINK_HEADER:
@@ -213,13 +247,22 @@ class _Unfolding:
 
     def _load(self, to: Register, offset: int, size: int, following: Place) -> None:
         """A load at an offset that is known: from the stack where it lies there."""
-        headers = following.view.headers
         if offset > _FARTHEST:
             self._end(Pass(), self._drop())
-        elif headers and headers.has(offset, size):
+        elif following.view.has(offset, size):
             self._end(LoadHeader(to, offset, size), following)
         else:
-            self._end(LoadPacket(to, offset, size), following, self._drop())
+            self._add_length_test(offset + size)
+            self._end(LoadPacket(to, offset, size), following, *self._drop_behind_call())
+
+    def _add_length_test(self, least: int) -> None:
+        """A packet that is too short for a load ends here, where the length is at hand."""
+        if self._plan.headers:
+            self._add(TestLength(least), self._drop())
+
+    def _drop_behind_call(self) -> tuple[Place, ...]:
+        """Where a load goes that finds the packet too short, if no test of the length stands before it."""
+        return () if self._plan.headers else (self._drop(),)
 
     def _load_ancillary(self, at: int, k: int, following: Place) -> None:
         word = context_word(k) if k >= ANCILLARY else None
@@ -235,7 +278,7 @@ class _Unfolding:
     def _load_behind_x(self, view: View, k: int, size: int, following: Place) -> None:
         is_kernel = self._meaning.semantics is Semantics.KERNEL
         if view.is_x_usual:
-            self._load(A, (k + USUAL_LENGTH) % 2**32 if is_kernel else k + USUAL_LENGTH, size, following)
+            self._load(A, self._offset_behind_x(k), size, following)
         elif k > _FARTHEST and not is_kernel:
             self._end(Pass(), self._drop())
         else:
@@ -243,22 +286,22 @@ class _Unfolding:
 
     def _load_header_length(self, view: View, k: int, following: Place) -> None:
         """Four times the low half of a byte: 20 where the byte is that of an IPv4 header without options, else by arithmetic."""
-        usual = replace(following, view=replace(view, usual=k, is_x_usual=True))
-        other = replace(following, view=replace(view, is_x_usual=False))
-        has_usual = self._plan.has_usual and view.headers is not None and view.headers.has(k, 1)
+        usual = following._replace(view=view._replace(usual=k, is_x_usual=True))
+        other = following._replace(view=view._replace(is_x_usual=False))
+        has_usual = self._plan.has_usual and view.has(k, 1)
         if has_usual and view.usual == k:
             self._end(Pass(), usual)
             return
-        if has_usual:
-            self._add(LoadHeader(X, k, 1))
-            other = replace(other, view=_SHORT)
-            self._add_branch(Branch(X, Test.EQ, USUAL_BYTE), usual)
-        elif view.headers and view.headers.has(k, 1):
-            self._add(LoadHeader(X, k, 1))
-        elif k > _FARTHEST:
+        if k > _FARTHEST:
             self._end(Pass(), self._drop())
             return
+        if view.has(k, 1):
+            self._add(LoadHeader(X, k, 1))
         else:
-            self._add(LoadPacket(X, k, 1), self._drop())
+            self._add_length_test(k + 1)
+            self._add(LoadPacket(X, k, 1), *self._drop_behind_call())
+        if has_usual:
+            other = other._replace(view=_BY_CALLS)
+            self._add_branch(Branch(X, Test.EQ, USUAL_BYTE), usual)
         self._add(Operate(X, Operator.AND, 0x0F))
         self._end(Operate(X, Operator.LSH, 2), other)

@@ -11,7 +11,7 @@ from bpfhost.classic.knowledge import after_calls, behind_calls_that_went_well, 
 from bpfhost.classic.slots_writer import SlotsWriter
 from bpfhost.classic.stack import Layout
 from bpfhost.classic.step_slots import CONTEXT, NUMBERS, StepSlots
-from bpfhost.classic.steps import Branch, Fetch, Graph, LoadHeader, LoadPacket, Place, Register, Return
+from bpfhost.classic.steps import Branch, Fetch, Graph, LoadHeader, LoadPacket, Place, Register, Return, TestLength
 from bpfhost.numbers import MOST_SLOTS
 
 # Of comparisons of 32 bits with a number: the opcode, and that of the opposite one, which common bits do not have.
@@ -79,9 +79,9 @@ class _Writing:
         """The context is kept where a step behind a call needs it, and a register that is read before it is written is 0."""
         if any(uses_context(self._graph.steps[place]) and place in self._after_calls for place in self._order):
             self._writer.put(op.MOVE_X, CONTEXT, op.R1)
-        for register, number in NUMBERS.items():
+        for register in (Register.A, Register.X):
             if register in self._live.before[self._graph.entry]:
-                self._steps.number(number, 0)
+                self._steps.number(NUMBERS[register], 0)
 
     def _with_slots(self, place: Place) -> Place:
         """The step that has slots, from one on that may have none."""
@@ -98,12 +98,14 @@ class _Writing:
             case Branch():
                 yes, no = followers
                 return self._branch(place, step, yes, no, following)
+            case TestLength(least=least):
+                return self._test_length(least, (followers[0], followers[1]), following)
             case Fetch(headers=headers):
-                self._steps.fetch(headers, context, followers[1])
+                self._steps.fetch(headers, context)
             case Return():
                 self._steps.end(step, place in self._with_zero)
             case LoadPacket():
-                self._steps.load(step, context, self._greatest[place], followers[1])
+                self._steps.load(step, context, self._greatest[place], followers[1] if len(followers) > 1 else None)
                 if step.to in self._live.after[place]:
                     self._steps.take(step, in_order)
             case _:
@@ -123,6 +125,15 @@ class _Writing:
         else:
             self._writer.jump(follower)
         return None
+
+    def _test_length(self, least: int, followers: tuple[Place, Place], following: Place | None) -> Place | None:
+        """A test of the packet's length with its jump; the step that it goes on to without one."""
+        (far, near), length = followers, NUMBERS[Register.LENGTH]
+        if near == following:
+            self._writer.jump(far, op.JUMP_NOT_BELOW_K_W, length, number=least)
+            return near
+        self._writer.jump(near, op.JUMP_BELOW_K_W, length, number=least)
+        return self._go_on(far, following, is_zero=False)
 
     def _branch(self, place: Place, step: Branch, yes: Place, no: Place, following: Place | None) -> Place | None:
         """A test with its jump; the step that it goes on to without one."""

@@ -195,7 +195,7 @@ class Texts(FilterTest):
         slots = ClassicProgram.of_expression("tcp port 443").translated().slots
         self.assertEqual("".join(re.sub("(?m)^//.*\n", "", text)), disassemble(PROGRAM, slots))
         self.assertTrue(text.startswith("// the expression 'tcp port 443': 20 instructions of classic BPF, "), text)
-        self.assertIn("// (001) jeq      #0x86dd          jt 2 jf 8\nif w7 == 56710 goto ", text)
+        self.assertIn("// (001) jeq      #0x86dd          jt 2 jf 8\nif w7 != 56710 goto ", text)
 
     def test_forms(self) -> None:
         program = ClassicProgram.of_expression("udp", 101)

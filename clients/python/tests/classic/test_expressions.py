@@ -110,13 +110,14 @@ class Sizes(HostTest):
             self.assertEqual((translation.is_fast, plain.is_fast), (is_fast, False))
             self.assertTrue(plain.count < translation.count <= 4096 if is_fast else translation == plain)
 
-    def test_ways_for_shorter_packets(self) -> None:
-        """The numbers of bytes that calls for headers ask for: a second one where the ends of the loads leave a wide gap."""
+    def test_calls_for_headers(self) -> None:
+        """The numbers of bytes that calls for headers ask for: a second one where loads lie far apart."""
         for expression, sizes in {
-            "tcp port 443": [46, 26],
+            "tcp port 443": [26],
             "host 10.0.0.1 and port 53": [26],
             HOSTS: [30],
-            "tcp[((tcp[12] & 0xf0) >> 2):4] = 0x47455420": [35, 12],
+            "tcp[((tcp[12] & 0xf0) >> 2):4] = 0x47455420": [35],
+            "port 443 and host 2001:db8::35": [38, 8],
             "ip": [],
         }.items():
             slots = ClassicProgram.of_expression(expression).translated().slots

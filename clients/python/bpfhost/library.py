@@ -1,0 +1,215 @@
+"""The host as a shared library in this process, called by ctypes: hosts, their frames, and programs run on packets by the batch.
+
+docs/EMBEDDING.md has the library, and how a shared object is made of it. A host here is none of its own process: nothing is sent, and one
+call runs a program on many packets.
+"""
+
+from __future__ import annotations
+
+import ctypes
+import os
+import re
+import secrets
+import threading
+from array import array
+from collections.abc import Iterable
+from functools import lru_cache
+from itertools import accumulate
+from operator import sub
+from pathlib import Path
+from types import TracebackType
+
+from bpfhost import frames
+from bpfhost.errors import BpfhostError
+from bpfhost.frames import NO_CONTEXT, Context
+from bpfhost.numbers import LONGEST_PACKET, LONGEST_PAYLOAD, MOST_TENANTS, REPLY_HEAD, Command, Errno
+from bpfhost.packets import Packets
+from bpfhost.replies import Reply, read_replies
+
+# The versions whose functions are those below, as the name of an installed library has them (docs/RELEASES.md).
+VERSION = "0.1"
+_NAME = re.compile(r"libbpfhost\.so\.(\d+\.\d+)")
+_LENGTH_FIELD = 4
+_LONGEST_REPLY = REPLY_HEAD + LONGEST_PAYLOAD
+_SIZE, _HANDLE, _OUT = ctypes.c_size_t, ctypes.POINTER(ctypes.c_void_p), ctypes.c_void_p
+# The functions, with what each takes (clients/c/include/bpfhost.h).
+_FUNCTIONS = {
+    "bpfhost_c_new": (_HANDLE, _SIZE, ctypes.c_uint64, ctypes.c_uint64),
+    "bpfhost_c_handle": (_HANDLE, ctypes.c_char_p, _SIZE, _OUT, _SIZE, ctypes.POINTER(_SIZE)),
+    "bpfhost_c_run_packets": (
+        *(_HANDLE, ctypes.c_uint16, ctypes.c_uint32, ctypes.c_char_p, ctypes.c_void_p, _SIZE),
+        *(_OUT, _SIZE, _OUT, _SIZE, ctypes.POINTER(ctypes.c_int32)),
+    ),
+    "bpfhost_c_memory_refused": (_HANDLE, ctypes.c_uint16, ctypes.POINTER(ctypes.c_bool)),
+    "bpfhost_c_free": (_HANDLE,),
+}
+# Where no packet and no result lies: an address that is not null, and aligned.
+_ANYWHERE = 8
+_CODES = {-1: "its host is closed", -4: "there is no memory for a host"}
+
+
+class LibraryError(BpfhostError):
+    """A library that can't be used, or a call of it that did nothing."""
+
+
+class Library:
+    """A shared library of the host. Hosts share nothing, and each may be of a thread of its own."""
+
+    def __init__(self, path: str | os.PathLike[str]) -> None:
+        """Opens a file; a LibraryError where there is none, or it is no library of this version."""
+        self.path = Path(path)
+        if not self.path.is_file():
+            raise LibraryError(f"there is no library {self.path}")
+        named = _NAME.search(self.path.resolve().name)
+        if named and named[1] != VERSION:
+            raise LibraryError(f"{self.path} is of version {named[1]}, and this client is for {VERSION}")
+        try:
+            self._library = ctypes.CDLL(str(self.path.resolve()))
+        except OSError as error:
+            raise LibraryError(f"{self.path} is no shared library that can be opened: {error}") from error
+        for name, types in _FUNCTIONS.items():
+            function = getattr(self._library, name, None)
+            if function is None:
+                raise LibraryError(f"{self.path} is no library of bpfhost {VERSION}: it has no {name}")
+            function.argtypes, function.restype = types, ctypes.c_int32
+
+    def __repr__(self) -> str:
+        return f"<Library {self.path}>"
+
+    def call(self, name: str, *values: object) -> None:
+        """Calls a function; a LibraryError where it returns another code than 0."""
+        code = getattr(self._library, name)(*values)
+        if code:
+            raise LibraryError(f"{self.path}, {name}: {_CODES.get(code, f'it returned {code}')}")
+
+    def free(self, handle: ctypes.c_void_p) -> None:
+        """Frees the host behind a handle, which is empty then."""
+        self._library.bpfhost_c_free(handle)
+
+    def host(self, tenants: int = 1, seed: tuple[int, int] | None = None) -> LibraryHost:
+        """A host of 1 to 64 tenants. Its seed is two words of 64 bits that no tenant may know: drawn, if they are not given."""
+        return LibraryHost(self, tenants, seed)
+
+
+class LibraryHost:
+    """A host in this process. It is a context manager, which frees it. Threads may share it: they wait for one another."""
+
+    def __init__(self, library: Library, tenants: int = 1, seed: tuple[int, int] | None = None) -> None:
+        """Makes a host; a ValueError where the tenants are not 1 to 64, or the seed is not two words of 64 bits."""
+        if not 1 <= tenants <= MOST_TENANTS:
+            raise ValueError(f"a host serves 1 to {MOST_TENANTS} tenants, and not {tenants}")
+        first, second = (secrets.randbits(64), secrets.randbits(64)) if seed is None else seed
+        if not 0 <= min(first, second) <= max(first, second) < 2**64:
+            raise ValueError("a seed is two numbers from 0 to 2^64 - 1")
+        self.library, self.tenants = library, tenants
+        self._lock = threading.Lock()
+        self._handle = ctypes.c_void_p()
+        self._room, self._written = ctypes.create_string_buffer(_LONGEST_REPLY), ctypes.c_size_t()
+        library.call("bpfhost_c_new", self._handle, tenants, first, second)
+
+    def __enter__(self) -> LibraryHost:
+        return self
+
+    def __exit__(self, kind: type[BaseException] | None, _value: BaseException | None, _trace: TracebackType | None) -> None:
+        self.close()
+
+    def __del__(self) -> None:
+        if getattr(self, "_handle", None):
+            self.close()
+
+    def close(self) -> None:
+        """Frees the host; each later call is a LibraryError."""
+        with self._lock:
+            self.library.free(self._handle)
+
+    def tenant(self, number: int = 0) -> LibraryTenant:
+        """What speaks for one tenant; a ValueError where the host serves no such one."""
+        if not 0 <= number < self.tenants:
+            raise ValueError(f"tenant {number} is not served: this host has the tenants 0 to {self.tenants - 1}")
+        return LibraryTenant(self, number)
+
+    def handle(self, frame: bytes) -> bytes:
+        """Handles a frame without its length field, right or wrong; the bytes of the reply, with its length field."""
+        with self._lock:
+            written = ctypes.byref(self._written)
+            self.library.call("bpfhost_c_handle", self._handle, frame, len(frame), self._room, _LONGEST_REPLY, written)
+            return ctypes.string_at(self._room, self._written.value)
+
+    def ask(self, frame: bytes) -> Reply:
+        """Handles a whole frame, as the functions of `bpfhost.frames` make it; its reply."""
+        (reply,) = read_replies(self.handle(frame[_LENGTH_FIELD:]))
+        return reply
+
+    def memory_refused(self, tenant: int) -> bool:
+        """Whether memory was ever refused to a tenant; False for a number that is not served."""
+        refused = ctypes.c_bool()
+        with self._lock:
+            self.library.call("bpfhost_c_memory_refused", self._handle, tenant, ctypes.byref(refused))
+        return refused.value
+
+    def run_packets(
+        self, tenant: int, descriptor: int, packets: Packets | Iterable[bytes], context: Context = NO_CONTEXT
+    ) -> list[int]:
+        """Runs a program of a tenant on packets, one after another, by one call; the result of each.
+
+        The context is the same for all, but for the length. Where PROG_TEST_RUN would be refused, no packet is run: a Refused has the
+        status. A ValueError where a packet has more than 65,536 bytes.
+        """
+        if tenant >> 16 or descriptor >> 32:
+            raise ValueError("the tenant is a number of 16 bits, and a descriptor one of 32")
+        data, ends = _in_one_piece(packets)
+        count, results, status = len(ends), array("I", bytes(4 * len(ends))), ctypes.c_int32()
+        places = (ends.buffer_info()[0] or _ANYWHERE, count, results.buffer_info()[0] or _ANYWHERE, count)
+        with self._lock:
+            self.library.call(
+                "bpfhost_c_run_packets",
+                *(self._handle, tenant, descriptor, _words_of(context), data, len(data), *places, ctypes.byref(status)),
+            )
+        if status.value == -Errno.E2BIG:
+            longest = max(map(sub, ends, (0, *ends)))
+            raise ValueError(f"a packet has {longest:,} bytes, and that of a test run has {LONGEST_PACKET:,} at most")
+        Reply(tenant, Command.PROG_TEST_RUN, status.value).done()
+        return results.tolist()
+
+
+class LibraryTenant:
+    """One tenant of a host in this process. What the host refuses is a Refused, which has its reply."""
+
+    def __init__(self, host: LibraryHost, number: int) -> None:
+        """The tenant of this number, from 0."""
+        self.host, self.number = host, number
+
+    def __repr__(self) -> str:
+        return f"<LibraryTenant {self.number} of {self.host.library!r}>"
+
+    def prog_load(self, slots: bytes) -> int:
+        """Loads a socket filter; its descriptor. A ProgramRefused tells the slot and the reason."""
+        return self.host.ask(frames.prog_load(self.number, slots)).done()
+
+    def run_packets(self, descriptor: int, packets: Packets | Iterable[bytes], context: Context = NO_CONTEXT) -> list[int]:
+        """Runs a program on packets by one call (`LibraryHost.run_packets`)."""
+        return self.host.run_packets(self.number, descriptor, packets, context)
+
+    def close(self, descriptor: int) -> None:
+        """Closes a descriptor of a map or of a program."""
+        self.host.ask(frames.close(self.number, descriptor)).done()
+
+
+@lru_cache(maxsize=64)
+def _words_of(context: Context) -> bytes:
+    """The words of a context behind the length."""
+    return context.to_bytes()
+
+
+def _in_one_piece(packets: Packets | Iterable[bytes]) -> tuple[bytes, array[int]]:
+    """Packets one behind the other, and where each ends."""
+    if not isinstance(packets, Packets):
+        listed = list(packets)
+        return b"".join(listed), array("Q", accumulate(map(len, listed)))
+    first = packets.starts[0] if len(packets) else 0
+    ends = array("Q", accumulate(packets.lengths, initial=first))
+    if ends[:-1] == array("Q", packets.starts) and first == 0:
+        return packets.data, ends[1:]
+    data = memoryview(packets.data)
+    joined = b"".join(data[start : start + length] for start, length in zip(packets.starts, packets.lengths))
+    return joined, array("Q", accumulate(packets.lengths))

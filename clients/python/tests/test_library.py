@@ -1,0 +1,201 @@
+"""The host as a shared library in this process, beside the program over two pipes.
+
+The library is the shared object that the variable BPFHOST_LIBRARY names, or is linked from the libbpfhost.a beside the program.
+"""
+
+from __future__ import annotations
+
+import os
+import re
+import shutil
+import subprocess
+import sys
+import threading
+import unittest
+from pathlib import Path
+
+from bpfhost import Context, Host, Packets, ProgramRefused, Refused, frames
+from bpfhost.library import Library, LibraryError, LibraryHost
+from bpfhost.numbers import MapType
+from tests.classic.common import needs_libpcap
+from tests.common import LENGTH, ONE, PROGRAM, TimedTest
+
+CLIENT = Path(__file__).resolve().parents[1]
+NAMED = os.environ.get("BPFHOST_LIBRARY", "")
+ARCHIVE = Path(PROGRAM).parent / "libbpfhost.a" if PROGRAM else None
+IS_THERE = bool(NAMED) or (ARCHIVE is not None and ARCHIVE.is_file() and shutil.which("cc") is not None)
+# r0 = the word `mark` of the context; exit.
+MARK = bytes.fromhex("6110080000000000 9500000000000000")
+
+
+def linked(scratch: Path) -> Path:
+    """The shared library."""
+    if NAMED:
+        return Path(NAMED)
+    path = scratch / "libbpfhost.so"
+    whole = ("-Wl,--whole-archive", str(ARCHIVE), "-Wl,--no-whole-archive")
+    subprocess.run(["cc", "-shared", *whole, "-o", str(path)], check=True)
+    return path
+
+
+class Files(TimedTest):
+    def refused(self, path: Path, told: str) -> None:
+        with self.assertRaisesRegex(LibraryError, rf"\A{told}\Z"):
+            Library(path)
+
+    def test_no_file(self) -> None:
+        self.refused(self.scratch / "none.so", "there is no library .*/none.so")
+        self.refused(self.scratch, "there is no library .*")
+
+    def test_no_library(self) -> None:
+        path = self.scratch / "text.so"
+        path.write_text("no library")
+        self.refused(path, ".*/text.so is no shared library that can be opened: .*text.so: .+")
+
+    def test_another_library(self) -> None:
+        found = sorted(Path("/lib").glob("*/libm.so.6")) or sorted(Path("/usr/lib").glob("*/libm.so.6"))
+        if not found:
+            self.skipTest("there is no libm.so.6")
+        self.refused(found[0], ".*/libm.so.6 is no library of bpfhost 0.1: it has no bpfhost_c_new")
+
+    def test_another_version(self) -> None:
+        path = self.scratch / "libbpfhost.so.0.2.7"
+        path.write_bytes(b"")
+        link = self.scratch / "libbpfhost.so"
+        link.symlink_to(path)
+        self.refused(link, ".*/libbpfhost.so is of version 0.2, and this client is for 0.1")
+
+
+@unittest.skipUnless(IS_THERE, "there is no library: BPFHOST_LIBRARY names none, and no libbpfhost.a is beside the program")
+class Calls(TimedTest):
+    def setUp(self) -> None:
+        super().setUp()
+        self.library = Library(linked(self.scratch))
+        self.host = self.library.host(3, (1, 2))
+        self.addCleanup(self.host.close)
+
+    def test_batches(self) -> None:
+        """As packets, as a list, in any place of the bytes, and none."""
+        tenant = self.host.tenant(2)
+        descriptor = tenant.prog_load(LENGTH)
+        listed = [bytes(length) for length in (0, 1, 14, 60, 1500, 65_536, 0)]
+        wanted = [len(packet) for packet in listed]
+        apart = Packets(bytes(70_000), [5, 40, 3, 0], [10, 20, 0, 65_536])
+        self.assertEqual(tenant.run_packets(descriptor, listed), wanted)
+        self.assertEqual(tenant.run_packets(descriptor, iter(listed)), wanted)
+        self.assertEqual(tenant.run_packets(descriptor, Packets.of(listed)), wanted)
+        self.assertEqual(tenant.run_packets(descriptor, Packets.of(listed).first(3)), wanted[:3])
+        self.assertEqual(tenant.run_packets(descriptor, apart), [10, 20, 0, 65_536])
+        self.assertEqual(tenant.run_packets(descriptor, []), [])
+        self.assertEqual(tenant.run_packets(descriptor, Packets.of([])), [])
+
+    def test_contexts(self) -> None:
+        tenant = self.host.tenant()
+        descriptor = tenant.prog_load(MARK)
+        self.assertEqual(tenant.run_packets(descriptor, [b"", b"a"]), [0, 0])
+        self.assertEqual(tenant.run_packets(descriptor, [b"", b"a"], Context(mark=2**32 - 7)), [2**32 - 7] * 2)
+
+    @unittest.skipUnless(PROGRAM, "the variable BPFHOST names no program")
+    def test_beside_pipes(self) -> None:
+        """What a program reads of each packet, in a batch and by frames."""
+        # r2 = 3; r3 = r10 - 8; r4 = 4; load 4 bytes; r0 = them, or the error where the packet ends before.
+        slots = bytes.fromhex(
+            "b702000003000000 bfa3000000000000 07030000f8ffffff b704000004000000 850000001a000000"
+            "5500010000000000 61a0f8ff00000000 9500000000000000"
+        )
+        packets = Packets.of([bytes(range(at, at + length)) for at, length in enumerate((0, 3, 6, 7, 8, 60, 100))], 0)
+        with Host(PROGRAM) as host:
+            tenant = host.tenant()
+            by_frames = [each for some in tenant.prog_test_runs(tenant.prog_load(slots), [packets]) for each in some]
+        mine = self.host.tenant()
+        self.assertEqual(mine.run_packets(mine.prog_load(slots), packets), by_frames)
+
+    @needs_libpcap
+    def test_the_page(self) -> None:
+        """The program of docs/EMBEDDING.md."""
+        found = re.search("```python\n(.*?)```", (CLIENT.parents[1] / "docs/EMBEDDING.md").read_text(), re.S)
+        assert found
+        code = found[1].replace("out/libbpfhost.so", str(self.library.path))
+        ended = subprocess.run([sys.executable, "-c", code], capture_output=True, check=False, text=True, cwd=CLIENT)
+        self.assertEqual((ended.stdout, ended.stderr), ("[0, 0]\n", ""))
+
+    @unittest.skipUnless(PROGRAM, "the variable BPFHOST names no program")
+    def test_bench(self) -> None:
+        call = [sys.executable, str(CLIENT / "bench/batches.py"), str(self.library.path), PROGRAM, "--packets", "4096", "--rounds", "1"]
+        ended = subprocess.run(call, capture_output=True, check=False, text=True)
+        self.assertEqual((ended.stderr, ended.returncode), ("", 0))
+        sizes = [line.split()[0] for line in ended.stdout.splitlines()[2:]]
+        self.assertEqual(sizes, ["1", "8", "64", "512", "4096"])
+
+    def test_refused_batches(self) -> None:
+        tenant = self.host.tenant(1)
+        descriptor = tenant.prog_load(ONE)
+        self.assertEqual(self.host.ask(frames.map_create(1, MapType.ARRAY, 4, 8, 1)).status, descriptor + 1)
+        for number, status in ((descriptor + 1, -22), (descriptor + 2, -9), (2**32 - 1, -9)):
+            with self.assertRaises(Refused) as refused:
+                tenant.run_packets(number, [b"a"])
+            self.assertEqual(refused.exception.status, status)
+        with self.assertRaises(Refused):
+            self.host.tenant(0).run_packets(descriptor, [b"a"])
+        with self.assertRaises(Refused) as refused:
+            self.host.run_packets(3, descriptor, [b"a"])
+        self.assertEqual(refused.exception.status, -1)
+        with self.assertRaisesRegex(ValueError, "a packet has 65,537 bytes, and that of a test run has 65,536 at most"):
+            tenant.run_packets(descriptor, [b"a", bytes(65_537), bytes(9)])
+        self.assertEqual(tenant.run_packets(descriptor, [b"a"]), [1])
+        tenant.close(descriptor)
+        with self.assertRaises(Refused):
+            tenant.run_packets(descriptor, [])
+
+    def test_frames(self) -> None:
+        """Right ones and wrong ones; a program that is refused."""
+        self.assertEqual(self.host.handle(b"").hex(), "08000000ffffffffeaffffff")
+        self.assertEqual(self.host.handle(b"\7\0\5\0").hex(), "08000000070005" + "00ffffffff")
+        self.assertEqual(self.host.ask(frames.close(0, 3)).status, -9)
+        with self.assertRaises(ProgramRefused):
+            self.host.tenant().prog_load(ONE[:8])
+        self.assertFalse(self.host.memory_refused(0))
+
+    def test_closed(self) -> None:
+        with self.library.host() as host:
+            tenant = host.tenant()
+            descriptor = tenant.prog_load(ONE)
+        with self.assertRaisesRegex(LibraryError, ": its host is closed"):
+            tenant.run_packets(descriptor, [b""])
+        with self.assertRaisesRegex(LibraryError, ": its host is closed"):
+            tenant.close(descriptor)
+        with self.assertRaisesRegex(LibraryError, ": its host is closed"):
+            host.memory_refused(0)
+        host.close()
+
+    def test_wrong_words(self) -> None:
+        for tenants in (0, 65, -1):
+            with self.assertRaisesRegex(ValueError, "a host serves 1 to 64 tenants, and not "):
+                self.library.host(tenants)
+        for seed in ((-1, 0), (0, 2**64)):
+            with self.assertRaisesRegex(ValueError, "a seed is two numbers"):
+                self.library.host(1, seed)
+        with self.assertRaisesRegex(ValueError, "tenant 3 is not served: this host has the tenants 0 to 2"):
+            self.host.tenant(3)
+        for tenant, descriptor in ((-1, 3), (2**16, 3), (0, -1), (0, 2**32)):
+            with self.assertRaisesRegex(ValueError, "the tenant is a number of 16 bits, and a descriptor one of 32"):
+                self.host.run_packets(tenant, descriptor, [])
+
+    def test_threads_and_hosts(self) -> None:
+        """Threads share a host, and hosts share nothing."""
+        tenants = [self.host.tenant(number) for number in range(3)]
+        descriptors = [tenant.prog_load(LENGTH) for tenant in tenants]
+        found: list[list[int]] = []
+
+        def work(number: int) -> None:
+            for times in range(50):
+                found.append(tenants[number].run_packets(descriptors[number], [bytes(number)] * times))
+
+        threads = [threading.Thread(target=work, args=(number,)) for number in range(3)]
+        for thread in threads:
+            thread.start()
+        for thread in threads:
+            thread.join()
+        self.assertEqual(sorted(found), sorted([number] * times for number in range(3) for times in range(50)))
+        with LibraryHost(self.library) as other, self.assertRaises(Refused):
+            other.tenant().run_packets(descriptors[0], [])

@@ -292,7 +292,7 @@ class Calls(ShardTest):
         # 80,000 bytes of replies, of which at most 40,000 stay, and what is newer than the snapshot before the last one.
         self.until(lambda: kept() < 50_000)
         self.assertGreater(kept(), 10_000)
-        self.assertLess(sum(log.kept_size() for log in worker.worker._logs), 80_000)
+        self.assertLess(sum(log.kept_size() for log in worker.worker.logs), 80_000)
         self.assertTrue(redis.hget(keys.marks, 0))
 
     def test_calls_that_were_dropped_undone(self) -> None:
@@ -500,7 +500,7 @@ class Workers(ShardTest):
             # Each piece is one that a snapshot has.
             self.assertGreater(len(redis.hkeys(keys.pieces)), 1)
             second = self.shard(0)
-            found = {name for log in second.worker._logs for one in log.manifests() for name in one.names()}
+            found = {name for log in second.worker.logs for one in log.manifests() for name in one.names()}
             self.assertEqual({name.decode() for name in redis.hkeys(keys.pieces)} - found, set())
             for number in (1, 2, 4, 5, 6, 7):
                 self.assertEqual(self.client.customer(f"customer-{number}").ask(LOOK_UP).payload, number.to_bytes(8, "little"))

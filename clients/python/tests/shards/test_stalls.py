@@ -13,7 +13,7 @@ from bpfhost.shards.connection import Redis, connect
 from bpfhost.shards.names import MOST_WAITING
 from bpfhost.shards.serving import Serving
 from bpfhost.shards.system import MACHINE, Link, Machine, Word
-from bpfhost.shards.worker import TURN_FRAMES, _turn_of
+from bpfhost.shards.turns import TURN_FRAMES, share_of
 from bpfhost.state import Steps
 from tests.common import PROGRAM, HostTest
 from tests.shards.common import CREATE, LOOK_UP, SECONDS, ShardTest, call_of, put
@@ -127,9 +127,9 @@ class Stalls(ShardTest):
 
     def test_a_turn(self) -> None:
         call = call_of(b"1-0", 0, [LOOK_UP] * 100)
-        self.assertEqual(len(_turn_of([call] * 60)), TURN_FRAMES // 100)
+        self.assertEqual(len(share_of([call] * 60)), TURN_FRAMES // 100)
         large = call_of(b"1-0", 0, [LOOK_UP] * 512)
-        self.assertEqual(_turn_of([large, call]), [large])
+        self.assertEqual(share_of([large, call]), [large])
 
     def worker_with_snapshots(self, machine: Machine) -> None:
         """Shard 0 is served by a worker that makes a snapshot each thirty entries."""

@@ -1,0 +1,112 @@
+"""What a worker does in steps beside calls, between two turns: tenants that leave and arrive, and what others have begun."""
+
+from __future__ import annotations
+
+from bpfhost.errors import HostError, ReplyError, StateError
+from bpfhost.shards.aside import STATE, Aside
+from bpfhost.shards.calls import Arrives, Leaves
+from bpfhost.shards.errors import (
+    Away,
+    CopyDiffers,
+    LeaseLost,
+    LogChanged,
+    MemoryRefused,
+    OutOfMemory,
+    RedisError,
+    ShardError,
+    SnapshotDamaged,
+    StateRefused,
+    Stopped,
+)
+from bpfhost.shards.log import Log, Since
+from bpfhost.shards.manifest import Manifest
+from bpfhost.shards.names import FAULT
+from bpfhost.shards.served import Served
+from bpfhost.shards.serving import Written
+from bpfhost.shards.states import States
+from bpfhost.shards.suspects import Suspects
+from bpfhost.state import Steps
+
+# So long the steps of what is done beside calls take between two turns.
+_SECONDS_BESIDE = 0.01
+
+
+class Jobs:
+    """Those of one shard."""
+
+    def __init__(self, shard: Served, states: States, suspects: Suspects) -> None:
+        self._shard, self._states, self._suspects = shard, states, suspects
+
+    def do_some(self) -> None:
+        """Some steps of the first job. One that Redis or the host broke off is begun anew, when it is due again."""
+        shard = self._shard
+        until = shard.system.now() + _SECONDS_BESIDE
+        while shard.jobs:
+            tenant, job = shard.jobs[0]
+            try:
+                next(job)
+            except StopIteration:
+                shard.end_job(tenant)
+            except (Away, OutOfMemory) as error:
+                shard.demand_same_log()
+                shard.end_job(tenant)
+                shard.tell_now_and_then(f"shard {shard.keys.number} waits: {error}")
+                if not self._made_again(tenant):
+                    return
+            except (HostError, ReplyError, MemoryRefused) as error:
+                self._suspects.job_ended_host(tenant, error)
+                return
+            except (LeaseLost, LogChanged, RedisError, Stopped):
+                raise
+            except (ShardError, StateError) as error:
+                shard.end_job(tenant)
+                shard.keeping.failed.add(tenant)
+                shard.tell(f"shard {shard.keys.number}, tenant {tenant}: no snapshot can be taken: {error}")
+            if shard.system.now() >= until:
+                return
+
+    def _made_again(self, tenant: int) -> bool:
+        """Makes a tenant anew whose job broke off; False where the host ended meanwhile, and all are made anew."""
+        try:
+            self._shard.waiting(lambda: self._states.make_again(tenant))
+        except (HostError, ReplyError, MemoryRefused) as error:
+            self._suspects.job_ended_host(tenant, error)
+            return False
+        return True
+
+    def begin_control(self, item: Leaves | Arrives) -> None:
+        """Lets a tenant leave or arrive, before all else."""
+        self._shard.begin_job(item.tenant, self._control(item), first=True)
+
+    def _control(self, item: Leaves | Arrives) -> Steps[None]:
+        shard, log = self._shard, self._shard.logs[item.tenant]
+        old = [one for one in (log.snapshot, log.before) if one]
+        if isinstance(item, Leaves):
+            try:
+                self._suspects.demand_hope(log)
+                manifest = yield from shard.keeping.keep(shard.serving, log)
+            except (SnapshotDamaged, CopyDiffers, StateRefused) as error:
+                shard.set_aside(log, Aside(STATE, item.entry.decode(), f"the tenant can't leave: {error}"))
+                return
+            shard.serving.empty(item.tenant)
+            shard.writing.write_left(log, item, manifest, shard.keeping.empty(item.entry))
+        else:
+            yield from self._arrive(log, item)
+        log.place, log.since = item.entry, Since()
+        for one in old:
+            yield from shard.keeping.forget_old(log, one)
+
+    def _arrive(self, log: Log, item: Arrives) -> Steps[None]:
+        """Makes a state that arrives; one that can't be made is refused, and the tenant is empty then."""
+        shard = self._shard
+        try:
+            self._suspects.demand_hope(log)
+            manifest = Manifest.read(item.manifest)
+            stream = yield from log.stream_of(manifest)
+            yield from shard.serving.make(item.tenant, stream)
+        except (SnapshotDamaged, StateRefused, ValueError) as error:
+            shard.serving.empty(item.tenant)
+            sentence = f"what arrives at shard {shard.keys.number} is refused: {error}"
+            shard.writing.write([Written(item.tenant, item.entry, FAULT, sentence.encode())])
+            return
+        shard.writing.write_arrived(log, item, manifest.at(item.entry))

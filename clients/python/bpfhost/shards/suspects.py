@@ -1,0 +1,79 @@
+"""Which entries, and which jobs, may have ended a host: each is tried three times, one by one, and then set aside or given up."""
+
+from __future__ import annotations
+
+from collections.abc import Sequence
+
+from bpfhost.shards.aside import ENTRY, MOST_TRIES, Aside
+from bpfhost.shards.calls import Call, NoCall
+from bpfhost.shards.errors import StateRefused
+from bpfhost.shards.log import Log
+from bpfhost.shards.served import Served
+from bpfhost.shards.states import States
+
+
+class Suspects:
+    """Those of one shard."""
+
+    def __init__(self, shard: Served, states: States) -> None:
+        self._shard, self._states = shard, states
+        # How often each entry, or job behind a place, was tried; and the entry of each tenant that is to be played by itself.
+        self._tries: dict[tuple[int, bytes], int] = {}
+        self._careful: dict[int, bytes] = {}
+        # Tenants with a job that ended hosts, and how far they had come then.
+        self._given_up: dict[int, bytes] = {}
+
+    @property
+    def are_there(self) -> bool:
+        """Whether calls are to be played one at a time."""
+        return bool(self._careful)
+
+    def host_has_ended(self, suspects: Sequence[Call | NoCall], error: Exception) -> None:
+        """Notes which entries may have done it, sets the one aside that has three times, and begins anew on another host."""
+        for call in suspects:
+            key = call.tenant, call.entry
+            self._tries[key] = self._tries.get(key, 0) + 1
+            self._careful.setdefault(call.tenant, call.entry)
+        self._shard.tell_of_host(error)
+        self._states.make_all()
+        if len(suspects) == 1 and self._tries[suspects[0].tenant, suspects[0].entry] >= MOST_TRIES:
+            self._give_up(suspects[0], error)
+
+    def _give_up(self, call: Call | NoCall, error: Exception) -> None:
+        log, entry = self._shard.logs[call.tenant], call.entry.decode()
+        self._careful.pop(call.tenant, None)
+        self._tries.pop((call.tenant, call.entry), None)
+        aside = Aside(ENTRY, entry, f"entry {entry} of shard {self._shard.keys.number} ended the host {MOST_TRIES} times: {error}")
+        self._shard.waiting(lambda: self._shard.set_aside(log, aside))
+
+    def is_answered(self, tenant: int, entry: bytes) -> None:
+        """Notes that an entry did not end the host."""
+        if self._careful.get(tenant) == entry:
+            del self._careful[tenant]
+            self._tries.pop((tenant, entry), None)
+
+    def try_again(self, tenant: int, entry: bytes) -> None:
+        """Has an entry played by itself, which was set aside."""
+        self._careful[tenant] = entry
+
+    def job_ended_host(self, tenant: int, error: Exception) -> None:
+        """Begins anew on another host. What ended one three times is given up: no snapshot is taken, or what arrives is refused, or the
+        tenant that leaves is set aside."""
+        place = self._shard.logs[tenant].place
+        key = tenant, b"behind " + place
+        self._tries[key] = self._tries.get(key, 0) + 1
+        self._shard.tell_of_host(error)
+        self._states.make_all()
+        if self._tries[key] >= MOST_TRIES:
+            del self._tries[key]
+            self._shard.keeping.failed.add(tenant)
+            self._given_up[tenant] = place
+
+    def forgive(self, tenant: int) -> None:
+        """Lets jobs of a tenant be tried again."""
+        self._given_up.pop(tenant, None)
+
+    def demand_hope(self, log: Log) -> None:
+        """A StateRefused where a job of the tenant was given up, which has not come further since."""
+        if self._given_up.get(log.tenant) == log.place:
+            raise StateRefused(f"it ended the host {MOST_TRIES} times")

@@ -1,0 +1,137 @@
+"""What a worker looks at now and then: an operator's words, snapshots that are due, what waits, and the memory that Redis has."""
+
+from __future__ import annotations
+
+from collections.abc import Sequence
+
+from bpfhost.shards.aside import ENTRY, LOST, RETRY, SKIP, Aside
+from bpfhost.shards.calls import Call, NoCall, size_of
+from bpfhost.shards.errors import OutOfMemory, Stopped
+from bpfhost.shards.log import Log
+from bpfhost.shards.names import FAULT, START
+from bpfhost.shards.served import LONGEST_PAUSE, Served
+from bpfhost.shards.serving import Written
+from bpfhost.shards.states import States
+from bpfhost.shards.suspects import Suspects
+from bpfhost.state import Steps, at_once
+
+SECONDS_TO_LOOK = 1.0
+# With so much of its memory in use, Redis is about to have none left.
+_FULL_MEMORY = 0.9
+
+
+class Upkeep:
+    """That of one shard."""
+
+    def __init__(self, shard: Served, states: States, suspects: Suspects) -> None:
+        self._shard, self._states, self._suspects = shard, states, suspects
+        self._looked = -SECONDS_TO_LOOK
+
+    # An operator's words.
+
+    def look_at_words(self) -> None:
+        """Does what an operator has said of tenants that are set aside."""
+        shard = self._shard
+        aside = [log for log in shard.logs if log.aside and log.tenant not in shard.busy]
+        if not aside or shard.system.now() < self._looked + SECONDS_TO_LOOK:
+            return
+        self._looked = shard.system.now()
+        said = shard.redis.hgetall(shard.keys.words)
+        for log in aside:
+            word, _, entry = said.get(b"%d" % log.tenant, b"").decode().partition(" ")
+            if log.aside and word and entry == log.aside.entry:
+                shard.begin_job(log.tenant, self._decide(log, log.aside, word))
+
+    def _decide(self, log: Log, aside: Aside, word: str) -> Steps[None]:
+        """Does what an operator says of a tenant that is set aside."""
+        shard = self._shard
+        self._suspects.forgive(log.tenant)
+        if aside.kind == ENTRY:
+            self._decide_entry(log, aside, word)
+        elif word == RETRY or aside.kind != LOST:
+            log.aside = None
+            shard.serving.empty(log.tenant)
+            yield from self._states.make(log, word)
+        shard.writing.note(shard.keys.words, log.tenant, b"")
+        shard.tell(f"shard {shard.keys.number}, tenant {log.tenant}: an operator said {word}")
+
+    def _decide_entry(self, log: Log, aside: Aside, word: str) -> None:
+        """Skips an entry that is set aside, or has it tried again."""
+        shard, entry = self._shard, aside.entry.encode()
+        if word == SKIP:
+            sentence = f"entry {aside.entry} was skipped by an operator: its frames were not done, and won't be"
+            size = sum(size_of(fields) for _, fields in shard.redis.xrange(log.frames, entry, entry, 1))
+            shard.writing.write([Written(log.tenant, entry, FAULT, sentence.encode(), shard.writing.weight(size))])
+            log.place = entry
+        else:
+            self._suspects.try_again(log.tenant, entry)
+        shard.writing.note(shard.keys.aside, log.tenant, b"")
+        log.aside = None
+
+    # Snapshots.
+
+    def look_at_snapshots(self) -> None:
+        """Begins a snapshot of the tenant that has most to be played again, where there is too much of that."""
+        shard, keeping = self._shard, self._shard.keeping
+        keeping.look_at_ages(shard.logs, shard.begin_job, shard.busy)
+        if shard.jobs:
+            return
+        if shard.serving.asked >= shard.settings.most_asked:
+            self._replace_host()
+            return
+        due = keeping.due(shard.logs, shard.busy)
+        if due is not None:
+            shard.begin_job(due.tenant, keeping.snapshot(shard.serving, due))
+        else:
+            keeping.look_at_bytes(shard.logs, shard.begin_job, shard.busy)
+
+    def _replace_host(self) -> None:
+        """A host that was asked often is replaced by a new one: after snapshots of all, so that little is played again."""
+        shard = self._shard
+        changed = [log for log in shard.logs if not log.aside and log.since.frames > 1000]
+        for log in changed:
+            shard.begin_job(log.tenant, shard.keeping.snapshot(shard.serving, log))
+        if not changed:
+            self._states.make_all()
+
+    def snapshot_all(self) -> None:
+        """Begins snapshots of all tenants that were asked anything, so that the next worker has little to play again."""
+        shard = self._shard
+        for log in shard.logs:
+            if log.since.frames and not log.aside and log.tenant not in shard.busy | shard.keeping.failed:
+                shard.begin_job(log.tenant, shard.keeping.snapshot(shard.serving, log))
+
+    # Memory.
+
+    def look_around(self) -> None:
+        """Looks at what waits, and at the memory that Redis has: where little is left, room is made before it is none."""
+        shard = self._shard
+        shard.keeping.look_at_waiting(shard.logs, shard.busy)
+        used, most = shard.writing.memory()
+        shard.metrics.set("bpfhost_worker_redis_memory_bytes", used)
+        shard.metrics.set("bpfhost_worker_redis_memory_most_bytes", most)
+        if most and used > most * _FULL_MEMORY and not shard.jobs:
+            shard.tell_now_and_then(f"shard {shard.keys.number} makes room: {_memory(used, most)}")
+            for log in shard.logs:
+                if not log.aside and log.place != START:
+                    shard.begin_job(log.tenant, shard.keeping.make_room(shard.serving, log))
+
+    def make_room(self, calls: Sequence[Call | NoCall], error: OutOfMemory) -> None:
+        """Makes room in a Redis that has no memory for replies. Of the tenants whose replies are not written yet no snapshot is taken:
+        their state is behind calls that are not answered."""
+        shard = self._shard
+        played = {call.tenant for call in calls}
+        for log in shard.logs:
+            if log.tenant in played | shard.busy or log.aside or log.place == START:
+                at_once(shard.keeping.drop_before(log))
+            else:
+                at_once(shard.keeping.make_room(shard.serving, log))
+        shard.tell_now_and_then(f"shard {shard.keys.number} waits: {error}. {_memory(*shard.writing.memory())}")
+        shard.alive()
+        if shard.is_stopped():
+            raise Stopped("stopped")
+        shard.system.sleep(LONGEST_PAUSE)
+
+
+def _memory(used: int, most: int) -> str:
+    return f"Redis has {used} bytes of at most {most}: it needs more memory (maxmemory), or replies that stay less long (--keep-replies)"

@@ -14,7 +14,7 @@ from dataclasses import dataclass, field
 from typing import Any, cast
 
 from bpfhost.shards.errors import Away, Moved, RedisError
-from bpfhost.shards.system import Link, Word
+from bpfhost.shards.system import Link, Pending, Word
 
 _SLOTS = 16_384
 # Commands that may write. WAIT is asked behind them.
@@ -152,6 +152,19 @@ class Place:
         return user + has_user, first
 
 
+class _NodesPending:
+    """A command that was sent to a node, with WAIT behind it where replicas are to have what it writes."""
+
+    def __init__(self, link: NodesLink, node: str, words: Sequence[Word], sent: Sequence[Pending]) -> None:
+        self._link, self._node, self._words, self._sent = link, node, words, sent
+
+    def is_answered(self) -> bool:
+        return self._sent[0].is_answered()
+
+    def answer(self) -> Any:
+        return self._link.end(self._node, self._words, self._sent)
+
+
 class NodesLink:
     """A connection to the nodes of a cluster, or to a server with replicas."""
 
@@ -164,40 +177,66 @@ class NodesLink:
     def call(self, words: Sequence[Word], seconds: float) -> Any:
         """The answer to a command, by the node that has its key. An Away also where another node has it than before, and where too few
         replicas have what it writes."""
-        key = key_of(words) if self._place.is_cluster else None
-        slot, name = slot_of(key) if key is not None else -1, words[0]
-        expected = name.changes if isinstance(name, Command) else None
-        node = self._nodes.find(slot, expected)
+        node = self._node(words)
         for _ in range(_MOST_MOVES):
             try:
-                return self._ask(node, words, seconds, expected is not None)
+                return self.end(node, words, self._sent(node, words, seconds))
             except Moved as moved:
-                # Who asks for a slot that was known elsewhere has to know that its history may be another one.
-                if self._nodes.learn(slot, moved.node):
-                    raise Away(f"{moved.node} of the cluster serves a slot now, which another node served") from None
                 node = moved.node
         raise Away("the nodes of the cluster do not agree on who serves a slot")
 
-    def _ask(self, node: str, words: Sequence[Word], seconds: float, is_expecting: bool) -> Any:
+    def begin(self, words: Sequence[Word], seconds: float) -> Pending:
+        """Begins the same. What another node is to do is an Away: who asks for it again finds that node."""
+        node = self._node(words)
+        return _NodesPending(self, node, words, self._sent(node, words, seconds))
+
+    def _slot(self, words: Sequence[Word]) -> int:
+        key = key_of(words) if self._place.is_cluster else None
+        return slot_of(key) if key is not None else -1
+
+    def _node(self, words: Sequence[Word]) -> str:
+        """The node that a command is sent to."""
+        name = words[0]
+        return self._nodes.find(self._slot(words), name.changes if isinstance(name, Command) else None)
+
+    def _sent(self, node: str, words: Sequence[Word], seconds: float) -> list[Pending]:
+        """Sends a command to a node, and asks it to wait for its replicas where it has any."""
+        name = words[0]
         try:
             link = self._link(node)
-            if is_expecting and node not in self._seen:
+            if isinstance(name, Command) and name.changes is not None and node not in self._seen:
                 self._look(node, link, seconds)
-            answer = link.call(words, seconds)
-            if self._place.replicas and words[0] in _WRITES:
-                self._wait(link, seconds)
         except Away:
-            self._seen.discard(node)
-            self._nodes.note(node, is_away=True)
+            self._lost(node)
+            raise
+        sent = [link.begin(words, seconds)]
+        if self._place.replicas and name in _WRITES:
+            limit = max(0.001, min(seconds, _SECONDS_FOR_REPLICAS))
+            sent.append(link.begin(["WAIT", self._place.replicas, int(limit * 1000)], seconds + limit))
+        return sent
+
+    def end(self, node: str, words: Sequence[Word], sent: Sequence[Pending]) -> Any:
+        """The answer to what was sent. An Away where too few replicas have what it writes."""
+        try:
+            answer, *waited = [one.answer() for one in sent]
+            for has in waited:
+                if has < self._place.replicas:
+                    raise Away(f"{has} replicas have what was written, and {self._place.replicas} are to have it")
+        except Moved as moved:
+            # Who asks for a slot that was known elsewhere has to know that its history may be another one.
+            if self._nodes.learn(self._slot(words), moved.node):
+                raise Away(f"{moved.node} of the cluster serves a slot now, which another node served") from None
+            raise
+        except Away:
+            self._lost(node)
             raise
         self._nodes.note(node, is_away=False)
         return answer
 
-    def _wait(self, link: Link, seconds: float) -> None:
-        limit = max(0.001, min(seconds, _SECONDS_FOR_REPLICAS))
-        has = link.call(["WAIT", self._place.replicas, int(limit * 1000)], seconds + limit)
-        if has < self._place.replicas:
-            raise Away(f"{has} replicas have what was written, and {self._place.replicas} are to have it")
+    def _lost(self, node: str) -> None:
+        """Notes that a node could not be reached, which may tell another history when it can."""
+        self._seen.discard(node)
+        self._nodes.note(node, is_away=True)
 
     def _look(self, node: str, link: Link, seconds: float) -> None:
         """Looks which history a node tells: one that was away may tell another one."""

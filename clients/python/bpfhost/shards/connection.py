@@ -2,7 +2,6 @@
 
 from __future__ import annotations
 
-import copy
 import hashlib
 import os
 import threading
@@ -13,7 +12,7 @@ from typing import Any, TypeVar
 from bpfhost.shards.cluster import NodesLink, Place, told_to
 from bpfhost.shards.errors import Away, NoScript, NotAllowed, RedisError
 from bpfhost.shards.names import START, before
-from bpfhost.shards.system import MACHINE, Link, System, Word
+from bpfhost.shards.system import MACHINE, Link, Pending, System, Word
 
 DEFAULT_URL = "redis://127.0.0.1:6379/0"
 # A server that does not answer for so many seconds is taken to be away. No call blocks for longer than LONGEST_WAIT.
@@ -59,31 +58,82 @@ def _is_own(word: str) -> bool:
 
 
 class _Links:
-    """The connections to a server that nobody uses just now."""
+    """The connections to a server."""
 
     def __init__(self, system: System, place: Place) -> None:
         self._system, self._place, self.nodes = system, place, place.nodes()
-        self._idle: list[Link] = [self._made()]
+        # Those that nobody uses just now, and all of them.
+        self._idle: list[Link] = []
+        self._all: list[Link] = []
         self._lock = threading.Lock()
+        self._idle.append(self._made())
 
     def _made(self) -> Link:
+        made = self._new()
+        self._all.append(made)
+        return made
+
+    def _new(self) -> Link:
         return NodesLink(self._place, self.nodes, self._system.link) if self.nodes else self._system.link(self._place.url)
 
     def call(self, words: Sequence[Word], seconds: float) -> Any:
-        with self._lock:
-            link = self._idle.pop() if self._idle else None
-        link = link or self._made()
+        link = self.taken()
         try:
             return link.call(words, seconds)
         finally:
-            with self._lock:
-                self._idle.append(link)
+            self.give_back(link)
+
+    def give_back(self, link: Link) -> None:
+        with self._lock:
+            self._idle.append(link)
+
+    def taken(self) -> Link:
+        with self._lock:
+            link = self._idle.pop() if self._idle else None
+        return link or self._made()
 
     def close(self) -> None:
         with self._lock:
-            links, self._idle = self._idle, []
+            links, self._all, self._idle = self._all, [], []
         for link in links:
             link.close()
+
+
+class Line:
+    """A connection on which commands are sent behind one another, and not waited for one by one."""
+
+    def __init__(self, redis: Redis, links: _Links) -> None:
+        self._redis, self._links, self._link = redis, links, links.taken()
+
+    def begin(self, *words: Word, wait: float = 0.0) -> Pending:
+        """Begins a command, which may block for so many seconds. Its answer is an Away where that does not come."""
+        try:
+            return self._link.begin(*self._redis.prepared(words, wait))
+        except RedisError as error:
+            return Failed(error)
+
+    def begin_xread(self, places: Mapping[str, bytes], many: int, wait: float) -> Pending:
+        """Begins what `Redis.xread` does; `entries_of` reads the answer."""
+        return self.begin(*_reading(places, many, wait), wait=wait)
+
+    def cut(self) -> None:
+        """Ends the connection: of what was sent no answer comes any more. The next command makes it anew."""
+        self._link.close()
+
+
+class Failed:
+    """A command that was not sent."""
+
+    def __init__(self, error: RedisError) -> None:
+        self._error = error
+
+    def is_answered(self) -> bool:
+        """It has the error for its answer."""
+        return True
+
+    def answer(self) -> Any:
+        """Raises it."""
+        raise self._error
 
 
 class Redis:
@@ -100,21 +150,26 @@ class Redis:
         self._deadline: float | None = None
         self._patience = 0.0
 
+    def _copy(self) -> Redis:
+        copied = Redis.__new__(Redis)
+        copied.__dict__.update(self.__dict__)
+        return copied
+
     def until(self, deadline: float) -> Redis:
         """The same server, whose calls end at a time of the system's clock."""
-        limited = copy.copy(self)
+        limited = self._copy()
         limited._deadline = deadline
         return limited
 
     def patient(self, seconds: float) -> Redis:
         """The same server, whose calls are made again for so many seconds where it is away: for what is right to do twice."""
-        patient = copy.copy(self)
+        patient = self._copy()
         patient._patience = seconds
         return patient
 
     def near(self, key: str) -> Redis:
         """The same server; of a cluster, the node of a key, for commands that name none."""
-        near = copy.copy(self)
+        near = self._copy()
         near._near = key
         return near
 
@@ -143,14 +198,22 @@ class Redis:
                     raise
             self.system.sleep(_PAUSE)
 
+    def line(self) -> Line:
+        """A connection of its own."""
+        return Line(self, self._links)
+
     def _call_once(self, words: Sequence[Word], wait: float) -> Any:
+        return self._links.call(*self.prepared(words, wait))
+
+    def prepared(self, words: Sequence[Word], wait: float) -> tuple[Sequence[Word], float]:
+        """A command as connections take it, and within how many seconds it is answered."""
         seconds = wait + _SECONDS_TO_ANSWER
         if self._deadline is not None:
             seconds = max(_LEAST_SECONDS, min(seconds, self._deadline - self.system.now()))
         if self._links.nodes:
             name = told_to(words[0], self._near, self._known_changes[0] if self._known_changes else None)
             words = (name, *words[1:])
-        return self._links.call(words, seconds)
+        return words, seconds
 
     def patiently(
         self, call: Callable[[Redis], Answer], deadline: float, give_up: Callable[[Away], Exception] | None = None
@@ -205,9 +268,7 @@ class Redis:
             # The server answers before the call is given up.
             left = self._deadline - self.system.now()
             wait = min(wait, left - min(_SECONDS_FOR_AN_ANSWER, left / 2))
-        block: list[Word] = ["BLOCK", max(1, int(wait * 1000))] if wait > 0 else []
-        found = self.call("XREAD", "COUNT", many, *block, "STREAMS", *places, *places.values(), wait=max(0.0, wait))
-        return {name.decode(): _entries(entries) for name, entries in found or []}
+        return entries_of(self.call(*_reading(places, many, wait), wait=max(0.0, wait)))
 
     def stream(self, name: str) -> dict[bytes, Any]:
         """What is told of a stream: nothing where there is none."""
@@ -233,6 +294,17 @@ def _entries(found: Sequence[Any]) -> list[Entry]:
     return [(entry, _pairs(fields)) for entry, fields in found]
 
 
+def _reading(places: Mapping[str, bytes], many: int, wait: float) -> list[Word]:
+    """The words of XREAD."""
+    block: list[Word] = ["BLOCK", max(1, int(wait * 1000))] if wait > 0 else []
+    return ["XREAD", "COUNT", many, *block, "STREAMS", *places, *places.values()]
+
+
+def entries_of(found: Any) -> dict[str, list[Entry]]:
+    """What XREAD answers: entries by the names of their streams."""
+    return {name.decode(): _entries(entries) for name, entries in found or []}
+
+
 def connect(url: str | None = None, system: System = MACHINE) -> Redis:
     """The Redis of a URL (`redis_url`)."""
     return Redis(url, system)
@@ -251,11 +323,20 @@ class Script:
 
     def __call__(self, redis: Redis, keys: Sequence[str], arguments: Sequence[Word]) -> Any:
         """What the script gives. A server that has just begun does not know it yet."""
-        text = self.touching if redis.replicas else self.text
         try:
-            return redis.call("EVALSHA", self._names[text], len(keys), *keys, *arguments)
+            return redis.call(*self._words(redis, keys, arguments))
         except NoScript:
-            return redis.call("EVAL", text, len(keys), *keys, *arguments)
+            return redis.call("EVAL", self._text(redis), len(keys), *keys, *arguments)
+
+    def begin(self, redis: Redis, line: Line, keys: Sequence[str], arguments: Sequence[Word]) -> Pending:
+        """Begins the script on a line of a server. Its answer may be a NoScript, and then it is called once more."""
+        return line.begin(*self._words(redis, keys, arguments))
+
+    def _text(self, redis: Redis) -> str:
+        return self.touching if redis.replicas else self.text
+
+    def _words(self, redis: Redis, keys: Sequence[str], arguments: Sequence[Word]) -> list[Word]:
+        return ["EVALSHA", self._names[self._text(redis)], len(keys), *keys, *arguments]
 
     def patiently(
         self,

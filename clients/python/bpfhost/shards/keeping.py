@@ -6,6 +6,7 @@ All of it is done in steps, so that other tenants are served between two of them
 from __future__ import annotations
 
 import hashlib
+import math
 from collections.abc import Callable, Generator, Sequence
 
 from bpfhost.shards import scripts
@@ -43,6 +44,8 @@ class Keeping:
         self.failed: set[int] = set()
         # How many bytes of replies have come since it was looked at.
         self.came = 0
+        # What is to be played again is not more than so much of what may be.
+        self._share = math.inf
         # Up to which place replies of tenants are dropped since all have too many bytes.
         self._drop_by_bytes: dict[int, bytes] = {}
 
@@ -51,6 +54,16 @@ class Keeping:
         self._looked = self._redis.system.now()
         self.failed.clear()
         self._drop_by_bytes.clear()
+        self.reckon()
+
+    def reckon(self) -> None:
+        """Looks at all tenants the next time, since one was made anew."""
+        self._share = math.inf
+
+    def note(self, frames: int, size: int) -> None:
+        """Notes that a call was answered, of so many frames, and bytes with its replies."""
+        settings = self._settings
+        self._share += 1 / settings.snapshot_entries + frames / settings.snapshot_frames + size / settings.snapshot_bytes
 
     def empty(self, entry: bytes) -> Manifest:
         """The snapshot of a new tenant."""
@@ -71,6 +84,8 @@ class Keeping:
     def due(self, logs: Sequence[Log], busy: set[int]) -> Log | None:
         """The tenant that has most to be played again, if all of them have more than a worker that begins should play."""
         settings = self._settings
+        if self._share < 1:
+            return None
         shares = [
             max(
                 log.since.entries / settings.snapshot_entries,
@@ -79,7 +94,8 @@ class Keeping:
             )
             for log in logs
         ]
-        if sum(shares) < 1:
+        self._share = sum(shares)
+        if self._share < 1:
             return None
         can = [log for log in logs if log.tenant not in busy and not log.aside and log.tenant not in self.failed and log.since.entries]
         return max(can, key=lambda log: shares[log.tenant]) if can else None

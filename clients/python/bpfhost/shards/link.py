@@ -6,19 +6,24 @@ import asyncio
 import contextlib
 import functools
 import importlib
+import select
 import socket
+import time
+from collections import deque
 from collections.abc import Iterator, Sequence
 from typing import Any
 
 from bpfhost.errors import PACKAGES, MissingPackage
+from bpfhost.shards.answers import NOTHING, Answers, NotRedis, Refusal
 from bpfhost.shards.errors import Away, Moved, NoScript, NotAllowed, OutOfMemory, RedisError
-from bpfhost.shards.system import Word
+from bpfhost.shards.system import Pending, Word
 
 _SECONDS_TO_CONNECT = 5.0
 # How errors begin that say that a server, or its cluster, can't do it just now, and has done nothing of it.
 _AWAY = ("NOREPLICAS", "UNBLOCKED", "CLUSTERDOWN", "MASTERDOWN", "READONLY", "TRYAGAIN", "ASK ")
 # What was sent and is acknowledged by nobody for so long ends a connection, also where much is on its way over a slow link.
 _MILLISECONDS_UNACKNOWLEDGED = 10_000
+_READ_AT_ONCE = 1 << 16
 # Linux's TCP_USER_TIMEOUT, which has no name in the types of the library.
 _USER_TIMEOUT = getattr(socket, "TCP_USER_TIMEOUT", 18)
 
@@ -90,38 +95,114 @@ def _bulk(word: str) -> bytes:
     return _bulk_of(word.encode())
 
 
+class SocketPending:
+    """A command that was sent on a link."""
+
+    def __init__(self, link: SocketLink, deadline: float) -> None:
+        self.link, self.deadline = link, deadline
+        self.value: Any = NOTHING
+
+    def is_answered(self) -> bool:
+        """Whether the answer, or some of it, was there when it was last looked for (`any_of`)."""
+        return self.value is not NOTHING or self.link.has_more
+
+    def fileno(self) -> int:
+        """The socket that the answer comes by."""
+        return self.link.fileno()
+
+    def answer(self) -> Any:
+        """Waits for the answer."""
+        while self.value is NOTHING:
+            self.link.read_one()
+        if isinstance(self.value, Exception):
+            with _told():
+                raise self.value
+        return self.value
+
+
 class SocketLink:
-    """A connection of the library, which is made anew where it broke."""
+    """A connection, made by the library, and made anew where it broke. Commands that are sent behind one another are answered in order."""
 
     def __init__(self, url: str) -> None:
         """A RedisError where the URL is none."""
         self._connection = _pool(url, _library().ConnectionPool).make_connection()
+        self._answers = Answers()
+        self._pending: deque[SocketPending] = deque()
+        # Whether anything has come that was not read yet, as it was last looked.
+        self.has_more = False
 
     def call(self, words: Sequence[Word], seconds: float) -> Any:
         """The answer to a command, within so many seconds."""
-        connection = self._connection
-        with _told():
-            try:
-                self._prepare(seconds)
-                connection.send_packed_command([packed(words)])
-                return connection.read_response()
-            except (_library().exceptions.ConnectionError, _library().exceptions.TimeoutError, OSError):
-                connection.disconnect()
-                raise
+        return self.begin(words, seconds).answer()
+
+    def begin(self, words: Sequence[Word], seconds: float) -> SocketPending:
+        """Sends a command, whose answer is to come within so many seconds."""
+        pending = SocketPending(self, time.monotonic() + seconds)
+        self._pending.append(pending)
+        try:
+            self._prepare(seconds)
+            self._connection._sock.sendall(packed(words))
+        except Exception as error:
+            self._break(error)
+        return pending
+
+    def read_one(self) -> None:
+        """Waits for the next answer, and gives it to the command that was sent first. Where the connection breaks, no command has one."""
+        pending = self._pending[0]
+        try:
+            while (value := self._answers.next()) is NOTHING:
+                self._connection._sock.settimeout(max(0.0001, pending.deadline - time.monotonic()))
+                data = self._connection._sock.recv(max(_READ_AT_ONCE, self._answers.lacks))
+                if not data:
+                    raise ConnectionError("the server has ended the connection")
+                self._answers.feed(data)
+            self.has_more = self._answers.has_more()
+        except Exception as error:
+            self._break(error)
+            return
+        self._pending.popleft()
+        pending.value = self._connection._parser.parse_error(value.text) if isinstance(value, Refusal) else value
+
+    def is_ready(self) -> bool:
+        """Whether there is no need to wait for the socket."""
+        sock = self._connection._sock
+        return self.has_more or not sock or bool(hasattr(sock, "pending") and sock.pending())
+
+    def fileno(self) -> int:
+        """The socket; below 0 where there is none."""
+        return int(self._connection._sock.fileno()) if self._connection._sock else -1
 
     def _prepare(self, seconds: float) -> None:
         """A connection whose calls take so many seconds at most."""
         connection = self._connection
-        connection.socket_timeout = seconds
-        connection.socket_connect_timeout = min(seconds, _SECONDS_TO_CONNECT)
         if not connection._sock:
+            connection.socket_timeout = seconds
+            connection.socket_connect_timeout = min(seconds, _SECONDS_TO_CONNECT)
             connection.connect()
             _watch(connection._sock)
+            self._answers = Answers()
         connection._sock.settimeout(seconds)
+
+    def _break(self, error: Exception) -> None:
+        """Ends the connection: none of the commands that were sent has an answer."""
+        if isinstance(error, NotRedis):
+            error = ConnectionError(str(error))
+        self._connection.disconnect()
+        while self._pending:
+            self._pending.popleft().value = error
 
     def close(self) -> None:
         """Ends the connection."""
-        self._connection.disconnect()
+        self._break(ConnectionError("the connection was closed"))
+
+
+def any_of(pending: Sequence[Pending], seconds: float) -> None:
+    """Waits until one of these has an answer, at most so many seconds."""
+    waiting = [one for one in pending if isinstance(one, SocketPending) and one.value is NOTHING]
+    if len(waiting) < len(pending) or any(one.link.is_ready() for one in waiting):
+        seconds = 0.0
+    for one in select.select(waiting, [], [], seconds)[0]:
+        one.link.has_more = True
 
 
 class AsyncConnection:

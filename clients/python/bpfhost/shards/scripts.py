@@ -179,19 +179,26 @@ return redis.call('HDEL', KEYS[1], 'token')
 # What a worker writes, it writes where the lease is held.
 _UNDER_LEASE = "if redis.call('HGET', KEYS[1], 'token') ~= ARGV[1] then return 0 end\n"
 
-# Writes replies of some tenants under the ids of their frames; once, if it is asked twice.
-# KEYS: lease, waiting, then the replies of each tenant. ARGV: token, then for each tenant its number, the weight of the calls and how
-# many there are, and id, field and bytes of each.
+# Writes replies of some tenants under the ids of their frames; once, if it is asked twice. Where replies before these are on their way
+# too, they are named: without them nothing is written, so that no reply is passed by a later one.
+# KEYS: lease, waiting, then the replies of each tenant. ARGV: token, then for each tenant its number, the weight of the calls, how many
+# there are, and the id of the reply before them or nothing; and id, field and bytes of each.
 WRITE = Script(_UNDER_LEASE + """
-local at = 2
+local at, new = 2, {}
 for key = 3, #KEYS do
-  local tenant, weight, last = ARGV[at], ARGV[at + 1], at + 3 * tonumber(ARGV[at + 2])
-  if #redis.call('XRANGE', KEYS[key], ARGV[at + 3], ARGV[at + 3]) == 0 then
-    for reply = at + 3, last, 3 do redis.call('XADD', KEYS[key], ARGV[reply], ARGV[reply + 1], ARGV[reply + 2]) end
+  new[key] = #redis.call('XRANGE', KEYS[key], ARGV[at + 4], ARGV[at + 4]) == 0
+  if new[key] and ARGV[at + 3] ~= '' and #redis.call('XRANGE', KEYS[key], ARGV[at + 3], ARGV[at + 3]) == 0 then return 2 end
+  at = at + 4 + 3 * tonumber(ARGV[at + 2])
+end
+at = 2
+for key = 3, #KEYS do
+  local tenant, weight, last = ARGV[at], ARGV[at + 1], at + 3 + 3 * tonumber(ARGV[at + 2])
+  if new[key] then
+    for reply = at + 4, last, 3 do redis.call('XADD', KEYS[key], ARGV[reply], ARGV[reply + 1], ARGV[reply + 2]) end
     local waits = tonumber(redis.call('HGET', KEYS[2], tenant) or '0') - tonumber(weight)
     redis.call('HSET', KEYS[2], tenant, math.max(waits, 0))
   end
-  at = last + 3
+  at = last + 1
 end
 return 1
 """)

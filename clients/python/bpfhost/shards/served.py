@@ -4,12 +4,10 @@ from __future__ import annotations
 
 from collections import deque
 from collections.abc import Callable, Generator
-from typing import TypeVar
+from typing import Protocol, TypeVar
 
 from bpfhost.numbers import MOST_TENANTS
-from bpfhost.program import Program
 from bpfhost.shards.aside import Aside
-from bpfhost.shards.building import build_of
 from bpfhost.shards.connection import Redis
 from bpfhost.shards.errors import Away, LogChanged, Stopped
 from bpfhost.shards.keeping import Keeping
@@ -32,13 +30,24 @@ Job = tuple[int, Generator[None, None, None]]
 Answer = TypeVar("Answer")
 
 
+class UnderWay(Protocol):
+    """What is under way in turns."""
+
+    def settle(self) -> None:
+        """Waits until the replies to all that was played are written."""
+
+    def forget(self) -> None:
+        """Lets it be: all tenants were made anew."""
+
+
 class Served:
     """One shard, which a worker serves."""
 
     serving: Serving
+    under_way: UnderWay
 
     def __init__(
-        self, redis: Redis, keys: ShardKeys, program: Program, settings: Settings, tell: Callable[[str], None], metrics: Told
+        self, redis: Redis, keys: ShardKeys, build: str, settings: Settings, tell: Callable[[str], None], metrics: Told
     ) -> None:
         self.redis, self.keys, self.settings, self.tell, self.metrics = redis, keys, settings, tell, metrics
         self.system = redis.system
@@ -46,7 +55,7 @@ class Served:
         self.patient = redis.patient(_SECONDS_OF_PATIENCE)
         self.lease = Lease(redis, keys, settings.lease_seconds)
         self.writing = Writing(redis, keys, self.lease)
-        self.keeping = Keeping(self.writing, settings, build_of(program), metrics)
+        self.keeping = Keeping(self.writing, settings, build, metrics)
         self.logs: list[Log] = []
         self.jobs: deque[Job] = deque()
         # Tenants with a job.
@@ -77,12 +86,16 @@ class Served:
             try:
                 return call()
             except Away as away:
-                self.demand_same_log()
-                self.tell_now_and_then(f"shard {self.keys.number} waits: {away}")
-            if self.is_stopped():
-                raise Stopped(f"shard {self.keys.number} waited for its Redis")
-            self.system.sleep(pause)
+                self.wait_for_redis(away, pause)
             pause = min(2 * pause, LONGEST_PAUSE)
+
+    def wait_for_redis(self, away: Away, pause: float = 0.02) -> None:
+        """Waits a little for a Redis that is away, and says so now and then; a Stopped where the worker is stopped."""
+        self.demand_same_log()
+        self.tell_now_and_then(f"shard {self.keys.number} waits: {away}")
+        if self.is_stopped():
+            raise Stopped(f"shard {self.keys.number} waited for its Redis")
+        self.system.sleep(pause)
 
     def demand_same_log(self) -> None:
         """A LogChanged where the log may lack what this worker has played."""
@@ -93,6 +106,7 @@ class Served:
 
     def begin_anew(self) -> None:
         """Knows nothing of any tenant, and does nothing for one any more."""
+        self.under_way.forget()
         self.jobs.clear()
         self.busy.clear()
         self.keeping.begin()
@@ -116,7 +130,8 @@ class Served:
     # What is done in steps.
 
     def begin_job(self, tenant: int, job: Generator[None, None, None], first: bool = False) -> None:
-        """Does something for a tenant, in steps."""
+        """Does something for a tenant, in steps, of which all that was played is answered then."""
+        self.under_way.settle()
         self.busy.add(tenant)
         if first:
             self.jobs.appendleft((tenant, job))

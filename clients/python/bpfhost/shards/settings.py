@@ -16,7 +16,8 @@ LEAST_REPLY_BYTES = 1 << 10
 class Settings:
     """How a worker works: the seconds of its lease; how many calls, frames, or bytes of frames and replies, a worker that begins plays
     again at most, in all of its tenants (a snapshot is taken of the tenant that has most of them); for how long replies stay for those
-    that have not read them, and how many bytes of them at most, the oldest dropped first; and how many frames a host is asked before another one is started with the same state; and how long snapshots are taken at the end."""
+    that have not read them, and how many bytes of them at most, the oldest dropped first; and how many frames a host is asked before another one is started with the same state; how long snapshots are taken at the end; and in how
+    many lanes streams are read."""
 
     lease_seconds: float = SECONDS
     snapshot_entries: int = 50_000
@@ -27,6 +28,7 @@ class Settings:
     most_asked: int = MOST_ASKED
     demand_durable: bool = True
     drain_seconds: float = 0.0
+    lanes: int = 8
 
     def __post_init__(self) -> None:
         if self.reply_bytes < LEAST_REPLY_BYTES:

@@ -2,6 +2,7 @@
 
 from __future__ import annotations
 
+import contextlib
 from collections import Counter
 
 from bpfhost.errors import HostError, ReplyError
@@ -23,7 +24,9 @@ class States:
         self._shard = shard
 
     def make_all(self) -> None:
-        """Makes all states, of one log."""
+        """Makes all states, of one log. What was played is answered before, if that log is still there."""
+        with contextlib.suppress(LogChanged):
+            self._shard.under_way.settle()
         while True:
             try:
                 return self._shard.waiting(self._make_all)
@@ -74,6 +77,7 @@ class States:
         shard = self._shard
         kept = shard.patient.hget(shard.keys.aside, log.tenant)
         found: Restored = yield from restored(shard.serving, log, shard.alive, accepts=word == SKIP)
+        shard.keeping.reckon()
         shard.metrics.add("bpfhost_worker_replayed_frames_total", log.since.frames)
         for sentence in found.told:
             shard.tell(f"shard {shard.keys.number}, tenant {log.tenant}: {sentence}")

@@ -18,14 +18,42 @@ from bpfhost.program import Program
 Word = object
 
 
+class Pending(Protocol):
+    """A command that was begun, and whose answer is waited for."""
+
+    def is_answered(self) -> bool:
+        """Whether there is no need to wait for its answer any more, or not for long."""
+
+    def answer(self) -> Any:
+        """The answer. An Away where the server can't be reached, a RedisError where it refuses the words."""
+
+
 class Link(Protocol):
     """A connection to a Redis. An Away where the server can't be reached, a RedisError where it refuses the words."""
 
     def call(self, words: Sequence[Word], seconds: float) -> Any:
         """The answer to a command, which comes within so many seconds."""
 
+    def begin(self, words: Sequence[Word], seconds: float) -> Pending:
+        """Begins the same, and does not wait."""
+
     def close(self) -> None:
         """Ends the connection."""
+
+
+class NotBegun:
+    """What stands for a command that was begun, where none is done beside something else: it is done when its answer is asked for."""
+
+    def __init__(self, call: Callable[[], Any]) -> None:
+        self._call = call
+
+    def is_answered(self) -> bool:
+        """It is not, and takes as long as it takes."""
+        return True
+
+    def answer(self) -> Any:
+        """Does it."""
+        return self._call()
 
 
 class Asked(Protocol):
@@ -49,6 +77,9 @@ class System(Protocol):
     def sleep(self, seconds: float) -> None: ...
     def beside(self, run: Callable[[], None]) -> Beside: ...
     def link(self, url: str) -> Link: ...
+    def any_of(self, pending: Sequence[Pending], seconds: float) -> None:
+        """Waits until one of these has an answer, at most so many seconds."""
+
     def host(self, program: Program, tenants: int) -> Asked: ...
     def fresh(self) -> str:
         """A name that was never given before."""
@@ -79,6 +110,11 @@ class Machine:
         from bpfhost.shards.link import SocketLink
 
         return SocketLink(url)
+
+    def any_of(self, pending: Sequence[Pending], seconds: float) -> None:
+        from bpfhost.shards.link import any_of
+
+        any_of(pending, seconds)
 
     def host(self, program: Program, tenants: int) -> Asked:
         host = Host(program, tenants)

@@ -1,21 +1,22 @@
-"""The turns of a worker: in each every tenant has its share of calls, which are read, played and answered."""
+"""The turns of a worker: in each every tenant has its share of calls, which are read, played and answered.
+
+All three go on at once: while the host plays what one turn has, what comes next is read (`reading`), and the replies of the turns
+before are written (`answering`).
+"""
 
 from __future__ import annotations
 
-from collections.abc import Iterator, Sequence
+from collections.abc import Sequence
 
 from bpfhost.errors import HostError, ReplyError
-from bpfhost.shards.calls import Call, Item, NoCall, item_of
+from bpfhost.shards.answering import Answering, Played
+from bpfhost.shards.calls import Call, NoCall
 from bpfhost.shards.errors import MemoryRefused, OutOfMemory
 from bpfhost.shards.jobs import Jobs
+from bpfhost.shards.reading import Reading
 from bpfhost.shards.served import Served
-from bpfhost.shards.serving import Written
 from bpfhost.shards.suspects import Suspects
 from bpfhost.shards.upkeep import SECONDS_TO_LOOK, Upkeep
-
-# In a turn each tenant has calls of so many frames and bytes at most, or one call.
-TURN_FRAMES, TURN_BYTES = 512, 1 << 18
-_MOST_READ = 64
 
 
 class Turns:
@@ -23,7 +24,17 @@ class Turns:
 
     def __init__(self, shard: Served, suspects: Suspects, jobs: Jobs, upkeep: Upkeep) -> None:
         self._shard, self._suspects, self._jobs, self._upkeep = shard, suspects, jobs, upkeep
-        self._read_at_once = _MOST_READ
+        self._reading = Reading(shard)
+        self._answering = Answering(shard, self._note, self._make_room)
+
+    def settle(self) -> None:
+        """Waits until the replies to all that was played are written."""
+        self._answering.settle()
+
+    def forget(self) -> None:
+        """Begins anew, with tenants that were just made."""
+        self._reading.forget()
+        self._answering.forget()
 
     def turn(self) -> None:
         """One turn, and some of what is done beside."""
@@ -33,8 +44,10 @@ class Turns:
         shard.waiting(shard.lease.keep)
         shard.waiting(self._upkeep.look_at_words)
         if shard.keeping.is_due_to_look():
+            self.settle()
             shard.waiting(self._upkeep.look_around)
-        items = shard.waiting(lambda: list(self._read()))
+        self._wait()
+        items = list(self._reading.shares())
         calls = [item for one in items for item in one if isinstance(item, (Call, NoCall))]
         if calls:
             self._play(calls)
@@ -44,75 +57,67 @@ class Turns:
         self._upkeep.look_at_snapshots()
         self._jobs.do_some()
 
-    def _read(self) -> Iterator[list[Item]]:
-        """What each tenant has in this turn: calls, or one entry that is none."""
-        shard = self._shard
-        readable = [log for log in shard.logs if not log.aside and log.tenant not in shard.busy]
+    def _wait(self) -> None:
+        """Waits until something has come, or is written; not where there is something to do beside."""
+        shard, asked = self._shard, self._reading.ask()
         wait = 0.0 if shard.jobs else min(shard.settings.lease_seconds / 4, SECONDS_TO_LOOK)
-        if not readable:
+        if not asked:
+            self.settle()
             shard.system.sleep(min(wait, 0.05))
-            return
-        found = shard.redis.xread({log.frames: log.place for log in readable}, self._read_at_once, wait)
-        most = 1
-        for log in readable:
-            items = [item_of(log.tenant, entry) for entry in found.get(log.frames, [])]
-            most = max([most, *(item.count for item in items if isinstance(item, Call))])
-            yield share_of(items)
-        self._read_at_once = max(1, min(_MOST_READ, TURN_FRAMES // most))
+        elif self._answering.is_full():
+            # What comes meanwhile is taken together.
+            shard.system.any_of(self._answering.first(), wait)
+            shard.system.any_of(asked, 0.0)
+        else:
+            shard.system.any_of([*asked, *self._answering.first()], wait)
+        self._answering.look()
 
     def _play(self, calls: Sequence[Call | NoCall]) -> None:
-        """Plays calls, and writes their replies; one at a time where one of them may have ended a host."""
-        parts: list[Sequence[Call | NoCall]] = [[call] for call in calls] if self._suspects.are_there else [calls]
-        for some in parts:
-            answered: list[tuple[Written, bool]] = []
-            try:
-                answered.extend(self._shard.serving.play(some))
-            except (HostError, ReplyError, MemoryRefused) as error:
-                self._write(some, answered)
-                self._suspects.host_has_ended(some[len(answered) :], error)
-                return
-            self._write(some, answered)
+        """Plays calls, and answers them; one at a time where one of them may have ended a host."""
+        self._reading.taken(calls)
+        if self._suspects.are_there:
+            self.settle()
+            for call in calls:
+                if not self._played([call]):
+                    return
+                self.settle()
+        else:
+            # What comes next is read meanwhile.
+            self._reading.ask()
+            self._played(calls)
 
-    def _write(self, calls: Sequence[Call | NoCall], answered: Sequence[tuple[Written, bool]]) -> None:
-        """Writes replies; they are there once, also where it is not known whether they were written and they are written again."""
-        shard = self._shard
-        for some in shard.writing.parted([written for written, _ in answered]):
-            while True:
-                try:
-                    shard.waiting(lambda: shard.writing.write(some))
-                    break
-                except OutOfMemory as error:
-                    self._upkeep.make_room(calls, error)
-        for call, (written, changed) in zip(calls, answered):
-            self._note(call, written, changed)
+    def _played(self, calls: Sequence[Call | NoCall]) -> bool:
+        """Plays calls, and begins to write their replies; False where the host has ended, and all states were made anew."""
+        played: list[Played] = []
+        try:
+            for call, (written, changed) in zip(calls, self._shard.serving.play(calls)):
+                played.append(Played(call, written, changed))
+        except (HostError, ReplyError, MemoryRefused) as error:
+            self.settle()
+            self._answering.write(played)
+            self._suspects.host_has_ended(calls[len(played) :], error)
+            return False
+        self._answering.begin(played)
+        return True
 
-    def _note(self, call: Call | NoCall, written: Written, changed: bool) -> None:
+    def _make_room(self, error: OutOfMemory) -> None:
+        """Makes room. What was read, and may have been played, is not answered yet."""
+        self._upkeep.make_room(self._reading.unanswered(), error)
+
+    def _note(self, one: Played) -> None:
         """Notes that replies are written."""
-        shard, log, size = self._shard, self._shard.logs[call.tenant], len(written.value)
+        shard, call, log, size = self._shard, one.call, self._shard.logs[one.call.tenant], len(one.written.value)
         count = call.count if isinstance(call, Call) else 0
-        log.place = written.entry
+        log.place = one.written.entry
         log.since.entries += 1
         log.since.frames += count
         log.since.size += call.size + size
-        log.since.changed |= changed
+        log.since.changed |= one.changed
         log.unmarked += size
         shard.keeping.came += size
+        shard.keeping.note(count, call.size + size)
         shard.metrics.add("bpfhost_worker_calls_total")
         shard.metrics.add("bpfhost_worker_frames_total", count)
         shard.metrics.add("bpfhost_worker_bytes_total", call.size + size)
-        self._suspects.is_answered(call.tenant, written.entry)
-
-
-def share_of(items: Sequence[Item]) -> list[Item]:
-    """What of a tenant's entries has its turn: the calls in front, up to its share, or one entry that is no call."""
-    taken: list[Item] = []
-    frames, size = TURN_FRAMES, TURN_BYTES
-    for item in items:
-        if not isinstance(item, (Call, NoCall)):
-            return taken or [item]
-        frames -= item.count if isinstance(item, Call) else 1
-        size -= item.size
-        if taken and (frames < 0 or size < 0):
-            break
-        taken.append(item)
-    return taken
+        self._reading.written(call.tenant, one.written.entry)
+        self._suspects.is_answered(call.tenant, one.written.entry)

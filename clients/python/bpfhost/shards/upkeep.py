@@ -2,10 +2,8 @@
 
 from __future__ import annotations
 
-from collections.abc import Sequence
-
 from bpfhost.shards.aside import ENTRY, LOST, RETRY, SKIP, Aside
-from bpfhost.shards.calls import Call, NoCall, size_of
+from bpfhost.shards.calls import size_of
 from bpfhost.shards.errors import OutOfMemory, Stopped
 from bpfhost.shards.log import Log
 from bpfhost.shards.names import FAULT, START
@@ -31,11 +29,13 @@ class Upkeep:
 
     def look_at_words(self) -> None:
         """Does what an operator has said of tenants that are set aside."""
-        shard = self._shard
-        aside = [log for log in shard.logs if log.aside and log.tenant not in shard.busy]
-        if not aside or shard.system.now() < self._looked + SECONDS_TO_LOOK:
+        shard, now = self._shard, self._shard.system.now()
+        if now < self._looked + SECONDS_TO_LOOK:
             return
-        self._looked = shard.system.now()
+        self._looked = now
+        aside = [log for log in shard.logs if log.aside and log.tenant not in shard.busy]
+        if not aside:
+            return
         said = shard.redis.hgetall(shard.keys.words)
         for log in aside:
             word, _, entry = said.get(b"%d" % log.tenant, b"").decode().partition(" ")
@@ -116,11 +116,10 @@ class Upkeep:
                 if not log.aside and log.place != START:
                     shard.begin_job(log.tenant, shard.keeping.make_room(shard.serving, log))
 
-    def make_room(self, calls: Sequence[Call | NoCall], error: OutOfMemory) -> None:
+    def make_room(self, played: set[int], error: OutOfMemory) -> None:
         """Makes room in a Redis that has no memory for replies. Of the tenants whose replies are not written yet no snapshot is taken:
         their state is behind calls that are not answered."""
         shard = self._shard
-        played = {call.tenant for call in calls}
         for log in shard.logs:
             if log.tenant in played | shard.busy or log.aside or log.place == START:
                 at_once(shard.keeping.drop_before(log))

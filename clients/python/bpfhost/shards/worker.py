@@ -13,6 +13,7 @@ from bpfhost.errors import StateError
 from bpfhost.program import Program
 from bpfhost.shards import metrics
 from bpfhost.shards.attending import Attending
+from bpfhost.shards.building import build_of
 from bpfhost.shards.connection import Redis, demand_durable, demand_version, without_secrets
 from bpfhost.shards.directory import Directory
 from bpfhost.shards.errors import LeaseLost, LogChanged, RedisError, ShardError, Stopped
@@ -49,11 +50,11 @@ class Worker:
         self._program, self._settings = program, settings
         self._server = without_secrets(redis.url) if directory else ""
         self._directory = Directory(directory or redis, keys.prefix)
-        self._shard = shard = Served(redis, keys, program, settings, tell, self.metrics)
+        self._shard = shard = Served(redis, keys, build_of(program), settings, tell, self.metrics)
         self._states = States(shard)
         suspects = Suspects(shard, self._states)
         self._upkeep = Upkeep(shard, self._states, suspects)
-        self._turns = Turns(shard, suspects, Jobs(shard, self._states, suspects), self._upkeep)
+        shard.under_way = self._turns = Turns(shard, suspects, Jobs(shard, self._states, suspects), self._upkeep)
         self._has_ended = False
 
     @property
@@ -128,13 +129,14 @@ class Worker:
             self._states.make_all()
 
     def _drain(self) -> None:
-        """Takes snapshots, between turns, for as long as it may."""
+        """Takes snapshots, between turns, for as long as it may, and answers all that was played."""
         shard = self._shard
         until = shard.system.now() + self._settings.drain_seconds
         if self._settings.drain_seconds:
             self._upkeep.snapshot_all()
         while shard.jobs and shard.system.now() < until:
             self._turn_or_begin_anew()
+        self._turns.settle()
 
     # Seen from outside.
 

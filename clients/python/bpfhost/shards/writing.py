@@ -2,19 +2,19 @@
 
 from __future__ import annotations
 
-from collections.abc import Iterable, Iterator, Sequence
+from collections.abc import Iterable, Iterator, Mapping, Sequence
 
 from bpfhost.parts import in_parts
 from bpfhost.shards import names, scripts
 from bpfhost.shards.calls import Arrives, Leaves
-from bpfhost.shards.connection import Redis, Script, told_by
-from bpfhost.shards.errors import ShardError, SnapshotDamaged
+from bpfhost.shards.connection import Line, Redis, Script, told_by
+from bpfhost.shards.errors import Away, NoScript, ShardError, SnapshotDamaged
 from bpfhost.shards.lease import Lease
 from bpfhost.shards.log import Log
 from bpfhost.shards.manifest import Manifest
 from bpfhost.shards.names import ShardKeys
 from bpfhost.shards.serving import Written
-from bpfhost.shards.system import Word
+from bpfhost.shards.system import Pending, Word
 from bpfhost.state import Steps
 
 # A script is given about so many bytes of replies at most, and so many names of pieces.
@@ -43,21 +43,34 @@ class Writing:
         """What a call of so many bytes weighed while it waited."""
         return names.weight(size)
 
-    @staticmethod
-    def parted(written: Sequence[Written]) -> Iterator[list[Written]]:
-        """Replies in parts that a script is given at once."""
-        return in_parts(written, lambda one: len(one.value), WRITTEN_AT_ONCE)
-
     def write(self, written: Sequence[Written]) -> None:
         """Writes replies of tenants, those of each in order."""
+        self._do(scripts.WRITE, *self._words(written, {}))
+
+    def begin(self, line: Line, written: Sequence[Written], behind: Mapping[int, bytes]) -> Pending:
+        """Begins to write replies on a line. Of some tenants replies are on their way that are to be written before, up to these ids."""
+        keys, words = self._words(written, behind)
+        return scripts.WRITE.begin(self.redis, line, [self.keys.lease, *keys], [self.lease.token, *words])
+
+    def end(self, pending: Pending) -> bool:
+        """Whether replies that were begun are written; if not, they are to be written again. An OutOfMemory where they have no room."""
+        try:
+            done = pending.answer()
+        except (Away, NoScript):
+            return False
+        if not done:
+            raise self.lease.lost()
+        return bool(done == 1)
+
+    def _words(self, written: Sequence[Written], behind: Mapping[int, bytes]) -> tuple[list[str], list[Word]]:
         of: dict[int, list[Written]] = {}
         for one in written:
             of.setdefault(one.tenant, []).append(one)
         words: list[Word] = []
         for tenant, own in of.items():
-            words += [tenant, sum(one.weight for one in own), len(own)]
+            words += [tenant, sum(one.weight for one in own), len(own), behind.get(tenant, b"")]
             words += (word for one in own for word in (one.entry, one.name, one.value))
-        self._do(scripts.WRITE, [self.keys.waiting, *map(self.keys.replies, of)], words)
+        return [self.keys.waiting, *map(self.keys.replies, of)], words
 
     def write_left(self, log: Log, item: Leaves, state: Manifest, nothing: Manifest) -> None:
         """Writes that a tenant has left."""

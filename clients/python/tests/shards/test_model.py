@@ -31,6 +31,9 @@ def case(name: str) -> Sequence[Process]:
     if name == "calls":
         # A client, and two workers who take the lease from each other; the first call may be skipped.
         return [client(2), worker(0, "a", 2, b"call 1"), worker(0, "b", 2, b"call 1")]
+    if name == "calls that wait":
+        # Two workers, which write the replies to one call while those to the one before are on their way.
+        return [worker(0, "a", 2), worker(0, "b", 2)]
     if name == "sessions":
         # Two processes of one session, each of which may die, or be late.
         return sharing()
@@ -49,13 +52,14 @@ def explore(name: str, faults: int, mistake: str | None = None) -> int:
 
     invariant = calls_are_known if name == "sessions" else replies_are_right
     explorer = Explorer(case(name), invariant, faults, mutated(mistake) if mistake else None)
-    return explorer.run(begun(held=name != "calls"))
+    waits = name == "calls that wait"
+    return explorer.run(begun(held=name != "calls" and not waits, waiting=3 if waits else 0))
 
 
 @unittest.skipIf(_WHY is not None, _WHY or "")
 class Model(TimedTest):
     def test_all_interleavings(self) -> None:
-        for name, faults, least in (("calls", 1, 20_000), ("moves", 0, 4_000), ("one call moves", 1, 10_000), ("aborts", 0, 5_000), ("sessions", 3, 300)):
+        for name, faults, least in (("calls", 1, 20_000), ("calls that wait", 1, 10_000), ("moves", 0, 4_000), ("one call moves", 1, 10_000), ("aborts", 0, 5_000), ("sessions", 3, 300)):
             # Each case has the time of a test.
             signal.alarm(SECONDS)
             self.assertGreater(explore(name, faults), least, name)
@@ -65,6 +69,7 @@ class Model(TimedTest):
 
         for mistake, name, faults, sentence in (
             ("no token is compared", "calls", 0, "calls are answered"),
+            ("a reply passes the one before it", "calls that wait", 0, "replies to .*, and entries"),
             ("a reply without its id", "calls", 0, "replies to .*, and entries"),
             ("a seat is given before the old one is taken", "moves", 0, "calls are answered"),
             ("the old seat is not taken", "moves", 0, "calls are answered"),

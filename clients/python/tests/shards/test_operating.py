@@ -190,7 +190,7 @@ class Memory(ShardTest):
         customer = self.client.customer("acme", 60)
         customer.ask(CREATE)
         redis, _ = self.client.shard(0)
-        right, refused = Script.__call__, list[int]()
+        right, refused = Script.begin, list[int]()
 
         def forgets(script: Script, *arguments: object) -> object:
             if script is scripts.WRITE and not refused:
@@ -198,7 +198,7 @@ class Memory(ShardTest):
                 redis.call("CONFIG", "SET", "maxmemory", 1)
             return right(script, *arguments)  # type: ignore[arg-type]
 
-        with mock.patch.object(Script, "__call__", forgets):
+        with mock.patch.object(Script, "begin", forgets):
             ticket = customer.post(put(3))
             self.until(lambda: any("no memory" in sentence for sentence in worker.told))
         self.assertRegex(worker.told[-1], "shard 0 waits: Redis has no memory: .*Redis has [0-9]+ bytes of at most 1: it needs more")

@@ -13,7 +13,7 @@ from bpfhost.shards.connection import Redis, connect
 from bpfhost.shards.names import MOST_WAITING
 from bpfhost.shards.serving import Serving
 from bpfhost.shards.system import MACHINE, Link, Machine, Word
-from bpfhost.shards.turns import TURN_FRAMES, share_of
+from bpfhost.shards.reading import TURN_FRAMES, share_of
 from bpfhost.state import Steps
 from tests.common import PROGRAM, HostTest
 from tests.shards.common import CREATE, LOOK_UP, SECONDS, ShardTest, call_of, put
@@ -83,7 +83,7 @@ class Counting(Machine):
 class _CountingLink:
     def __init__(self, counting: Counting, link: Link) -> None:
         self._counting, self._link = counting, link
-        self.close = link.close
+        self.close, self.begin = link.close, link.begin
 
     def call(self, words: Sequence[Word], seconds: float) -> object:
         answer = self._link.call(words, seconds)

@@ -15,7 +15,7 @@ import greenlet
 
 from bpfhost.program import Program
 from bpfhost.shards.link import AsyncConnection
-from bpfhost.shards.system import Asked, Beside, Link, Word
+from bpfhost.shards.system import Asked, Beside, Link, NotBegun, Pending, Word
 
 Answer = TypeVar("Answer")
 
@@ -51,6 +51,10 @@ class AsyncLink:
         """The answer to a command, within so many seconds."""
         return waits(self._connection.call(words, seconds))
 
+    def begin(self, words: Sequence[Word], seconds: float) -> Pending:
+        """The same, when its answer is asked for."""
+        return NotBegun(lambda: self.call(words, seconds))
+
     def close(self) -> None:
         """Ends the connection."""
         self._connection.close()
@@ -70,6 +74,9 @@ class Loop:
 
     def link(self, url: str) -> Link:
         return AsyncLink(url)
+
+    def any_of(self, pending: Sequence[Pending], seconds: float) -> None:
+        raise NotImplementedError
 
     def host(self, program: Program, tenants: int) -> Asked:
         raise NotImplementedError

@@ -95,7 +95,8 @@ def resuming(call: int, more: int) -> Process:
     return Process(("place",), steps, _is_done, lambda local: ("done",) if local[0] == "ask" else local)
 
 
-# A worker: ("idle", starts, seen), ("restore", token), ("read", token, place, count), ("write", token, place, count, entry, fields).
+# A worker: ("idle", starts, seen), ("restore", token), ("read", token, place, count), ("write", token, place, count, entry, fields), and
+# with another call's replies on their way behind the first one's ("both", token, count, entry, next entry).
 
 
 def worker(shard: int, name: str, starts: int, skips: bytes = b"", tenant: int = 0) -> Process:
@@ -112,10 +113,37 @@ def worker(shard: int, name: str, starts: int, skips: bytes = b"", tenant: int =
         if local[0] == "restore":
             return [Step(("XRANGE", keys.replies(tenant), "0-1", "+"), lambda found: _restored(local, found))]
         if local[0] == "read":
-            behind = b"%d-%d" % (order(local[2])[0], order(local[2])[1] + 1)
-            words = ("XRANGE", keys.frames(tenant), behind, "+", "COUNT", 1)
-            return [Step(words, lambda found: ("write", *local[1:], found[0][0], tuple(found[0][1])) if found else None)]
-        return [Step(words, functools.partial(_written, local, count)) for words, count in _writes(local)]
+            return [Step(_behind(local[2]), lambda found: ("write", *local[1:], found[0][0], tuple(found[0][1])) if found else None)]
+        if local[0] == "both":
+            return _both(local)
+        ways = [Step(words, functools.partial(_written, local, count)) for words, count in _writes(local)]
+        if local[5][0] == b"f" and not skips:
+            # The next one is read, played and written beside.
+            ways.append(Step(_behind(local[4]), functools.partial(_read_on, local)))
+        return ways
+
+    def _behind(place: bytes) -> Words:
+        behind = b"%d-%d" % (order(place)[0], order(place)[1] + 1)
+        return ("XRANGE", keys.frames(tenant), behind, "+", "COUNT", 1)
+
+    def _read_on(local: Local, found: list[Any]) -> Local | None:
+        if not found or found[0][1][0] != b"f":
+            return None
+        return ("both", local[1], local[3], local[4], found[0][0])
+
+    def _both(local: Local) -> list[Step]:
+        """Both writes may come first. The second one writes nothing without the first one, which is written again until it is there."""
+        _, token, count, entry, other = local
+        first, second = _write(token, b"", entry, count + 1), _write(token, entry, other, count + 2)
+        after = ("write", token, entry, count + 1, other, (b"f", b"-"))
+        return [
+            Step(first, lambda has: after if has == 1 else died(token)),
+            Step(second, lambda has: died(token) if has == 0 else local),
+        ]
+
+    def _write(token: str, behind: bytes, entry: bytes, count: int) -> Words:
+        used = [keys.lease, keys.waiting, keys.replies(tenant)]
+        return _script(scripts.WRITE, used, token, tenant, 1, 1, behind, entry, "r", b"%d" % count)
 
     def _take(local: Local) -> list[Step]:
         token = f"{name}{local[1]}"
@@ -139,10 +167,10 @@ def worker(shard: int, name: str, starts: int, skips: bytes = b"", tenant: int =
         if field == b"arrive":
             arrived = int(value.split()[1])
             return [(_script(scripts.WRITE_ARRIVED, [keys.lease, replies, keys.snapshots], token, entry, tenant, value), arrived)]
-        used = [keys.lease, keys.waiting, replies]
-        writes = [(_script(scripts.WRITE, used, token, tenant, 1, 1, entry, "r", b"%d" % (count + 1)), count + 1)]
+        writes = [(_write(token, b"", entry, count + 1), count + 1)]
         if value == skips:
-            writes.append((_script(scripts.WRITE, used, token, tenant, 1, 1, entry, "e", "skipped"), count))
+            used = [keys.lease, keys.waiting, replies]
+            writes.append((_script(scripts.WRITE, used, token, tenant, 1, 1, b"", entry, "e", "skipped"), count))
         return writes
 
     def _written(local: Local, count: int, has: Any) -> Local:
@@ -321,20 +349,23 @@ def sharing() -> list[Process]:
     return [resuming(int(call.split()[1]), more) for call, more in _MORE.items()]
 
 
-def begun(held: bool = False) -> dict[bytes, Any]:
-    """The keys of two shards that are offered."""
+def begun(held: bool = False, waiting: int = 0) -> dict[bytes, Any]:
+    """The keys of two shards that are offered; so many calls wait in the first one."""
     store = Store()
     for shard in ("0", "1"):
         store.do(["ZADD", _DIRECTORY.loads, "NX", shard, shard])
         store.do(["HSET", _DIRECTORY.beats, shard, "1"])
         if held:
             store.do(["HSET", _KEYS[int(shard)].lease, "token", f"w{shard}0", "count", "1"])
+    for call in range(1, waiting + 1):
+        store.do(["XADD", _KEYS[0].frames(0), "*", "f", f"call {call}"])
     return store.keys
 
 
 # Mistakes that are planted, by the script and what is changed in its text.
 MISTAKES = {
     "no token is compared": (scripts.WRITE, "if redis.call('HGET', KEYS[1], 'token') ~= ARGV[1] then return 0 end\n", ""),
+    "a reply passes the one before it": (scripts.WRITE, "ARGV[at + 3], ARGV[at + 3]) == 0 then return 2 end", "ARGV[at + 3], ARGV[at + 3]) == 0 then end"),
     "a reply without its id": (scripts.WRITE, "redis.call('XADD', KEYS[key], ARGV[reply],", "redis.call('XADD', KEYS[key], '*',"),
     "a seat is given before the old one is taken": (
         directory.BEGIN_MOVE,

@@ -8,10 +8,12 @@ from typing import Any
 
 from bpfhost.program import Program
 from bpfhost.shards.errors import Away, RedisError
-from bpfhost.shards.system import Asked, Beside, Link, Word
+from bpfhost.shards.system import Asked, Beside, Link, Pending, Word
 from tests.shards.simulator.host import FakeHost
 from tests.shards.simulator.server import Scripts, Store
 from tests.shards.simulator.world import Actor, Process, World
+
+_FOR_EVER = 1e9
 
 
 @dataclass
@@ -77,11 +79,80 @@ class Network:
         return self.servers[url]
 
 
-class SimulatedLink:
-    """A connection."""
+class SimulatedPending:
+    """A command that is called beside what its process does, behind those that were begun before it."""
 
-    def __init__(self, network: Network, url: str) -> None:
-        self._network, self._server = network, network.server(url)
+    def __init__(self, link: SimulatedLink, process: Process, words: Sequence[Word], seconds: float) -> None:
+        self._link, self._words, self._seconds, self._before = link, words, seconds, link.last
+        self._answer: Any = None
+        self._error: Exception | None = None
+        # Whether the server has done it, and whether its answer is there.
+        self.has_come = self.is_done = False
+        self._waiting: list[Actor] = []
+        self.world = link.network.world
+        self.world.start(process, self._call)
+
+    def _call(self) -> None:
+        before, self._before = self._before, None
+        try:
+            self._answer = self._link.go(self._words, self._seconds, lambda: before.wait() if before else None, self._came)
+        except RedisError as error:
+            self._error = error
+        self.is_done = True
+        self._came()
+
+    def _came(self) -> None:
+        self.has_come = True
+        for actor in self._waiting:
+            actor.wakes = min(actor.wakes, self.world.now)
+
+    def is_answered(self) -> bool:
+        return self.is_done
+
+    def wait(self) -> None:
+        """Waits until the server has done it, or never does."""
+        wait_until(lambda: self.has_come, [self], self.world, _FOR_EVER)
+
+    def notify(self, actor: Actor) -> None:
+        """Has an actor go on when something of it is known."""
+        self._waiting.append(actor)
+
+    def forget(self, actor: Actor) -> None:
+        """No longer."""
+        self._waiting.remove(actor)
+
+    def answer(self) -> Any:
+        """Its answer."""
+        while not self.is_done:
+            wait_until(lambda: self.is_done, [self], self.world, _FOR_EVER)
+        if self._error:
+            raise self._error
+        return self._answer
+
+
+def wait_until(holds: Callable[[], bool], pending: Sequence[SimulatedPending], world: World, seconds: float) -> None:
+    """Lets the running actor wait until something holds of these, at most so many seconds."""
+    actor, until = world.running, world.now + seconds
+    assert actor is not None
+    for one in pending:
+        one.notify(actor)
+    try:
+        while not holds():
+            world.sleep(until - world.now)
+            if world.now >= until:
+                return
+    finally:
+        for one in pending:
+            one.forget(actor)
+
+
+class SimulatedLink:
+    """A connection of a process."""
+
+    def __init__(self, network: Network, process: Process, url: str) -> None:
+        self.network, self._process, self._server = network, process, network.server(url)
+        # The command that was begun last.
+        self.last: SimulatedPending | None = None
         self._failovers = self._server.failovers
         # How much the server had written after this connection's last write: what WAIT waits for.
         self._written = 0
@@ -103,13 +174,24 @@ class SimulatedLink:
             raise Away("the connection was cut, as another server took over")
 
     def close(self) -> None:
-        """Ends it."""
+        """Ends it: what is begun next waits for nothing that was begun before."""
+        self.last = None
 
     def call(self, words: Sequence[Word], seconds: float) -> Any:
         """The answer to a command, or what becomes of it."""
-        world, weather, draw = self._network.world, self._network.weather, self._network.world.draw
+        return self.go(words, seconds, lambda: None, lambda: None)
+
+    def begin(self, words: Sequence[Word], seconds: float) -> Pending:
+        """The same, beside what its process does. The server has it behind what was begun before."""
+        self.last = SimulatedPending(self, self._process, words, seconds)
+        return self.last
+
+    def go(self, words: Sequence[Word], seconds: float, turn: Callable[[], None], has_come: Callable[[], None]) -> Any:
+        """The same, which waits for its turn at the server, and tells when it has come there."""
+        world, weather, draw = self.network.world, self.network.weather, self.network.world.draw
         deadline, chance = world.now + seconds, draw.random()
         world.sleep(draw.random() * weather.seconds)
+        turn()
         self._demand_connection()
         if chance < weather.lost:
             raise Away("the connection was cut")
@@ -119,6 +201,7 @@ class SimulatedLink:
             world.later(draw.random() * weather.seconds_late, lambda: self._late(words, failovers))
             raise Away("the connection was cut, and the call comes late")
         answer = self._block(words, deadline) if "BLOCK" in words else self._do(words)
+        has_come()
         if chance < weather.lost + weather.late + weather.unanswered:
             raise Away("the answer was lost")
         world.sleep(draw.random() * weather.seconds)
@@ -135,7 +218,7 @@ class SimulatedLink:
 
     def _block(self, words: Sequence[Word], deadline: float) -> Any:
         """Asks until there is something, as a server that blocks does."""
-        world, server = self._network.world, self._server
+        world, server = self.network.world, self._server
         at = list(words).index("BLOCK")
         until = min(deadline, world.now + float(str(words[at + 1])) / 1000)
         asked = [*words[:at], *words[at + 2 :]]
@@ -171,7 +254,11 @@ class Simulated:
         return self._world.start(self._process, run)
 
     def link(self, url: str) -> Link:
-        return SimulatedLink(self._network, url)
+        return SimulatedLink(self._network, self._process, url)
+
+    def any_of(self, pending: Sequence[Pending], seconds: float) -> None:
+        simulated = [one for one in pending if isinstance(one, SimulatedPending)]
+        wait_until(lambda: any(one.is_answered() for one in pending), simulated, self._world, seconds)
 
     def host(self, _program: Program, _tenants: int) -> Asked:
         self.hosts.append(FakeHost())

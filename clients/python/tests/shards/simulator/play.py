@@ -44,7 +44,7 @@ from tests.shards.simulator.world import Process, World
 
 DIRECTORY = "redis://directory"
 SHARDS, CUSTOMERS, LEASE = 2, 4, 1.0
-SETTINGS = Settings(lease_seconds=LEASE, snapshot_entries=25, reply_seconds=400.0, most_asked=4000)
+SETTINGS = Settings(lease_seconds=LEASE, snapshot_entries=25, reply_seconds=400.0, most_asked=4000, lanes=2)
 _SECONDS_TO_SETTLE = 120.0
 _DAY = 86_400.0
 _SLOTS = bytes.fromhex("18110000 03000000 00000000 00000000 b700000000000000 9500000000000000")

@@ -1,0 +1,146 @@
+"""The replies that a worker writes, while it goes on: what is on its way is waited for when there is need to.
+
+Replies go in batches, each behind the ones before it: a batch that comes without them writes nothing. So where the answer to one is
+lost, all that are on their way are written again one by one, and each is there once. Two batches are on their way at most, and what is
+played meanwhile goes with the next one.
+"""
+
+from __future__ import annotations
+
+import contextlib
+from collections import deque
+from collections.abc import Callable, Sequence
+from dataclasses import dataclass
+
+from bpfhost.parts import in_parts
+from bpfhost.shards.calls import Call, NoCall
+from bpfhost.shards.errors import OutOfMemory
+from bpfhost.shards.served import Served
+from bpfhost.shards.serving import Written
+from bpfhost.shards.system import Pending
+from bpfhost.shards.writing import WRITTEN_AT_ONCE
+
+_MOST_ON_THEIR_WAY = 2
+# Where so many bytes of replies wait to be sent, the worker waits too.
+_MOST_WAITING = 4 * WRITTEN_AT_ONCE
+
+
+@dataclass(frozen=True)
+class Played:
+    """A call that was played, its replies, and whether it may have changed anything."""
+
+    call: Call | NoCall
+    written: Written
+    changed: bool
+
+
+@dataclass(frozen=True)
+class _Batch:
+    played: Sequence[Played]
+    pending: Pending
+
+
+class Answering:
+    """Writes the replies of one shard. `written` is told of each that is there, and `make_room` where there is no memory for them."""
+
+    def __init__(self, shard: Served, written: Callable[[Played], None], make_room: Callable[[OutOfMemory], None]) -> None:
+        self._shard, self._written, self._make_room = shard, written, make_room
+        self._line = shard.redis.line()
+        self._batches: deque[_Batch] = deque()
+        # The last of each tenant's replies that are on their way.
+        self._last: dict[int, bytes] = {}
+        # What is to be sent, and how many bytes it has.
+        self._waiting: list[Played] = []
+        self._size = 0
+
+    def begin(self, played: Sequence[Played]) -> None:
+        """Begins to write replies, now or when there is room for them."""
+        self._waiting += played
+        self._size += sum(len(one.written.value) for one in played)
+        self._send()
+        while self._size > _MOST_WAITING:
+            self._end_first()
+            self._send()
+
+    def _send(self) -> None:
+        """Sends what waits, as far as there is room."""
+        while self._waiting and len(self._batches) < _MOST_ON_THEIR_WAY:
+            some = _parts(self._waiting)[0]
+            pending = self._shard.writing.begin(self._line, [one.written for one in some], self._last)
+            self._batches.append(_Batch(some, pending))
+            self._last.update((one.written.tenant, one.written.entry) for one in some)
+            del self._waiting[: len(some)]
+            self._size -= sum(len(one.written.value) for one in some)
+
+    def is_full(self) -> bool:
+        """Whether no more batches can be sent just now."""
+        return len(self._batches) >= _MOST_ON_THEIR_WAY
+
+    def first(self) -> list[Pending]:
+        """What is answered next, if anything is on its way."""
+        return [self._batches[0].pending] if self._batches else []
+
+    def look(self) -> None:
+        """Notes what was answered, and sends what waits."""
+        while self._batches and self._batches[0].pending.is_answered():
+            self._end_first()
+        self._send()
+
+    def settle(self) -> None:
+        """Waits until all is written."""
+        while self._batches:
+            self._end_first()
+            self._send()
+
+    def forget(self) -> None:
+        """Lets be what is on its way, of a log that this worker does not go on with."""
+        if self._batches:
+            self._line.cut()
+        self._batches.clear()
+        self._last.clear()
+        self._waiting.clear()
+        self._size = 0
+
+    def write(self, played: Sequence[Played]) -> None:
+        """Writes replies; they are there once, also where it is not known whether they were written and they are written again."""
+        for some in _parts(played):
+            self._write([one.written for one in some])
+            self._note(some)
+
+    def _write(self, written: Sequence[Written]) -> None:
+        while True:
+            try:
+                return self._shard.waiting(lambda: self._shard.writing.write(written))
+            except OutOfMemory as error:
+                self._make_room(error)
+
+    def _end_first(self) -> None:
+        """Waits for the batch that was begun first."""
+        is_written = False
+        with contextlib.suppress(OutOfMemory):
+            is_written = self._shard.writing.end(self._batches[0].pending)
+        if is_written:
+            self._note(self._batches.popleft().played)
+        else:
+            self._write_again()
+
+    def _write_again(self) -> None:
+        """Writes all that is on its way once more."""
+        for batch in list(self._batches)[1:]:
+            with contextlib.suppress(OutOfMemory):
+                self._shard.writing.end(batch.pending)
+        for batch in list(self._batches):
+            self._write([one.written for one in batch.played])
+            self._batches.popleft()
+            self._note(batch.played)
+
+    def _note(self, played: Sequence[Played]) -> None:
+        for one in played:
+            if self._last.get(one.written.tenant) == one.written.entry:
+                del self._last[one.written.tenant]
+            self._written(one)
+
+
+def _parts(played: Sequence[Played]) -> list[list[Played]]:
+    """Replies in parts that a script is given at once."""
+    return list(in_parts(played, lambda one: len(one.written.value), WRITTEN_AT_ONCE))

@@ -1,0 +1,95 @@
+"""What a Redis answers, read from bytes that come in pieces (RESP, version 2)."""
+
+from __future__ import annotations
+
+from typing import Any
+
+_BULK, _ARRAY, _NUMBER, _ERROR, _TEXT = b"$*:-+"
+
+
+class NotRedis(ValueError):
+    """The bytes are no answer of a Redis."""
+
+
+class Refusal:
+    """An error that the server answers, by its text."""
+
+    def __init__(self, text: str) -> None:
+        self.text = text
+
+
+# No answer is whole yet.
+NOTHING = object()
+
+
+class Answers:
+    """The answers in bytes that have come. An array that is not whole yet is gone on with where it ended."""
+
+    def __init__(self) -> None:
+        self._data, self._at = b"", 0
+        # So many bytes at least are to come until there is more to read, where that is known.
+        self.lacks = 0
+        # The arrays that are not whole yet, the outermost first, with how many values each has.
+        self._open: list[tuple[list[Any], int]] = []
+
+    def feed(self, data: bytes) -> None:
+        """More bytes have come."""
+        self._data = self._data[self._at :] + data if self._at < len(self._data) else data
+        self._at = 0
+
+    def has_more(self) -> bool:
+        """Whether there are bytes behind what was read."""
+        return self._at < len(self._data)
+
+    def next(self) -> Any:
+        """The next answer, a Refusal where it is an error, or NOTHING while it is not whole; a NotRedis where the bytes are none."""
+        while (value := self._value()) is not NOTHING:
+            if isinstance(value, tuple):
+                self._open.append((value[0], value[1]))
+                continue
+            while self._open:
+                values, many = self._open[-1]
+                values.append(value)
+                if len(values) < many:
+                    break
+                self._open.pop()
+                value = values
+            else:
+                return value
+        return NOTHING
+
+    def _value(self) -> Any:
+        """The next value; of an array that has values, an empty list and how many there are to be."""
+        data, at, self.lacks = self._data, self._at, 0
+        end = data.find(b"\r\n", at)
+        if end < 0:
+            return NOTHING
+        kind, said = data[at], data[at + 1 : end]
+        if kind == _BULK:
+            stop = end + 2 + _number(said)
+            if stop < end + 2:
+                self._at = end + 2
+                return None
+            if len(data) < stop + 2:
+                self.lacks = stop + 2 - len(data)
+                return NOTHING
+            self._at = stop + 2
+            return data[end + 2 : stop]
+        self._at = end + 2
+        if kind == _ARRAY:
+            many = _number(said)
+            return ([], many) if many > 0 else [] if many == 0 else None
+        if kind == _NUMBER:
+            return _number(said)
+        if kind == _ERROR:
+            return Refusal(said.decode(errors="replace"))
+        if kind == _TEXT:
+            return said
+        raise NotRedis(f"{data[at : at + 40]!r} is no answer of a Redis")
+
+
+def _number(said: bytes) -> int:
+    try:
+        return int(said)
+    except ValueError:
+        raise NotRedis(f"{said[:40]!r} is no number of a Redis") from None

@@ -1,0 +1,142 @@
+"""What a worker reads: the entries of its tenants' streams, each of them from where the tenant has come to.
+
+The streams are read in several lanes, each with a connection and some of the tenants. A lane waits in Redis for entries, also while
+what another one has brought is played, or is being written. One lane for all would be given the first entry that comes, and have to
+ask for those that come together with it once more.
+"""
+
+from __future__ import annotations
+
+from collections.abc import Iterator, Sequence
+from dataclasses import dataclass
+
+from bpfhost.numbers import MOST_TENANTS
+from bpfhost.shards.calls import Call, Item, NoCall, item_of
+from bpfhost.shards.connection import Entry, Line, entries_of
+from bpfhost.shards.errors import Away
+from bpfhost.shards.log import Log
+from bpfhost.shards.names import ShardKeys
+from bpfhost.shards.served import Served
+from bpfhost.shards.system import Pending
+
+# In a turn each tenant has calls of so many frames and bytes at most, or one call.
+TURN_FRAMES, TURN_BYTES = 512, 1 << 18
+_MOST_READ = 64
+# So long a lane waits for entries at most; and where some of its tenants can't be read just now.
+_SECONDS_TO_WAIT, _SECONDS_BESIDE = 1.0, 0.02
+
+
+@dataclass
+class _Asked:
+    """What a lane asks: its tenants with the places from which on they are read, and what it waits for."""
+
+    places: dict[int, bytes]
+    pending: Pending
+
+
+class _Lane:
+    """One lane."""
+
+    def __init__(self, line: Line, keys: ShardKeys, tenants: Sequence[int]) -> None:
+        self.line, self.names = line, {tenant: keys.frames(tenant) for tenant in tenants}
+        self.asked: _Asked | None = None
+        self.at_once = _MOST_READ
+
+
+class Reading:
+    """Reads one shard."""
+
+    def __init__(self, shard: Served) -> None:
+        self._shard = shard
+        lanes = shard.settings.lanes
+        self._lanes = [_Lane(shard.redis.line(), shard.keys, range(at, MOST_TENANTS, lanes)) for at in range(lanes)]
+        # How far tenants were read, of which replies are not written yet.
+        self._read_to: dict[int, bytes] = {}
+
+    def forget(self) -> None:
+        """Begins anew, with tenants that were just made."""
+        self._read_to.clear()
+        for lane in self._lanes:
+            if lane.asked:
+                lane.asked = None
+                lane.line.cut()
+
+    # How far tenants were read.
+
+    def taken(self, calls: Sequence[Call | NoCall]) -> None:
+        """Notes that calls are played: their tenants are read from behind them."""
+        for call in calls:
+            self._read_to[call.tenant] = call.entry
+
+    def written(self, tenant: int, entry: bytes) -> None:
+        """Notes that a reply is written."""
+        if self._read_to.get(tenant) == entry:
+            del self._read_to[tenant]
+
+    def unanswered(self) -> set[int]:
+        """Tenants that were read further than replies are written."""
+        return set(self._read_to)
+
+    def _place(self, log: Log) -> bytes:
+        return self._read_to.get(log.tenant, log.place)
+
+    # Lanes.
+
+    def ask(self) -> list[Pending]:
+        """Has all lanes wait for entries, and gives what they wait for."""
+        for lane in self._lanes:
+            if not lane.asked:
+                self._ask(lane)
+        return [lane.asked.pending for lane in self._lanes if lane.asked]
+
+    def _ask(self, lane: _Lane) -> None:
+        shard = self._shard
+        readable = [log for log in map(shard.logs.__getitem__, lane.names) if not log.aside and log.tenant not in shard.busy]
+        if not readable:
+            return
+        wait = min(shard.settings.lease_seconds / 4, _SECONDS_TO_WAIT if len(readable) == len(lane.names) else _SECONDS_BESIDE)
+        places = {log.tenant: self._place(log) for log in readable}
+        names = {lane.names[tenant]: place for tenant, place in places.items()}
+        lane.asked = _Asked(places, lane.line.begin_xread(names, lane.at_once, wait))
+
+    def shares(self) -> Iterator[list[Item]]:
+        """What each tenant has in this turn, of what has come: calls, or one entry that is none."""
+        for lane in self._lanes:
+            if lane.asked and lane.asked.pending.is_answered():
+                asked, lane.asked = lane.asked, None
+                yield from self._shares(lane, asked)
+
+    def _shares(self, lane: _Lane, asked: _Asked) -> Iterator[list[Item]]:
+        shard, most = self._shard, 1
+        for name, entries in self._found(asked).items():
+            log = shard.logs[int(name.rpartition(":")[2])]
+            # Others may have been done with the tenant since it was asked for.
+            if log.aside or log.tenant in shard.busy or self._place(log) != asked.places[log.tenant]:
+                continue
+            items = [item_of(log.tenant, entry) for entry in entries]
+            most = max([most, *(item.count for item in items if isinstance(item, Call))])
+            yield share_of(items)
+        lane.at_once = max(1, min(_MOST_READ, TURN_FRAMES // most))
+
+    def _found(self, asked: _Asked) -> dict[str, list[Entry]]:
+        """What has come; nothing where Redis is away, which is waited for."""
+        try:
+            return entries_of(asked.pending.answer())
+        except Away as away:
+            self._shard.wait_for_redis(away)
+            return {}
+
+
+def share_of(items: Sequence[Item]) -> list[Item]:
+    """What of a tenant's entries has its turn: the calls in front, up to its share, or one entry that is no call."""
+    taken: list[Item] = []
+    frames, size = TURN_FRAMES, TURN_BYTES
+    for item in items:
+        if not isinstance(item, (Call, NoCall)):
+            return taken or [item]
+        frames -= item.count if isinstance(item, Call) else 1
+        size -= item.size
+        if taken and (frames < 0 or size < 0):
+            break
+        taken.append(item)
+    return taken

@@ -5,11 +5,13 @@ A caller that sends many frames mostly sends such ones: test runs of packets of 
 
 from __future__ import annotations
 
+from itertools import repeat
+
 from bpfhost.numbers import REPLY_HEAD, Command
 from bpfhost.tenancy import BODY
 
-# Fewer frames than this are processed one by one.
-_LEAST = 8
+# Fewer frames than `_LEAST` are processed one by one.
+_LEAST, _FEW = 8, 64
 # Commands that neither open nor close anything, and have short replies.
 _SHORT = (Command.PROG_TEST_RUN, Command.MAP_UPDATE_ELEM, Command.MAP_DELETE_ELEM)
 
@@ -20,7 +22,10 @@ def size_of_alike(stream: bytes | bytearray) -> int:
     count, rest = divmod(len(stream), size)
     if rest or count < _LEAST or size < BODY:
         return 0
-    # Each frame begins after the end of the one before, as all lengths are that of the first frame.
+    # Each frame begins after the end of the one before, as all lengths are that of the first frame. Up to `_FEW` frames are compared one
+    # after the other, more of them by each byte of their heads.
+    if count <= _FEW:
+        return size if all(map(stream.startswith, repeat(bytes(stream[:BODY])), range(size, len(stream), size))) else 0
     return size if all(stream[at::size] == stream[at : at + 1] * count for at in range(BODY)) else 0
 
 

@@ -5,14 +5,15 @@ from __future__ import annotations
 from collections.abc import Mapping
 from dataclasses import dataclass
 
-from bpfhost.alike import size_of_alike
+from bpfhost.alike import is_short, size_of_alike
 from bpfhost.shards.connection import Entry
 from bpfhost.shards.names import ARRIVES, FRAMES, LEAVES
 from bpfhost.state import split
 from bpfhost.tenancy import BODY
 
-# An entry has at most so many frames and bytes; each of the replies may have 4,108 bytes.
-MOST_FRAMES, LONGEST_CALL = 512, 262_144
+# An entry has at most so many frames and bytes; each of the replies may have 4,108 bytes. Where the frames are alike, and their replies
+# have a head and few bytes more, there may be more of them.
+MOST_FRAMES, MOST_ALIKE, LONGEST_CALL = 512, 1024, 262_144
 
 
 @dataclass(frozen=True)
@@ -91,8 +92,9 @@ def count_of(stream: bytes) -> tuple[int, int]:
     alike = size_of_alike(stream)
     frames = [stream[:BODY]] if alike else split(stream)
     count = len(stream) // alike if alike else len(frames)
-    if not count or count > MOST_FRAMES or len(stream) > LONGEST_CALL:
-        limits = f"1 to {MOST_FRAMES} frames of {LONGEST_CALL} bytes together"
+    most = MOST_ALIKE if alike and is_short(stream) else MOST_FRAMES
+    if not count or count > most or len(stream) > LONGEST_CALL:
+        limits = f"1 to {most} frames of {LONGEST_CALL} bytes together"
         raise ValueError(f"a call has {limits}, and not {count} of {len(stream)}")
     if any(len(frame) < BODY or frame[4] or frame[5] for frame in frames):
         raise ValueError("a frame of a call has a head, and names tenant 0")

@@ -174,12 +174,11 @@ class Customer:
     def send(self, stream: bytes) -> Part:
         """Lets frames go with others in one call: with all that are sent before one of them is waited for, or before there is no more room
         in a call. So many small calls cost no more than a large one. Whether they were taken is known when they are waited for."""
-        count, _ = count_of(stream)
-        if self._gathered.count + count > MOST_FRAMES or len(self._gathered.stream) + len(stream) > LONGEST_CALL:
+        count, alike = count_of(stream)
+        part = self._gathered.add(stream, count, alike)
+        while part is None:
             self.flush()
-        part = Part(self._gathered, self._gathered.count, count)
-        part.call.stream += stream
-        part.call.count += count
+            part = self._gathered.add(stream, count, alike)
         return part
 
     def flush(self) -> None:

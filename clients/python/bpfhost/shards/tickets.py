@@ -4,8 +4,11 @@ from __future__ import annotations
 
 from dataclasses import dataclass, field
 
+from bpfhost.alike import is_short
+from bpfhost.shards.calls import LONGEST_CALL, MOST_ALIKE, MOST_FRAMES
 from bpfhost.shards.directory import Seat
 from bpfhost.shards.errors import CallError
+from bpfhost.tenancy import BODY
 
 
 @dataclass(frozen=True)
@@ -50,6 +53,20 @@ class Gathered:
     count: int = 0
     ticket: Ticket | None = None
     error: CallError | None = None
+    # The head that all of the frames have, while they are alike and have short replies.
+    head: bytes = b""
+
+    def add(self, stream: bytes, count: int, alike: int) -> Part | None:
+        """Lets frames go with these, if there is room for them."""
+        head = stream[:BODY] if (alike or count == 1) and is_short(stream) else b""
+        if self.count and head != self.head:
+            head = b""
+        first, many = self.count, self.count + count
+        if many > (MOST_ALIKE if head else MOST_FRAMES) or len(self.stream) + len(stream) > LONGEST_CALL:
+            return None
+        self.stream += stream
+        self.count, self.head = many, head
+        return Part(self, first, count)
 
 
 @dataclass(frozen=True)

@@ -11,7 +11,7 @@ from bpfhost import Errno, Host, MapType, frames
 from bpfhost.alike import is_short, size_of_alike, statuses_are_zero
 from bpfhost.errors import ReplyError
 from bpfhost.replies import Reply
-from bpfhost.shards.calls import Call, count_of
+from bpfhost.shards.calls import MOST_ALIKE, MOST_FRAMES, Call, count_of
 from bpfhost.shards.errors import MemoryRefused
 from bpfhost.shards.serving import Serving, _so_many
 from bpfhost.state import split
@@ -102,19 +102,26 @@ class Sizes(unittest.TestCase):
         other = frames.prog_test_run(0, 5, b"\1" * 64)
         self.assertEqual(size_of_alike(run * 7), 0)
         self.assertEqual(size_of_alike(run * 8), len(run))
-        self.assertEqual(size_of_alike((run + other) * 8), len(run))
+        for many in (8, 50):
+            self.assertEqual(size_of_alike((run + other) * many), len(run))
         for stream in (b"", b"\0" * 64, run * 8 + b"\0", run * 8 + frames.close(0, 3), run * 8 + run[:-1], CREATE + run * 8):
             self.assertEqual(size_of_alike(stream), 0)
         # Another tenant, or another command of the same length, is not alike.
         for at in range(8):
-            changed = bytearray(run * 20)
-            changed[11 * len(run) + at] ^= 1
-            self.assertEqual(size_of_alike(changed), 0, at)
+            for many in (20, 200):
+                changed = bytearray(run * many)
+                changed[11 * len(run) + at] ^= 1
+                self.assertEqual(size_of_alike(changed), 0, at)
 
     def test_counts(self) -> None:
         run = frames.prog_test_run(0, 4, bytes(64))
-        self.assertEqual((count_of(run * 512), count_of(run * 2)), ((512, len(run)), (2, 0)))
-        for wrong in (run * 513, frames.prog_test_run(1, 4, bytes(64)) * 8, frames.frame(0, 1, bytes(40_000)) * 8):
+        self.assertEqual((count_of(run * 1000), count_of(run * 2)), ((1000, len(run)), (2, 0)))
+        short = frames.prog_test_run(0, 4)
+        self.assertEqual(count_of(short * MOST_ALIKE)[0], MOST_ALIKE)
+        self.assertEqual(count_of(LOOK_UP * MOST_FRAMES)[0], MOST_FRAMES)
+        # What has long replies, and what is not alike, is in smaller calls.
+        mixed = (short + frames.prog_test_run(0, 4, b"1")) * 257
+        for wrong in (short * (MOST_ALIKE + 1), run * 2400, LOOK_UP * (MOST_FRAMES + 1), mixed, frames.prog_test_run(1, 4, bytes(64)) * 8, frames.frame(0, 1, bytes(40_000)) * 8):
             with self.assertRaises(ValueError):
                 count_of(wrong)
         self.assertTrue(is_short(run) and is_short(put(1)) and not is_short(LOOK_UP) and not is_short(CREATE))

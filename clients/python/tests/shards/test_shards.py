@@ -86,6 +86,10 @@ class Asking(ShardTest):
         parts = [customer.send(LOOK_UP * 300) for _ in range(3)]
         self.assertEqual([len(customer.receive(part)) for part in parts], [300] * 3)
         self.assertEqual(redis.xlen(keys.frames(0)), 6)
+        # Of frames that are alike and have short replies a call has more.
+        parts = [customer.send(put(value) * 300) for value in range(3)] + [customer.send(LOOK_UP)]
+        self.assertEqual([len(customer.receive(part)) for part in parts], [300] * 3 + [1])
+        self.assertEqual(redis.xlen(keys.frames(0)), 8)
 
     def test_frames_that_are_not_taken(self) -> None:
         customer = self.client.customer("acme", seconds=0.2)

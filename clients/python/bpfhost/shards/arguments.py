@@ -80,6 +80,9 @@ def _add_worker(words: argparse._SubParsersAction[Parser]) -> None:
     parser.add_argument("shard", metavar="SHARD", type=_shard)
     parser.add_argument("--directory", metavar="URL", help="the directory's Redis, where it is another one")
     add_program(parser)
+    parser.add_argument(
+        "--library", metavar="PATH", help="the library, for a host in the worker; else that of BPFHOST_LIBRARY or beside the program; or none"
+    )
     parser.add_argument("--lease", metavar="S", type=_seconds, default=LEASE_SECONDS, help="the seconds of the lease (5)")
     parser.add_argument(
         "--snapshot-entries", metavar="N", type=_many, default=usual.snapshot_entries, help="calls that are played again at most (50000)"

@@ -23,6 +23,7 @@ from bpfhost.shards.arguments import parse
 from bpfhost.shards.client import Client
 from bpfhost.shards.connection import connect
 from bpfhost.shards.errors import LeaseHeld, LeaseLost, MemoryRefused, NoReply, OtherShard, RedisError, SetAside
+from bpfhost.shards.library import find_library
 from bpfhost.shards.logs import JsonLines
 from bpfhost.shards.metrics import Page
 from bpfhost.shards.names import ShardKeys
@@ -85,7 +86,8 @@ def run_worker(said: Namespace) -> None:
     _log(said, shard=said.shard)
     with closing(connect(said.redis)) as redis, closing(connect(said.directory)) if said.directory else nullcontext() as directory:
         keys = ShardKeys(said.shard, said.prefix)
-        worker = Worker(redis, keys, find_program(said.bpfhost), settings, _say, directory)
+        program = find_program(said.bpfhost)
+        worker = Worker(redis, keys, program, settings, _say, directory, find_library(said.library, program))
         with closing(Page(said.metrics, worker.metrics.text, worker.health)) if said.metrics else nullcontext():
             worker.run(lambda: stopped[0])
 

@@ -13,10 +13,9 @@ from collections.abc import Iterable, Iterator
 from bpfhost import frames
 from bpfhost.numbers import FIRST_DESCRIPTOR, MOST_DESCRIPTORS, MOST_MAPS, SOCKET_FILTER, Command
 from bpfhost.parts import in_parts
-from bpfhost.program import Program
 from bpfhost.replies import Reply
 from bpfhost.shards.errors import CopyDiffers
-from bpfhost.shards.system import MACHINE, System
+from bpfhost.shards.system import Asked as AskedHost
 from bpfhost.slots import renamed_maps
 from bpfhost.state import Pairs, Steps, read_pairs
 from bpfhost.tenancy import BODY, LiveMap, OpenProgram, Tenancy, command_of, status_of
@@ -32,8 +31,8 @@ Asked = tuple[bytes, bytes]
 class Copy:
     """The copy of one tenant, on a host of its own. It is a context manager, which ends the host."""
 
-    def __init__(self, program: Program, system: System = MACHINE) -> None:
-        self._host = system.host(program, 1)
+    def __init__(self, host: AskedHost) -> None:
+        self._host = host
         self._tenancy = Tenancy()
         self._numbers: dict[LiveMap | OpenProgram, int] = {}
 

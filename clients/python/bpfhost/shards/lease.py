@@ -36,6 +36,8 @@ class Lease:
         self.token = f"{self._system.fresh()} {socket.gethostname()} process {os.getpid()}"
         self._raised = 0.0
         self._is_lost = False
+        # Whether the worker before ended without giving it back.
+        self.was_left = False
         self._work_until = 0.0
 
     def take(self, is_stopped: Callable[[], bool] = lambda: False) -> None:
@@ -52,6 +54,7 @@ class Lease:
                 first = None
                 raise
             if token == self.token.encode():
+                self.was_left = bool(expected[0])
                 break
             if first and (token == first[0] and count != first[1]):
                 raise LeaseHeld(f"shard {self._keys.number} is served by another worker, {_who(token)}, who raises its lease")

@@ -21,7 +21,9 @@ from bpfhost.replies import Reply
 from bpfhost.shards.calls import Call, NoCall
 from bpfhost.shards.copied import Asked, Copy
 from bpfhost.shards.errors import CopyDiffers, MemoryRefused, ShardError, StateRefused
+from bpfhost.shards.library import Library, LibraryHost
 from bpfhost.shards.names import FAULT, REPLIES, weight
+from bpfhost.shards.system import Asked as AskedHost
 from bpfhost.shards.system import System
 from bpfhost.state import FILLER, Steps, read_pairs, same_pairs, split, state_frames, wanted_status, with_tenant
 from bpfhost.tenancy import OpenProgram, Tenancy, command_of, status_of
@@ -53,15 +55,29 @@ class Serving:
     `alive` is called now and then while it takes long.
     """
 
-    def __init__(self, program: Program, system: System, alive: Callable[[], None] = lambda: None) -> None:
-        self._program, self._system, self._alive = program, system, alive
+    def __init__(
+        self, program: Program, system: System, alive: Callable[[], None] = lambda: None, library: Library | None = None
+    ) -> None:
+        """With a library the host is in this process, and else a process of its own."""
+        self._program, self._system, self._alive, self._library = program, system, alive, library
+        self.is_careful = False
         self._start()
 
     def _start(self) -> None:
-        self._host = self._system.host(self._program, MOST_TENANTS)
+        self._host = self._new_host(MOST_TENANTS)
         self.asked = 0
         self.is_new = True
         self.tenancies = [Tenancy() for _ in range(MOST_TENANTS)]
+
+    def _new_host(self, tenants: int) -> AskedHost:
+        if self._library and not self.is_careful:
+            return self._library.host(tenants)
+        return self._system.host(self._program, tenants)
+
+    @property
+    def is_here(self) -> bool:
+        """Whether the host is in this process, and ends with it."""
+        return isinstance(self._host, LibraryHost)
 
     def __enter__(self) -> Serving:
         return self
@@ -79,8 +95,27 @@ class Serving:
     def play(self, calls: Sequence[Call | NoCall]) -> Iterator[tuple[Written, bool]]:
         """The replies to calls, in order, and whether the call may have changed anything. A call that ends the host has none, nor has
         any behind it: a HostError then, or a ReplyError. A MemoryRefused where memory was refused to the next one."""
+        if isinstance(self._host, LibraryHost):
+            yield from (self._play_here(self._host, call) for call in calls)
+            return
         for is_alike, some in groupby(calls, self._is_alike):
             yield from self._play_alike(list(some)) if is_alike else self._play_each(list(some))
+
+    def _play_here(self, host: LibraryHost, call: Call | NoCall) -> tuple[Written, bool]:
+        """Plays a call where it lies. What opens and closes nothing is not looked at frame by frame."""
+        if isinstance(call, NoCall):
+            return _fault(call), False
+        self._alive()
+        self.is_new = False
+        replies = host.answer(call.stream, call.tenant, call.alike)
+        self.asked += call.count
+        if host.refused_memory(call.tenant):
+            raise _refused(call)
+        changed = bool(call.alike) and is_short(call.stream)
+        if not changed:
+            for frame, reply in zip(call.frames, split(replies), strict=True):
+                changed |= self._note(call, frame, reply)
+        return Written(call.tenant, call.entry, REPLIES, replies, weight(call.size)), changed
 
     def _is_alike(self, call: Call | NoCall) -> bool:
         return isinstance(call, Call) and bool(call.alike) and is_short(call.stream) and hasattr(self._host, "pipelined")
@@ -91,7 +126,7 @@ class Serving:
         replies = self.ask(with_tenant(frame, call.tenant) for call, frames in zip(calls, frames_of) for frame in frames)
         for call, frames in zip(calls, frames_of):
             if isinstance(call, NoCall):
-                yield Written(call.tenant, call.entry, FAULT, call.why.encode()), False
+                yield _fault(call), False
                 continue
             own, changed = [], False
             for frame, reply in zip(frames, list(islice(replies, len(frames))), strict=True):
@@ -115,7 +150,7 @@ class Serving:
     def _note(self, call: Call, frame: bytes, reply: bytes) -> bool:
         status = status_of(reply)
         if status == -Errno.ENOMEM and command_of(frame) in _WANTS_MEMORY:
-            raise MemoryRefused(f"memory was refused to entry {call.entry.decode()}: its reply is not written")
+            raise _refused(call)
         return self.tenancies[call.tenant].note(frame, status)
 
     def ask_bytes(self, frames: Iterable[bytes]) -> Iterator[bytes]:
@@ -180,7 +215,7 @@ class Serving:
         named = [on for on in live if tenancy.is_open(on)]
         pairs = yield from read_pairs(self, tenant, {on: on.descriptor for on in named})
         if len(named) < len(live):
-            with Copy(self._program, self._system) as copy:
+            with Copy(self._new_host(1)) as copy:
                 yield from copy.play(answered((yield from before())))
                 yield from copy.play(history())
                 copied = yield from copy.pairs(tenancy)
@@ -192,6 +227,14 @@ class Serving:
             stream += b"".join(part)
             yield
         return bytes(stream)
+
+
+def _fault(call: NoCall) -> Written:
+    return Written(call.tenant, call.entry, FAULT, call.why.encode())
+
+
+def _refused(call: Call) -> MemoryRefused:
+    return MemoryRefused(f"memory was refused to entry {call.entry.decode()}: its reply is not written")
 
 
 def ask_alike(host: Host, calls: Sequence[Call]) -> Iterator[bytes]:

@@ -92,6 +92,7 @@ class Upkeep:
         for log in changed:
             shard.begin_job(log.tenant, shard.keeping.snapshot(shard.serving, log))
         if not changed:
+            shard.serving.is_careful = False
             self._states.make_all()
 
     def snapshot_all(self) -> None:

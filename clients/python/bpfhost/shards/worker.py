@@ -18,6 +18,7 @@ from bpfhost.shards.connection import Redis, demand_durable, demand_version, wit
 from bpfhost.shards.directory import Directory
 from bpfhost.shards.errors import LeaseLost, LogChanged, RedisError, ShardError, Stopped
 from bpfhost.shards.jobs import Jobs
+from bpfhost.shards.library import Library
 from bpfhost.shards.log import Log
 from bpfhost.shards.metrics import Told
 from bpfhost.shards.names import ShardKeys
@@ -44,13 +45,14 @@ class Worker:
         settings: Settings = Settings(),
         tell: Callable[[str], None] = print,
         directory: Redis | None = None,
+        library: Library | None = None,
     ) -> None:
-        """The directory is in the shard's Redis where no other one is named."""
+        """The directory is in the shard's Redis where no other one is named. With a library, the host is in this process."""
         self.metrics = Told(metrics.WORKER, self._numbers)
-        self._program, self._settings = program, settings
+        self._program, self._library, self._settings = program, library, settings
         self._server = without_secrets(redis.url) if directory else ""
         self._directory = Directory(directory or redis, keys.prefix)
-        self._shard = shard = Served(redis, keys, build_of(program), settings, tell, self.metrics)
+        self._shard = shard = Served(redis, keys, build_of(library.path if library else program), settings, tell, self.metrics)
         self._states = States(shard)
         suspects = Suspects(shard, self._states)
         self._upkeep = Upkeep(shard, self._states, suspects)
@@ -71,7 +73,7 @@ class Worker:
         shard = self._shard
         shard.is_stopped = is_stopped
         # The host begins first, so that none of the lease's time goes by meanwhile.
-        with contextlib.suppress(Stopped), Serving(self._program, shard.system, shard.alive) as shard.serving:
+        with contextlib.suppress(Stopped), Serving(self._program, shard.system, shard.alive, self._library) as shard.serving:
             shard.waiting(self._take_lease)
             self._serve_under_lease()
 
@@ -92,9 +94,12 @@ class Worker:
         try:
             shard.alive()
             incarnation = shard.waiting(lambda: register(shard.redis, shard.keys, self._directory, self._server))
+            is_careful = self._is_careful()
             self._states.make_all()
             shard.waiting(lambda: self._directory.beat(number, incarnation))
             shard.tell(f"shard {number} is served, from entry {shard.last_place().decode()} on")
+            if is_careful:
+                shard.tell(f"shard {number}: the worker before ended without a word, so the host is a process of its own at first")
             attending = Attending(self._directory, number, incarnation, self._settings.lease_seconds, shard.tell)
             attended = shard.system.beside(lambda: attending.run(lambda: self._has_ended) if attending else None)
             self.metrics.set("bpfhost_worker_serves", 1)
@@ -119,6 +124,16 @@ class Worker:
                 shard.lease.release()
                 if attending and not shard.redis.hget(shard.keys.lease, "token"):
                     attending.end()
+
+    def _is_careful(self) -> bool:
+        """Where the worker before ended in the middle, what it was asked may have ended it: then the host is a process of its own, of which
+        it is seen what ends it, until it is replaced by another one."""
+        serving = self._shard.serving
+        if not self._shard.lease.was_left or not serving.is_here:
+            return False
+        serving.is_careful = True
+        serving.restart()
+        return True
 
     def _turn_or_begin_anew(self) -> None:
         """A turn; where the log may lack what this host has played, all states are made anew of the log."""

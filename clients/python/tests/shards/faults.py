@@ -37,6 +37,7 @@ SNAPSHOT_ENTRIES = 120
 _SECONDS_TO_SETTLE = 150.0
 # What a worker says when it serves.
 _SERVES = "is served, from"
+_CAREFUL = "the host is a process of its own at first"
 # The statuses of a worker that ended since its host or Redis was away, or another worker has its lease.
 _AWAY, _NO_LEASE = 3, 4
 
@@ -73,6 +74,7 @@ class Supervisor:
         """Notes how a worker has ended; a Differs where it should not have."""
         said = worker.said()
         self._counts["served"] += _SERVES in said
+        self._counts["careful"] += _CAREFUL in said
         if status not in (0, -signal.SIGKILL, _AWAY, _NO_LEASE) or "Traceback" in said:
             raise Differs(f"the worker of shard {self._shard} ended with {status}: {said}")
 
@@ -167,6 +169,7 @@ class Faults:
         kinds = {
             self._kill_worker: 72,
             self._kill_host: 8,
+            self._end_worker: 12,
             self._pause: 3,
             self._kill_redis: 4,
             self._cut: 6,
@@ -190,6 +193,11 @@ class Faults:
         if host:
             os.kill(host, signal.SIGKILL)
             self.counts["hosts"] += 1
+
+    def _end_worker(self) -> None:
+        """Lets a worker end, after which the next one has its host in its own process, where there is a library."""
+        self._served_shard().worker.send(signal.SIGTERM)
+        self.counts["told to end"] += 1
 
     def _served_shard(self) -> Supervisor:
         """A shard, once its worker serves it."""
@@ -270,11 +278,14 @@ class Faults:
         """What was seen."""
         counts = self.counts
         short = f" (of {wanted} that were wanted)" if counts["kills"] < wanted else ""
+        beside = f"; {counts['careful']} had a host beside them, since the worker before was killed, and the others the library"
+        library = beside if counts["careful"] else ""
         return (
             f"faults of shards: {counts['frames']:,} frames of {CUSTOMERS} customers in {counts['calls']:,} calls,\n"
             "    each answered as by a host that serves the customer alone;\n"
             f"    {counts['entries']:,} entries, each with one reply;\n"
             f"    {counts['kills']} workers killed{short} and {counts['hosts']} hosts, {counts['served']} workers had begun to serve;\n"
+            f"    {counts['told to end']} workers told to end{library};\n"
             f"    {counts['paused']} workers paused past their lease, {counts['second']} second workers refused;\n"
             f"    Redis killed {counts['redis']} times, connections cut {counts['cut']} times;\n"
             f"    {counts['moved']} moves, {counts['broken off']} of them broken off, and ended by another call or by a worker"

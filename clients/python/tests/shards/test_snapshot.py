@@ -174,7 +174,7 @@ class MapsWithoutDescriptors(HostTest):
 
     def restored(self, tenancy: Tenancy, played: list[Asked]) -> Host:
         """A host with the state that these frames lead to, made of a snapshot of it."""
-        with Copy(PROGRAM) as copy:
+        with Copy(MACHINE.host(PROGRAM, 1)) as copy:
             at_once(copy.play(played))
             made = list(state_frames(tenancy, at_once(copy.pairs(tenancy))))
         host = Host(PROGRAM)
@@ -227,7 +227,7 @@ class MapsWithoutDescriptors(HostTest):
         asked = [frames.map_create(0, MapType.ARRAY, 4, 8, 1), frames.prog_load(0, slots_of(PROGRAM, "add")), frames.prog_test_run(0, 4)]
         _, played = self.play(asked)
         played[2] = played[2][0], played[2][1][:-4] + bytes(4)
-        with Copy(PROGRAM) as copy, self.assertRaisesRegex(CopyDiffers, "the copy of a tenant answers"):
+        with Copy(MACHINE.host(PROGRAM, 1)) as copy, self.assertRaisesRegex(CopyDiffers, "the copy of a tenant answers"):
             at_once(copy.play(played))
 
 

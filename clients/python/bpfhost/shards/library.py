@@ -1,0 +1,209 @@
+"""The host in the worker's own process: the library for C (docs/EMBEDDING.md) as a shared object, called by ctypes.
+
+A call's frames are handled where they lie, and its replies are written behind one another. Test runs of one program that are alike are
+run by one call of the library. The library tells whether memory was ever refused to a tenant, also within a run.
+"""
+
+from __future__ import annotations
+
+import ctypes
+import os
+import shutil
+import struct
+from array import array
+from collections.abc import Iterable, Iterator
+from pathlib import Path
+
+import bpfhost
+from bpfhost.errors import HostError
+from bpfhost.host import LONGEST_REPLY
+from bpfhost.numbers import REPLY_HEAD, Command
+from bpfhost.program import Program
+from bpfhost.replies import Reply
+from bpfhost.shards.shared_object import soname_of
+
+SONAME = f"libbpfhost.so.{bpfhost.__version__.rpartition('.')[0]}"
+_UNPROVED = "UNPROVED"
+_DONE = 0
+# A test run's frame has its length, tenant, command, descriptor and context before the packet.
+_BEFORE_PACKET = 52
+# Replies are written into so many bytes.
+_ROOM = 1 << 16
+_FUNCTIONS = {
+    "bpfhost_c_new": (ctypes.c_void_p, ctypes.c_size_t, ctypes.c_uint64, ctypes.c_uint64),
+    "bpfhost_c_handle": (ctypes.c_void_p, ctypes.c_void_p, ctypes.c_size_t, ctypes.c_void_p, ctypes.c_size_t, ctypes.c_void_p),
+    "bpfhost_c_run_packets": (
+        *(ctypes.c_void_p, ctypes.c_uint16, ctypes.c_uint32, ctypes.c_void_p, ctypes.c_char_p, ctypes.c_size_t),
+        *(ctypes.c_void_p, ctypes.c_size_t, ctypes.c_void_p, ctypes.c_size_t, ctypes.c_void_p),
+    ),
+    "bpfhost_c_memory_refused": (ctypes.c_void_p, ctypes.c_uint16, ctypes.c_void_p),
+    "bpfhost_c_free": (ctypes.c_void_p,),
+}
+
+
+class Library:
+    """The library in a file. A HostError says why it can't be used."""
+
+    def __init__(self, path: str | os.PathLike[str]) -> None:
+        self.path = Path(path)
+        if not self.path.is_file():
+            raise HostError(f"there is no library {self.path}: tools/library and tools/shared-library make it")
+        try:
+            soname = soname_of(self.path)
+        except (OSError, ValueError) as error:
+            raise HostError(f"{self.path} is no library of bpfhost: {error}") from None
+        if soname != SONAME:
+            raise HostError(f"{self.path} is {soname}, and this package is made for {SONAME}")
+        try:
+            # Short calls keep the interpreter for themselves; a run of many packets lets other threads go on.
+            short, long = ctypes.PyDLL(str(self.path)), ctypes.CDLL(str(self.path))
+            self.new, self.handle, self.run_packets, self.memory_refused, self.free = (
+                getattr(long if "packets" in name else short, name) for name in _FUNCTIONS
+            )
+        except (OSError, AttributeError) as error:
+            raise HostError(f"{self.path} is no library of bpfhost: {error}") from None
+        for function, types in zip((self.new, self.handle, self.run_packets, self.memory_refused, self.free), _FUNCTIONS.values()):
+            function.argtypes, function.restype = types, ctypes.c_int32
+        self.free.restype = None
+
+    def host(self, tenants: int) -> LibraryHost:
+        """A new host for so many tenants."""
+        return LibraryHost(self, tenants)
+
+    def demand_build_of(self, program: Program) -> None:
+        """A HostError where the library is not of the program's build: one of them has no proofs, and the other has them."""
+        folders = {name: Path(shutil.which(name) or name).absolute().parent for name in (str(self.path), os.fspath(program))}
+        unproved = [name for name, folder in folders.items() if (folder / _UNPROVED).is_file()]
+        proved = [name for name in folders if name not in unproved]
+        if unproved and proved:
+            raise HostError(f"{unproved[0]} is built without proofs, and {proved[0]} with them: a worker takes both of one build")
+
+
+def find_library(named: str | None, program: Program) -> Library | None:
+    """The library that is named; else that of the variable BPFHOST_LIBRARY, or the one beside the program, or as a release is installed.
+    None where there is none of these, or its name is `none`."""
+    named = named or os.environ.get("BPFHOST_LIBRARY")
+    if named == "none":
+        return None
+    if not named:
+        folder = Path(shutil.which(program) or program).absolute().parent
+        named = next((str(one / SONAME) for one in (folder, folder.parent / "lib") if (one / SONAME).is_file()), None)
+    if not named:
+        return None
+    library = Library(named)
+    library.demand_build_of(program)
+    return library
+
+
+class LibraryHost:
+    """A host in this process, for one thread."""
+
+    def __init__(self, library: Library, tenants: int) -> None:
+        self._library, self._is_open = library, False
+        self._handle = ctypes.c_void_p()
+        self._at = ctypes.addressof(self._handle)
+        seed = struct.unpack("<QQ", os.urandom(16))
+        code = library.new(self._at, tenants, *seed)
+        if code != _DONE:
+            raise HostError(f"{library.path} makes no host for {tenants} tenants: code {code}")
+        self._is_open = True
+        self._written, self._status, self._refused = ctypes.c_size_t(), ctypes.c_int32(), ctypes.c_bool()
+        self._room = bytearray(_ROOM)
+        self._room_at = _address_of(self._room)
+        self._ends: dict[tuple[int, int], array[int]] = {}
+
+    def kill(self) -> None:
+        """Ends it: its memory goes back."""
+        if self._is_open:
+            self._is_open = False
+            self._library.free(self._at)
+
+    def __del__(self) -> None:
+        self.kill()
+
+    def _demand_open(self) -> None:
+        if not self._is_open:
+            raise HostError("the host was ended before this frame")
+
+    def refused_memory(self, tenant: int) -> bool:
+        """Whether memory was ever refused to a tenant."""
+        self._demand_open()
+        self._demand(self._library.memory_refused(self._at, tenant, ctypes.addressof(self._refused)))
+        return self._refused.value
+
+    def _demand(self, code: int) -> None:
+        if code != _DONE:
+            raise HostError(f"{self._library.path} handles no frame: code {code}")
+
+    def ask_bytes(self, frames: Iterable[bytes]) -> Iterator[bytes]:
+        """The replies to frames, one by one."""
+        for frame in frames:
+            yield self._answered(bytearray(frame), None)
+
+    def answer(self, stream: bytes, tenant: int, alike: int) -> bytes:
+        """The replies to whole frames for a tenant; what they say of a tenant is replaced, and the replies name tenant 0. Where the
+        frames are alike, how long each is."""
+        if alike > _BEFORE_PACKET and int.from_bytes(stream[6:8], "little") == Command.PROG_TEST_RUN:
+            replies = self._runs(stream, tenant, alike)
+            if replies is not None:
+                return replies
+        return self._answered(bytearray(stream), tenant)
+
+    def _answered(self, stream: bytearray, tenant: int | None) -> bytes:
+        """The replies to frames, each handled where it lies."""
+        self._demand_open()
+        handle, host, written, room, out = self._library.handle, self._at, self._written, self._room, 0
+        begin, at, place, answers = _address_of(stream), 0, ctypes.addressof(written), list[bytes]()
+        named = None if tenant is None else tenant.to_bytes(2, "little")
+        while at < len(stream):
+            length = int.from_bytes(stream[at : at + 4], "little")
+            if named:
+                stream[at + 4 : at + 6] = named
+            if out > _ROOM - LONGEST_REPLY:
+                answers.append(bytes(room[:out]))
+                out = 0
+            self._demand(handle(host, begin + at + 4, length, self._room_at + out, _ROOM - out, place))
+            if named:
+                room[out + 4 : out + 6] = b"\0\0"
+            out += written.value
+            at += 4 + length
+        answers.append(bytes(room[:out]))
+        return b"".join(answers)
+
+    def _runs(self, stream: bytes, tenant: int, size: int) -> bytes | None:
+        """The replies to test runs that are alike but for their packets; None where they are not, or the first of them is refused."""
+        self._demand_open()
+        heads, packets = zip(*struct.iter_unpack(f"{_BEFORE_PACKET}s{size - _BEFORE_PACKET}s", stream))
+        head, many = heads[0], len(heads)
+        if heads.count(head) != many:
+            return None
+        results = array("I", bytes(4 * many))
+        code = self._library.run_packets(
+            *(self._at, tenant, int.from_bytes(head[8:12], "little"), head[12:], b"".join(packets), many * (size - _BEFORE_PACKET)),
+            *(self._ends_of(size - _BEFORE_PACKET, many).buffer_info()[0], many, results.buffer_info()[0], many),
+            ctypes.addressof(self._status),
+        )
+        self._demand(code)
+        return None if self._status.value else _results(results.tobytes(), many)
+
+    def _ends_of(self, size: int, many: int) -> array[int]:
+        """Where packets of one size end."""
+        if (size, many) not in self._ends:
+            if len(self._ends) >= 64:
+                self._ends.clear()
+            self._ends[size, many] = array("Q", range(size, size * many + 1, size))
+        return self._ends[size, many]
+
+
+def _address_of(data: bytearray) -> int:
+    """Where bytes lie, which stay there as long as their length does."""
+    return ctypes.addressof(ctypes.c_char.from_buffer(data))
+
+
+def _results(results: bytes, many: int) -> bytes:
+    """The replies to test runs that were done, of tenant 0."""
+    head = Reply(0, Command.PROG_TEST_RUN, 0, bytes(4)).to_bytes()
+    replies = bytearray(head * many)
+    for at in range(4):
+        replies[REPLY_HEAD + at :: len(head)] = results[at::4]
+    return bytes(replies)

@@ -148,7 +148,7 @@ def choose_program(object_file: ObjectFile, named: str | None = None) -> ObjectP
     has = ", ".join(f"{program.name} in section {program.section}" for program in object_file.programs)
     if not has:
         raise InputError(f"{object_file.path}: it has no program")
-    wrong = "a section has to be named" if named is None else f"{named} names not one program"
+    wrong = "name a section" if named is None else f"{named} names not one program"
     raise InputError(f"{object_file.path}: {wrong}, of {has}")
 
 

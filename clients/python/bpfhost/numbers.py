@@ -4,7 +4,7 @@ import enum
 
 
 class Command(enum.IntEnum):
-    """The commands of frames; all but CLOSE, which stands for close(2), are commands of bpf(2)."""
+    """The commands of frames; all but CLOSE, which is close(2), are commands of bpf(2)."""
 
     # commands: written by tools/generate
     MAP_CREATE = 0

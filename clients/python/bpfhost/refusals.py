@@ -20,18 +20,18 @@ _LOOP = "loop"
 # What to change in C, by the reason.
 _HINTS = {
     1: "compile the file again: no compiler writes such a jump",
-    2: "leave --as-is out: it is no loop, but the order of the compiler's blocks, which is changed then",
+    2: "leave out --as-is: this is not a loop, only the compiler's order of blocks, which is changed then",
     3: "end each path with a return",
-    4: "take out what nothing reaches, as clang does with -O2",
+    4: "remove unreachable code, as clang does with -O2",
     5: "call the helpers that bpfhost.h declares",
     6: "the frame pointer, register 10, is only read",
     7: "name a map that the object has",
-    8: "name a map where a map is wanted",
-    9: "a variable's address is loaded directly in .data, .rodata and .bss alone: use bpf_map_lookup_elem for other maps",
-    20: "give the variable a value on each path to this line; registers 1 to 5 are lost behind a call, so keep what is needed in a variable",
-    21: "return a number: how many bytes of the packet are kept",
-    22: "an address is only what a map's look-up, &variable or the context gives; the packet's bytes are read by bpf_skb_load_bytes",
-    23: "a pointer into a map's value is moved by any number, one into the stack by a constant alone, and the context not at all: keep an array "
+    8: "name a map where a map is needed",
+    9: "only variables in .data, .rodata and .bss have addresses that are loaded directly: use bpf_map_lookup_elem for other maps",
+    20: "give the variable a value on each path to this line; registers 1 to 5 are lost after a call, so keep what is needed in a variable",
+    21: "return a number: how many bytes of the packet to keep",
+    22: "only a map lookup, &variable and the context give addresses; read the packet's bytes by bpf_skb_load_bytes",
+    23: "a pointer into a map's value is moved by any number, one into the stack only by a constant, and the context not at all: keep an array "
     "with a computed index in a map or in a global variable",
     24: "compare the number before it is added, as `if (i >= 64) return 0;`",
     25: "the stack has 512 bytes: make arrays smaller, or keep them in a map, and compare an index before",
@@ -41,11 +41,11 @@ _HINTS = {
     29: "compare the index before, as `if (i >= 64) return 0;`, or mask it, as `i & 63`, so that the whole access stays in the value",
     30: "test the result of the look-up before it is used: `if (!value) return 0;`",
     31: "of the context eleven words of 32 bits are read, skb->len to skb->ifindex, and none is written; bpf_skb_load_bytes reads the packet",
-    32: "keep numbers in a map, no pointers",
-    33: "compare a pointer with 0 alone, by == or !=",
+    32: "keep only numbers in a map, not pointers",
+    33: "compare a pointer only with 0, by == or !=",
     34: "give the helper what bpfhost.h declares: a map, the address of a key or of a value on the stack or in a map, the context",
     35: "compare the length before, so that it is at least 1 and at most the room, as `if (n == 0 || n > sizeof room) return 0;`",
-    36: "let an atomic operation be on a field at a constant offset, a multiple of its size",
+    36: "use an atomic operation only on a field at a constant offset, a multiple of its size",
     _LOOP: "give the loop a bound of constants, as `for (i = 0; i < 16; i++)`, so that it can be unrolled; --as-is unrolls none",
 }
 

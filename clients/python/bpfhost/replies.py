@@ -81,7 +81,7 @@ def read_replies(stream: bytes) -> Iterator[Reply]:
         length = int.from_bytes(stream[at : at + 4], "little")
         fields = stream[at + 4 : at + 4 + length]
         if len(stream) - at < 4 or length < _HEAD.size or len(fields) < length:
-            raise ReplyError(f"the bytes from {at} on begin with no whole reply")
+            raise ReplyError(f"the bytes from {at} on are not a whole reply")
         tenant, command, status = _HEAD.unpack(fields[: _HEAD.size])
         yield Reply(tenant, command, status, fields[_HEAD.size :])
         at += 4 + length

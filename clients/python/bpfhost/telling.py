@@ -73,7 +73,7 @@ def status_of(name: str, call: Callable[[], int], statuses: Mapping[type[Excepti
     except BrokenPipeError:
         # Nobody reads any more, so nothing may be written at the end either.
         os.dup2(os.open(os.devnull, os.O_WRONLY), sys.stdout.fileno())
-        return _told(name, "what reads the output has ended", REFUSED)
+        return _told(name, "the reader of the output has ended", REFUSED)
     except ModuleNotFoundError as error:
         module = (error.name or "").partition(".")[0]
         if module not in PACKAGES:

@@ -212,7 +212,7 @@ class Frames(CommandTest):
         self.writes("tenant 0, PROG_LOAD: descriptor 3\ntenant 0, PROG_TEST_RUN: result 1\n", "replies", given=replies)
 
     def test_what_is_wrong(self) -> None:
-        self.refuses(1, "the bytes from 0 on begin with no whole reply", "replies", given=b"abc")
+        self.refuses(1, "the bytes from 0 on are not a whole reply", "replies", given=b"abc")
         for given in (b"abc", b"\xff" * 16, b"9500000000000000\xff"):
             self.refuses(1, "standard input:1: a slot is", "load", "0", given=given)
         self.refuses(1, "the tenant is 65536", "test-run", "65536", "3")
@@ -223,7 +223,7 @@ class Frames(CommandTest):
 
     def test_nobody_reads(self) -> None:
         ended = self.shell("replies | head -n 1", bytes.fromhex("08000000 0000 0500 03000000") * 100_000)
-        self.assertEqual(ended.stderr, b"bpfhost: what reads the output has ended\n")
+        self.assertEqual(ended.stderr, b"bpfhost: the reader of the output has ended\n")
 
 
 @needs_packages

@@ -111,7 +111,7 @@ class Hints(HostTest):
         self.assertFalse(is_loop(layout, 5))
         self.assertFalse(is_loop(layout, 6))
         self.assertIn("give the loop a bound", hint(2, loop, 2) or "")
-        self.assertIn("it is no loop, but the order of the compiler's blocks", hint(2, layout, 5) or "")
+        self.assertIn("this is not a loop, only the compiler's order of blocks", hint(2, layout, 5) or "")
 
 
 @needs_packages

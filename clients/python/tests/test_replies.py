@@ -64,5 +64,5 @@ class Replies(unittest.TestCase):
     def test_bytes_that_are_no_replies(self) -> None:
         whole = "08000000 0000 0001 00000000"
         for bad in ("08", "080000", "07000000 0000 0001 000000", "08000000 0000 0001 000000", "ffffffff 0000 0001 00000000"):
-            with self.assertRaisesRegex(ReplyError, "the bytes from 12 on begin with no whole reply"):
+            with self.assertRaisesRegex(ReplyError, "the bytes from 12 on are not a whole reply"):
                 of(whole + bad)

@@ -21,7 +21,7 @@ _Words: TypeAlias = "argparse._SubParsersAction[Parser]"
 
 _seconds = named(seconds, "time, as 1s or 500ms")
 _setting = named(setting, "NAME=VALUE")
-# Words of the context that a run leaves 0: their names do not stand for anything that a capture has.
+# Words of the context that a run leaves 0: a capture has nothing that their names could mean.
 _TIMED = ("mark", "priority", "queue_mapping")
 _number = in_range(int, "number of at least 0", 0)
 _tenants = in_range(int, f"number from 1 to {MOST_TENANTS}", 1, MOST_TENANTS)
@@ -30,7 +30,7 @@ _hex = named(bytes.fromhex, "bytes in hexadecimal digits")
 
 def _parser(is_about_filters: bool) -> Parser:
     parser = Parser(prog=called("bpfhost-py", "bpfhost"), description=_ABOUT)
-    parser.add_argument("--version", action=Version, nargs=0, help="tell the version, and which program is used, and whether it is proved")
+    parser.add_argument("--version", action=Version, nargs=0, help="print the version, which program is used, and whether it is proved")
     words = parser.add_subparsers(metavar="WORD", required=True, parser_class=Parser)
     if is_about_filters:
         add_filter_words(words)
@@ -55,15 +55,15 @@ def _add_run(words: _Words) -> None:
     parser.set_defaults(wrong=parser.error)
     parser.add_argument("object", metavar="OBJECT", help="an ELF object of machine BPF, as clang -target bpf -g writes it")
     parser.add_argument("capture", metavar="CAPTURE", nargs="?", help="a capture, pcap or pcapng, also compressed by gzip; - is standard input")
-    parser.add_argument("--interface", metavar="IF", help="the packets of a network interface, as they come, in place of a capture (as root)")
+    parser.add_argument("--interface", metavar="IF", help="the packets of a network interface, in place of a capture (needs root)")
     _add_section(parser)
-    parser.add_argument("--tenants", metavar="N", type=_tenants, default=1, help="so many tenants run the filter, each on every packet")
-    parser.add_argument("--limit", metavar="N", type=_number, help="so many packets at most")
+    parser.add_argument("--tenants", metavar="N", type=_tenants, default=1, help="how many tenants run the filter, each on every packet")
+    parser.add_argument("--limit", metavar="N", type=_number, help="the most packets to run")
     written = parser.add_mutually_exclusive_group()
     written.add_argument("--json", action="store_true", help="write JSON in place of tables")
     written.add_argument("--csv", metavar="MAP", help="write the entries of a map as CSV in place of tables")
-    parser.add_argument("--every", metavar="TIME", type=_seconds, help="show the tables again and again, each time behind so much time, as 1s")
-    parser.add_argument("--top", metavar="N", type=_number, help="show so many entries of each map, those with the greatest numbers")
+    parser.add_argument("--every", metavar="TIME", type=_seconds, help="show the tables again after each interval, as 1s")
+    parser.add_argument("--top", metavar="N", type=_number, help="show only so many entries of each map, those with the greatest numbers")
     parser.add_argument("--by", metavar="FIELD", help="the field with these numbers, as bytes or flow.port; else the first one of a value")
     parser.add_argument("--set", metavar="NAME=VALUE", type=_setting, action="append", default=[], help="give a global variable a value")
     timed = f"milliseconds since the first packet, in a word of the context: {', '.join(_TIMED)}"
@@ -90,7 +90,7 @@ def _add_form(parser: Parser) -> None:
 
 
 def _add_check(words: _Words) -> None:
-    parser = _word(words, "check", check.run, "verify each program of an object, and show the verifier's log where there is one")
+    parser = _word(words, "check", check.run, "verify each program of an object, and show the verifier's log if there is one")
     parser.add_argument("object", metavar="OBJECT")
     parser.add_argument("--dot", action="store_true", help="write control-flow graphs, for Graphviz, in place of verdicts")
     _add_form(parser)
@@ -110,7 +110,7 @@ def _add_texts(words: _Words) -> None:
     asm = _word(words, "asm", texts.asm, "write the slots of a program's text as hex lines")
     dis = _word(words, "dis", texts.dis, "write the text of hex lines, or of an object's programs with their source")
     for parser in (asm, dis):
-        parser.add_argument("file", metavar="FILE", nargs="?", help="standard input, if it is not named")
+        parser.add_argument("file", metavar="FILE", nargs="?", help="the input; standard input if it is not named")
         add_program(parser)
     _add_form(dis)
 

@@ -26,8 +26,8 @@ def add_filter_words(words: _Words) -> None:
     run = _add(words, "run", filter_runs.run, "run filters on every packet of a capture, each by a tenant of its own", is_run=True)
     run.set_defaults(wrong=run.error)
     run.add_argument("capture", metavar="CAPTURE", nargs="?", help="a capture, pcap or pcapng, also compressed by gzip; - is standard input")
-    run.add_argument("--interface", metavar="IF", help="the packets of a network interface, as they come, in place of a capture (as root)")
-    run.add_argument("--limit", metavar="N", type=_number, help="so many packets at most")
+    run.add_argument("--interface", metavar="IF", help="the packets of a network interface, in place of a capture (needs root)")
+    run.add_argument("--limit", metavar="N", type=_number, help="the most packets to run")
     run.add_argument("--json", action="store_true", help="write JSON in place of a table")
     run.add_argument("--accepted", metavar="FILE", help="write the packets that are kept, as tcpdump -w does")
 

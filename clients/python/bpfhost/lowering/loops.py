@@ -228,7 +228,7 @@ class _Unrolling:
 
     def _unbounded(self, header: int) -> str:
         bound = "a counter that begins at a constant, is changed by constants and compared with one, or with a number below one"
-        return f"{self._line(header)}: no bound of this loop, {self._slots_of(header)}, is found: what bounds it is {bound}"
+        return f"{self._line(header)}: no bound of this loop, {self._slots_of(header)}, is found: it needs {bound}"
 
     def _slots_of(self, header: int) -> str:
         return _slots(self._graph, [number for number, headers in self._nest.headers.items() if header in headers])

@@ -86,7 +86,7 @@ class Order(StepTest):
 
 class Copies(StepTest):
     def test_a_pointer_or_a_number(self) -> None:
-        """Both paths are right, and where they meet a register is a pointer on one and a number on the other."""
+        """Both paths are right, and at their join a register is a pointer on one and a number on the other."""
         text = """
             r6 = *(u32 *)(r1 + 0)
             r2 = 8
@@ -293,9 +293,9 @@ class Loops(StepTest):
     def test_a_bound_that_is_not_found(self) -> None:
         bound = "a counter that begins at a constant, is changed by constants and compared with one, or with a number below one"
         text = "r6 = *(u32 *)(r1 + 0)\nr0 = 1\nloop:\nif r6 == 0 goto end\nr6 += -1\ngoto loop\nend:\nexit"
-        told = "f.c:4: if r6 == 0 goto end: no bound of this loop, slots 2 to 3, is found: what bounds it is"
+        told = "f.c:4: if r6 == 0 goto end: no bound of this loop, slots 2 to 3, is found: it needs"
         self.stops(object_of(f=text), f"{told} {bound}")
-        told = f"f.c:3: goto loop: no bound of this loop, slots 1 to 1, is found: what bounds it is {bound}"
+        told = f"f.c:3: goto loop: no bound of this loop, slots 1 to 1, is found: it needs {bound}"
         self.stops(object_of(f="r0 = 1\nloop:\ngoto loop\nexit"), told)
 
     def test_too_many_turns(self) -> None:

@@ -16,7 +16,7 @@ def function(text: str) -> Function:
 
 class States(LoweringTest):
     def after(self, text: str) -> State:
-        """What is known behind some lines."""
+        """What is known after some lines."""
         state = State()
         for found in list(function(text).instructions.values())[:-1]:
             state.apply(found)

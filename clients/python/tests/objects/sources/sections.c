@@ -2,7 +2,7 @@
 
 #include "bpf.h"
 
-/* Others may call it, so it stands in .text too; it is inlined below. */
+/* Others may call it, so it is in .text too; it is inlined below. */
 int doubled(int number)
 {
     return number * 2;

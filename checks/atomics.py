@@ -38,7 +38,7 @@ class Kind(enum.Enum):
 
 
 def reason_of(base: Kind, source: Kind) -> int:
-    """The reason for which an operation with these registers is rejected, wherever its place is, or 0."""
+    """The reason for which an operation with these registers is rejected, at any place, or 0."""
     if Kind.UNREADABLE in (base, source):
         return 20
     if base in (Kind.NUMBER, Kind.MAP):

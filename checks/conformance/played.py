@@ -44,7 +44,7 @@ def bytes_of(digits: str) -> bytes:
 
 
 def program_text(line: str) -> str:
-    """A program's text that stands on one line."""
+    """A program's text that is on one line."""
     return expanded(line).replace(";", "\n") + "\n"
 
 
@@ -95,7 +95,7 @@ def cases(program: str) -> Iterator[Case]:
 
 
 def verdicts(program: str) -> Iterator[Verdict]:
-    """The programs of `cases_verdicts`, with the maps that their descriptors name, where they are descriptors of `bpfhost verify`."""
+    """The programs of `cases_verdicts`, with the maps that their descriptors name, if these are valid for `bpfhost verify`."""
     name, maps = "", dict[int, MapShape]()
     programs = set[int]()
     for line in (CRATES / "cases_verdicts/stdin").read_text().splitlines():

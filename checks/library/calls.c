@@ -1,4 +1,4 @@
-/* Each call and each code: what is written where it is done, and that nothing is where it is not. */
+/* Each call and each code: what a successful call writes, and that any other writes nothing. */
 #include "common.h"
 #include <string.h>
 
@@ -109,7 +109,7 @@ static void checks_overlaps(bpfhost *host)
     CHECK(bpfhost_handle_lent(host, b, 8, &whole.lent) == BPFHOST_ERR_OVERLAP);
     CHECK(bpfhost_handle_lent(host, close_nothing, 8, (bpfhost_bytes *)(void *)host) == BPFHOST_ERR_OVERLAP);
     CHECK(bpfhost_memory_refused(host, 0, on_handle) == BPFHOST_ERR_OVERLAP);
-    /* Side by side is apart, and an empty frame may stand anywhere. */
+    /* Objects side by side do not overlap, and an empty frame may be anywhere. */
     memcpy(b, close_nothing, 8);
     CHECK(bpfhost_handle(host, b, 8, b + 8, all, &written) == BPFHOST_DONE && written == 12);
     memcpy(b + all, close_nothing, 8);
@@ -119,7 +119,7 @@ static void checks_overlaps(bpfhost *host)
     CHECK(bpfhost_are_apart((void *)(UINTPTR_MAX - 3), 4, (void *)4, 4));
 }
 
-/* The reply is at the front of the room, and nothing behind it has changed; lent, it is the same. */
+/* The reply is at the front of the room, and the bytes after it have not changed; a lent reply is the same. */
 static void checks_replies(bpfhost *host)
 {
     uint8_t key[4] = {0}, value[BPFHOST_LONGEST_PAYLOAD], frame[4200];

@@ -132,7 +132,7 @@ static void end(int code, bool asks)
                      "no byte changes but those that may be written");
 }
 
-/* The first object is a room, in which the frame has `fixed` bytes and `more` behind them. */
+/* The first object is a room, in which the frame has `fixed` bytes, followed by `more` bytes. */
 static void end_frame(size_t returned, size_t room, size_t fixed, size_t more)
 {
     bool is_wrong = is_any_null || is_any_too_long || overlap();

@@ -1,10 +1,10 @@
-/* Each function of bpfhost.h that may write something, in all ways in which its objects can be wrong. They lie in one arena. Each is
- * there or null, and each length is right, zero or larger than any object; in each of these cases each two of the objects lie at
- * each distance at which they have a byte in common, and side by side. A model, which marks the owners of each byte, says what is
- * wrong. Then the call has to say so, no proved function may be called, and no byte may change but those of which bpfhost.h says it.
- * If nothing is wrong, the proved function has to be given these objects, and only what may be written may change.
+/* Each function of bpfhost.h that may write something, in all ways in which its objects can be wrong. They are in one arena. Each is
+ * present or null, and each length is right, zero or larger than any object; in each of these cases each two of the objects are at
+ * each distance at which they have a byte in common, and side by side. A model, which marks the owners of each byte, determines what
+ * is wrong. Then the call has to return the error, no proved function may be called, and only bytes may change of which bpfhost.h
+ * says so. If nothing is wrong, the proved function has to get these objects, and only what may be written may change.
  *
- * It is built without the library, over the functions of stubs.h. functions.h has what is tried. */
+ * It is built without the library, over the functions of stubs.h. functions.h lists the functions. */
 #include "common.h"
 #include <string.h>
 #include "stubs.h"
@@ -37,7 +37,7 @@ static union {
     void *pointer;
 } arena;
 static uint8_t any_bytes[ARENA];             /* none of them a mark */
-static uint8_t before[ARENA], owners[ARENA]; /* what stood there, and a bit for each object that has the byte */
+static uint8_t before[ARENA], owners[ARENA]; /* the value before, and a bit for each object that has the byte */
 
 /* What is tried. */
 static const struct function *function;
@@ -68,7 +68,7 @@ static size_t most_units(const struct object *object)
     return PTRDIFF_MAX / object->unit;
 }
 
-/* The bytes that an object has where it lies. A count that no object has changes nothing of it. */
+/* The bytes of an object in the arena. A count that no object has changes nothing. */
 static size_t size_of(const struct object *object)
 {
     size_t units = object->units;
@@ -172,7 +172,7 @@ static void check_bytes(int code, unsigned wrong)
         fails(code == BPFHOST_DONE ? "it writes to what it may not write" : "it is refused, and writes");
 }
 
-/* The address sanitizer stops who reads or writes beside the objects. */
+/* The address sanitizer stops reads and writes outside the objects. */
 static void guard(void)
 {
     ASAN_POISON_MEMORY_REGION(arena.bytes, ARENA);
@@ -208,7 +208,7 @@ static size_t place_apart(size_t which)
     return (which + 1) * APART;
 }
 
-/* Puts one object, and another so many bytes behind it, where each is aligned; false if that is nowhere. */
+/* Places one object, and another so many bytes after it, if both are aligned; false if there is no such place. */
 static bool put_pair(size_t one, size_t other, size_t distance)
 {
     for (size_t shift = 0; shift < 16; shift++) {
@@ -311,7 +311,7 @@ static void try_function(const struct function *it)
         try_nulls();
 }
 
-/* Objects of up to three bytes around an address, which may be that where addresses begin again. */
+/* Objects of up to three bytes around an address, which may be the one at which addresses wrap around. */
 static void try_are_apart(uintptr_t around)
 {
     for (unsigned i = 0; i < 8 * 4 * 8 * 4; i++) {
@@ -325,7 +325,7 @@ static void try_are_apart(uintptr_t around)
     }
 }
 
-/* It gives the host to the proved function, and then the memory of its handle back. Null is left alone. */
+/* It passes the host to the proved function, and then frees the memory of its handle. Null is ignored. */
 static void try_free(void)
 {
     bpfhost *host = (bpfhost *)calloc(1, BPFHOST_HANDLE_SIZE);

@@ -1,7 +1,7 @@
-/* Memory is refused to the library, one call at a time, and it gives back all that it takes. Linked with --wrap, so that malloc,
- * calloc, realloc and free of the library and its header come here: in the first round the first call for memory is refused, in the second the second
- * one, until a round makes fewer calls. In each, bpfhost_new returns ERR_NO_MEMORY and makes no host, or each reply is that of a
- * round without refusals or has the status -12; bpfhost_memory_refused tells of the tenant that was answered -12, and of no other.
+/* Refuses memory to the library, one call at a time, and checks that it frees all that it allocates. Linked with --wrap, so that malloc,
+ * calloc, realloc and free of the library and its header come here: in the first round the first call for memory is refused, in the second
+ * the second one, until a round makes fewer calls. In each, bpfhost_new returns ERR_NO_MEMORY and makes no host, or each reply is that of a
+ * round without refusals or has the status -12; bpfhost_memory_refused reports the tenant that got the -12, and no other.
  * Then many hosts are made and freed. usage: refused_memory [HOSTS] */
 #include "common.h"
 #include <string.h>
@@ -12,7 +12,7 @@ void __real_free(void *block);
 
 static long calls, refused, blocks;
 
-/* A list that grows asks for more than it needs, and where that is refused once more, for what it needs. Both are one growth. */
+/* A list that grows requests more than it needs, and if that is refused, only what it needs. Both are one growth. */
 static bool is_last;
 static void *last_block;
 static size_t last_size;
@@ -57,7 +57,7 @@ void __wrap_free(void *block)
 #define STEPS 64
 #define TENANTS 2
 
-/* Puts a new key into the hash map of descriptor 5, and answers what the update answers. */
+/* Adds a new key to the hash map of descriptor 5, and returns the result of the update. */
 static const uint8_t puts_key[11 * 8] = {
     0x7a, 0x0a, 0xf0, 0xff, 0x07, 0x00, 0x00, 0x00, /* *(u64 *)(r10 - 16) = 7 */
     0x61, 0x16, 0x08, 0x00, 0x00, 0x00, 0x00, 0x00, /* r6 = *(u32 *)(r1 + 8) */
@@ -100,7 +100,7 @@ static size_t frame_of(int step, uint16_t tenant, uint8_t *f, size_t room)
     return 0;
 }
 
-/* A step's outcome: its status, or where memory was refused to its program, that. */
+/* A step's outcome: its status, or that memory was refused to its program. */
 static int outcome(bpfhost *host, int step, uint16_t tenant)
 {
     uint8_t f[256] = {0};
@@ -110,7 +110,7 @@ static int outcome(bpfhost *host, int step, uint16_t tenant)
     return reply.status == 0 && step >= 40 ? (int)reply.result : reply.status;
 }
 
-/* A round: what the steps come to, each tried again where it is refused for memory; true where the host was there. */
+/* A round: the outcomes of the steps, each repeated if memory is refused to it; true if the host exists. */
 static bool round_of(int outcomes[STEPS][TENANTS])
 {
     bpfhost *host = NULL;

@@ -9,7 +9,7 @@ from collections.abc import Mapping
 from pathlib import Path
 
 CONSTANT = re.compile(r"^(?:pub(?:\(crate\))? )?const (\w+): \w+ = (.*?);$", re.M)
-# A match arm `Type::Variant => value,`, of which the value may stand in braces.
+# A match arm `Type::Variant => value,`, whose value may be in braces.
 ARM = re.compile(r'(\w+)::(\w+) => (?:\{\s*)?(-?\d+|"[^"]*")')
 OPERATORS = {ast.Add: operator.add, ast.Sub: operator.sub, ast.Mult: operator.mul}
 

@@ -11,7 +11,7 @@ ARGUMENT, STATUSES = "The argument MAP", "Statuses and fault lines"
 
 
 def _statuses(cli: str, *names: str) -> str:
-    """The statuses of a program, by the column that tells whose they are: a subcommand, or all."""
+    """The statuses of a program, by the column that says whose they are: a subcommand, or all."""
     found = [roff.heading("Exit status")]
     for block in roff.blocks_of(roff.section_of(cli, STATUSES)):
         if block.kind != "table":

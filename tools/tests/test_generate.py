@@ -1,4 +1,4 @@
-"""tools/generate writes what the crates and texts.toml say between its marks, and tells what differs."""
+"""tools/generate writes what the crates and texts.toml say between its marks, and reports what differs."""
 
 from __future__ import annotations
 

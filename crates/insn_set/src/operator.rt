@@ -7,7 +7,7 @@ ghost use Rattle.insn_set.specs.OperatorRows.{alu_by_number, alu_by_symbol};
 use crate::table::{by_number, by_symbol};
 use words::AluOp;
 
-/// Each operator in the order of its variants, its code (RFC 9669, section 4.1), and the symbol that a line of text has for it. Where
+/// Each operator in the order of its variants, its code (RFC 9669, section 4.1), and the symbol that a line of text has for it. If
 /// two share a code, the unsigned one comes first: the offset distinguishes them.
 const OPERATORS: [(AluOp, u32, &str); 14] = [
     (AluOp::Add, 0, "+="),

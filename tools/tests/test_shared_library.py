@@ -1,4 +1,4 @@
-"""tools/shared-library: what it makes of an archive, and what it says where it can't."""
+"""tools/shared-library: what it makes of an archive, and the sentence that it prints if it can't."""
 
 from __future__ import annotations
 
@@ -36,7 +36,7 @@ class SharedLibrary(unittest.TestCase):
         subprocess.run(["ar", "rc", "libbpfhost.a", "host.o"], cwd=self.scratch, check=True)
 
     def test_what_it_leaves(self) -> None:
-        """The same names in the archive's folder, and in another one, also where they were there before."""
+        """The same names in the archive's folder, and in another one, even if they existed before."""
         self.archive()
         for words, out in (([], self.scratch), ([self.scratch / "lib"], self.scratch / "lib"), ([], self.scratch)):
             ended = self.link(self.scratch, *words)
@@ -49,7 +49,7 @@ class SharedLibrary(unittest.TestCase):
             self.assertRegex(said.stdout, rf"SONAME +{SONAME}\n")
 
     def test_a_library_without_proofs(self) -> None:
-        """The file that says so goes along."""
+        """The file UNPROVED is copied along."""
         self.archive()
         out = self.scratch / "lib"
         self.link(self.scratch, out)

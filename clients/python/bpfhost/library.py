@@ -1,7 +1,7 @@
 """The host as a shared library in this process, called by ctypes: hosts, their frames, and programs run on packets by the batch.
 
-docs/EMBEDDING.md has the library, and how a shared object is made of it. A host here is none of its own process: nothing is sent, and one
-call runs a program on many packets.
+docs/EMBEDDING.md describes the library, and how to make a shared object of it. A host here has no process of its own: nothing is sent, and
+one call runs a program on many packets.
 """
 
 from __future__ import annotations
@@ -26,13 +26,13 @@ from bpfhost.numbers import LONGEST_PACKET, LONGEST_PAYLOAD, MOST_TENANTS, REPLY
 from bpfhost.packets import Packets
 from bpfhost.replies import Reply, read_replies
 
-# The versions whose functions are those below, as the name of an installed library has them (docs/RELEASES.md).
+# The versions that have the functions below, as in the name of an installed library (docs/RELEASES.md).
 VERSION = "0.1"
 _NAME = re.compile(r"libbpfhost\.so\.(\d+\.\d+)")
 _LENGTH_FIELD = 4
 _LONGEST_REPLY = REPLY_HEAD + LONGEST_PAYLOAD
 _SIZE, _HANDLE, _OUT = ctypes.c_size_t, ctypes.POINTER(ctypes.c_void_p), ctypes.c_void_p
-# The functions, with what each takes (clients/c/include/bpfhost.h).
+# The functions, with their parameters (clients/c/include/bpfhost.h).
 _FUNCTIONS = {
     "bpfhost_c_new": (_HANDLE, _SIZE, ctypes.c_uint64, ctypes.c_uint64),
     "bpfhost_c_handle": (_HANDLE, ctypes.c_char_p, _SIZE, _OUT, _SIZE, ctypes.POINTER(_SIZE)),
@@ -43,20 +43,20 @@ _FUNCTIONS = {
     "bpfhost_c_memory_refused": (_HANDLE, ctypes.c_uint16, ctypes.POINTER(ctypes.c_bool)),
     "bpfhost_c_free": (_HANDLE,),
 }
-# Where no packet and no result lies: an address that is not null, and aligned.
+# The address of empty packets and results: not null, and aligned.
 _ANYWHERE = 8
 _CODES = {-1: "its host is closed", -4: "there is no memory for a host"}
 
 
 class LibraryError(BpfhostError):
-    """A library that can't be used, or a call of it that did nothing."""
+    """A library that can't be used, or a call of it that failed."""
 
 
 class Library:
-    """A shared library of the host. Hosts share nothing, and each may be of a thread of its own."""
+    """A shared library of the host. Hosts share nothing, and each may belong to a thread of its own."""
 
     def __init__(self, path: str | os.PathLike[str]) -> None:
-        """Opens a file; a LibraryError where there is none, or it is no library of this version."""
+        """Opens a file. Raises LibraryError if there is none, or if it is not a library of this version."""
         self.path = Path(path)
         if not self.path.is_file():
             raise LibraryError(f"there is no library {self.path}")
@@ -77,13 +77,13 @@ class Library:
         return f"<Library {self.path}>"
 
     def call(self, name: str, *values: object) -> None:
-        """Calls a function; a LibraryError where it returns another code than 0."""
+        """Calls a function. Raises LibraryError if it returns a code other than 0."""
         code = getattr(self._library, name)(*values)
         if code:
             raise LibraryError(f"{self.path}, {name}: {_CODES.get(code, f'it returned {code}')}")
 
     def free(self, handle: ctypes.c_void_p) -> None:
-        """Frees the host behind a handle, which is empty then."""
+        """Frees the host of a handle, which is empty then."""
         self._library.bpfhost_c_free(handle)
 
     def host(self, tenants: int = 1, seed: tuple[int, int] | None = None) -> LibraryHost:
@@ -92,10 +92,10 @@ class Library:
 
 
 class LibraryHost:
-    """A host in this process. It is a context manager, which frees it. Threads may share it: they wait for one another."""
+    """A host in this process, as a context manager that frees it on exit. Threads may share it: they wait for one another."""
 
     def __init__(self, library: Library, tenants: int = 1, seed: tuple[int, int] | None = None) -> None:
-        """Makes a host; a ValueError where the tenants are not 1 to 64, or the seed is not two words of 64 bits."""
+        """Makes a host. Raises ValueError if the tenants are not 1 to 64, or the seed is not two words of 64 bits."""
         if not 1 <= tenants <= MOST_TENANTS:
             raise ValueError(f"a host serves 1 to {MOST_TENANTS} tenants, and not {tenants}")
         first, second = (secrets.randbits(64), secrets.randbits(64)) if seed is None else seed
@@ -118,25 +118,25 @@ class LibraryHost:
             self.close()
 
     def close(self) -> None:
-        """Frees the host; each later call is a LibraryError."""
+        """Frees the host; each later call raises LibraryError."""
         with self._lock:
             self.library.free(self._handle)
 
     def tenant(self, number: int = 0) -> LibraryTenant:
-        """What speaks for one tenant; a ValueError where the host serves no such one."""
+        """The tenant of this number. Raises ValueError if the host does not serve it."""
         if not 0 <= number < self.tenants:
             raise ValueError(f"tenant {number} is not served: this host has the tenants 0 to {self.tenants - 1}")
         return LibraryTenant(self, number)
 
     def handle(self, frame: bytes) -> bytes:
-        """Handles a frame without its length field, right or wrong; the bytes of the reply, with its length field."""
+        """Handles a frame without its length field, valid or not; returns the bytes of the reply, with its length field."""
         with self._lock:
             written = ctypes.byref(self._written)
             self.library.call("bpfhost_c_handle", self._handle, frame, len(frame), self._room, _LONGEST_REPLY, written)
             return ctypes.string_at(self._room, self._written.value)
 
     def ask(self, frame: bytes) -> Reply:
-        """Handles a whole frame, as the functions of `bpfhost.frames` make it; its reply."""
+        """Handles a whole frame, as the functions of `bpfhost.frames` make it; returns its reply."""
         (reply,) = read_replies(self.handle(frame[_LENGTH_FIELD:]))
         return reply
 
@@ -150,10 +150,10 @@ class LibraryHost:
     def run_packets(
         self, tenant: int, descriptor: int, packets: Packets | Iterable[bytes], context: Context = NO_CONTEXT
     ) -> list[int]:
-        """Runs a program of a tenant on packets, one after another, by one call; the result of each.
+        """Runs a program of a tenant on packets, one after another, by one call; returns the result of each.
 
-        The context is the same for all, but for the length. Where PROG_TEST_RUN would be refused, no packet is run: a Refused has the
-        status. A ValueError where a packet has more than 65,536 bytes.
+        The context is the same for all, except the length. If PROG_TEST_RUN would be refused, no packet is run: it raises Refused with the
+        status. Raises ValueError if a packet has more than 65,536 bytes.
         """
         if tenant >> 16 or descriptor >> 32:
             raise ValueError("the tenant is a number of 16 bits, and a descriptor one of 32")
@@ -173,7 +173,7 @@ class LibraryHost:
 
 
 class LibraryTenant:
-    """One tenant of a host in this process. What the host refuses is a Refused, which has its reply."""
+    """One tenant of a host in this process. Each command that the host refuses raises Refused, which has the reply."""
 
     def __init__(self, host: LibraryHost, number: int) -> None:
         """The tenant of this number, from 0."""
@@ -183,7 +183,7 @@ class LibraryTenant:
         return f"<LibraryTenant {self.number} of {self.host.library!r}>"
 
     def prog_load(self, slots: bytes) -> int:
-        """Loads a socket filter; its descriptor. A ProgramRefused tells the slot and the reason."""
+        """Loads a socket filter; returns its descriptor. Raises ProgramRefused, with the slot and the reason, if it is rejected."""
         return self.host.ask(frames.prog_load(self.number, slots)).done()
 
     def run_packets(self, descriptor: int, packets: Packets | Iterable[bytes], context: Context = NO_CONTEXT) -> list[int]:
@@ -197,12 +197,12 @@ class LibraryTenant:
 
 @lru_cache(maxsize=64)
 def _words_of(context: Context) -> bytes:
-    """The words of a context behind the length."""
+    """The words of a context after the length."""
     return context.to_bytes()
 
 
 def _in_one_piece(packets: Packets | Iterable[bytes]) -> tuple[bytes, array[int]]:
-    """Packets one behind the other, and where each ends."""
+    """Packets one after another, and the end of each."""
     if not isinstance(packets, Packets):
         listed = list(packets)
         return b"".join(listed), array("Q", accumulate(map(len, listed)))

@@ -1,6 +1,6 @@
-"""The host as a shared library in this process, beside the program over two pipes.
+"""The host as a shared library in this process, compared with the program over two pipes.
 
-The library is the shared object that the variable BPFHOST_LIBRARY names, or is linked from the libbpfhost.a beside the program.
+The library is the shared object that the variable BPFHOST_LIBRARY names, or is linked from the libbpfhost.a next to the program.
 """
 
 from __future__ import annotations
@@ -98,7 +98,7 @@ class Calls(TimedTest):
     @unittest.skipUnless(PROGRAM, "the variable BPFHOST names no program")
     def test_beside_pipes(self) -> None:
         """What a program reads of each packet, in a batch and by frames."""
-        # r2 = 3; r3 = r10 - 8; r4 = 4; load 4 bytes; r0 = them, or the error where the packet ends before.
+        # r2 = 3; r3 = r10 - 8; r4 = 4; load 4 bytes; r0 = them, or the error if the packet ends before.
         slots = bytes.fromhex(
             "b702000003000000 bfa3000000000000 07030000f8ffffff b704000004000000 850000001a000000"
             "5500010000000000 61a0f8ff00000000 9500000000000000"
@@ -148,7 +148,7 @@ class Calls(TimedTest):
             tenant.run_packets(descriptor, [])
 
     def test_frames(self) -> None:
-        """Right ones and wrong ones; a program that is refused."""
+        """Valid and invalid ones; a program that is rejected."""
         self.assertEqual(self.host.handle(b"").hex(), "08000000ffffffffeaffffff")
         self.assertEqual(self.host.handle(b"\7\0\5\0").hex(), "08000000070005" + "00ffffffff")
         self.assertEqual(self.host.ask(frames.close(0, 3)).status, -9)

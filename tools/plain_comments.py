@@ -1,0 +1,121 @@
+"""The slow words of plain_words.py in docstrings and comments, and how many of them each folder may have."""
+
+from __future__ import annotations
+
+import ast
+import io
+import re
+import tokenize
+from collections import Counter
+from collections.abc import Iterable
+
+from plain_words import PLAIN, count
+
+# How deep the folders are that have a bound, by the first part of their names.
+DEPTH = {"clients": 4}
+# The comments of other languages than Python, by the suffix of a file; a script without a suffix has those of a shell.
+C_LIKE = re.compile(r"//[^\n]*|/\*.*?\*/", re.S)
+COMMENT = {
+    **dict.fromkeys(("rt", "rs", "c", "h", "cc"), C_LIKE),
+    "antt": re.compile(r"(?:^|\s)--\s[^\n]*"),
+    "sh": re.compile(r"(?:^|\s)#[\s:][^\n]*"),
+}
+# The most of these words, in all, that the docstrings and comments of a folder may have. A folder that is not listed may have none.
+MOST: dict[str, int] = {
+    "checks/conformance": 1,
+    "checks/library": 4,
+    "clients/c/include": 30,
+    "clients/python": 7,
+    "clients/python/bench": 9,
+    "clients/python/bpfhost": 2,
+    "clients/python/bpfhost/classic": 110,
+    "clients/python/bpfhost/lowering": 6,
+    "clients/python/bpfhost/shards": 400,
+    "clients/python/tests/classic": 40,
+    "clients/python/tests/shards": 150,
+    "clients/rust/bpfhost-sys": 2,
+    "clients/rust/examples": 5,
+    "clients/rust/src": 70,
+    "clients/rust/tests": 20,
+    "clients/rust/tests/common": 1,
+    "crates/arena": 1,
+    "crates/bpf_helpers": 30,
+    "crates/bpf_maps": 50,
+    "crates/bpf_text": 1,
+    "crates/bpfhost_c": 2,
+    "crates/cases": 10,
+    "crates/cases_commands": 3,
+    "crates/cases_frames": 2,
+    "crates/cases_logs": 1,
+    "crates/cases_texts": 2,
+    "crates/cases_verdicts": 1,
+    "crates/flat_machine": 50,
+    "crates/host_core": 40,
+    "crates/insn_codec": 2,
+    "crates/insn_set": 2,
+    "crates/interval": 2,
+    "crates/ordered_keys": 8,
+    "crates/reg_kinds": 7,
+    "crates/saving": 20,
+    "crates/seeded_hash": 2,
+    "crates/tagged_model": 6,
+    "crates/tenant": 70,
+    "crates/transfer": 40,
+    "crates/verifier": 30,
+    "crates/words": 2,
+    "examples/filters": 1,
+}
+
+
+def of_python(text: str) -> str:
+    """The docstrings and comments of Python."""
+    documented = (ast.Module, ast.ClassDef, ast.FunctionDef, ast.AsyncFunctionDef)
+    strings = [ast.get_docstring(node) or "" for node in ast.walk(ast.parse(text)) if isinstance(node, documented)]
+    tokens = tokenize.generate_tokens(io.StringIO(text).readline)
+    return "\n".join([*strings, *(token.string for token in tokens if token.type == tokenize.COMMENT)])
+
+
+def prose(name: str, text: str) -> str:
+    """The docstrings and comments of a file, without their indentation; empty if the file is of another language."""
+    script = text.partition("\n")[0] if text.startswith("#!") else ""
+    suffix = name.rpartition("/")[2].rpartition(".")[2]
+    if suffix == "py" or "python" in script:
+        found = of_python(text)
+    else:
+        pattern = COMMENT.get("sh" if script else suffix)
+        found = "\n".join(pattern.findall(text)) if pattern else ""
+    return re.sub(r"^\s+", "", found, flags=re.M)
+
+
+def folder(name: str) -> str:
+    """The folder to which a file counts."""
+    parts = name.split("/")[:-1]
+    return "/".join(parts[: DEPTH.get(parts[0], 2)]) if parts else "."
+
+
+def by_folder(files: Iterable[tuple[str, str]]) -> dict[str, Counter[str]]:
+    """How often the docstrings and comments of each folder have each of the words, for files with these names and texts."""
+    found: dict[str, Counter[str]] = {}
+    for name, text in files:
+        found.setdefault(folder(name), Counter()).update(count(prose(name, text)))
+    return dict(sorted(found.items()))
+
+
+def rounded(total: int) -> int:
+    """A bound for so many words: above ten it has room up to a multiple of ten, so that a change does not always change the bound."""
+    return total if total <= 10 else -(-total // 10) * 10
+
+
+def bounds(files: Iterable[tuple[str, str]]) -> str:
+    """The lines of `MOST` for files with these names and texts, as they are now."""
+    return "".join(f'    "{where}": {rounded(words.total())},\n' for where, words in by_folder(files).items() if words)
+
+
+def too_many(files: Iterable[tuple[str, str]]) -> list[str]:
+    """The faults of folders that have more of these words in docstrings and comments than they may have."""
+    wrong = []
+    for where, words in by_folder(files).items():
+        if words.total() > (most := MOST.get(where, 0)):
+            shown = ", ".join(f"{number} '{word}' ({PLAIN[word]})" for word, number in words.most_common())
+            wrong.append(f"{where}: {words.total()} slow words in docstrings and comments, and {most} are the most: {shown}")
+    return wrong

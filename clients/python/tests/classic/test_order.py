@@ -4,6 +4,7 @@ from __future__ import annotations
 
 import random
 from collections.abc import Sequence
+from itertools import product
 
 from bpfhost import Host, Packets
 from bpfhost.classic import ClassicProgram, Instruction, Semantics
@@ -82,6 +83,18 @@ class Order(HostTest):
                 self.same(program, [packet[:length] for length in range(len(packet) + 1)])
                 kept += 1
         self.assertGreater(kept, 20 * MANY)
+
+    def test_loads_side_by_side(self) -> None:
+        """Where one load is enough for a result, and where two are, the second of which ends where the first one does, or a byte later."""
+        loads = [Instruction(code, 0, 0, at) for at in range(20, 23) for code in (0x30, 0x28)]
+        packets = [bytes(20) + first + bytes(9) for first in (b"\0", b"\1")]
+        cut = [packet[:length] for packet in packets for length in range(len(packet) + 1)]
+        ends = (Instruction(0x06, 0, 0, 96), Instruction(0x06, 0, 0, 0))
+        for one, other in product(loads, loads):
+            program = ClassicProgram((one, Instruction(0x15, 2, 0, 0), other, Instruction(0x15, 0, 1, 0), *ends))
+            self.same(program, cut)
+            found = on_host(self.tenant, program.translated(fast=False).slots, Packets.of(cut, 0))
+            self.assertEqual(found, [run(program.instructions, each) for each in cut], program.listing())
 
     def text(self, expression: str) -> str:
         return disassemble(PROGRAM, ClassicProgram.of_expression(expression).translated().slots)

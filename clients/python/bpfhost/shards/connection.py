@@ -347,7 +347,7 @@ class Script:
         give_up: Callable[[Away], Exception] | None = None,
     ) -> Any:
         """The same, again while Redis is away (`Redis.patiently`)."""
-        
+
         def call(limited: Redis) -> Any:
             return self(limited, keys, arguments)
 

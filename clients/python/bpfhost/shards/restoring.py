@@ -135,4 +135,3 @@ def _play(serving: Serving, log: Log, item: Item, replies: Replies, accepts: boo
 
 def _shown(value: bytes) -> str:
     return value[:60].hex() + (".." if len(value) > 60 else "")
-

@@ -26,7 +26,7 @@ from bpfhost.shards.names import FAULT, REPLIES, weight
 from bpfhost.shards.system import Asked as AskedHost
 from bpfhost.shards.system import System
 from bpfhost.state import FILLER, Steps, read_pairs, same_pairs, split, state_frames, wanted_status, with_tenant
-from bpfhost.tenancy import OpenProgram, Tenancy, command_of, status_of
+from bpfhost.tenancy import Tenancy, command_of, status_of
 
 # A host is asked at most so many frames, of which a snapshot may take some four million (docs/PROTOCOL.md: 16,777,216).
 MOST_ASKED = 12_000_000

@@ -65,8 +65,7 @@ fn where_equal(a: Range, b: Range) -> Edge
     Some((both, both))
 }
 
-/// The edge on which the operands differ: if one is a constant, the other's range loses that number
-/// at its ends.
+/// The edge on which the operands differ: if one is a constant, the other's range loses that number at its ends.
 fn where_different(a: Range, b: Range) -> Edge
     ensures { result ≡ where_different a b }
 {

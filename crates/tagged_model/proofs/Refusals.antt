@@ -1,5 +1,4 @@
--- Runs in which memory may be refused: their states record it. A run without maps adds no key, so it is refused
--- none.
+-- Runs in which memory may be refused: their states record it. A run without maps adds no key, so it is refused none.
 use Rattle.std.proofs.Common.{◌≡◌, ℕ, zero, suc, ◌+◌, ◌/◌, ◌%◌, ℤ, pos, ◌+ℤ◌, Bool, true, false, ◌||◌, List, [], length, Option, Some, None, option_map, Result, Ok, Err, refl, sym, ap, ◌∙◌}
 use Rattle.std.proofs.Math.Bool.{or-false}
 use Rattle.std.proofs.lemmas.Bool.{or_parts, or_from, true≢false, cond_both}

@@ -38,7 +38,8 @@ class SharedLibrary(unittest.TestCase):
     def test_what_it_leaves(self) -> None:
         """The same names in the archive's folder, and in another one, even if they existed before."""
         self.archive()
-        for words, out in (([], self.scratch), ([self.scratch / "lib"], self.scratch / "lib"), ([], self.scratch)):
+        calls: list[tuple[list[Path], Path]] = [([], self.scratch), ([self.scratch / "lib"], self.scratch / "lib"), ([], self.scratch)]
+        for words, out in calls:
             ended = self.link(self.scratch, *words)
             self.assertEqual((ended.returncode, ended.stderr), (0, ""))
             self.assertEqual((out / "libbpfhost.so").resolve().name, f"libbpfhost.so.{VERSION}")

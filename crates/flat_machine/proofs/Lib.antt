@@ -19,5 +19,6 @@ pub mod SetUp
 pub mod Clear
 pub mod GivenWords
 pub mod ContextWritten
+pub mod PacketEnds
 pub mod Batches
 mod Vectors

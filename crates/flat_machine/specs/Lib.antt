@@ -1,5 +1,6 @@
 pub mod Runs
 pub mod Batch
+pub mod Packets
 pub mod inside
 -- what public contracts cite of crates below
 pub use Rattle.arena.specs.Memory

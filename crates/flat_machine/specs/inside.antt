@@ -6,3 +6,4 @@ pub mod Laws
 pub mod Turns
 pub mod Rows
 pub mod Contexts
+pub mod Packets

@@ -16,8 +16,11 @@
 //! - If the flag of the live maps is clear after a run, memory was refused to no new key, and the run is the one without
 //!   refusals: `clear_runs_have_no_refusal`.
 //! - Runs on many packets are those of `run` one after another, each on the maps that the previous one leaves (`RunsOnEach`).
-//!   The results are at the front of the room, whose rest is unchanged; the statements above on steps, ranges, memory and maps
-//!   hold for all of them together: `runs`, `few`, `ranges`, `memory`, `maps` of `run_packets`.
+//!   The results are at the front of the room, whose rest is unchanged; packets for whose results there is no room are not run;
+//!   the statements above on steps, ranges, memory and maps hold for all of them together: `runs`, `few`, `ranges`, `memory`,
+//!   `maps` of `run_packets`.
+//! - The packets of a batch are consecutive in their bytes, and none is longer than a test run accepts; otherwise the fault is the
+//!   first packet that is outside the bytes or too long: `packets`, `fault` of `Packets::new`.
 //!
 //! Preconditions of a call: the tenant is one of the arena's parts, which have the size that live maps need; and for each
 //! descriptor that the program loads, in order, the key of a live map of the verified shape is bound, no map twice, and none
@@ -71,7 +74,9 @@ mod fetch;
 pub mod laws;
 mod map_words;
 mod ops;
+mod packets;
 mod running;
 
 pub use batch::{GIVEN_WORDS, context_words, run_packets};
+pub use packets::{LONGEST_PACKET, PacketFault, Packets};
 pub use running::run;

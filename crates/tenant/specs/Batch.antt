@@ -1,10 +1,13 @@
 -- A program on many packets: the test runs of the packets, one after another. Packets are counted from 0. This project's own.
-use Rattle.std.specs.Prelude.{◌≡◌, ℕ, pos, ◌-◌, Bool, ◌||◌, nat_lt, List, [], ◌∷◌, ◌++◌, length, drop, Option, Some, None, Ok, if◌then◌else◌}
+use Rattle.std.specs.Prelude.{◌≡◌, ℕ, pos, Bool, nat_lt, List, [], ◌∷◌, ◌++◌, length, drop, Option, Some, None, option_map, Ok, if◌then◌else◌}
 use Rattle.byteorder.specs.Endian.{little_bytes}
 use Rattle.command_frames.specs.Command.{prog_test_run, parsed}
 use Rattle.command_frames.specs.Frame.{reply_to}
 use Rattle.fd_table.specs.Table.{named}
-pub use Rattle.flat_machine.specs.Batch.{packets_in}
+use Rattle.flat_machine.specs.declared.packets.PacketFault.{PacketFault}
+use Rattle.flat_machine.specs.declared.packets.PacketFault.TheVariants.{Outside, TooLong}
+use Rattle.flat_machine.specs.Packets.{packets_fault}
+pub use Rattle.flat_machine.specs.Packets.{packets_in}
 use Rattle.tenant.specs.declared.errno.Errno.{Errno}
 use Rattle.tenant.specs.declared.errno.Errno.TheVariants.{TooBig, BadDescriptor, Invalid}
 use Rattle.tenant.specs.declared.object.OpenObject.{OpenObject}
@@ -51,18 +54,15 @@ else_refusal (Some errno) later = Some errno
 abbrev pub run_refusal : Option OpenObject → ℕ → Option Errno
 run_refusal o size = else_refusal (object_refusal o) (length_refusal size)
 
--- an end before the packet's beginning, or after the last of `many` bytes
-abbrev pub is_outside : ℕ → ℕ → ℕ → Bool
-is_outside many start end = nat_lt end start || nat_lt many end
+-- the error of a packet that is refused
+abbrev pub packet_errno : PacketFault → Errno
+packet_errno Outside = Invalid
+packet_errno TooLong = TooBig
 
--- why packets with these ends in `many` bytes are rejected: the first that is outside or too long
-unfoldable pub ends_refusal : ℕ → ℕ → List ℕ → Option Errno
-ends_refusal many start [] = None
-ends_refusal many start (end ∷ ends) =
-    if is_outside many start end then Some Invalid else else_refusal (length_refusal (end - start)) (ends_refusal many end ends)
-
+-- why packets with these ends in `many` bytes are refused: there is room for fewer results, or the first that is outside or too long
 abbrev pub packets_refusal : ℕ → List ℕ → ℕ → Option Errno
-packets_refusal many ends room = if nat_lt room (length ends) then Some Invalid else ends_refusal many 0 ends
+packets_refusal many ends room =
+    if nat_lt room (length ends) then Some Invalid else option_map packet_errno (packets_fault many 0 ends)
 
 -- Why a batch is rejected, before the first packet: what is named is no program; there is room for fewer results than packets; or
 -- a packet is outside, or too long.

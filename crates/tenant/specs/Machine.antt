@@ -1,10 +1,11 @@
 -- The machine of one tenant: the answer to each command, and the open objects and the maps after it (bpf(2); for a test run
--- linux/bpf.h, BPF_PROG_TEST_RUN). The order of the errors is this project's own.
-use Rattle.std.specs.Prelude.{◌≡◌, ℕ, ◌+◌, ℤ, pos, Bool, true, false, ◌||◌, ◌==◌, nat_lt, List, [], ◌∷◌, ◌++◌, length, take, drop, replicate, Option, Some, None, option_map, slice_set, Result, Ok, Err, if◌then◌else◌, MatchBool, ◌⊎◌, refl}
+-- linux/bpf.h, BPF_PROG_TEST_RUN). The order of the refusals is this project's own.
+use Rattle.std.specs.Prelude.{◌≡◌, ℕ, ◌+◌, ℤ, pos, Bool, true, false, ◌||◌, ◌==◌, nat_lt, List, [], ◌∷◌, ◌++◌, length, take, drop, replicate, Option, Some, None, option_map, slice_set, Result, Ok, Err, if◌then◌else◌, MatchBool, refl}
 use Rattle.std.specs.Map.{lookup}
 use Rattle.byteorder.specs.Endian.{little_bytes}
 use Rattle.command_frames.specs.Command.{Command, map_create, map_lookup, map_update, map_delete, map_next_key, prog_load, prog_test_run, close}
 use Rattle.fd_table.specs.Table as table
+pub use Rattle.flat_machine.specs.Packets.{longest_packet}
 use Rattle.insn_set.specs.declared.insn.Insn.{Insn}
 use Rattle.insn_codec.specs.declared.fault.FaultKind.{FaultKind}
 use Rattle.insn_codec.specs.declared.fault.FaultKind.TheVariants as kind
@@ -260,10 +261,6 @@ abbrev pub Loads : Bool → TenantState → ℕ → List ℕ → Answer → Type
 Loads refused s kind slots answer = MatchBool (kind == 1) (LoadsUnder refused s (table.lowest s.objects) slots answer) (answer ≡ refuses Invalid s)
 
 -- ---- PROG_TEST_RUN
-
--- the length of the longest packet in bytes
-abbrev pub longest_packet : ℕ
-longest_packet = 65536
 
 -- the maps of a program, by the descriptors in its text
 abbrev pub maps_given : TenantState → LoadedProgram → MapsByDescriptor

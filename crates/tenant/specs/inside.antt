@@ -2,4 +2,3 @@ pub mod Frames
 pub mod Leaves
 pub mod Loading
 pub mod Named
-pub mod Runs

@@ -3,6 +3,7 @@
 ghost use Rattle.std.specs.Prelude.{◌≡◌, ◌≢◌};
 ghost use Rattle.tenant.specs.Machine.{cause_errno, codec_errno, verdict_errno};
 
+use flat_machine::PacketFault;
 use insn_codec::FaultKind;
 use reg_kinds::Reason;
 use tagged_model::MapFault;
@@ -85,6 +86,7 @@ fn errno_of_verdict(reason: Reason) -> Errno
 
 impl Errno {
     ghost use Rattle.tenant.specs.Errno.{status_of, map_errno};
+    ghost use Rattle.tenant.specs.Batch.{packet_errno};
     ghost use Rattle.tenant.specs.declared.errno.Errno.TheVariants.{BadAddress};
 
     /// The error of a call of a map.
@@ -102,7 +104,17 @@ impl Errno {
         }
     }
 
-    /// The error of a load that is rejected for this cause.
+    /// The error of a batch with a packet that is refused.
+    pub(crate) fn of_packet(fault: PacketFault) -> Errno
+        ensures { result ≡ packet_errno fault }
+    {
+        match fault {
+            PacketFault::Outside => Errno::Invalid,
+            PacketFault::TooLong => Errno::TooBig,
+        }
+    }
+
+    /// The error of a load that is refused for this cause.
     pub(crate) fn of_cause(cause: Cause) -> Errno
         ensures { result ≡ cause_errno cause }
     {

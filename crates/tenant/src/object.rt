@@ -1,11 +1,18 @@
 //! The objects that descriptors name.
 
-ghost use Rattle.std.specs.Prelude.{◌≡◌, length};
+ghost use Rattle.std.specs.Prelude.{◌≡◌, ◌≢◌, length, Some, IfOk, IfErr};
 ghost use Rattle.std.specs.List.{zip};
+ghost use Rattle.std.specs.Result.{result_err};
+ghost use Rattle.fd_table.specs.Table.{named};
 ghost use Rattle.verifier.specs.Maps.{maps_of};
+ghost use Rattle.tenant.specs.Batch.{object_refusal};
 ghost use Rattle.tenant.specs.Loaded.{map_places};
+ghost use Rattle.tenant.specs.declared.errno.Errno.TheVariants.{BadAddress};
+ghost use Rattle.tenant.specs.declared.object.OpenObject.TheVariants as object;
 
+use crate::errno::Errno;
 use bpf_maps::MapKey;
+use fd_table::FdTable;
 use std::marker::Model;
 use verifier::Verified;
 
@@ -66,4 +73,18 @@ impl LoadedProgram {
 pub enum OpenObject {
     Map(MapKey),
     Program(LoadedProgram),
+}
+
+/// The program that a descriptor names. `BadDescriptor` if the descriptor is not open, `Invalid` if it names a map.
+pub(crate) fn program_at(objects: &FdTable<OpenObject>, fd: u32) -> Result<&LoadedProgram, Errno>
+    ensures found { IfOk result (λ program.
+        named objects.now fd ≡ Some (object.Program program.now)) }
+    ensures refusal { result_err result ≡ object_refusal (named objects.now fd) }
+    ensures no_fault { IfErr result (λ errno. errno ≢ BadAddress) }
+{
+    match objects.get(fd) {
+        None => Err(Errno::BadDescriptor),
+        Some(OpenObject::Map(_)) => Err(Errno::Invalid),
+        Some(OpenObject::Program(program)) => Ok(program),
+    }
 }

@@ -1,24 +1,21 @@
-use Rattle.std.proofs.Common.{◌≡◌, ℕ, List, Some, sym, ap, subst, ◌∙◌}
+use Rattle.std.proofs.Common.{ℕ, List, sym, ap, subst, ◌∙◌}
 use Rattle.arena.specs.Memory.{part_bytes}
 use Rattle.fd_table.specs.Table.{named}
 use Rattle.flat_machine.specs.Runs.{AreBound}
 use Rattle.tagged_model.specs.declared.value.Outcome.{Outcome}
 use Rattle.tenant.specs.Kept.{KeptTenant, state_in}
 use Rattle.tenant.specs.Machine.{outcome_answer, run_of}
-use Rattle.tenant.specs.declared.object.OpenObject.TheVariants as object
 use Rattle.tenant.proofs.StillKept.{kept_in, with_live}
 use Rattle.tenant.proofs.TestRunEnds.{told_of}
 use Rattle.tenant.proofs.TestRunKept.{kept_after}
 use Rattle.tenant.proofs.TestRunKeys.{are_bound, bound_of}
-use Rattle.tenant.proofs.tenant.Tenant.run_packet.Goals as goal
+use Rattle.tenant.proofs.tenant.Tenant.test_run.Goals as goal
 
 pub run-outcome-requires-clause-bound : goal.run-outcome-requires-clause-bound
 run-outcome-requires-clause-bound c =
     let k = kept_in c.self.inside in
-    let l = c.in-Some-Program.program in
-    let opened : named k.objects c.args.fd ≡ Some (object.Program l) = sym c.in-Some-Program.ensures ∙ ap Some c.in-Some-Program.field-0-is in
     subst (λ (ps : List ℕ). AreBound c.program.result.now ps k.live) (sym c.maps.ensures)
-    (are_bound c.self.invariant (bound_of c.args.fd c.self.invariant opened) c.maps_are_listed.ensures c.program.result.now c.program.ensures.code c.program.ensures.entries)
+    (are_bound c.self.invariant (bound_of c.args.fd c.self.invariant c.in_ok-program.ensures.found) c.maps_are_listed.ensures c.program.result.now c.program.ensures.code c.program.ensures.entries)
 
 pub invariant_of-self : goal.invariant_of-self
 invariant_of-self c = kept_after c.self.invariant c.run-outcome.ensures.maps
@@ -26,8 +23,6 @@ invariant_of-self c = kept_after c.self.invariant c.run-outcome.ensures.maps
 pub returns-clause-answer : goal.returns-clause-answer
 returns-clause-answer c =
     let k = kept_in c.self.inside in
-    let l = c.in-Some-Program.program in
-    let opened : named k.objects c.args.fd ≡ Some (object.Program l) = sym c.in-Some-Program.ensures ∙ ap Some c.in-Some-Program.field-0-is in
     let t = c.args.tenant in
     let part = part_bytes c.args.arena.now t in
     let words = c.args.words.now in
@@ -35,7 +30,7 @@ returns-clause-answer c =
     let run = c.run-outcome in
     let later = part_bytes run.new.arena t in
     let after = state_in later (with_live k run.new.maps) in
-    let (refusals, is) = told_of c.maps_are_listed.ensures c.args.fd c.self.invariant opened c.if-packet-gt-LONGEST_PACKET.false
+    let (refusals, is) = told_of c.maps_are_listed.ensures c.args.fd c.self.invariant c.in_ok-program.ensures.found c.if-packet-gt-LONGEST_PACKET.false
     c.maps.ensures c.program.ensures.code c.context_words-context.ensures run.ensures.runs run.ensures.maps run.ensures.values in (
       refusals,
       ap (λ (o : Outcome). outcome_answer o after) (sym c.in-Value.is)

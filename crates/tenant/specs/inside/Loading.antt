@@ -1,5 +1,5 @@
 -- The state after a load that opens a program. This project's own.
-use Rattle.std.specs.Prelude.{◌≡◌, ℕ, ◌+◌, ◌≤◌, List, IsSome}
+use Rattle.std.specs.Prelude.{◌≡◌, ℕ, ◌≤◌, List, IsSome}
 use Rattle.bpf_maps.specs.Live.{LiveMaps, live_at, shape_at}
 use Rattle.fd_table.specs.Table.{with_open}
 use Rattle.tenant.specs.declared.object.OpenObject.TheVariants as object

@@ -22,8 +22,8 @@ COMMENT = {
 }
 # The most of these words, in all, that the docstrings and comments of a folder may have. A folder that is not listed may have none.
 MOST: dict[str, int] = {
-    "checks/conformance": 1,
-    "checks/library": 4,
+    "tests/conformance": 1,
+    "tests/library": 4,
     "clients/c/include": 30,
     "clients/python": 7,
     "clients/python/bench": 9,

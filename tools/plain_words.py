@@ -36,7 +36,7 @@ MOST: dict[str, int] = {
     "CONTRIBUTING.md": 10,
     "README.md": 3,
     "bench/FIGURES.md": 10,
-    "checks/conformance/README.md": 8,
+    "tests/conformance/README.md": 8,
     "clients/python/DECISIONS.md": 1,
     "clients/python/FILTERS.md": 1,
     "clients/python/README.md": 1,

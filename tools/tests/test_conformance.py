@@ -1,4 +1,4 @@
-"""checks/conformance reads slots and lines as docs/INSTRUCTIONS.md says, and assigns each difference to its rule."""
+"""tests/conformance reads slots and lines as docs/INSTRUCTIONS.md says, and assigns each difference to its rule."""
 
 from __future__ import annotations
 
@@ -8,7 +8,7 @@ import unittest
 from pathlib import Path
 
 TOP = Path(__file__).resolve().parents[2]
-sys.path[:0] = [str(TOP / "checks"), str(TOP / "clients/python")]
+sys.path[:0] = [str(TOP / "tests"), str(TOP / "clients/python")]
 from bpfhost.replies import Reply
 from conformance.cases import keys_of_slots, text_lines
 from conformance.instructions import BY_KEY, INSTRUCTIONS, Key, key_of, key_of_text

@@ -67,7 +67,7 @@
 //!   result of the command.
 //! - The archive `libbpfhost.a` has this crate and the kit's three calls of malloc, realloc and free (`tools/library`). `rt ci`
 //!   builds no static library, and `rt lib` would prove all crates again, so the gate builds the archive once more over the
-//!   libraries that it has proved (`checks/library/run`).
+//!   libraries that it has proved (`tests/library/run`).
 #![tactic(auto)]
 
 mod codes;

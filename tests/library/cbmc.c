@@ -4,7 +4,7 @@
  *     but those of a reply that bpfhost_handle_lent says it empties;
  *   - else the proved function is called once, with what the header says of it, and no byte changes but those that may be written;
  *   - no byte outside the arena is read or written.
- * checks/library/run gives it each function `try_..` below. The header has no loop, so that the bounds of cbmc leave nothing out. Not here:
+ * tests/library/run gives it each function `try_..` below. The header has no loop, so that the bounds of cbmc leave nothing out. Not here:
  * bpfhost_random_seed, which asks the system, and the functions for frames that are bpfhost_frame_of_key by another name.
  *
  * An arena holds the objects of its function side by side, with few bytes more: the time grows with its size. */

@@ -1,4 +1,4 @@
-"""The tables of checks/conformance/README.md that depend only on the sources."""
+"""The tables of tests/conformance/README.md that depend only on the sources."""
 
 from __future__ import annotations
 

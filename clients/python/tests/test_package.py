@@ -50,6 +50,9 @@ class PackageTest(TimedTest):
             self.call(sys.executable, "-c", HOOKS, str(out), folder=self.sources())
         return out
 
+    def test_license(self) -> None:
+        self.assertEqual((PACKAGE / "LICENSE").read_bytes(), (PACKAGE.parents[1] / "LICENSE").read_bytes())
+
     def test_sdist_and_wheel(self) -> None:
         out = self.built()
         self.assertEqual({file.name for file in out.iterdir()}, {f"bpfhost-{__version__}.tar.gz", f"bpfhost-{__version__}-py3-none-any.whl"})

@@ -2,19 +2,25 @@
 """Measures shards beside a host by pipe: frames a second of 1, 2 and 4 shards, what a frame costs each process, and how long a worker
 takes to play frames again.
 
-usage: shards.py [BPFHOST] [--frames N] [--folder FOLDER]
+usage: shards.py [BPFHOST] [--frames N] [--folder FOLDER] [--library PATH] [--before TREE [--rounds N]]
 
 A customer's frames are test runs of a program that counts packets of 64 bytes in a hash map. They come in calls of so many frames each.
 All is on this machine, customers too, with a Redis of its own that writes each change to FOLDER before it answers: the processes share
 the processors, and FOLDER's disk tells how long a write takes. Only figures of one run are to be compared.
+
+With --before, another clone of the repository is measured beside this one: one shard, in rounds in which the forms take turns, and
+their medians are compared.
 """
 
 from __future__ import annotations
 
 import argparse
 import contextlib
+import json
 import multiprocessing
 import os
+import statistics
+import subprocess
 import sys
 import tempfile
 import time
@@ -24,7 +30,9 @@ from pathlib import Path
 from typing import Any
 
 sys.dont_write_bytecode = True
-sys.path.insert(0, str(Path(__file__).resolve().parents[1]))
+# The clone that is measured is another one where the process was started for it.
+_TREE = "BPFHOST_BENCH_TREE"
+sys.path.insert(0, os.environ.get(_TREE) or str(Path(__file__).resolve().parents[1]))
 
 from bpfhost import Host, MapType, find_program, frames  # noqa: E402
 from bpfhost.shards import Client, Settings, ShardKeys, Worker  # noqa: E402
@@ -72,9 +80,9 @@ def by_pipe(program: str, many: int, size: int) -> float:
         return many / (time.monotonic() - began)
 
 
-def work(url: str, program: str, shard: int, directory: str) -> None:
+def work(url: str, program: str, shard: int, directory: str, more: list[str]) -> None:
     """A worker, by the command, with as few snapshots as it allows."""
-    words = ["worker", str(shard), "--redis", url, "--bpfhost", program, "--snapshot-entries", str(MOST_ENTRIES), "--volatile"]
+    words = ["worker", str(shard), "--redis", url, "--bpfhost", program, "--snapshot-entries", str(MOST_ENTRIES), "--volatile", *more]
     with open(os.devnull, "w") as nowhere, contextlib.redirect_stderr(nowhere):
         sys.exit(command(words + (["--directory", directory] if directory != url else [])))
 
@@ -123,8 +131,12 @@ class Measured:
 class Shards:
     """So many shards with their workers, on so many servers of Redis, and customers who ask them."""
 
-    def __init__(self, folder: Path, program: str, shards: int, servers: int, together: bool = False) -> None:
+    def __init__(
+        self, folder: Path, program: str, shards: int, servers: int, together: bool = False, words: list[str] | None = None
+    ) -> None:
+        """With more words for the workers."""
         self._folder, self._program, self._shards, self._many, self._together = folder, program, shards, servers, together
+        self._words = words or []
 
     def measure(self, many: int, size: int) -> Measured:
         """Each customer sends its part of so many frames, in calls of so many."""
@@ -134,7 +146,7 @@ class Shards:
             self._place(urls)
             barrier = _context.Barrier(CUSTOMERS + 1)
             calls = max(1, many // CUSTOMERS // size)
-            workers = [_context.Process(target=work, args=(url, self._program, shard, urls[0])) for shard, url in enumerate(urls)]
+            workers = [_context.Process(target=work, args=(url, self._program, shard, urls[0], self._words)) for shard, url in enumerate(urls)]
             customers = [
                 _context.Process(target=ask, args=(urls[0], self._program, f"customer-{number}", calls, size, barrier, self._together))
                 for number in range(CUSTOMERS)
@@ -189,7 +201,7 @@ def replay(folder: Path, program: str, size: int) -> float:
     with tempfile.TemporaryDirectory(dir=folder) as room, RedisServer(Path(room), "no") as server, Client(server.url) as client:
         redis, keys = client.shard(0)
         client.directory.beat(0, register(redis, keys, client.directory, ""))
-        first = _context.Process(target=work, args=(server.url, program, 0, server.url), daemon=True)
+        first = _context.Process(target=work, args=(server.url, program, 0, server.url, []), daemon=True)
         first.start()
         customer = client.customer("one", 600)
         customer.wait(customer.post(b"".join(begins(program))))
@@ -203,33 +215,111 @@ def replay(folder: Path, program: str, size: int) -> float:
         return time.monotonic() - began
 
 
-def tell(program: str, folder: Path, many: int, size: int) -> None:
+def tell(program: str, folder: Path, many: int, size: int, words: list[str]) -> None:
     """Measures calls of so many frames, and prints it."""
     piped = by_pipe(program, many, size)
-    found = {f"{each[0]} on {each[1]} Redis": Shards(folder, program, *each).measure(many, size) for each in SHARDS}
-    found[TOGETHER] = Shards(folder, program, *SHARDS[0], together=True).measure(many, size)
+    found = {f"{each[0]} on {each[1]} Redis": Shards(folder, program, *each, words=words).measure(many, size) for each in SHARDS}
+    found[TOGETHER] = Shards(folder, program, *SHARDS[0], together=True, words=words).measure(many, size)
     speeds = ", ".join(f"{what} {one.speed:,.0f} ({one.speed / piped:.3f})" for what, one in found.items())
     print(f"{size} frames a call: by pipe {piped:,.0f}; shards {speeds}")
     for what in (next(iter(found)), TOGETHER):
-        costs = ", ".join(f"{kind} {cost:.1f}" for kind, cost in found[what].costs.items())
-        print(f"  us a frame of {what}: {costs}; {found[what].logged:.0f} bytes a frame in the log", flush=True)
+        print(f"  us a frame of {what}: {_costs(found[what].costs)}; {found[what].logged:.0f} bytes a frame in the log", flush=True)
 
 
-def main() -> int:
-    """Measures, and prints it."""
+def _costs(costs: dict[str, float]) -> str:
+    return ", ".join(f"{kind} {cost:.2f}" for kind, cost in costs.items())
+
+
+# Beside another clone.
+
+
+@dataclass(frozen=True)
+class Form:
+    """A form of one shard: its name, its clone, whether what is sent goes together, and more words for the worker."""
+
+    name: str
+    tree: Path
+    together: bool
+    words: tuple[str, ...] = ()
+
+    def measure(self, said: argparse.Namespace, program: str, many: int, size: int) -> Measured:
+        """Measures it in a process of its own."""
+        words = [sys.executable, __file__, program, "--folder", str(said.folder), "--frames", str(many), "--size", str(size)]
+        words += ["--together"] * self.together + [f"--word={word}" for word in self.words]
+        environment = {**os.environ, _TREE: str(self.tree / "clients/python")}
+        ended = subprocess.run(words, env=environment, check=True, capture_output=True, text=True)
+        return Measured(**json.loads(ended.stdout))
+
+
+def measure_one(said: argparse.Namespace, program: str) -> None:
+    """Measures one form, and writes it as JSON."""
+    found = Shards(said.folder, program, *SHARDS[0], together=said.together, words=said.word).measure(said.frames, said.size)
+    print(json.dumps({"speed": found.speed, "costs": found.costs, "logged": found.logged}))
+
+
+def compare(said: argparse.Namespace, program: str, library: list[str]) -> None:
+    """Measures this clone beside another one, and prints the medians of the rounds."""
+    here = Path(__file__).resolve().parents[3]
+    forms = [
+        Form("before", said.before, False),
+        Form("a call each", here, False, tuple(library)),
+        Form("together", here, True, tuple(library)),
+        Form("together, by the pipe", here, True, ("--library=none",)),
+    ]
+    for size in CALLS:
+        found: dict[Form, list[Measured]] = {form: [] for form in forms}
+        for _ in range(said.rounds):
+            for form in forms:
+                many = said.frames * size // (5 * CALLS[-1] // CALLS[1] + size)
+                found[form].append(form.measure(said, program, many * 4 if form.together else many, size))
+        before = _median(found[forms[0]])
+        print(f"{size} frames a send:")
+        for form, measured in found.items():
+            one = _median(measured)
+            costs, was = sum(one.costs.values()), sum(before.costs.values())
+            ratios = f"{one.speed / before.speed:.2f} times as fast, {was / costs:.2f} times less processor time"
+            print(f"  {form.name}: {one.speed:,.0f} frames a second; us a frame: {_costs(one.costs)}; {one.logged:.0f} bytes; {ratios}", flush=True)
+
+
+def _median(measured: list[Measured]) -> Measured:
+    """The medians of each number."""
+    costs = {kind: statistics.median(one.costs[kind] for one in measured) for kind in measured[0].costs}
+    return Measured(statistics.median(one.speed for one in measured), costs, statistics.median(one.logged for one in measured))
+
+
+def _parser() -> argparse.ArgumentParser:
     parser = argparse.ArgumentParser(description="Measures shards beside a host by pipe.")
     parser.add_argument("bpfhost", nargs="?")
     parser.add_argument("--frames", type=int, default=100_000)
     parser.add_argument("--folder", type=Path, default=Path(tempfile.gettempdir()), help="for the files of Redis")
-    said = parser.parse_args()
+    parser.add_argument("--library", help="the library of the workers; without it, as a worker finds it")
+    parser.add_argument("--before", type=Path, metavar="TREE", help="another clone, which is measured beside this one")
+    parser.add_argument("--rounds", type=int, default=3)
+    # Of a process that measures one form.
+    parser.add_argument("--size", type=int, help=argparse.SUPPRESS)
+    parser.add_argument("--together", action="store_true", help=argparse.SUPPRESS)
+    parser.add_argument("--word", action="append", default=[], help=argparse.SUPPRESS)
+    return parser
+
+
+def main() -> int:
+    """Measures, and prints it."""
+    said = _parser().parse_args()
     why = missing()
     if why:
         print(f"shards: skipped, as {why}")
         return 0
     program = find_program(said.bpfhost)
-    print(f"{os.cpu_count()} processors, {CUSTOMERS} customers; frames a second, and the ratio to the pipe")
+    if said.size:
+        measure_one(said, program)
+        return 0
+    library = [f"--library={said.library}"] if said.library else []
+    print(f"{os.cpu_count()} processors, {CUSTOMERS} customers; frames a second")
+    if said.before:
+        compare(said, program, library)
+        return 0
     for size in CALLS:
-        tell(program, said.folder, said.frames if size > 1 else said.frames // 5, size)
+        tell(program, said.folder, said.frames if size > 1 else said.frames // 5, size, library)
     for size in CALLS:
         print(f"{REPLAYED:,} frames in calls of {size} are played again in {replay(said.folder, program, size):.2f} s", flush=True)
     return 0

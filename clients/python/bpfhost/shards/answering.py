@@ -101,6 +101,10 @@ class Answering:
         self._waiting.clear()
         self._size = 0
 
+    def end(self) -> None:
+        """Ends its connection."""
+        self._line.cut()
+
     def write(self, played: Sequence[Played]) -> None:
         """Writes replies; they are there once, also where it is not known whether they were written and they are written again."""
         for some in _parts(played):

@@ -158,11 +158,19 @@ class _NodesPending:
     def __init__(self, link: NodesLink, node: str, words: Sequence[Word], sent: Sequence[Pending]) -> None:
         self._link, self._node, self._words, self._sent = link, node, words, sent
 
+    @property
+    def first(self) -> Pending:
+        return self._sent[0].first
+
     def is_answered(self) -> bool:
-        return self._sent[0].is_answered()
+        return self.first.is_answered()
 
     def answer(self) -> Any:
-        return self._link.end(self._node, self._words, self._sent)
+        try:
+            return self._link.end(self._node, self._words, self._sent)
+        except Moved as moved:
+            # Another connection has learned of it since the command was sent.
+            raise Away(f"{moved.node} of the cluster serves a slot now, which another node served") from None
 
 
 class NodesLink:

@@ -127,6 +127,11 @@ class Failed:
     def __init__(self, error: RedisError) -> None:
         self._error = error
 
+    @property
+    def first(self) -> Pending:
+        """Itself."""
+        return self
+
     def is_answered(self) -> bool:
         """It has the error for its answer."""
         return True

@@ -102,6 +102,11 @@ class SocketPending:
         self.link, self.deadline = link, deadline
         self.value: Any = NOTHING
 
+    @property
+    def first(self) -> Pending:
+        """Itself."""
+        return self
+
     def is_answered(self) -> bool:
         """Whether the answer, or some of it, was there when it was last looked for (`any_of`)."""
         return self.value is not NOTHING or self.link.has_more
@@ -188,6 +193,7 @@ class SocketLink:
         if isinstance(error, NotRedis):
             error = ConnectionError(str(error))
         self._connection.disconnect()
+        self.has_more = False
         while self._pending:
             self._pending.popleft().value = error
 
@@ -198,7 +204,7 @@ class SocketLink:
 
 def any_of(pending: Sequence[Pending], seconds: float) -> None:
     """Waits until one of these has an answer, at most so many seconds."""
-    waiting = [one for one in pending if isinstance(one, SocketPending) and one.value is NOTHING]
+    waiting = [one for one in (each.first for each in pending) if isinstance(one, SocketPending) and one.value is NOTHING]
     if len(waiting) < len(pending) or any(one.link.is_ready() for one in waiting):
         seconds = 0.0
     for one in select.select(waiting, [], [], seconds)[0]:

@@ -61,6 +61,11 @@ class Reading:
                 lane.asked = None
                 lane.line.cut()
 
+    def end(self) -> None:
+        """Ends its connections."""
+        for lane in self._lanes:
+            lane.line.cut()
+
     # How far tenants were read.
 
     def taken(self, calls: Sequence[Call | NoCall]) -> None:

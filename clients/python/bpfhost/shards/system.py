@@ -21,6 +21,10 @@ Word = object
 class Pending(Protocol):
     """A command that was begun, and whose answer is waited for."""
 
+    @property
+    def first(self) -> Pending:
+        """What is answered first, where several commands were begun for it, or itself."""
+
     def is_answered(self) -> bool:
         """Whether there is no need to wait for its answer any more, or not for long."""
 
@@ -46,6 +50,10 @@ class NotBegun:
 
     def __init__(self, call: Callable[[], Any]) -> None:
         self._call = call
+
+    @property
+    def first(self) -> Pending:
+        return self
 
     def is_answered(self) -> bool:
         """It is not, and takes as long as it takes."""

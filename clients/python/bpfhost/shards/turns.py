@@ -36,6 +36,11 @@ class Turns:
         self._reading.forget()
         self._answering.forget()
 
+    def end(self) -> None:
+        """Ends its connections."""
+        self._reading.end()
+        self._answering.end()
+
     def turn(self) -> None:
         """One turn, and some of what is done beside."""
         shard = self._shard

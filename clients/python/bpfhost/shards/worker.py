@@ -74,8 +74,11 @@ class Worker:
         shard.is_stopped = is_stopped
         # The host begins first, so that none of the lease's time goes by meanwhile.
         with contextlib.suppress(Stopped), Serving(self._program, shard.system, shard.alive, self._library) as shard.serving:
-            shard.waiting(self._take_lease)
-            self._serve_under_lease()
+            try:
+                shard.waiting(self._take_lease)
+                self._serve_under_lease()
+            finally:
+                self._turns.end()
 
     def _take_lease(self) -> None:
         shard = self._shard

@@ -196,7 +196,10 @@ class Faults:
 
     def _end_worker(self) -> None:
         """Lets a worker end, after which the next one has its host in its own process, where there is a library."""
-        self._served_shard().worker.send(signal.SIGTERM)
+        worker = self._served_shard().worker
+        worker.send(signal.SIGTERM)
+        # A second SIGTERM would end it in the middle.
+        worker.wait(_SECONDS_TO_SETTLE)
         self.counts["told to end"] += 1
 
     def _served_shard(self) -> Supervisor:

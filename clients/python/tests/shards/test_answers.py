@@ -94,6 +94,15 @@ class Commands(ShardTest):
         for line in lines:
             line.close()
 
+    def test_of_a_server_with_replicas(self) -> None:
+        """What is sent behind a command, to wait for replicas, is not what is looked at."""
+        line = connect(f"{self.server.url}?replicas=0").line()
+        waits, done = line.begin_xread({"none": b"0-0"}, 1, 0.2), connect(f"{self.server.url}?replicas=0").line().begin("ECHO", 1)
+        any_of([waits, done], 20.0)
+        self.assertEqual((waits.is_answered(), done.is_answered(), done.answer()), (False, True, b"1"))
+        any_of([waits], 20.0)
+        self.assertEqual((waits.is_answered(), waits.answer()), (True, None))
+
 
 class Silent(TimedTest):
     def test_no_answer_in_time(self) -> None:

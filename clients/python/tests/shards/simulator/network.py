@@ -106,6 +106,10 @@ class SimulatedPending:
         for actor in self._waiting:
             actor.wakes = min(actor.wakes, self.world.now)
 
+    @property
+    def first(self) -> Pending:
+        return self
+
     def is_answered(self) -> bool:
         return self.is_done
 
@@ -257,7 +261,7 @@ class Simulated:
         return SimulatedLink(self._network, self._process, url)
 
     def any_of(self, pending: Sequence[Pending], seconds: float) -> None:
-        simulated = [one for one in pending if isinstance(one, SimulatedPending)]
+        simulated = [one for one in (each.first for each in pending) if isinstance(one, SimulatedPending)]
         wait_until(lambda: any(one.is_answered() for one in pending), simulated, self._world, seconds)
 
     def host(self, _program: Program, _tenants: int) -> Asked:

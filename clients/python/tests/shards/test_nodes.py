@@ -1,0 +1,74 @@
+"""What a connection to a cluster does if a node serves a slot no longer."""
+
+from __future__ import annotations
+
+import unittest
+from collections.abc import Sequence
+from typing import Any
+
+from bpfhost.shards.cluster import NodesLink, Place, slot_of
+from bpfhost.shards.errors import Away, Moved
+from bpfhost.shards.system import Link, Pending, Word
+
+
+class MovedPending:
+    """A command that its node sends on."""
+
+    def __init__(self, node: str) -> None:
+        self._node = node
+
+    @property
+    def first(self) -> Pending:
+        return self
+
+    def is_answered(self) -> bool:
+        return True
+
+    def answer(self) -> Any:
+        raise Moved(self._node)
+
+
+class MovedLink:
+    """A connection to a node that sends each command on."""
+
+    def __init__(self, node: str) -> None:
+        self._node = node
+
+    def call(self, words: Sequence[Word], seconds: float) -> Any:
+        return self.begin(words, seconds).answer()
+
+    def begin(self, words: Sequence[Word], seconds: float) -> Pending:
+        return MovedPending(self._node)
+
+    def close(self) -> None:
+        """There is nothing to close."""
+
+
+class SlotThatMoved(unittest.TestCase):
+    def setUp(self) -> None:
+        place = Place.of("redis://a:1/0?cluster=1")
+        nodes = place.nodes()
+        assert nodes
+        self.nodes = nodes
+
+        def link(_url: str) -> Link:
+            return MovedLink("b:1")
+
+        self.links = [NodesLink(place, nodes, link) for _ in range(2)]
+
+    def test_commands_behind_one_another(self) -> None:
+        """The first connection learns the new node. A command that another one sent before is an Away too, and not an error."""
+        sent = [link.begin(["GET", "key"], 1.0) for link in self.links]
+        for pending in sent:
+            with self.assertRaises(Away):
+                pending.answer()
+        self.assertEqual(self.nodes.find(slot_of("key"), None), "b:1")
+
+    def test_calls(self) -> None:
+        """A call goes on to the node that is named, as often as nodes agree."""
+        with self.assertRaisesRegex(Away, "do not agree"):
+            self.links[0].call(["GET", "key"], 1.0)
+
+
+if __name__ == "__main__":
+    unittest.main()

@@ -1,14 +1,14 @@
 #!/usr/bin/env python3
-"""Measures shards beside a host by pipe: frames a second of 1, 2 and 4 shards, what a frame costs each process, and how long a worker
+"""Compares shards with a host by pipe: frames a second of 1, 2 and 4 shards, what a frame costs each process, and how long a worker
 takes to play frames again.
 
 usage: shards.py [BPFHOST] [--frames N] [--folder FOLDER] [--library PATH] [--before TREE [--rounds N]]
 
 A customer's frames are test runs of a program that counts packets of 64 bytes in a hash map. They come in calls of so many frames each.
-All is on this machine, customers too, with a Redis of its own that writes each change to FOLDER before it answers: the processes share
+All is on this machine, customers too, with a Redis of its own that writes each change to FOLDER before it replies: the processes share
 the processors, and FOLDER's disk tells how long a write takes. Only figures of one run are to be compared.
 
-With --before, another clone of the repository is measured beside this one: one shard, in rounds in which the forms take turns, and
+With --before, another clone of the repository is measured too: one shard, in rounds in which the versions take turns, and
 their medians are compared.
 """
 
@@ -30,7 +30,7 @@ from pathlib import Path
 from typing import Any
 
 sys.dont_write_bytecode = True
-# The clone that is measured is another one where the process was started for it.
+# The clone that is measured is another one if the process was started for it.
 _TREE = "BPFHOST_BENCH_TREE"
 sys.path.insert(0, os.environ.get(_TREE) or str(Path(__file__).resolve().parents[1]))
 
@@ -46,7 +46,7 @@ from tests.shards.streams import slots_of  # noqa: E402
 CALLS = (1, 16, 256)
 # How many shards there are, and how many servers of Redis they have together.
 SHARDS = ((1, 1), (2, 1), (4, 1), (4, 4))
-# The first of these again, where what a customer has sent and not waited for goes in one call.
+# The first of these again; what a customer has sent and not waited for goes in one call.
 TOGETHER = "1, sent together"
 # A customer sends so many calls before it waits for the reply to the first one.
 CUSTOMERS, AHEAD = 8, 8
@@ -88,7 +88,7 @@ def work(url: str, program: str, shard: int, directory: str, more: list[str]) ->
 
 
 def ask(url: str, program: str, name: str, calls: int, size: int, barrier: Any, together: bool) -> None:
-    """A customer that sends its calls when all others do; together, where they may go in one call."""
+    """A customer that sends its calls when all others do; together, if they may go in one call."""
     stream = call(size)
     with Client(url) as client:
         customer = client.customer(name)
@@ -194,7 +194,7 @@ def _size(server: RedisServer) -> int:
 
 
 def replay(folder: Path, program: str, size: int) -> float:
-    """The seconds from the start of a worker to its first turn, where frames in calls of so many have replies already.
+    """The seconds from the start of a worker to its first turn, if frames in calls of so many have replies already.
 
     Redis does not wait for its disk here, since nothing is written in this time, and much before it.
     """
@@ -258,7 +258,7 @@ def measure_one(said: argparse.Namespace, program: str) -> None:
 
 
 def compare(said: argparse.Namespace, program: str, library: list[str]) -> None:
-    """Measures this clone beside another one, and prints the medians of the rounds."""
+    """Compares this clone with another one, and prints the medians of the rounds."""
     here = Path(__file__).resolve().parents[3]
     forms = [
         Form("before", said.before, False),
@@ -288,12 +288,12 @@ def _median(measured: list[Measured]) -> Measured:
 
 
 def _parser() -> argparse.ArgumentParser:
-    parser = argparse.ArgumentParser(description="Measures shards beside a host by pipe.")
+    parser = argparse.ArgumentParser(description="Compares shards with a host by pipe.")
     parser.add_argument("bpfhost", nargs="?")
     parser.add_argument("--frames", type=int, default=100_000)
     parser.add_argument("--folder", type=Path, default=Path(tempfile.gettempdir()), help="for the files of Redis")
     parser.add_argument("--library", help="the library of the workers; without it, as a worker finds it")
-    parser.add_argument("--before", type=Path, metavar="TREE", help="another clone, which is measured beside this one")
+    parser.add_argument("--before", type=Path, metavar="TREE", help="another clone, which is measured too")
     parser.add_argument("--rounds", type=int, default=3)
     # Of a process that measures one form.
     parser.add_argument("--size", type=int, help=argparse.SUPPRESS)

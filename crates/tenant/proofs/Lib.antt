@@ -5,6 +5,7 @@ mod AtPlaces
 mod New
 mod Shapes
 mod LookUps
+mod MapEntries
 mod NextKeys
 mod StillKept
 mod OneMap

@@ -7,6 +7,7 @@ mod frames;
 pub mod laws;
 mod loading;
 mod object;
+mod readers;
 mod reply;
 mod shape;
 mod tenant;
@@ -14,5 +15,6 @@ mod test_run;
 
 pub use errno::Errno;
 pub use object::{LoadedProgram, OpenObject};
+pub use readers::MapEntry;
 pub use reply::Reply;
 pub use tenant::Tenant;

@@ -2,7 +2,8 @@
  *
  * Not here, since they write nothing: bpfhost_pair_code, bpfhost_bytes_at, bpfhost_frame_code, bpfhost_may_empty, bpfhost_context_at,
  * bpfhost_packets_code, bpfhost_run_code, bpfhost_may_copy, bpfhost_code_text, bpfhost_version, bpfhost_get16, bpfhost_get32. Since
- * they test nothing: bpfhost_put16, bpfhost_put32, bpfhost_put_bytes. In objects.c: bpfhost_are_apart. */
+ * they test nothing: bpfhost_put16, bpfhost_put32, bpfhost_put_bytes. In objects.c: bpfhost_are_apart. In calls.c and saves.c, since
+ * it asks bpfhost_ask over and over: bpfhost_restore. */
 #ifndef FUNCTIONS_H
 #define FUNCTIONS_H
 
@@ -183,6 +184,18 @@ static bool holds_run_packets(const struct given *given, int code)
             || (is_marked(given->at[4], packets * sizeof(uint32_t)) && is_marked(given->at[5], sizeof(int32_t))));
 }
 
+static int call_save(const struct given *given)
+{
+    return bpfhost_save((bpfhost *)given->at[0], 258, 3, (bpfhost_bytes *)given->at[1]);
+}
+
+static bool holds_save(const struct given *given, int code)
+{
+    const bpfhost_bytes *frames = (const bpfhost_bytes *)given->at[1];
+    return is_asked(given, 0, code) && asked.numbers[0] == 258 && asked.numbers[1] == 3
+        && (code != BPFHOST_DONE || (frames->at == lent_reply && frames->length == sizeof lent_reply));
+}
+
 static int call_memory_refused(const struct given *given)
 {
     return bpfhost_memory_refused((bpfhost *)given->at[0], 258, (bool *)given->at[1]);
@@ -334,6 +347,7 @@ static const struct function functions[] = {
      {HANDLE, CONTEXT, BYTES("bytes", 11, 0, READ | NULL_IF_EMPTY),
       {"ends", sizeof(size_t), 3, alignof(size_t), 1, READ | NULL_IF_EMPTY, NULL},
       {"results", sizeof(uint32_t), 3, alignof(uint32_t), 1, WRITTEN | NULL_IF_EMPTY, NULL}, ONE("status", int32_t, WRITTEN)}},
+    {"bpfhost_save", call_save, holds_save, false, 0, 2, 0, {HANDLE, ONE("frames", bpfhost_bytes, WRITTEN)}},
     {"bpfhost_memory_refused", call_memory_refused, holds_memory_refused, false, 0, 2, 0, {HANDLE, ONE("refused", bool, WRITTEN)}},
     {"bpfhost_free", call_free, holds_free, false, 0, 1, 0, {ONE("handle", bpfhost, WRITTEN | MAY_BE_NULL)}},
     {"bpfhost_frame_begin", call_frame_begin, holds_begun, true, 11, 1, 1, {ROOM(12)}},

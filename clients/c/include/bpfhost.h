@@ -67,11 +67,14 @@ enum bpfhost_code {
     BPFHOST_TENANTS = -3,  /* a host has 1 to BPFHOST_MOST_TENANTS tenants */
     BPFHOST_MEMORY = -4,   /* there is no memory for the host */
     BPFHOST_ROOM = -5,     /* the room has less than BPFHOST_LONGEST_REPLY bytes */
+    BPFHOST_NO_PART = -6,  /* the tenant has no such part, or is not served */
     /* of this header alone; if more than one of them holds, the answer is one that does */
     BPFHOST_NULL = -16,     /* a pointer is null */
     BPFHOST_LENGTH = -17,   /* no object has so many bytes: the length is above PTRDIFF_MAX */
     BPFHOST_OVERLAP = -18,  /* what the call may write, its handle included, overlaps something else that it is given */
-    BPFHOST_NO_REPLY = -19  /* the bytes are not one whole reply */
+    BPFHOST_NO_REPLY = -19, /* the bytes are not one whole reply */
+    BPFHOST_REFUSED = -20,  /* a frame that restores a tenant is refused */
+    BPFHOST_CUT = -21       /* the bytes end within a frame */
 };
 
 /* ---- a host */
@@ -104,6 +107,7 @@ int32_t bpfhost_c_handle_lent(bpfhost *handle, const uint8_t *frame, size_t fram
 int32_t bpfhost_c_run_packets(bpfhost *handle, uint16_t tenant, uint32_t fd, const uint32_t *words, const uint8_t *bytes,
                               size_t byte_count, const size_t *ends, size_t packets, uint32_t *results, size_t room,
                               int32_t *status);
+int32_t bpfhost_c_save(bpfhost *handle, uint16_t tenant, size_t part, bpfhost_bytes *frames);
 int32_t bpfhost_c_memory_refused(bpfhost *handle, uint16_t tenant, bool *refused);
 void bpfhost_c_free(bpfhost *handle);
 
@@ -296,6 +300,24 @@ static inline int bpfhost_run_packets(bpfhost *handle, uint16_t tenant, uint32_t
         code = (int)bpfhost_c_run_packets(handle, tenant, fd, words, at, byte_count, stops, packets, room, packets, &told);
     if (code == BPFHOST_DONE)
         *status = told;
+    return code;
+}
+
+/* Saves a part of a tenant: `frames` gets the frames that restore it, each with its length field before it as in a stream. They are
+ * lent until the next call on this handle. Parts are numbered from 0, and a tenant has 2 to 82 of them: the first opens each
+ * descriptor, each part after it makes one map with its keys or one program, in the order in which they were made, and the last closes
+ * what is not open. NO_PART: there are no more, or the tenant is not served. A new tenant of the same number, of any host, that is given
+ * the frames of all parts in their order (bpfhost_restore) then replies to each frame as the saved tenant does. Between the parts of
+ * one save the tenant itself must not be given a frame; other tenants may be. MEMORY, NO_PART, NO_HOST, NULL, OVERLAP: nothing is
+ * written. No tenant's state changes. */
+static inline int bpfhost_save(bpfhost *handle, uint16_t tenant, size_t part, bpfhost_bytes *frames)
+{
+    bpfhost_bytes found = {bpfhost_bytes_at(NULL, 0), 0};
+    int code = bpfhost_pair_code(handle, sizeof *handle, frames, sizeof *frames);
+    if (code == BPFHOST_DONE)
+        code = (int)bpfhost_c_save(handle, tenant, part, &found);
+    if (code == BPFHOST_DONE)
+        *frames = found;
     return code;
 }
 
@@ -542,6 +564,32 @@ static inline int bpfhost_ask(bpfhost *handle, const void *frame, size_t frame_l
     return code == BPFHOST_DONE ? bpfhost_read_reply(lent.at, lent.length, reply) : code;
 }
 
+/* Handles frames with their length fields before them, as bpfhost_save lends them, one after another, and stops where one is refused.
+ * `status` gets the status of the last reply, 0 if there are no frames. REFUSED: a frame is refused with this status, and those
+ * before it are done; then the tenant is not the saved one, and -12 (ENOMEM) says that memory was refused. CUT: the bytes end within
+ * a frame, and the frames before it are done. NO_HOST, NULL, LENGTH, OVERLAP: nothing is written, and no tenant's state has changed. */
+static inline int bpfhost_restore(bpfhost *handle, const void *frames, size_t length, int32_t *status)
+{
+    const uint8_t *at = bpfhost_bytes_at(frames, length);
+    size_t left = length, size;
+    int32_t told = 0;
+    bpfhost_reply reply;
+    int code = bpfhost_frame_code(handle, at, length, status, sizeof *status);
+    while (code == BPFHOST_DONE && left > 0) {
+        size = left < 4 ? 0 : bpfhost_get32(at);
+        code = left < 4 || left - 4 < size ? BPFHOST_CUT : bpfhost_ask(handle, at + 4, size, &reply);
+        if (code == BPFHOST_DONE) {
+            told = reply.status;
+            code = told < 0 ? BPFHOST_REFUSED : BPFHOST_DONE;
+            at += 4 + size;
+            left -= 4 + size;
+        }
+    }
+    if (code == BPFHOST_DONE || code == BPFHOST_REFUSED || code == BPFHOST_CUT)
+        *status = told;
+    return code;
+}
+
 /* A code in words. */
 static inline const char *bpfhost_code_text(int code)
 {
@@ -552,10 +600,13 @@ static inline const char *bpfhost_code_text(int code)
     case BPFHOST_TENANTS: return "a host has 1 to 64 tenants";
     case BPFHOST_MEMORY: return "there is no memory for the host";
     case BPFHOST_ROOM: return "the room is smaller than the longest reply";
+    case BPFHOST_NO_PART: return "the tenant has no such part, or is not served";
     case BPFHOST_NULL: return "a pointer is null";
     case BPFHOST_LENGTH: return "no object is so long";
     case BPFHOST_OVERLAP: return "two objects overlap";
     case BPFHOST_NO_REPLY: return "not one whole reply";
+    case BPFHOST_REFUSED: return "a frame that restores a tenant is refused";
+    case BPFHOST_CUT: return "the bytes end within a frame";
     default: return "no code of bpfhost";
     }
 }

@@ -10,8 +10,10 @@ pub enum Error {
         /// How many were asked for.
         asked: usize,
     },
-    /// There is no memory for a host.
+    /// There is no memory for a host, or for the frames of a tenant.
     NoMemory,
+    /// The bytes that restore a tenant end within a frame.
+    Cut,
     /// There is room for fewer results than there are packets.
     Room {
         /// For how many results there is room.
@@ -35,7 +37,7 @@ impl Error {
     pub fn errno(&self) -> Option<Errno> {
         match *self {
             Error::Status(errno) | Error::Refused { errno, .. } => Some(errno),
-            Error::Tenants { .. } | Error::NoMemory | Error::Room { .. } => None,
+            Error::Tenants { .. } | Error::NoMemory | Error::Cut | Error::Room { .. } => None,
         }
     }
 }
@@ -45,6 +47,7 @@ impl fmt::Display for Error {
         match *self {
             Error::Tenants { asked } => write!(f, "a host has 1 to {MOST_TENANTS} tenants, not {asked}"),
             Error::NoMemory => f.write_str("there is no memory for the host"),
+            Error::Cut => f.write_str("the bytes end within a frame"),
             Error::Room { results } => write!(f, "there is room for {results} results, and there are more packets"),
             Error::Status(errno) => errno.fmt(f),
             Error::Refused { errno, slot, reason } => {

@@ -1,8 +1,9 @@
 use crate::batch::Batch;
 use crate::library::{
-    Handle, Lent, bpfhost_c_free, bpfhost_c_handle_lent, bpfhost_c_memory_refused, bpfhost_c_new, bpfhost_c_run_packets,
+    Handle, Lent, bpfhost_c_free, bpfhost_c_handle_lent, bpfhost_c_memory_refused, bpfhost_c_new,
+    bpfhost_c_run_packets, bpfhost_c_save,
 };
-use crate::numbers::{DONE, LONGEST_FRAME, MEMORY, TENANTS};
+use crate::numbers::{DONE, LONGEST_FRAME, MEMORY, NO_PART, TENANTS};
 use crate::{Context, Errno, Error, Reply, Tenant};
 use std::collections::hash_map::RandomState;
 use std::fmt;
@@ -101,6 +102,22 @@ impl Host {
         results: &mut [u32],
     ) -> Result<(), Error> {
         run_packets(&mut self.handle, tenant, prog, context, bytes, ends, results)
+    }
+
+    /// The frames of one part of a tenant, lent where they stand; `None` if there is no such part.
+    pub(crate) fn save_part(&mut self, tenant: u16, part: usize) -> Result<Option<&[u8]>, Error> {
+        let mut lent = Lent { at: NonNull::dangling().as_ptr(), length: 0 };
+        match bpfhost_c_save(&mut self.handle, tenant, part, &mut lent) {
+            // An empty vector may have no address.
+            DONE if lent.length == 0 => Ok(Some(&[])),
+            // SAFETY: by `done` of the contract of `bpfhost_c_save` the frames stand there (`SavedAt`): these are the bytes of a vector
+            // that the handle owns. They change at the next call with the handle, and none can come while the frames are used, which
+            // borrow the host.
+            DONE => Ok(Some(unsafe { std::slice::from_raw_parts(lent.at, lent.length) })),
+            NO_PART => Ok(None),
+            MEMORY => Err(Error::NoMemory),
+            code => panic!("{}", unexpected(code)),
+        }
     }
 
     /// Whether memory was ever refused to a tenant. While it was not, the tenant's replies are those that it would be given alone.

@@ -11,6 +11,7 @@ mod library;
 mod numbers;
 mod packet;
 mod reply;
+mod save;
 mod tenant;
 
 /// The version of this crate, which is the library's too.

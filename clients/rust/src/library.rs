@@ -9,7 +9,7 @@ pub(crate) struct Handle {
     at: *mut c_void,
 }
 
-/// Where a reply stands, and how many bytes it has.
+/// Where a reply or the frames of a part stand, and how many bytes they have.
 #[repr(C)]
 pub(crate) struct Lent {
     pub(crate) at: *const u8,
@@ -29,7 +29,7 @@ unsafe impl Send for Handle {}
 
 // SAFETY: these are the symbols and the types of `bpfhost.h`. No contract of these functions has a `requires`, so all that a call
 // owes are its parameters' types. A `Handle` is empty or as the library left it, since its field is private; a `&mut` is aligned, leads
-// to a whole value and overlaps no other parameter. So three of the functions are safe. The two that are not take addresses and
+// to a whole value and overlaps no other parameter. So four of the functions are safe. The two that are not take addresses and
 // lengths of C, and their caller owes that each address with its length is that of a slice, which outlives the call, and that no
 // other parameter overlaps what is written.
 unsafe extern "C" {
@@ -53,6 +53,7 @@ unsafe extern "C" {
         room: usize,
         status: &mut i32,
     ) -> i32;
+    pub(crate) safe fn bpfhost_c_save(handle: &mut Handle, tenant: u16, part: usize, lent: &mut Lent) -> i32;
     pub(crate) safe fn bpfhost_c_memory_refused(handle: &mut Handle, tenant: u16, refused: &mut bool) -> i32;
     pub(crate) safe fn bpfhost_c_free(handle: &mut Handle);
 }

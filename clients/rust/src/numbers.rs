@@ -19,6 +19,7 @@ pub const TEST_RUN_HEAD: usize = 48;
 pub(crate) const DONE: i32 = 0;
 pub(crate) const TENANTS: i32 = -3;
 pub(crate) const MEMORY: i32 = -4;
+pub(crate) const NO_PART: i32 = -6;
 
 pub(crate) const MAP_CREATE: u16 = 0;
 pub(crate) const MAP_LOOKUP: u16 = 1;

@@ -17,3 +17,6 @@ pub(crate) const MEMORY: i32 = -4;
 
 /// The room has fewer than `LONGEST_REPLY` bytes.
 pub(crate) const ROOM: i32 = -5;
+
+/// A tenant has no such part, or is not served.
+pub(crate) const NO_PART: i32 = -6;

@@ -3,7 +3,6 @@
 
 mod batch;
 mod errno;
-mod frames;
 pub mod laws;
 mod loading;
 mod object;
@@ -16,5 +15,5 @@ mod test_run;
 pub use errno::Errno;
 pub use object::{LoadedProgram, OpenObject};
 pub use readers::MapEntry;
-pub use reply::Reply;
+pub use reply::{Reply, write_answer};
 pub use tenant::Tenant;

@@ -119,7 +119,7 @@ impl Tenant {
     ///
     /// The first that applies: `Invalid` if `kind` is not the type of socket filters; `TooManyOpen` if no descriptor is free;
     /// `NoMemory` if out of memory, which sets the tenant's flag.
-    pub(crate) fn load(
+    pub fn load(
         &mut self,
         alloc: Global,
         kind: u32,

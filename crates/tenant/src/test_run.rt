@@ -88,7 +88,7 @@ impl Tenant {
     /// # Errors
     ///
     /// Those of `run_packet`.
-    pub(crate) fn test_run(
+    pub fn test_run(
         &mut self,
         fd: u32,
         words: &[u32; GIVEN_WORDS],

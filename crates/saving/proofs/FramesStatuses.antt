@@ -9,9 +9,8 @@ use Rattle.tenant.specs.declared.reply.Reply.{Reply}
 use Rattle.tenant.specs.declared.reply.Reply.TheVariants as reply
 use Rattle.tenant.specs.Errno.{status_of}
 use Rattle.tenant.specs.Machine.{Answer}
-use Rattle.tenant.specs.Replies.{shown_answer, IsWritable}
+use Rattle.tenant.specs.Replies.{shown_answer, IsWritable, Writes}
 use Rattle.tenant.specs.State.{TenantState}
-use Rattle.tenant.specs.inside.Frames.{Writes}
 use Rattle.tenant.proofs.Faults.{low}
 
 -- the lowest byte of a fault's status is 242, and no other error has it

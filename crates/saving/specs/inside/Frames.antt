@@ -7,7 +7,9 @@ use Rattle.command_frames.specs.Frame.{reply_bytes}
 use Rattle.tenant.specs.declared.errno.Errno.TheVariants.{BadAddress}
 use Rattle.tenant.specs.Errno.{status_of}
 use Rattle.tenant.specs.State.{TenantState}
+use Rattle.saving.specs.Births.{Birth, births_after}
 use Rattle.tenant.specs.Machine.{Answer, Answers}
+use Rattle.tenant.specs.Replies.{Writes}
 
 -- the number of bytes after the numbers of a command
 abbrev pub tail_length : Command → ℕ
@@ -20,18 +22,15 @@ tail_length (prog_load kind slots) = length slots
 tail_length (prog_test_run fd words packet) = length packet
 tail_length (close fd) = 0
 
--- the reply to a frame with this head is that of an answer
-abbrev pub Writes : Head → List ℕ → Answer → Type 0
-Writes head reply a = reply ≡ reply_bytes head.tenant head.command a.status a.payload
-
 -- The reply to a command is that of the machine's answer, with some refusals of memory, and not that of a run that faults. The
--- state after it is the machine's.
-pub record AnswersCommand (command : Command) (head : Head) (reply : List ℕ) (before after : TenantState) : Type 0 where
+-- state after it is the machine's, and the births are those after the answer.
+pub record AnswersCommand (command : Command) (head : Head) (reply : List ℕ) (before after : TenantState) (births later : List Birth) : Type 0 where
   pub refusals : List Bool
   pub answer : Answer
   pub answers : Answers refusals before command answer
   pub written : Writes head reply answer
   pub left : after ≡ answer.after
+  pub recorded : later ≡ births_after command answer births
   pub no_fault : reply ≢ reply_bytes head.tenant head.command (status_of BadAddress) []
 
 -- only one part of the memory changes

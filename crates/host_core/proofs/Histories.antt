@@ -46,8 +46,8 @@ by_frame frame reply s t births later reached told = by (parsed frame) told.answ
 by_runs : (births : List Birth) (fd : ℕ) (words : List ℕ) (s t : TenantState) (packets : List (List ℕ)) (results : List ℕ) → IsReached s births → RunsInOrder fd words s packets results t → IsReached t births
 unfolding RunsInOrder
 by_runs births fd words s t [] [] reached same = subst (λ (x : TenantState). IsReached x births) (sym same) reached
-by_runs births fd words s t [] (r ∷ rs) reached no = absurd no
-by_runs births fd words s t (p ∷ ps) [] reached no = absurd no
+by_runs births fd words s t [] (r ∷ rs) reached wrong = absurd wrong
+by_runs births fd words s t (p ∷ ps) [] reached wrong = absurd wrong
 by_runs births fd words s t (p ∷ ps) (r ∷ rs) reached (refusals, between, answers, rest) =
     by_runs births fd words between t ps rs (by_command s births refusals (prog_test_run fd words p) (gives (little_bytes 4 r) between) reached answers) rest
 

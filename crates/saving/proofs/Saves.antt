@@ -10,6 +10,7 @@ use Rattle.command_frames.specs.Command.{Command}
 use Rattle.command_frames.specs.Frame.{framed}
 use Rattle.fd_table.specs.Table.{first_descriptor, most, named}
 use Rattle.insn_set.specs.Program.{program_bytes}
+use Rattle.insn_set.specs.Spelling.{spelling}
 use Rattle.ordered_keys.specs.Orders.{occurrences, first_entry, entry_behind, next_entry}
 use Rattle.tenant.specs.declared.object.OpenObject.{OpenObject}
 use Rattle.tenant.specs.State.{TenantState}
@@ -85,12 +86,12 @@ module _ (s : TenantState) (births : List Birth) where
 -- ---- frames
 
 -- what is written after a frame
-pub then_more : {A : Type 0} {old mid new : List A} (frame rest : List A) → mid ≡ old ++ frame → new ≡ mid ++ rest → new ≡ old ++ (frame ++ rest)
-then_more {A} {old} frame rest one more = more ∙ ap (λ (xs : List A). xs ++ rest) one ∙ append_assoc old frame rest
+pub then_more : {A : Type 0} (old : List A) {mid new : List A} (frame rest : List A) → mid ≡ old ++ frame → new ≡ mid ++ rest → new ≡ old ++ (frame ++ rest)
+then_more {A} old frame rest one more = more ∙ ap (λ (xs : List A). xs ++ rest) one ∙ append_assoc old frame rest
 
 -- where a frame is written, that much less is left
-pub one_less : {A : Type 0} {all before after : List A} (frame rest : List A) → before ++ (frame ++ rest) ≡ all → after ≡ before ++ frame → after ++ rest ≡ all
-one_less {A} {all} {before} {after} frame rest left written = ap (λ (xs : List A). xs ++ rest) written ∙ append_assoc before frame rest ∙ left
+pub one_less : {A : Type 0} (before : List A) {all after : List A} (frame rest : List A) → before ++ (frame ++ rest) ≡ all → after ≡ before ++ frame → after ++ rest ≡ all
+one_less {A} before frame rest left written = ap (λ (xs : List A). xs ++ rest) written ∙ append_assoc before frame rest ∙ left
 
 pub nothing_left : {A : Type 0} {all now : List A} (rest : List A) → now ++ rest ≡ all → rest ≡ [] → now ≡ all
 nothing_left {A} {all} {now} rest left none = sym (append-nil now) ∙ ap (λ (xs : List A). now ++ xs) (sym none) ∙ left
@@ -99,6 +100,7 @@ nothing_left {A} {all} {now} rest left none = sym (append-nil now) ∙ ap (λ (x
 
 -- the slots of the filler
 pub filler_bytes : program_bytes filler ≡ 183 ∷ 0 ∷ 0 ∷ 0 ∷ 0 ∷ 0 ∷ 0 ∷ 0 ∷ 149 ∷ 0 ∷ 0 ∷ 0 ∷ 0 ∷ 0 ∷ 0 ∷ 0 ∷ []
+unfolding spelling
 filler_bytes = refl
 
 pub filled_next : (n i : ℕ) → i < n → filled (n - i) ≡ load_of filler ∷ filled (n - (i + 1))
@@ -120,6 +122,20 @@ unfolding closings
 closings_none objects fd n e = ap (closings objects fd) e
 
 -- ---- the entries of a map after a place
+
+fewer : (b : Bool) (n : ℕ) → (if b then 1 else 0) + n ≤ 1 → n ≤ 1
+fewer true n le = omega (arith, le)
+fewer false n le = omega (arith, le)
+
+seen : (p q n : ℕ) → p ≡ q → 1 ≤ (if nat_eq p q then 1 else 0) + n
+seen p q n e = let b : nat_eq p q ≡ true = eq-eqb p q e in grind arith
+
+seen_later : (b : Bool) (n : ℕ) → 1 ≤ n → 1 ≤ (if b then 1 else 0) + n
+seen_later true n le = omega arith
+seen_later false n le = omega (arith, le)
+
+self : (p q : ℕ) → p ≡ q → nat_eq q p ≡ true
+self p q e = eq-eqb q p (sym e)
 
 module _ {K : Type 0} where
   -- the next entry is the first of them
@@ -143,29 +159,18 @@ module _ {K : Type 0} where
   with_first e [] is = absurd (none-some e is)
   with_first e (x ∷ es) is = (es, ap (λ (y : K × ℕ). y ∷ es) (same_Some x e is))
 
-  AreOnce : List (K × ℕ) → Type 0
+  abbrev AreOnce : List (K × ℕ) → Type 0
   AreOnce es = (p : ℕ) → occurrences p (values_of es) ≤ 1
-
-  fewer : (b : Bool) (n : ℕ) → (if b then 1 else 0) + n ≤ 1 → n ≤ 1
-  fewer true n le = omega (arith, le)
-  fewer false n le = omega (arith, le)
 
   later_once : (x : K × ℕ) (es : List (K × ℕ)) → AreOnce (x ∷ es) → AreOnce es
   later_once x es once p = fewer (nat_eq p x.1) (occurrences p (values_of es)) (once p)
 
-  seen : (p q n : ℕ) → p ≡ q → 1 ≤ (if nat_eq p q then 1 else 0) + n
-  seen p q n e = let b : nat_eq p q ≡ true = eq-eqb p q e in grind arith
-
-  seen_later : (b : Bool) (n : ℕ) → 1 ≤ n → 1 ≤ (if b then 1 else 0) + n
-  seen_later true n le = omega arith
-  seen_later false n le = omega (arith, le)
-
   -- an entry of the rest is another than the first
   head_other : (x : K × ℕ) (es : List (K × ℕ)) (p : ℕ) → AreOnce (x ∷ es) → 1 ≤ occurrences p (values_of es) → nat_eq p x.1 ≡ false
-  head_other x es p once there = by (nat_eq p x.1) refl (once p)
+  head_other x es p once some = by (nat_eq p x.1) refl (once p)
     where
       by : (b : Bool) → nat_eq p x.1 ≡ b → (if b then 1 else 0) + occurrences p (values_of es) ≤ 1 → b ≡ false
-      by true e le = absurd (omega (arith, le, there))
+      by true e le = absurd (omega (arith, le, some))
       by false e le = refl
 
   first_seen : (e : K × ℕ) (es : List (K × ℕ)) → first_entry es ≡ Some e → 1 ≤ occurrences e.1 (values_of es)
@@ -179,9 +184,6 @@ module _ {K : Type 0} where
       by : (b : Bool) → (if b then first_entry es else entry_behind p es) ≡ Some e → (first_entry es ≡ Some e → 1 ≤ occurrences e.1 (values_of es)) → (entry_behind p es ≡ Some e → 1 ≤ occurrences e.1 (values_of es)) → 1 ≤ occurrences e.1 (values_of es)
       by true is f r = f is
       by false is f r = r is
-
-  self : (p q : ℕ) → p ≡ q → nat_eq q p ≡ true
-  self p q e = eq-eqb q p (sym e)
 
   skip : (p : ℕ) (x : K × ℕ) (es : List (K × ℕ)) → nat_eq p x.1 ≡ false → rest_behind p (x ∷ es) ≡ rest_behind p es
   skip p x es e = ap (λ (b : Bool). if b then es else rest_behind p es) e
@@ -198,7 +200,7 @@ module _ {K : Type 0} where
   rest_of_behind p e (x ∷ es) once is = by (nat_eq p x.1) is (rest_of_behind p e es (later_once x es once))
     where
       other : 1 ≤ occurrences e.1 (values_of es) → rest_behind e.1 (x ∷ es) ≡ rest_behind e.1 es
-      other there = skip e.1 x es (head_other x es e.1 once there)
+      other some = skip e.1 x es (head_other x es e.1 once some)
 
       by : (b : Bool) → (if b then first_entry es else entry_behind p es) ≡ Some e → (entry_behind p es ≡ Some e → rest_behind p es ≡ e ∷ rest_behind e.1 es)
         → (if b then es else rest_behind p es) ≡ e ∷ rest_behind e.1 (x ∷ es)

@@ -8,13 +8,9 @@ use Rattle.saving.specs.Recorded.{RecordedTenant, tenant_state}
 use Rattle.saving.proofs.Recorded.{recorded_runs}
 use Rattle.saving.proofs.savable.SavableTenant.run_packets.Goals as goal
 
-same_kept : {U E R : Type 0} (r : Result U E) (k l : KeptTenant) (t : RecordedTenant) → record { kept = k; births = t.births } ≡ t → OnErr r ((l ≡ k) × R) → OnErr r ((record { kept = l; births = t.births } ≡ t) × R)
-same_kept (Ok done) k l t view h = h
-same_kept (Err e) k l t view h = (ap (λ (x : KeptTenant). let y : RecordedTenant = record { kept = x; births = t.births } in y) h.0 ∙ view, h.1)
-
 pub invariant_of-self : goal.invariant_of-self
 invariant_of-self c =
-    recorded_runs c.maps_are_held.ensures c.births_are_kept.ensures c.run_packets.result c.self.inside.tenant c.run_packets.new.self c.self.inside.births
+    recorded_runs c.maps_are_held.ensures c.births_are_kept.ensures _ c.run_packets.result c.self.inside.tenant c.run_packets.new.self c.self.inside.births
     (part_bytes c.args.arena.now c.args.tenant) (part_bytes c.run_packets.new.arena c.args.tenant) c.args.fd c.args.words.now
     (packets_in c.args.bytes.now c.args.ends.now) c.args.results.now c.run_packets.new.results c.self.invariant c.run_packets.ensures.runs c.run_packets.ensures.unchanged
 

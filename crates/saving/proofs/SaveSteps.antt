@@ -59,9 +59,9 @@ pub map_puts : (part : List ℕ) (t : LiveMaps) (k fd : ℕ) → map (put_of fd)
 map_puts part t k fd = same_puts fd (value_in part t k) (places_at t k).entries
 
 -- a result brings what was written after a frame
-pub ok_more : {U E : Type 0} (r : Result U E) (old : List ℕ) {mid new : List ℕ} (n m : ℕ) (c : Command) (rest all : List Command) → all ≡ c ∷ rest → m ≡ n → mid ≡ old ++ framed (frame_of n c)
+pub ok_more : {U E : Type 0} (r : Result U E) (old : List ℕ) {mid : List ℕ} (new : List ℕ) (n m : ℕ) (c : Command) (rest all : List Command) → all ≡ c ∷ rest → m ≡ n → mid ≡ old ++ framed (frame_of n c)
     → OnOk r (new ≡ mid ++ frames_of m rest) → OnOk r (new ≡ old ++ frames_of n all)
-ok_more (Ok x) old {mid} {new} n m c rest all is same one more =
+ok_more (Ok x) old {mid} new n m c rest all is same one more =
     then_more old (framed (frame_of n c)) (frames_of n rest) one (more ∙ ap (λ (k : ℕ). mid ++ frames_of k rest) same)
     ∙ ap (λ (cs : List Command). old ++ frames_of n cs) (sym is)
-ok_more (Err e) old n m c rest all is same one more = tt
+ok_more (Err e) old new n m c rest all is same one more = tt

@@ -24,6 +24,6 @@ returns c =
         ∙ ap (λ (s : MapShape). create_of s ∷ map (put_of fd) table.entries) (sym c.in-Some.ensures.shape.1)
         ∙ ap (λ (cs : List Command). create_of shape ∷ cs) (map_puts part maps m fd) in
     record {
-      written = ok_more c.put_all.result c.args.self.now.frames.items c.args.self.now.number c.create.new.self.number (create_of shape) (puts fd (placed_entries part maps m)) all is
+      written = ok_more c.put_all.result c.args.self.now.frames.items c.put_all.new.self.frames.items c.args.self.now.number c.create.new.self.number (create_of shape) (puts fd (placed_entries part maps m)) all is
       c.create.ensures.number c.in_ok-create.ensures.written c.put_all.ensures.written;
     }

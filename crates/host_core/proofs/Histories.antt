@@ -10,7 +10,8 @@ use Rattle.tenant.specs.Alone.{AnswersFrame, MayReply}
 use Rattle.tenant.specs.Batch.{RunsInOrder}
 use Rattle.tenant.specs.Machine.{Answer, Answers, gives}
 use Rattle.tenant.specs.State.{TenantState, new_tenant}
-use Rattle.saving.specs.Births.{Birth, births_after}
+use Rattle.saving.specs.declared.birth.Birth.{Birth}
+use Rattle.saving.specs.Births.{births_after}
 use Rattle.saving.specs.Laws.{IsHistory, HistoriesAreRestored}
 use Rattle.saving.specs.Recorded.{RecordsFrame, births_after_frame}
 use Rattle.host_core.specs.Batch.{RunsFor, ChangesTenant}

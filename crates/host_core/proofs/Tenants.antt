@@ -4,7 +4,7 @@ use Rattle.std.proofs.lemmas.List.{map-append}
 use Rattle.std.proofs.lemmas.Option.{none-some, same_Some, slice_get_read, slice_get-map}
 use Rattle.std.specs.Prelude.{slice_get, option_and_then, option_map, replicate, nat_lt, if◌then◌else◌, Result, Ok, Err, OnOk, OnErr}
 use Rattle.arena.specs.Memory.{Memory, part_bytes}
-use Rattle.saving.specs.Births.{Birth}
+use Rattle.saving.specs.declared.birth.Birth.{Birth}
 use Rattle.saving.specs.Recorded.{RecordedTenant, RecordsFrame, tenant_state}
 use Rattle.command_frames.specs.Frame.{owner, reply_to}
 use Rattle.tenant.specs.Alone.{MayReply}

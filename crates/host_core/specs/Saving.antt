@@ -2,7 +2,7 @@
 use Rattle.std.specs.Prelude.{◌≡◌, ◌≢◌, ◌⊎◌, ℕ, List, [], ◌∷◌, length, replicate, slice_get, Option, Some, None, option_and_then, option_map}
 use Rattle.command_frames.specs.Frame.{owner}
 use Rattle.tenant.specs.State.{TenantState, new_tenant}
-use Rattle.saving.specs.Births.{Birth}
+use Rattle.saving.specs.declared.birth.Birth.{Birth}
 use Rattle.saving.specs.Laws.{IsRestored}
 use Rattle.saving.specs.Recorded.{RecordsFrame}
 use Rattle.saving.specs.SaveParts.{parts, frames_of}

@@ -2,7 +2,7 @@
 use Rattle.std.specs.Prelude.{ℕ, ◌+◌, List, [], ◌∷◌, map}
 use Rattle.arena.specs.Memory.{Memory, part_bytes}
 use Rattle.saving.specs.Recorded.{RecordedTenant, tenant_state}
-use Rattle.saving.specs.Births.{Birth}
+use Rattle.saving.specs.declared.birth.Birth.{Birth}
 use Rattle.tenant.specs.State.{TenantState}
 
 -- the states of the tenants from number t on; the values of a tenant's maps lie in its part of the memory

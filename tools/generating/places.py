@@ -62,6 +62,26 @@ def _error_numbers(shared: Shared) -> list[str]:
     return [f"Error numbers: {', '.join(f'{each.name} {each.number}' for each in shared.errors)}."]
 
 
+def _limit_table(shared: Shared) -> list[str]:
+    first, many = shared.limit("FIRST_DESCRIPTOR").number, shared.limit("MOST_DESCRIPTORS").number
+    most = {each.name: f"{each.number:,}" for each in shared.limits}
+    rows = {
+        "tenants": f"1 to {most['MOST_TENANTS']}, numbered from 0",
+        "open descriptors of a tenant": f"{many}, numbered {first} to {first + many - 1}; a new one is the lowest free number",
+        "live maps of a tenant": most["MOST_MAPS"],
+        "key": f"1 to {most['LONGEST_KEY']} bytes; 4 in an array",
+        "value": f"1 to {most['LONGEST_VALUE']} bytes",
+        "entries of a map": f"1 to {most['MOST_ENTRIES']}",
+        "area of a map: its entries times the size of a value rounded up to a multiple of 8": f"{most['LARGEST_AREA']} bytes",
+        "areas of a tenant's live maps together": f"{most['LARGEST_SUM']} bytes",
+        "program": f"1 to {most['MOST_SLOTS']} slots",
+        "packet of a test run": f"{most['LONGEST_PACKET']} bytes",
+        "frame, without its length field": f"4 to {most['LONGEST_FRAME']} bytes",
+        "frames of a stream": most["MOST_FRAMES"],
+    }
+    return ["| | |", "|---|---|", *(f"| {what} | {limit} |" for what, limit in rows.items())]
+
+
 def _code_table(shared: Shared) -> list[str]:
     codes = [*shared.codes, *shared.header_codes]
     return ["| Code | |", "|---|---|", *(f"| {each.number} `BPFHOST_{each.name}` | {each.text} |" for each in codes)]
@@ -155,6 +175,7 @@ def _rust_errors(shared: Shared) -> list[str]:
 
 PLACES = [
     Place("docs/VERIFIER.md", "reasons", _reason_table),
+    Place("docs/PROTOCOL.md", "limits", _limit_table),
     Place("docs/PROTOCOL.md", "errors", _error_numbers),
     Place("docs/EMBEDDING.md", "codes", _code_table),
     Place(PYTHON + "words.py", "errors", lambda shared: [f"Errno.{each.name}: {_literal(each.text)}," for each in shared.errors]),

@@ -30,7 +30,6 @@ MOST: dict[str, int] = {
     "clients/python/bpfhost": 2,
     "clients/python/bpfhost/classic": 110,
     "clients/python/bpfhost/lowering": 6,
-    "clients/python/bpfhost/shards": 400,
     "clients/python/tests/classic": 40,
     "clients/python/tests/shards": 150,
     "clients/rust/bpfhost-sys": 2,

@@ -1,5 +1,6 @@
-"""Customers on many hosts: shards behind Redis Streams, so that there are more tenants than one process serves, and none is lost
-when a process dies. docs/SCALING.md of the repository says how, what is proved, and what rests on Redis.
+"""Customers on many hosts: shards on Redis Streams serve more tenants than one process does.
+
+No tenant is lost when a process dies. docs/SCALING.md of the repository describes how, what is proved, and what depends on Redis.
 """
 
 from bpfhost.shards.client import Client, Customer

@@ -1,8 +1,8 @@
-"""The replies that a worker writes, while it goes on: what is on its way is waited for when there is need to.
+"""Writes the replies of a worker while it goes on with calls; the worker waits for writes in progress only if it has to.
 
-Replies go in batches, each behind the ones before it: a batch that comes without them writes nothing. So where the answer to one is
-lost, all that are on their way are written again one by one, and each is there once. Two batches are on their way at most, and what is
-played meanwhile goes with the next one.
+Replies are written in batches, in order: a batch writes nothing if the batches before it are missing. If Redis's reply to a batch is
+lost, all batches in progress are written again, one by one, and each reply is stored once. At most two batches are in progress at a time;
+what is played meanwhile goes into the next batch.
 """
 
 from __future__ import annotations
@@ -21,13 +21,13 @@ from bpfhost.shards.system import Pending
 from bpfhost.shards.writing import WRITTEN_AT_ONCE
 
 _MOST_ON_THEIR_WAY = 2
-# Where so many bytes of replies wait to be sent, the worker waits too.
+# If so many bytes of replies wait to be sent, the worker waits too.
 _MOST_WAITING = 4 * WRITTEN_AT_ONCE
 
 
 @dataclass(frozen=True)
 class Played:
-    """A call that was played, its replies, and whether it may have changed anything."""
+    """A call that was played, its replies, and whether it may have changed the tenant's state."""
 
     call: Call | NoCall
     written: Written
@@ -41,15 +41,15 @@ class _Batch:
 
 
 class Answering:
-    """Writes the replies of one shard. `written` is told of each that is there, and `make_room` where there is no memory for them."""
+    """Writes the replies of one shard. It calls `written` for each stored reply, and `make_room` if Redis has no memory for them."""
 
     def __init__(self, shard: Served, written: Callable[[Played], None], make_room: Callable[[OutOfMemory], None]) -> None:
         self._shard, self._written, self._make_room = shard, written, make_room
         self._line = shard.redis.line()
         self._batches: deque[_Batch] = deque()
-        # The last of each tenant's replies that are on their way.
+        # The id of each tenant's last reply that is being written.
         self._last: dict[int, bytes] = {}
-        # What is to be sent, and how many bytes it has.
+        # What waits to be sent, and its size in bytes.
         self._waiting: list[Played] = []
         self._size = 0
 
@@ -73,27 +73,27 @@ class Answering:
             self._size -= sum(len(one.written.value) for one in some)
 
     def is_full(self) -> bool:
-        """Whether no more batches can be sent just now."""
+        """Whether no more batches can be sent at the moment."""
         return len(self._batches) >= _MOST_ON_THEIR_WAY
 
     def first(self) -> list[Pending]:
-        """What is answered next, if anything is on its way."""
+        """The batch that Redis replies to next, if one is in progress."""
         return [self._batches[0].pending] if self._batches else []
 
     def look(self) -> None:
-        """Notes what was answered, and sends what waits."""
+        """Notes the batches that Redis has replied to, and sends what waits."""
         while self._batches and self._batches[0].pending.is_answered():
             self._end_first()
         self._send()
 
     def settle(self) -> None:
-        """Waits until all is written."""
+        """Waits until all replies are written."""
         while self._batches:
             self._end_first()
             self._send()
 
     def forget(self) -> None:
-        """Lets be what is on its way, of a log that this worker does not go on with."""
+        """Drops the batches in progress: they belong to a log that this worker does not continue."""
         if self._batches:
             self._line.cut()
         self._batches.clear()
@@ -106,7 +106,7 @@ class Answering:
         self._line.cut()
 
     def write(self, played: Sequence[Played]) -> None:
-        """Writes replies; they are there once, also where it is not known whether they were written and they are written again."""
+        """Writes replies; each is stored once, even if it is not known whether they were written and they are written again."""
         for some in _parts(played):
             self._write([one.written for one in some])
             self._note(some)
@@ -129,7 +129,7 @@ class Answering:
             self._write_again()
 
     def _write_again(self) -> None:
-        """Writes all that is on its way once more."""
+        """Writes all batches in progress once more."""
         for batch in list(self._batches)[1:]:
             with contextlib.suppress(OutOfMemory):
                 self._shard.writing.end(batch.pending)
@@ -146,5 +146,5 @@ class Answering:
 
 
 def _parts(played: Sequence[Played]) -> list[list[Played]]:
-    """Replies in parts that a script is given at once."""
+    """Splits replies into parts, each for one call of the script."""
     return list(in_parts(played, lambda one: len(one.written.value), WRITTEN_AT_ONCE))

@@ -1,4 +1,4 @@
-"""What a Redis answers, read from bytes that come in pieces (RESP, version 2)."""
+"""Reads the replies of Redis from bytes that come in pieces (RESP, version 2)."""
 
 from __future__ import annotations
 
@@ -8,41 +8,41 @@ _BULK, _ARRAY, _NUMBER, _ERROR, _TEXT = b"$*:-+"
 
 
 class NotRedis(ValueError):
-    """The bytes are no answer of a Redis."""
+    """The bytes are no reply of Redis."""
 
 
 class Refusal:
-    """An error that the server answers, by its text."""
+    """An error reply of the server, by its text."""
 
     def __init__(self, text: str) -> None:
         self.text = text
 
 
-# No answer is whole yet.
+# No reply is complete yet.
 NOTHING = object()
 
 
 class Answers:
-    """The answers in bytes that have come. An array that is not whole yet is gone on with where it ended."""
+    """Parses replies from the bytes received so far. Parsing of an incomplete array continues at the element it had reached."""
 
     def __init__(self) -> None:
         self._data, self._at = b"", 0
-        # So many bytes at least are to come until there is more to read, where that is known.
+        # At least so many bytes have to come before there is more to read, if that is known.
         self.lacks = 0
-        # The arrays that are not whole yet, the outermost first, with how many values each has.
+        # The arrays that are not whole yet, the outermost first, with the number of their values.
         self._open: list[tuple[list[Any], int]] = []
 
     def feed(self, data: bytes) -> None:
-        """More bytes have come."""
+        """Adds received bytes."""
         self._data = self._data[self._at :] + data if self._at < len(self._data) else data
         self._at = 0
 
     def has_more(self) -> bool:
-        """Whether there are bytes behind what was read."""
+        """Whether there are bytes after what was read."""
         return self._at < len(self._data)
 
     def next(self) -> Any:
-        """The next answer, a Refusal where it is an error, or NOTHING while it is not whole; a NotRedis where the bytes are none."""
+        """The next reply, a Refusal if it is an error, or NOTHING if it is incomplete; raises NotRedis if the bytes are no reply."""
         while (value := self._value()) is not NOTHING:
             if isinstance(value, tuple):
                 self._open.append((value[0], value[1]))
@@ -59,7 +59,7 @@ class Answers:
         return NOTHING
 
     def _value(self) -> Any:
-        """The next value; of an array that has values, an empty list and how many there are to be."""
+        """The next value; for an array that has values, an empty list and the number of values to come."""
         data, at, self.lacks = self._data, self._at, 0
         end = data.find(b"\r\n", at)
         if end < 0:

@@ -1,4 +1,4 @@
-"""The words of the command."""
+"""The arguments of the command."""
 
 from __future__ import annotations
 
@@ -26,7 +26,7 @@ _bytes = in_range(int, f"number of bytes from {LEAST_REPLY_BYTES} on", LEAST_REP
 _drain = in_range(float, "number of seconds from 0 on", 0.0, 1e6)
 _rate = in_range(float, "number from 0.1 on", 0.1)
 _name = named(demand_name, "name of 1 to 255 printable characters without spaces")
-# Words for one customer, and for one shard, with what they do.
+# Subcommands for one customer, and for one shard, with what they do.
 _OF_CUSTOMERS = {
     "client": "send the frames on standard input for a customer, and write their replies",
     "move": "move a customer to another shard; what was begun is ended",
@@ -120,7 +120,7 @@ def _add_redis(parser: argparse.ArgumentParser, whose: str) -> None:
 
 
 def parse(words: Sequence[str] | None) -> argparse.Namespace:
-    """The words of the command; wrong ones end the process with the status 2."""
+    """The parsed arguments; wrong ones end the process with the status 2."""
     parser, of_words = _parser()
     given = list(sys.argv[1:] if words is None else words)
     file = _config_of(given)
@@ -133,12 +133,12 @@ def parse(words: Sequence[str] | None) -> argparse.Namespace:
 
 
 def _config_of(words: Sequence[str]) -> str | None:
-    """The configuration file that words name, or the variable."""
+    """The configuration file that the arguments or the variable name."""
     reader = argparse.ArgumentParser(add_help=False, allow_abbrev=False, exit_on_error=False)
     reader.add_argument("--config")
     try:
         said = reader.parse_known_args(words)[0].config
     except (argparse.ArgumentError, SystemExit):
-        # What is wrong with the words is told when all of them are read.
+        # Errors in the arguments are reported after all of them are read.
         return None
     return said or os.environ.get("BPFHOST_SHARDS_CONFIG") or None

@@ -1,5 +1,7 @@
-"""What a worker does in the directory beside its shard: it says that the shard is served, watches whether others say so, and ends moves
-that nobody ends."""
+"""What a worker does in the directory besides serving its shard.
+
+It records that the shard is served, watches whether other workers do the same, and ends moves that nobody else ends.
+"""
 
 from __future__ import annotations
 
@@ -10,9 +12,9 @@ from bpfhost.shards.directory import Directory
 from bpfhost.shards.errors import Away, RedisError, ShardError
 
 _LEAST_SECONDS = 0.2
-# A shard whose count stood still for so many beats is not offered any more.
+# A shard whose count did not change for so many beats is not offered any more.
 _BEATS_MISSED = 5
-# A move that stood still for so many beats is ended by a worker of one of its shards.
+# A move that did not change for so many beats is ended by a worker of one of its shards.
 _BEATS_OF_A_MOVE = 3
 _SECONDS_FOR_A_MOVE = 5.0
 
@@ -20,7 +22,7 @@ Seen = TypeVar("Seen")
 
 
 class _Watch:
-    """For how long things have been the same, by the watcher's own clock."""
+    """Measures how long things have been the same, by this process's own clock."""
 
     def __init__(self) -> None:
         self._seen: dict[object, tuple[object, float]] = {}
@@ -31,7 +33,7 @@ class _Watch:
         return [name for name in seen if self._seen[name][1] <= now - seconds]
 
     def forget(self) -> None:
-        """Begins anew, where nothing could be seen for a while."""
+        """Begins anew after a while in which nothing could be seen."""
         self._seen.clear()
 
 
@@ -46,7 +48,7 @@ class Attending:
         self._is_known = True
 
     def run(self, until: Callable[[], bool]) -> None:
-        """Attends until that ends. What goes wrong is told, and tried again."""
+        """Attends until that ends. Errors are reported, and what failed is tried again."""
         while not until():
             began = self._system.now()
             try:
@@ -73,7 +75,7 @@ class Attending:
         self._end_moves(now)
 
     def _end_moves(self, now: float) -> None:
-        """Ends moves from this shard or to it that stood still."""
+        """Ends moves from this shard or to it that did not change for a while."""
         from bpfhost.shards import moving
         from bpfhost.shards.client import Client
 
@@ -86,7 +88,7 @@ class Attending:
                 self._tell(f"shard {self._shard}: the move of customer {name} was ended, which had broken off")
 
     def end(self) -> None:
-        """Says that the shard is not served any more."""
+        """Records that the shard is not served any more."""
         try:
             self._directory.withdraw(self._shard)
         except RedisError:

@@ -1,4 +1,4 @@
-"""Entries of a tenant's stream: calls of frames, and that the tenant leaves or arrives."""
+"""Entries of a tenant's stream: calls of frames, and entries with which the tenant leaves or arrives."""
 
 from __future__ import annotations
 
@@ -11,14 +11,14 @@ from bpfhost.shards.names import ARRIVES, FRAMES, LEAVES
 from bpfhost.state import split
 from bpfhost.tenancy import BODY
 
-# An entry has at most so many frames and bytes; each of the replies may have 4,108 bytes. Where the frames are alike, and their replies
-# have a head and few bytes more, there may be more of them.
+# An entry has at most so many frames and bytes; each of the replies may have 4,108 bytes. There may be more frames if they are alike and
+# each reply has only a header and a few bytes.
 MOST_FRAMES, MOST_ALIKE, LONGEST_CALL = 512, 1024, 262_144
 
 
 @dataclass(frozen=True)
 class Call:
-    """Frames of a tenant, and how many they are; where they are alike, how long each is, and else 0."""
+    """Frames of a tenant, and their number; `alike` is the length of each frame if they are alike, and 0 otherwise."""
 
     entry: bytes
     tenant: int
@@ -33,13 +33,13 @@ class Call:
 
     @property
     def size(self) -> int:
-        """The bytes that it has, and weighs while it waits (`names.weight`)."""
+        """The size of its frames in bytes; `names.weight` computes its weight from this while it waits."""
         return len(self.stream)
 
 
 @dataclass(frozen=True)
 class Leaves:
-    """A tenant leaves, whose seat had this generation."""
+    """A tenant leaves; its seat had this generation."""
 
     entry: bytes
     tenant: int
@@ -57,7 +57,7 @@ class Arrives:
 
 @dataclass(frozen=True)
 class NoCall:
-    """An entry that nobody of this package wrote, and why it is no call."""
+    """An entry that this package did not write, and why it is no call."""
 
     entry: bytes
     tenant: int
@@ -69,7 +69,7 @@ Item = Call | Leaves | Arrives | NoCall
 
 
 def item_of(tenant: int, entry: Entry) -> Item:
-    """What an entry of a tenant's stream asks."""
+    """Parses an entry of a tenant's stream."""
     name, fields = entry
     if LEAVES in fields:
         return Leaves(name, tenant, fields[LEAVES])
@@ -83,12 +83,12 @@ def item_of(tenant: int, entry: Entry) -> Item:
 
 
 def size_of(fields: Mapping[bytes, bytes]) -> int:
-    """The bytes of an entry."""
+    """The size of an entry in bytes."""
     return sum(map(len, fields.values()))
 
 
 def count_of(stream: bytes) -> tuple[int, int]:
-    """How many frames a call has, and how long each is, where they are alike; a ValueError where the bytes are no call."""
+    """The number of frames of a call, and the length of each if they are alike; raises ValueError if the bytes are no call."""
     alike = size_of_alike(stream)
     frames = [stream[:BODY]] if alike else split(stream)
     count = len(stream) // alike if alike else len(frames)
@@ -102,6 +102,6 @@ def count_of(stream: bytes) -> tuple[int, int]:
 
 
 def whole_frames(stream: bytes) -> list[bytes]:
-    """The frames of a call; a ValueError where the bytes are none, or there are too many."""
+    """The frames of a call; raises ValueError if the bytes are no frames, or there are too many."""
     count_of(stream)
     return split(stream)

@@ -1,7 +1,7 @@
-"""A client of shards: a customer's name and its frames go in, and replies come out, wherever the customer's host is.
+"""A client of shards: it sends a customer's frames and returns the replies, whichever host the customer is on.
 
-Each call is taken once: it has a number in a session, which is remembered in the same step in which its frames are put into the
-stream. So a call is sent again where it is not known whether it was taken.
+Each call is taken once: it has a number in a session, and the step that adds its frames to the stream also records that number. So a call
+is sent again if it is not known whether it was taken.
 """
 
 from __future__ import annotations
@@ -43,15 +43,15 @@ from bpfhost.tenant import Tenant
 
 SECONDS = 30.0
 _PAUSE, _LONGEST_PAUSE = 0.005, 0.1
-# Who waits for a reply looks so often whether the call is set aside.
+# While it waits for a reply, the client checks so often whether the call is set aside.
 _SECONDS_TO_LOOK = 1.0
-# With which the names of sessions begin that nobody chose; they are forgotten after a day in which the shard was served.
+# The prefix of generated names of sessions; these are forgotten after a day in which the shard was served.
 NAMELESS = "~"
 _SESSIONS = f"customer {{name}} has {names.MOST_SESSIONS} sessions, and can't have another one"
 
 
 class Client:
-    """What knows the directory and the shards. It is a context manager, which closes its connections."""
+    """A client that knows the directory and the shards. It is a context manager, which closes its connections."""
 
     def __init__(self, url: str | None = None, prefix: str = PREFIX, system: System = MACHINE) -> None:
         """The directory's Redis, by its URL (`connect`)."""
@@ -71,9 +71,9 @@ class Client:
             redis.close()
 
     def customer(self, name: str, seconds: float = SECONDS, session: str | None = None) -> Customer:
-        """What speaks for one customer, and waits for so many seconds at most.
+        """A customer by its name, which waits for so many seconds at most.
 
-        A session with a name can be gone on with by the next process (`Customer.resume`); from then on the one before it is refused.
+        The next process can continue a session with a name (`Customer.resume`); from then on calls of the previous process are refused.
         """
         if session is not None and (not session or session.startswith(NAMELESS)):
             raise ValueError(f"a session's name is not empty and does not begin with {NAMELESS}, and is not {session!r}")
@@ -89,7 +89,7 @@ class Client:
 
 
 class Customer:
-    """What speaks for one customer, in one thread. Frames name tenant 0, and so do replies, wherever the customer's host is."""
+    """Sends the calls of one customer; only one thread may use it. Frames and replies name tenant 0, whichever host the customer is on."""
 
     def __init__(self, client: Client, name: str, seconds: float, session: str) -> None:
         self._client, self.name, self.seconds, self.session = client, name, seconds, session
@@ -123,23 +123,23 @@ class Customer:
     # Calls.
 
     def resume(self) -> int:
-        """How many calls of this session were taken, by this process or one before it; the next call has the number behind it.
+        """The number of calls of this session that were taken, by this process or an earlier one; the next call has the next number.
 
-        So a producer that is killed and started again, with the same name for its session, knows which of its calls it sends next. What
-        a process before it has still on its way is not taken any more, and its next call is refused: a SessionPassed.
+        So a producer that is killed and started again with the same session name knows which of its calls comes next. Calls that an
+        earlier process has in progress are not taken any more, and its next call raises SessionPassed.
         """
         last = self.last()
         return last.number if last else 0
 
     def last(self) -> Ticket | None:
-        """The last call of this session that was taken, also by a process before this one, to be waited for; or None."""
+        """The last call of this session that was taken, also by an earlier process, so that the caller can wait for it; or None."""
         deadline = self._deadline(None)
         seat, number, given_up, place = self._resumed(deadline)
         self._number, self._given_up = max(self._number, number), given_up
         return Ticket(b"", self.session, number, given_up, seat, Place.read(place)) if place != b"-" else None
 
     def _resumed(self, deadline: float) -> tuple[Seat, int, int, bytes]:
-        """The customer's seat, and the session's record there, from which on no other process is known."""
+        """The customer's seat, and the session's record there; from then on no calls of earlier processes are taken."""
         given_up = b"0"
         while True:
             seat = self._seat or self._take_seat(deadline, None)
@@ -157,11 +157,12 @@ class Customer:
                 self._seat = None
 
     def post(self, stream: bytes, seconds: float | None = None, by: int = 1) -> Ticket:
-        """Puts a call into the stream of the customer's shard, without waiting for its replies. Its number in the session is that of
-        the last call and `by` more, so that a session may count its frames.
+        """Adds a call to the stream of the customer's shard, without waiting for its replies.
 
-        A NotTaken where there is no room: then the call is not done later either. A NoReply where it is not known whether it was
-        taken: it has the ticket, and waiting for that, or the next call, sends it again.
+        Its number in the session is the number of the last call plus `by`, so that a session may count its frames.
+
+        Raises NotTaken if there is no room: the call is not done later either. Raises NoReply if it is not known whether it was taken:
+        the error has the ticket, and waiting for the ticket, or the next call, sends the call again.
         """
         count_of(stream)
         if self._gathered.count:
@@ -172,8 +173,10 @@ class Customer:
         return ticket
 
     def send(self, stream: bytes) -> Part:
-        """Lets frames go with others in one call: with all that are sent before one of them is waited for, or before there is no more room
-        in a call. So many small calls cost no more than a large one. Whether they were taken is known when they are waited for."""
+        """Adds frames to others in one call, which is sent before one of them is waited for, or when it has no more room.
+
+        So many small calls cost no more than a large one. The wait for their replies shows whether they were taken.
+        """
         count, alike = count_of(stream)
         part = self._gathered.add(stream, count, alike)
         while part is None:
@@ -182,7 +185,7 @@ class Customer:
         return part
 
     def flush(self) -> None:
-        """Sends what was gathered. What goes wrong is told to each who waits for it."""
+        """Sends the gathered calls. An error is passed to each caller that waits for one of them."""
         call, self._gathered = self._gathered, Gathered()
         try:
             call.ticket = self.post(bytes(call.stream)) if call.count else None
@@ -193,7 +196,7 @@ class Customer:
             raise
 
     def receive(self, part: Part, seconds: float | None = None) -> list[bytes]:
-        """Waits for the replies to frames that were sent, as `wait` does; what is on its way beside them is sent first."""
+        """Waits for the replies to frames that were sent, as `wait` does; other gathered calls are sent first."""
         if part.call is self._gathered:
             self.flush()
         if part.call.ticket is None or isinstance(part.call.error, NotTaken):
@@ -201,7 +204,7 @@ class Customer:
         return self.wait(part.call.ticket, seconds)[part.first : part.first + part.count]
 
     def settle(self, seconds: float | None = None) -> None:
-        """Sends a call again of which it is not known whether it was taken, if there is one."""
+        """Sends a call again if it is not known whether it was taken."""
         ticket = self._open
         if ticket is None:
             return
@@ -209,7 +212,7 @@ class Customer:
         try:
             self._send(ticket, deadline)
         except NotTaken:
-            # No later one of this number is taken for it.
+            # A later call with this number can't be mistaken for it.
             self._open, self._given_up = None, ticket.given_up + 1
             raise
         except Away as away:
@@ -217,10 +220,10 @@ class Customer:
         self._open, self._number = None, ticket.number
 
     def wait(self, ticket: Ticket, seconds: float | None = None) -> list[bytes]:
-        """Waits for the replies to a call, one for each frame; a NoReply after so many seconds, and then it can be called again.
+        """Waits for the replies to a call, one for each frame; raises NoReply after so many seconds, and can then be called again.
 
-        A SetAside where the call waits for an operator, a NotDone where its frames were not done and won't be, and a ReplyGone where
-        its replies were dropped.
+        Raises SetAside if the call waits for an operator, NotDone if its frames were not done and won't be, and ReplyGone if its replies
+        were dropped.
         """
         if ticket.answered:
             return ticket.answered
@@ -243,7 +246,7 @@ class Customer:
     # Sending.
 
     def _send(self, ticket: Ticket, deadline: float) -> None:
-        """Sends a call until it is taken, or is not taken for ever: a NotTaken then."""
+        """Sends a call until it is taken, or is never taken: then raises NotTaken."""
         pause = _PAUSE
         while ticket.place is None:
             seat = ticket.seat = ticket.seat or self._seat or self._take_seat(deadline, ticket)
@@ -257,7 +260,7 @@ class Customer:
             pause = min(2 * pause, _LONGEST_PAUSE)
 
     def _send_to(self, ticket: Ticket, seat: Seat, deadline: float) -> str:
-        """Sends a call once; what has no room just now is told."""
+        """Sends a call once; returns a sentence if there is no room for it now."""
         redis, keys = self._shard(seat.shard, deadline)
         used = [keys.seats, keys.frames(seat.tenant), keys.sessions(seat.generation), keys.waiting, keys.lease]
         session = [ticket.session, ticket.number, ticket.given_up, seat.owned_by(self.name), seat.shard, seat.tenant]
@@ -285,7 +288,7 @@ class Customer:
         return ""
 
     def _give_up(self, ticket: Ticket, seat: Seat, why: str) -> None:
-        """Makes sure that a call is not taken later, when something of it is still on its way to the server."""
+        """Ensures that a call is not taken later, even if a command with it is still in transit to the server."""
         deadline = self._system.now() + _SECONDS_TO_LOOK
         redis, keys = self._shard(seat.shard, deadline)
         used = [keys.sessions(seat.generation), keys.lease]
@@ -296,8 +299,7 @@ class Customer:
             raise NotTaken(why, ticket)
 
     def _take_seat(self, deadline: float, ticket: Ticket | None) -> Seat:
-        """The customer's seat by the directory. While the customer is moved there is none, nor where no shard is served that may have
-        it: this waits."""
+        """The customer's seat in the directory. Waits while the customer is moved, or no shard that may have it is served."""
         pause = _PAUSE
         while True:
             try:
@@ -313,7 +315,7 @@ class Customer:
             pause = min(2 * pause, _LONGEST_PAUSE)
 
     def _claim(self, seat: Seat, deadline: float) -> bool:
-        # A shard may have come to another server since it was last looked for.
+        # A shard may have moved to another server since it was last looked up.
         self._at.pop(seat.shard, None)
         redis, keys = self._shard(seat.shard, deadline)
         claim = [seat.tenant, seat.generation, seat.owned_by(self.name)]
@@ -333,7 +335,7 @@ class Customer:
 
         while True:
             wait = min(_SECONDS_TO_LOOK, deadline - self._system.now())
-            # The first reply behind the last id below this one is this one's, since there is one for each.
+            # The first reply after the last id below this one is the reply to this call, since each call has one.
             found = redis.patiently(lambda limited: limited.xread({name: behind}, 1, wait), deadline, give_up).get(name)
             if found and found[0][0] == place.entry:
                 return self._said(found[0][1], ticket)
@@ -349,14 +351,14 @@ class Customer:
         return split(fields[REPLIES])
 
     def _gone(self, redis: Redis, keys: ShardKeys, place: Place, ticket: Ticket) -> Exception:
-        """Why there is no reply to an entry, and there are replies to later ones."""
+        """The reason why an entry has no reply although later ones have."""
         entry = f"entry {place.entry.decode()} of shard {place.shard}"
         if order(redis.dropped_id(keys.replies(place.tenant))) >= order(place.entry):
             return ReplyGone(f"the replies to {entry} were dropped: nobody read them in time", ticket)
         return NotDone(f"{entry} was dropped from its stream before it was done: its frames were not done, and won't be", ticket)
 
     def _demand_hope(self, redis: Redis, keys: ShardKeys, place: Place, ticket: Ticket) -> None:
-        """Raises what is wrong where there won't be a reply: the call is set aside, or was dropped."""
+        """Raises an error if there won't be a reply: the call is set aside, or was dropped."""
         kept = redis.hget(keys.aside, place.tenant)
         if kept and order(Aside.read(kept).entry.encode()) <= order(place.entry):
             raise SetAside(f"customer {self.name} is set aside until an operator has looked: {Aside.read(kept).why}", ticket)
@@ -366,12 +368,12 @@ class Customer:
 
 
 class CustomersTenant(Tenant):
-    """A tenant whose host is behind shards."""
+    """A tenant whose host is one of the shards' hosts."""
 
     def prog_test_runs(
         self, descriptor: int, pieces: Iterable[Packets], context: Context = NO_CONTEXT
     ) -> Iterator[tuple[int, ...]]:
-        """Runs a program on many packets, and gives the results in order."""
+        """Runs a program on many packets, and returns the results in order."""
         for piece in pieces:
             replies = self.host.ask_all(make.prog_test_run(0, descriptor, packet, context) for packet in piece)
             yield tuple(reply.result() for reply in replies if not reply.done())

@@ -1,8 +1,9 @@
-"""A cluster of Redis, and replicas: which node has a key, and whether what was answered is on the replicas.
+"""A cluster of Redis, and replicas: the node that has a key, and whether the replicas have what a command wrote.
 
-A URL says so: `redis://host:6379/0?cluster=1&replicas=1` names any node of a cluster whose masters have a replica each. With `replicas`, an
-answer to a call that writes comes when so many replicas have it; else the call has an Away, as one whose answer was lost, and is made
-again. docs/SCALING.md says what that gives. All keys of a shard, and all of the directory, are on one node, by their braces.
+The URL selects it: `redis://host:6379/0?cluster=1&replicas=1` names any node of a cluster whose masters have a replica each. With
+`replicas`, the reply to a command that writes comes when so many replicas have the write; otherwise the command raises Away, as if its
+reply were lost, and is sent again. docs/SCALING.md says what that guarantees. All keys of a shard have the same hash tag (`{...}`), and
+so have all keys of the directory, so each of these sets is on one node.
 """
 
 from __future__ import annotations
@@ -17,30 +18,33 @@ from bpfhost.shards.errors import Away, Moved, RedisError
 from bpfhost.shards.system import Link, Pending, Word
 
 _SLOTS = 16_384
-# Commands that may write. WAIT is asked behind them.
+# Commands that may write. WAIT is sent after them.
 _WRITES = ("EVALSHA", "EVAL", "HSET", "HDEL", "DEL", "XADD", "XTRIM")
 _SECONDS_FOR_REPLICAS = 1.0
-# A call is sent on so often, as long as nodes send it on.
+# A command is redirected at most so often.
 _MOST_MOVES = 4
 
 
 class Command(str):
-    """The name of a command with what is known of it besides: a key on whose node it is to be done, where it has none itself; and how
-    often nodes may have changed, where its caller wants to know of another change."""
+    """The name of a command with more about it.
+
+    `key` is a key on the node that runs the command, if the command has no key itself; `changes` is how often nodes may have changed, if
+    the caller needs to know of another change.
+    """
 
     key: str = ""
     changes: int | None = None
 
 
 def told_to(name: object, key: str = "", changes: int | None = None) -> Command:
-    """A command's name, with that."""
+    """A command's name, with this information."""
     made = Command(str(name))
     made.key, made.changes = key, changes
     return made
 
 
 def slot_of(key: str | bytes) -> int:
-    """The slot of a key: CRC16 (XMODEM) of what stands in its first braces, or of all of it, modulo 16384 (Redis Cluster specification)."""
+    """The hash slot of a key: CRC16 (XMODEM) of its hash tag, or else of all of it, modulo 16384 (Redis Cluster specification)."""
     word = key.encode() if isinstance(key, str) else key
     begin = word.find(b"{")
     end = word.find(b"}", begin + 1)
@@ -55,7 +59,7 @@ def slot_of(key: str | bytes) -> int:
 
 
 def key_of(words: Sequence[Word]) -> str | bytes | None:
-    """The first key of a command, or that which was told with its name."""
+    """The first key of a command, or the key given with its name."""
     name, found = words[0], cast(Sequence[Any], words)
     if name in ("EVALSHA", "EVAL"):
         return found[3] if int(found[2]) else None
@@ -70,19 +74,18 @@ def key_of(words: Sequence[Word]) -> str | bytes | None:
 
 @dataclass
 class Nodes:
-    """What is known of a cluster, or of a server with replicas: the node of a slot, and how often that, or what a node tells, changed."""
+    """What is known of a cluster, or of a server with replicas: the node of each slot, and how often a node or its history changed."""
 
     seeds: list[str]
     of_slots: dict[int, str] = field(default_factory=dict)
     changes: int = 0
-    # Nodes that could not be reached the last time, and which history each tells, by its replication id.
+    # Nodes that could not be reached the last time, and the history that each node reports, by its replication id.
     away: set[str] = field(default_factory=set)
     histories: dict[str, str] = field(default_factory=dict)
     lock: threading.Lock = field(default_factory=threading.Lock)
 
     def find(self, slot: int, expected: int | None) -> str:
-        """The node of a slot, as far as it is known, or one that will tell it; an Away where something has changed since it was
-        `expected`."""
+        """The node of a slot as far as it is known, or a node to ask; raises Away if something has changed since it was `expected`."""
         with self.lock:
             if expected is not None and expected != self.changes:
                 raise Away("Redis has another history since, or another node of its cluster serves a slot")
@@ -91,7 +94,7 @@ class Nodes:
             return others[0] if node in self.away and others else node
 
     def learn(self, slot: int, node: str) -> bool:
-        """Notes the node of a slot; whether that is another one than was known."""
+        """Notes the node of a slot; returns whether it differs from the known one."""
         with self.lock:
             known = self.of_slots.get(slot, node)
             self.of_slots[slot] = node
@@ -101,7 +104,7 @@ class Nodes:
             return known != node
 
     def tells(self, node: str, history: str) -> bool:
-        """Notes the history that a node tells; whether it is another one than it told before."""
+        """Notes the history that a node reports; returns whether it differs from the one it reported before."""
         with self.lock:
             known = self.histories.get(node, history)
             self.histories[node] = history
@@ -109,7 +112,7 @@ class Nodes:
             return known != history
 
     def note(self, node: str, is_away: bool) -> None:
-        """Notes whether a node could be reached. Where none could, all are asked again."""
+        """Notes whether a node could be reached. If none could, all are asked again."""
         with self.lock:
             (self.away.add if is_away else self.away.discard)(node)
             if len(self.away) == len(self.seeds):
@@ -119,7 +122,7 @@ class Nodes:
 
 @dataclass(frozen=True)
 class Place:
-    """What a URL says: a server's URL, whether it is one of a cluster, and how many replicas are waited for."""
+    """The parsed URL: a server's URL, whether the server is one of a cluster, and the number of replicas to wait for."""
 
     url: str
     is_cluster: bool
@@ -127,7 +130,7 @@ class Place:
 
     @classmethod
     def of(cls, url: str) -> Place:
-        """A RedisError where it says something else."""
+        """Raises RedisError if the URL has other options."""
         found = urllib.parse.urlsplit(url)
         words = dict(urllib.parse.parse_qsl(found.query))
         cluster, replicas = words.pop("cluster", "0"), words.pop("replicas", "0")
@@ -139,7 +142,7 @@ class Place:
         return cls(f"{found.scheme}://{found.netloc}{found.path}{'?' if rest else ''}{rest}", cluster == "1", int(replicas))
 
     def nodes(self) -> Nodes | None:
-        """What is known of it at first; None of a server without replicas."""
+        """The initial Nodes; None for a server without replicas."""
         return Nodes([self._split()[1]]) if self.is_cluster or self.replicas else None
 
     def at(self, node: str) -> str:
@@ -153,7 +156,7 @@ class Place:
 
 
 class _NodesPending:
-    """A command that was sent to a node, with WAIT behind it where replicas are to have what it writes."""
+    """A command that was sent to a node, followed by WAIT if replicas have to have what it writes."""
 
     def __init__(self, link: NodesLink, node: str, words: Sequence[Word], sent: Sequence[Pending]) -> None:
         self._link, self._node, self._words, self._sent = link, node, words, sent
@@ -179,12 +182,14 @@ class NodesLink:
     def __init__(self, place: Place, nodes: Nodes, make: Callable[[str], Link]) -> None:
         self._place, self._nodes, self._make = place, nodes, make
         self._links: dict[str, Link] = {}
-        # Nodes whose history was looked at since this connection was last cut.
+        # Nodes whose history was checked since this connection was last cut.
         self._seen: set[str] = set()
 
     def call(self, words: Sequence[Word], seconds: float) -> Any:
-        """The answer to a command, by the node that has its key. An Away also where another node has it than before, and where too few
-        replicas have what it writes."""
+        """The reply to a command, from the node that has its key.
+
+        Raises Away also if another node has the key than before, and if too few replicas have what the command writes.
+        """
         node = self._node(words)
         for _ in range(_MOST_MOVES):
             try:
@@ -194,7 +199,7 @@ class NodesLink:
         raise Away("the nodes of the cluster do not agree on who serves a slot")
 
     def begin(self, words: Sequence[Word], seconds: float) -> Pending:
-        """Begins the same. What another node is to do is an Away: who asks for it again finds that node."""
+        """Begins the same. If another node has the key, the reply raises Away; the caller calls again and finds that node."""
         node = self._node(words)
         return _NodesPending(self, node, words, self._sent(node, words, seconds))
 
@@ -208,7 +213,7 @@ class NodesLink:
         return self._nodes.find(self._slot(words), name.changes if isinstance(name, Command) else None)
 
     def _sent(self, node: str, words: Sequence[Word], seconds: float) -> list[Pending]:
-        """Sends a command to a node, and asks it to wait for its replicas where it has any."""
+        """Sends a command to a node, followed by WAIT if the node has replicas."""
         name = words[0]
         try:
             link = self._link(node)
@@ -224,14 +229,14 @@ class NodesLink:
         return sent
 
     def end(self, node: str, words: Sequence[Word], sent: Sequence[Pending]) -> Any:
-        """The answer to what was sent. An Away where too few replicas have what it writes."""
+        """The reply to what was sent. Raises Away if too few replicas have what it writes."""
         try:
             answer, *waited = [one.answer() for one in sent]
             for has in waited:
                 if has < self._place.replicas:
                     raise Away(f"{has} replicas have what was written, and {self._place.replicas} are to have it")
         except Moved as moved:
-            # Who asks for a slot that was known elsewhere has to know that its history may be another one.
+            # The caller has to know that the history of the new node of a slot may be another one.
             if self._nodes.learn(self._slot(words), moved.node):
                 raise Away(f"{moved.node} of the cluster serves a slot now, which another node served") from None
             raise
@@ -242,12 +247,12 @@ class NodesLink:
         return answer
 
     def _lost(self, node: str) -> None:
-        """Notes that a node could not be reached, which may tell another history when it can."""
+        """Notes that a node could not be reached; it may report another history when it can be reached again."""
         self._seen.discard(node)
         self._nodes.note(node, is_away=True)
 
     def _look(self, node: str, link: Link, seconds: float) -> None:
-        """Looks which history a node tells: one that was away may tell another one."""
+        """Checks which history a node reports: a node that was away may report another one."""
         said = bytes(link.call(["INFO", "replication"], seconds)).decode()
         history = next((line.partition(":")[2] for line in said.splitlines() if line.startswith("master_replid:")), "")
         self._seen.add(node)

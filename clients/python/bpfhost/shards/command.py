@@ -1,9 +1,9 @@
-"""The command `python3 -m bpfhost.shards`: a worker of a shard, a gateway, calls of a customer, moves, and an operator's words.
+"""The command `python3 -m bpfhost.shards`: a worker of a shard, a gateway, calls of a customer, moves, and operators' commands.
 
-Its status is 0 where all went well; 1 where an input is refused, a customer can't be moved, a call is set aside or a stream can't be
-written; 2 where the words are wrong; 3 where the host or Redis does not do its part, a reply does not come, or a package is missing; 4
-where the lease on a shard is another worker's; 5 where the shard is another one than the directory knows, which somebody has to look at.
-Each error is one sentence on standard error.
+Its exit status is 0 on success; 1 if an input is refused, a customer can't be moved, a call is set aside or a stream can't be written; 2
+if the arguments are wrong; 3 if the host or Redis fails, a reply does not come, or a package is missing; 4 if another worker has the
+lease on the shard; 5 if the shard is not the one that the directory knows, which an operator has to look at. Each error is one sentence
+on standard error.
 """
 
 from __future__ import annotations
@@ -45,7 +45,7 @@ _STATUSES: dict[type[Exception], int] = {
 
 
 def main(words: Sequence[str] | None = None) -> int:
-    """Runs the command with these words, or those of the process, and gives its status."""
+    """Runs the command with these arguments, or those of the process, and returns its exit status."""
     said = parse(words)
 
     def run() -> int:
@@ -64,12 +64,12 @@ def main(words: Sequence[str] | None = None) -> int:
 
 
 def run_worker(said: Namespace) -> None:
-    """Serves a shard until SIGTERM or SIGINT; it is in the directory from then on."""
+    """Serves a shard until SIGTERM or SIGINT; the shard is in the directory from then on."""
     stopped = [False]
 
     def stop(_number: int, _frame: object) -> None:
         if stopped[0]:
-            # Who says it twice does not wait for snapshots.
+            # A second signal ends the worker without the wait for snapshots.
             raise KeyboardInterrupt
         stopped[0] = True
 
@@ -93,7 +93,7 @@ def run_worker(said: Namespace) -> None:
 
 
 def run_gateway(said: Namespace) -> None:
-    """Lets customers in until SIGTERM or SIGINT."""
+    """Accepts customers until SIGTERM or SIGINT."""
     from bpfhost.shards.gateway.running import serve
 
     _log(said)
@@ -101,7 +101,7 @@ def run_gateway(said: Namespace) -> None:
 
 
 def run_token() -> None:
-    """Writes a token, and its hash."""
+    """Prints a new token, and its hash."""
     from bpfhost.shards.gateway.customers import hash_of, new_token
 
     token = new_token()
@@ -109,7 +109,7 @@ def run_token() -> None:
 
 
 def _log(said: Namespace, **of_all: object) -> None:
-    """Writes lines on standard error as JSON from now on, where that was said."""
+    """From now on writes lines on standard error as JSON, if the arguments ask for it."""
     if said.log == "json":
         sys.stderr = cast(TextIO, JsonLines(sys.stderr, word=said.word, **of_all))
 
@@ -126,7 +126,7 @@ def run_client(client: Client, said: Namespace) -> None:
 
 
 def run_move(client: Client, said: Namespace) -> None:
-    """Moves a customer, and says where it is."""
+    """Moves a customer, and prints its new seat."""
     print(operating.place(said.name, moving.move(client, said.name, said.to, said.seconds)))
 
 
@@ -136,12 +136,12 @@ def run_remove(client: Client, said: Namespace) -> None:
 
 
 def run_abort(client: Client, said: Namespace) -> None:
-    """Takes a move back, and says where the customer is."""
+    """Takes a move back, and prints the customer's seat."""
     print(operating.place(said.name, moving.abort_move(client, said.name, said.seconds)))
 
 
 def run_word(client: Client, said: Namespace) -> None:
-    """Says a word on what is set aside of a customer."""
+    """Decides on what is set aside of a customer."""
     print(f"{said.name}: {operating.say(client, said.name, said.word, said.seconds)}")
 
 
@@ -155,12 +155,12 @@ def run_drain(client: Client, said: Namespace) -> None:
 
 
 def run_remove_shard(client: Client, said: Namespace) -> None:
-    """Takes a shard out."""
+    """Removes a shard."""
     operating.remove_shard(client, said.shard, said.lost)
 
 
 def run_show(client: Client, said: Namespace) -> None:
-    """Shows what there is."""
+    """Prints the state of the shards, moves and customers."""
     seen = operating.look(client)
     if said.json:
         print(json.dumps(operating.plain(seen)))

@@ -1,4 +1,4 @@
-"""Redis, as shards use it: the calls that they make, scripts, and whether it keeps what it is given."""
+"""Redis, as shards use it: their commands, their scripts, and a check of its durability."""
 
 from __future__ import annotations
 
@@ -15,11 +15,11 @@ from bpfhost.shards.names import START, before
 from bpfhost.shards.system import MACHINE, Link, Pending, System, Word
 
 DEFAULT_URL = "redis://127.0.0.1:6379/0"
-# A server that does not answer for so many seconds is taken to be away. No call blocks for longer than LONGEST_WAIT.
+# A server that does not reply for so many seconds is taken to be away. No call blocks for longer than LONGEST_WAIT.
 _SECONDS_TO_ANSWER, LONGEST_WAIT = 30.0, 5.0
 _LEAST_SECONDS, _SECONDS_FOR_AN_ANSWER = 0.25, 0.2
 _PAUSE, _LONGEST_PAUSE = 0.01, 0.25
-# Flags of scripts are known from this version on.
+# Redis has flags of scripts from this version on.
 _LEAST_VERSION = (7, 0)
 
 Entry = tuple[bytes, dict[bytes, bytes]]
@@ -27,12 +27,12 @@ Answer = TypeVar("Answer")
 
 
 def redis_url(url: str | None = None) -> str:
-    """A URL, as `redis://host:6379/0` or `unix:///path`; without one that of the variable BPFHOST_REDIS, or of this machine's Redis."""
+    """A URL, as `redis://host:6379/0` or `unix:///path`; the default is that of the variable BPFHOST_REDIS, or of this machine's Redis."""
     return url or os.environ.get("BPFHOST_REDIS") or DEFAULT_URL
 
 
 def without_secrets(url: str) -> str:
-    """A URL without what is for one process alone: a user, a password, and files of TLS."""
+    """A URL without what is for only one process: a user, a password, and files of TLS."""
     found = urllib.parse.urlsplit(url)
     host = found.netloc.rpartition("@")[2]
     said = [pair for pair in urllib.parse.parse_qsl(found.query) if not _is_own(pair[0])]
@@ -40,7 +40,7 @@ def without_secrets(url: str) -> str:
 
 
 def as_in(url: str, own: str) -> str:
-    """A URL that says no user and no files of TLS, with those of this process's own URL."""
+    """Adds the user and the files of TLS of this process's own URL to a URL that has none."""
     found, mine = urllib.parse.urlsplit(url), urllib.parse.urlsplit(own)
     user, has_user, _ = mine.netloc.rpartition("@")
     said = urllib.parse.parse_qsl(found.query)
@@ -62,7 +62,7 @@ class _Links:
 
     def __init__(self, system: System, place: Place) -> None:
         self._system, self._place, self.nodes = system, place, place.nodes()
-        # Those that nobody uses just now, and all of them.
+        # Connections that are not in use, and all of them.
         self._idle: list[Link] = []
         self._all: list[Link] = []
         self._lock = threading.Lock()
@@ -100,24 +100,24 @@ class _Links:
 
 
 class Line:
-    """A connection on which commands are sent behind one another, and not waited for one by one."""
+    """A connection on which commands are sent one after another, without a wait for each reply."""
 
     def __init__(self, redis: Redis, links: _Links) -> None:
         self._redis, self._links, self._link = redis, links, links.taken()
 
     def begin(self, *words: Word, wait: float = 0.0) -> Pending:
-        """Begins a command, which may block for so many seconds. Its answer is an Away where that does not come."""
+        """Begins a command, which may block for so many seconds. Its `answer` raises Away if no reply comes."""
         try:
             return self._link.begin(*self._redis.prepared(words, wait))
         except RedisError as error:
             return Failed(error)
 
     def begin_xread(self, places: Mapping[str, bytes], many: int, wait: float) -> Pending:
-        """Begins what `Redis.xread` does; `entries_of` reads the answer."""
+        """Begins what `Redis.xread` does; `entries_of` reads the reply."""
         return self.begin(*_reading(places, many, wait), wait=wait)
 
     def cut(self) -> None:
-        """Ends the connection: of what was sent no answer comes any more. The next command makes it anew."""
+        """Ends the connection: no more replies come to what was sent. The next command makes a new connection."""
         self._link.close()
 
 
@@ -133,23 +133,24 @@ class Failed:
         return self
 
     def is_answered(self) -> bool:
-        """It has the error for its answer."""
+        """Its reply is the error."""
         return True
 
     def answer(self) -> Any:
-        """Raises it."""
+        """Raises the error."""
         raise self._error
 
 
 class Redis:
-    """A server. Threads may share it: each call has a connection for itself. Bytes come back as bytes."""
+    """A server. Threads may share it: each call has its own connection. Replies are bytes."""
 
     def __init__(self, url: str | None = None, system: System = MACHINE) -> None:
         """The server of a URL (`redis_url`), to which a connection is made when it is first called."""
         self.url, self.system = redis_url(url), system
         place = Place.of(self.url)
         self.replicas, self._links = place.replicas, _Links(system, place)
-        # How often nodes had changed when the caller last looked, where it wants to know; shared with those that are limited.
+        # How often nodes had changed when the caller last looked, if the caller needs to know; shared with the limited copies of this
+        # object.
         self._known_changes: list[int] = []
         self._near = ""
         self._deadline: float | None = None
@@ -167,25 +168,27 @@ class Redis:
         return limited
 
     def patient(self, seconds: float) -> Redis:
-        """The same server, whose calls are made again for so many seconds where it is away: for what is right to do twice."""
+        """The same server, but if it is away calls are repeated for so many seconds: only for calls that may be done twice."""
         patient = self._copy()
         patient._patience = seconds
         return patient
 
     def near(self, key: str) -> Redis:
-        """The same server; of a cluster, the node of a key, for commands that name none."""
+        """The same server; in a cluster, commands that name no key go to the node of this key."""
         near = self._copy()
         near._near = key
         return near
 
     def watch(self) -> None:
-        """From now on each call is an Away where another node of a cluster, or a server with another history, would do it; until this is
-        called again."""
+        """From now on each call raises Away if another node of a cluster, or a server with another history, would do it.
+
+        That lasts until this is called again.
+        """
         if self._links.nodes:
             self._known_changes[:] = [self._links.nodes.changes]
 
     def has_changed(self) -> bool:
-        """Whether it is so since `watch`."""
+        """Whether another node or history was seen since `watch`."""
         return bool(self._links.nodes and self._known_changes and self._known_changes[0] != self._links.nodes.changes)
 
     def close(self) -> None:
@@ -193,7 +196,7 @@ class Redis:
         self._links.close()
 
     def call(self, *words: Word, wait: float = 0.0) -> Any:
-        """The answer to a command, which may block for so many seconds. An Away where the server can't be reached in time."""
+        """The reply to a command, which may block for so many seconds. Raises Away if the server can't be reached in time."""
         until = self.system.now() + self._patience
         while True:
             try:
@@ -211,7 +214,7 @@ class Redis:
         return self._links.call(*self.prepared(words, wait))
 
     def prepared(self, words: Sequence[Word], wait: float) -> tuple[Sequence[Word], float]:
-        """A command as connections take it, and within how many seconds it is answered."""
+        """A command as connections take it, and the number of seconds within which the reply has to come."""
         seconds = wait + _SECONDS_TO_ANSWER
         if self._deadline is not None:
             seconds = max(_LEAST_SECONDS, min(seconds, self._deadline - self.system.now()))
@@ -223,7 +226,7 @@ class Redis:
     def patiently(
         self, call: Callable[[Redis], Answer], deadline: float, give_up: Callable[[Away], Exception] | None = None
     ) -> Answer:
-        """Calls again while the server is away, until a time of the system's clock; what is called must be right to do twice."""
+        """Repeats a call while the server is away, until a time of the system's clock; the call must be right to do twice."""
         pause = _PAUSE
         while True:
             try:
@@ -263,28 +266,28 @@ class Redis:
         return int(self.call("XLEN", name))
 
     def xrange(self, name: str, least: bytes, most: bytes, many: int) -> list[Entry]:
-        """Entries from one id up to another one, at most so many; a `(` before an id leaves it out."""
+        """Entries from one id up to another one, at most so many; a `(` before an id excludes it."""
         return _entries(self.call("XRANGE", name, least, most, "COUNT", many))
 
     def xread(self, places: Mapping[str, bytes], many: int, wait: float) -> dict[str, list[Entry]]:
-        """Entries of streams behind places, at most so many of each; waits so many seconds where there is none."""
+        """Entries of streams after given ids, at most so many of each; waits so many seconds if there is none."""
         wait = min(wait, LONGEST_WAIT)
         if self._deadline is not None:
-            # The server answers before the call is given up.
+            # The server replies before the client gives the call up.
             left = self._deadline - self.system.now()
             wait = min(wait, left - min(_SECONDS_FOR_AN_ANSWER, left / 2))
         return entries_of(self.call(*_reading(places, many, wait), wait=max(0.0, wait)))
 
     def stream(self, name: str) -> dict[bytes, Any]:
-        """What is told of a stream: nothing where there is none."""
+        """What Redis reports of a stream (XINFO STREAM): empty if there is no such stream."""
         return _pairs(self.call("XINFO", "STREAM", name)) if self.call("EXISTS", name) else {}
 
     def last_id(self, name: str) -> bytes:
-        """The id of the last entry that a stream was ever given."""
+        """The id of the last entry that was ever added to a stream."""
         return bytes(self.stream(name).get(b"last-generated-id", b"0-0"))
 
     def dropped_id(self, name: str) -> bytes:
-        """An id up to which no entry of a stream is there any more, though some were; 0-0 where nothing was dropped."""
+        """An id up to which no entry of a stream is left, though there were some; 0-0 if nothing was dropped."""
         said = self.stream(name)
         if said.get(b"length") == said.get(b"entries-added"):
             return START
@@ -300,13 +303,13 @@ def _entries(found: Sequence[Any]) -> list[Entry]:
 
 
 def _reading(places: Mapping[str, bytes], many: int, wait: float) -> list[Word]:
-    """The words of XREAD."""
+    """The arguments of XREAD."""
     block: list[Word] = ["BLOCK", max(1, int(wait * 1000))] if wait > 0 else []
     return ["XREAD", "COUNT", many, *block, "STREAMS", *places, *places.values()]
 
 
 def entries_of(found: Any) -> dict[str, list[Entry]]:
-    """What XREAD answers: entries by the names of their streams."""
+    """The reply to XREAD: entries by the names of their streams."""
     return {name.decode(): _entries(entries) for name, entries in found or []}
 
 
@@ -319,22 +322,22 @@ class Script:
     """A script that the server runs as one step: nothing else runs meanwhile, and all of its writes are kept, or none."""
 
     def __init__(self, text: str, without_memory: bool = False) -> None:
-        """`without_memory` is for one that makes room, or needs next to none: it runs also where the server has no memory left."""
+        """`without_memory` is for a script that makes room, or needs almost none: it runs even if the server has no memory left."""
         head = f"#!lua{' flags=allow-oom' if without_memory else ''}\n"
         self.text = f"{head}{text}"
-        # Where replicas are waited for, each script writes something: what is waited for is that, and so all that it has seen.
+        # If the client waits for replicas, each script writes something: the wait covers that write, and so all that the script has read.
         self.touching = f"{head}redis.call('SET', KEYS[1] .. ':touched', '')\n{text}"
         self._names = {text: hashlib.sha1(text.encode()).hexdigest() for text in (self.text, self.touching)}
 
     def __call__(self, redis: Redis, keys: Sequence[str], arguments: Sequence[Word]) -> Any:
-        """What the script gives. A server that has just begun does not know it yet."""
+        """The result of the script. A server that has just started does not know the script yet."""
         try:
             return redis.call(*self._words(redis, keys, arguments))
         except NoScript:
             return redis.call("EVAL", self._text(redis), len(keys), *keys, *arguments)
 
     def begin(self, redis: Redis, line: Line, keys: Sequence[str], arguments: Sequence[Word]) -> Pending:
-        """Begins the script on a line of a server. Its answer may be a NoScript, and then it is called once more."""
+        """Begins the script on a line of a server. If its reply is a NoScript, the script is called once more."""
         return line.begin(*self._words(redis, keys, arguments))
 
     def _text(self, redis: Redis) -> str:
@@ -351,7 +354,7 @@ class Script:
         deadline: float,
         give_up: Callable[[Away], Exception] | None = None,
     ) -> Any:
-        """The same, again while Redis is away (`Redis.patiently`)."""
+        """The same, repeated while Redis is away (`Redis.patiently`)."""
 
         def call(limited: Redis) -> Any:
             return self(limited, keys, arguments)
@@ -360,14 +363,16 @@ class Script:
 
 
 def told_by(redis: Redis, section: str) -> dict[str, str]:
-    """What the server tells of itself in a section of INFO."""
+    """What the server reports of itself in a section of INFO."""
     lines = bytes(redis.call("INFO", section)).decode().splitlines()
     return dict(line.split(":", 1) for line in lines if ":" in line)
 
 
 def demand_durable(redis: Redis) -> str:
-    """A RedisError where the server does not write each change to its disk before it answers, or may drop keys. Gives a sentence on what
-    could not be seen, since this user may not ask for it, or nothing."""
+    """Raises RedisError if the server replies before a change is on its disk, or may drop keys.
+
+    Returns a sentence on what this user may not ask for, so that it could not be checked, or an empty string.
+    """
     is_logged, policy = told_by(redis, "persistence").get("aof_enabled"), told_by(redis, "memory").get("maxmemory_policy", "")
     _demand("appendonly", "yes" if is_logged == "1" else "no", "yes")
     _demand("maxmemory-policy", policy, "noeviction")
@@ -385,7 +390,7 @@ def _demand(name: str, has: str, wanted: str) -> None:
 
 
 def demand_version(redis: Redis) -> None:
-    """A RedisError where the server is too old for flags of scripts."""
+    """Raises RedisError if the server is too old for flags of scripts."""
     version = told_by(redis, "server").get("redis_version", "0.0")
     if tuple(map(int, version.split(".")[:2])) < _LEAST_VERSION:
         raise RedisError(f"Redis is of version {version}, and shards need one from 7.0 on")

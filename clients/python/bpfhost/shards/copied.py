@@ -1,9 +1,9 @@
 """A second copy of a tenant, in which each live map has a descriptor.
 
-A map whose descriptor is closed lives on while a program keeps it, and no command reads it. So where a tenant has such a map, its
-frames are played once more on a host of their own, with one difference: a map is closed only when it ends. The numbers of descriptors
-then differ, so frames are sent with those of the copy, and a program is loaded when it is run, when all its maps are open. At most 16
-maps and 48 programs are open at once; so descriptors never run out. Each reply is compared with the one that the customer was given.
+A map whose descriptor is closed lives on while a program keeps it, and no command reads it. So if a tenant has such a map, its frames are
+played once more on a separate host, with one difference: a map is closed only when it ends. The numbers of descriptors then differ, so
+frames are sent with those of the copy, and a program is loaded when it is run, when all its maps are open. At most 16 maps and 48
+programs are open at once, so descriptors never run out. Each reply is compared with the one that the customer was given.
 """
 
 from __future__ import annotations
@@ -24,7 +24,7 @@ _MOST_PROGRAMS = MOST_DESCRIPTORS - MOST_MAPS
 _PLAYED_IN_A_STEP = 400
 _OF_MAPS = (Command.MAP_UPDATE_ELEM, Command.MAP_DELETE_ELEM)
 
-# A frame and the reply that it has to have, but for the tenant.
+# A frame and the reply that it must have, except for the tenant.
 Asked = tuple[bytes, bytes]
 
 
@@ -43,7 +43,7 @@ class Copy:
         self._host.kill()
 
     def play(self, played: Iterable[Asked]) -> Steps[None]:
-        """Plays frames that were answered by these replies; a ShardError where the copy answers otherwise."""
+        """Plays frames that had these replies; raises ShardError if the replies of the copy differ."""
         for part in in_parts(played, lambda _: 1, _PLAYED_IN_A_STEP):
             sent = [asked for frame, reply in part for asked in self._frames_here(frame, reply)]
             answers = self._host.ask_bytes(frame for frame, _ in sent)
@@ -53,7 +53,7 @@ class Copy:
             yield
 
     def pairs(self, tenancy: Tenancy) -> Steps[dict[LiveMap, Pairs]]:
-        """What is in each live map of the tenant, which has played the same frames."""
+        """The elements of each live map of the tenant, which has played the same frames."""
         theirs, ours = tenancy.live(), self._tenancy.live()
         read = yield from read_pairs(self._host, 0, {on: self._numbers[on] for on in ours})
         if [on.body for on in theirs] != [on.body for on in ours]:
@@ -61,7 +61,7 @@ class Copy:
         return {on: read[same] for on, same in zip(theirs, ours)}
 
     def _frames_here(self, frame: bytes, reply: bytes) -> Iterator[Asked]:
-        """What stands for a frame in the copy. What was refused changes nothing, and what only reads neither."""
+        """The frame that the copy is given in place of a frame, if any: a refused frame changes nothing, nor does one that only reads."""
         status, command = status_of(reply), command_of(frame)
         if status < 0 or len(frame) < BODY:
             return
@@ -89,14 +89,14 @@ class Copy:
         return frames.close(0, self._numbers.pop(on)), Reply(0, Command.CLOSE, 0).to_bytes()
 
     def _opened(self, on: LiveMap | OpenProgram, frame: bytes) -> Asked:
-        """Gives the lowest free number to what a frame makes."""
+        """Gives the lowest free number to what a frame creates."""
         taken = set(self._numbers.values())
         number = next(number for number in range(FIRST_DESCRIPTOR, FIRST_DESCRIPTOR + MOST_DESCRIPTORS) if number not in taken)
         self._numbers[on] = number
         return frame, Reply(0, command_of(frame), number).to_bytes()
 
     def _loaded(self, on: OpenProgram) -> Iterator[Asked]:
-        """Loads a program with the numbers that its maps have here, if it is not loaded yet; the oldest makes room for it."""
+        """Loads a program with the numbers that its maps have here, if it is not loaded yet; the oldest program is closed to make room."""
         if on in self._numbers:
             return
         loaded = [other for other in self._numbers if isinstance(other, OpenProgram)]

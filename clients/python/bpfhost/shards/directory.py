@@ -1,4 +1,4 @@
-"""The directory: which shard and which tenant number each customer has, the least loaded shard first."""
+"""The directory: the shard and the tenant number of each customer. A new customer gets the least loaded shard."""
 
 from __future__ import annotations
 
@@ -26,7 +26,7 @@ _WHY = {
 
 @dataclass(frozen=True)
 class Seat:
-    """A shard and a tenant number; the generation is never given again, so an old seat is told from a new one."""
+    """A shard and a tenant number; a generation is never given again, so an old seat differs from a new one."""
 
     shard: int
     tenant: int
@@ -34,15 +34,15 @@ class Seat:
 
     @classmethod
     def read(cls, text: bytes) -> Seat:
-        """As the directory has it."""
+        """Reads its text in the directory."""
         return cls(*map(int, text.split()))
 
     def text(self) -> bytes:
-        """The same."""
+        """Its text in the directory."""
         return b"%d %d %d" % (self.shard, self.tenant, self.generation)
 
     def owned_by(self, name: str) -> bytes:
-        """What the shard's seats say while it is this customer's."""
+        """The text in the shard's seats while the seat is this customer's."""
         return b"%d name:%s" % (self.generation, name.encode())
 
 
@@ -59,9 +59,9 @@ class Directory:
     # Shards.
 
     def register(self, shard: int, incarnation: bytes, server: str = "") -> None:
-        """Makes a shard known, by the name that was made with it, and the URL of its Redis where that is another one; twice is once.
+        """Registers a shard by the name that was made with it, and the URL of its Redis if that is another one; may be repeated.
 
-        A ShardError where it is no number, an OtherShard where the directory knows it by another name.
+        Raises ShardError if it is no number of a shard, and OtherShard if the directory knows it by another name.
         """
         demand_shard(shard)
         keys = [self.keys.loads, self.keys.incarnations, self.keys.servers]
@@ -70,16 +70,16 @@ class Directory:
             raise OtherShard(_OTHER.format(shard=shard))
 
     def incarnation(self, shard: int) -> bytes | None:
-        """The name that was made with a shard, or None where it is not known."""
+        """The name that was made with a shard, or None if the shard is not known."""
         return self.redis.hget(self.keys.incarnations, shard)
 
     def beat(self, shard: int, incarnation: bytes) -> None:
-        """Says that a shard is served, so it is offered; an OtherShard where the directory does not know it by this name."""
+        """Records that a shard is served, so that it is offered; raises OtherShard if the directory does not know it by this name."""
         if not scripts.BEAT(self.redis, [self.keys.incarnations, self.keys.beats], [shard, incarnation]):
             raise OtherShard(_OTHER.format(shard=shard))
 
     def withdraw(self, shard: int, count: bytes = b"") -> None:
-        """Says that a shard is not served any more, if its count is still the one that was seen."""
+        """Records that a shard is not served any more, if its count is still the one that was seen."""
         scripts.WITHDRAW(self.redis, [self.keys.beats], [shard, count])
 
     def beats(self) -> dict[int, bytes]:
@@ -87,7 +87,7 @@ class Directory:
         return {int(shard): count for shard, count in self.redis.hgetall(self.keys.beats).items()}
 
     def drain(self, shard: int, is_drained: bool = True) -> None:
-        """Offers a shard to no customer any more, or again. A ShardError where it is not known."""
+        """Stops or resumes offering a shard to customers. Raises ShardError if the shard is not known."""
         if shard not in self.loads():
             raise ShardError(f"the directory knows no shard {shard}")
         if is_drained:
@@ -96,29 +96,29 @@ class Directory:
             self.redis.hdel(self.keys.drained, shard)
 
     def drained(self) -> set[int]:
-        """The shards that are offered to no customer."""
+        """The shards that are not offered to customers."""
         return {int(shard) for shard in self.redis.hkeys(self.keys.drained)}
 
     def remove_shard(self, shard: int, lost: bool = False) -> None:
-        """Takes a shard out that has no customers, or whose customers are lost. A ShardError where that can't be."""
+        """Removes a shard that has no customers, or whose customers are lost. Raises ShardError if it can't be removed."""
         keys = [*self.keys.all, self.keys.incarnations, self.keys.servers]
         what = scripts.REMOVE_SHARD(self.redis, keys, [shard, "lost" if lost else ""])
         if what != b"removed":
             raise ShardError(f"shard {shard} can't be removed: {_WHY_NOT_REMOVED[what]}")
 
     def server(self, shard: int) -> str:
-        """The URL of a shard's Redis, or nothing where it is that of the directory."""
+        """The URL of a shard's Redis, or an empty string if it is that of the directory."""
         return (self.redis.hget(self.keys.servers, shard) or b"").decode()
 
     def loads(self) -> dict[int, int]:
-        """How many customers each shard has, those on the way to it included."""
+        """The number of customers of each shard, including those on the way to it."""
         found = self.redis.call("ZRANGE", self.keys.loads, 0, -1, "WITHSCORES")
         return {int(shard): int(float(load)) for shard, load in zip(found[::2], found[1::2])}
 
     # Customers.
 
     def place(self, name: str) -> Seat:
-        """The seat of a customer, which is given one if it has none; a NotTaken where there is no room."""
+        """The seat of a customer, which is given one if it has none; raises NotTaken if there is no room."""
         seat, *why = scripts.PLACE(self.redis, self.keys.all, [name])
         if not seat:
             kind = NotServed if why[0] == b"not served" else NotTaken
@@ -135,12 +135,12 @@ class Directory:
         return {name.decode(): Seat.read(seat) for name, seat in self.redis.hgetall(self.keys.customers).items()}
 
     def moves(self) -> dict[str, Seat | None]:
-        """The customers that are being moved, and their next seats; None where they are removed."""
+        """The customers that are being moved, and their next seats; None if they are removed."""
         found = self.redis.hgetall(self.keys.moves)
         return {name.decode(): None if seat == NOWHERE else Seat.read(seat) for name, seat in found.items()}
 
     def begin_move(self, name: str, shard: int | None = None, removed: bool = False) -> tuple[Seat, Seat | None]:
-        """The seat of a customer, and the next one, which is reserved, or None where it is removed. Twice is once."""
+        """The seat of a customer, and the next one, which is reserved, or None if the customer is removed. May be repeated."""
         words = [name, "" if shard is None else shard, NOWHERE if removed else b""]
         seat, what = scripts.BEGIN_MOVE(self.redis, self.keys.all, words)
         if not seat:
@@ -152,12 +152,14 @@ class Directory:
         return Seat.read(seat), None if what == NOWHERE else Seat.read(what)
 
     def end_move(self, name: str, seat: Seat, next_seat: Seat | None) -> None:
-        """Gives the customer its next seat, and frees the old one, if this move has not ended. Twice is once."""
+        """Gives the customer its next seat, and frees the old one, if this move has not ended. May be repeated."""
         scripts.END_MOVE(self.redis, self.keys.all, [name, seat.text(), next_seat.text() if next_seat else NOWHERE])
 
     def turn_move(self, name: str, seat: Seat, next_seat: Seat | None) -> Seat | None:
-        """Turns the move of a customer that has left its seat back to the same shard, and gives the next seat there. Where the move is
-        another one by now, that one's next seat."""
+        """Turns the move of a customer that has left its seat back to the same shard, and returns the next seat there.
+
+        If the move is another one by now, returns the next seat of that one.
+        """
         words = [name, seat.text(), next_seat.text() if next_seat else NOWHERE]
         given, why = scripts.TURN_MOVE(self.redis, self.keys.all, words)
         if why:
@@ -178,14 +180,14 @@ _WHY_NOT_REMOVED = {
 
 
 def demand_name(name: str) -> str:
-    """The name, if a customer may have it; a ValueError else."""
+    """The name, if a customer may have it; raises ValueError otherwise."""
     if not name or len(name) > 255 or any(letter.isspace() or not letter.isprintable() for letter in name):
         raise ValueError(f"a customer's name has 1 to 255 printable characters without spaces, and is not {name!r}")
     return name
 
 
 def demand_shard(shard: int) -> int:
-    """The number of a shard; a ShardError where it is none."""
+    """The number of a shard; raises ShardError if it is none."""
     if not 0 <= shard <= MOST_SHARD:
         raise ShardError(f"a shard's number is 0 to {MOST_SHARD}, and not {shard}")
     return shard

@@ -1,9 +1,9 @@
-"""The scripts of the directory. Redis runs each as one step, and each is right to run twice, and late."""
+"""The scripts of the directory. Redis runs each as one step; each may be run twice, and late."""
 
 from bpfhost.shards.connection import Script
 
-# KEYS of those that give or take numbers: customers, loads, numbers, generation, moves, beats, drained. A shard is offered while it is
-# served (beats) and not drained. A shard's numbers are a string of 0 and 1, by tenant.
+# KEYS of those that take or free tenant numbers: customers, loads, numbers, generation, moves, beats, drained. A shard is offered while
+# it is served (beats) and not drained. A shard's numbers are a string of 0 and 1, by tenant.
 _GIVE = """
 local function is_offered(shard)
   return redis.call('HEXISTS', KEYS[6], shard) == 1 and redis.call('HEXISTS', KEYS[7], shard) == 0
@@ -84,8 +84,8 @@ take_back(seat)
 return 1
 """)
 
-# Turns a move whose next seat is closed back to the shard that the customer has left, where it is given another seat; a move that is
-# another one by now stays as it is, and its next seat is given. ARGV: name, seat, next seat.
+# Turns a move whose next seat is closed back to the shard that the customer has left, and gives the customer another seat there. A move
+# that is another one by now stays as it is, and its next seat is returned. ARGV: name, seat, next seat.
 TURN_MOVE = Script(_GIVE + """
 local seat, next = redis.call('HGET', KEYS[1], ARGV[1]), redis.call('HGET', KEYS[5], ARGV[1])
 if seat ~= ARGV[2] or next ~= ARGV[3] then return {next or '', ''} end
@@ -96,7 +96,7 @@ if next ~= 'nowhere' then take_back(next) end
 return {given, ''}
 """)
 
-# Makes a shard known, with the name that was made with it; one that is known by another name stays as it is, and its name is given.
+# Registers a shard, with the name that was made with it; a shard that is known by another name stays as it is, and its name is returned.
 # KEYS: loads, incarnations, servers. ARGV: shard, name, URL or nothing.
 REGISTER = Script("""
 local known = redis.call('HGET', KEYS[2], ARGV[1])
@@ -107,20 +107,20 @@ if ARGV[3] == '' then redis.call('HDEL', KEYS[3], ARGV[1]) else redis.call('HSET
 return ARGV[2]
 """)
 
-# Says that a shard is served. KEYS: incarnations, beats. ARGV: shard, name.
+# Records that a shard is served. KEYS: incarnations, beats. ARGV: shard, name.
 BEAT = Script("""
 if redis.call('HGET', KEYS[1], ARGV[1]) ~= ARGV[2] then return 0 end
 return redis.call('HINCRBY', KEYS[2], ARGV[1], 1)
 """, without_memory=True)
 
-# Says that a shard is not served any more, if its count is still the one that was seen, or none is named.
+# Records that a shard is not served any more, if its count is still the one that was seen, or none is named.
 # KEYS: beats. ARGV: shard, count or nothing.
 WITHDRAW = Script("""
 if ARGV[2] ~= '' and redis.call('HGET', KEYS[1], ARGV[1]) ~= ARGV[2] then return 0 end
 return redis.call('HDEL', KEYS[1], ARGV[1])
 """, without_memory=True)
 
-# Takes a shard out that has no customers and is not served; customers that are lost go with it.
+# Removes a shard that has no customers and is not served; lost customers are removed with it.
 # KEYS: those of the directory, incarnations, servers. ARGV: shard, `lost` or nothing.
 REMOVE_SHARD = Script(_GIVE + """
 if not redis.call('ZSCORE', KEYS[2], ARGV[1]) then return 'unknown' end

@@ -1,4 +1,4 @@
-"""What can go wrong with shards, as exceptions. Each one's text is a plain sentence."""
+"""The errors of shards, as exceptions. The text of each is a plain sentence."""
 
 from __future__ import annotations
 
@@ -11,15 +11,15 @@ if TYPE_CHECKING:
 
 
 class ShardError(BpfhostError):
-    """The base of all that this package raises, but for a ValueError where a caller's argument is wrong."""
+    """The base of all errors that this package raises, except for a ValueError if a caller's argument is wrong."""
 
 
 class RedisError(ShardError):
-    """Redis can't be reached, or refuses a command; or it does not keep what it is given."""
+    """Redis can't be reached, or refuses a command; or it is not durable."""
 
 
 class Away(RedisError):
-    """Redis can't be reached just now, or is reading its files; whether it did what it was last asked is not known."""
+    """Redis can't be reached now, or is loading its files; it is not known whether it ran the last command."""
 
 
 class Moved(RedisError):
@@ -31,11 +31,11 @@ class Moved(RedisError):
 
 
 class OutOfMemory(RedisError):
-    """Redis has no memory for a command; it has done nothing of it."""
+    """Redis has no memory for a command, and has done nothing of it."""
 
 
 class NotAllowed(RedisError):
-    """This user of Redis may not give a command, or not for these keys."""
+    """This user of Redis may not run a command, or not on these keys."""
 
 
 class NoScript(RedisError):
@@ -55,7 +55,7 @@ class LogChanged(ShardError):
 
 
 class Stopped(ShardError):
-    """A worker was told to stop while it waited."""
+    """A worker was asked to stop while it waited."""
 
 
 class OtherShard(ShardError):
@@ -63,11 +63,11 @@ class OtherShard(ShardError):
 
 
 class RepliesDiffer(ShardError):
-    """A frame that is played again has another reply than the one that was written."""
+    """A frame that is played again has another reply than the written one."""
 
 
 class MemoryRefused(ShardError):
-    """The host answered -12 to a frame; such a reply is not written."""
+    """The host replied -12 to a frame; such a reply is not written."""
 
 
 class SnapshotDamaged(ShardError):
@@ -75,15 +75,15 @@ class SnapshotDamaged(ShardError):
 
 
 class CopyDiffers(ShardError):
-    """A second copy of a tenant is not as the tenant is."""
+    """A second copy of a tenant differs from the tenant."""
 
 
 class StateRefused(ShardError):
-    """The frames of a state are not answered as they have to be: by another build of bpfhost."""
+    """The replies to the frames of a state are not the expected ones: another build of bpfhost wrote the state."""
 
 
 class CallError(ShardError):
-    """What is wrong with one call; `ticket` is the call, where one was made: it can be waited for, also later."""
+    """An error of one call; `ticket` is the call, if one was made: a caller can wait for it, also later."""
 
     def __init__(self, sentence: str, ticket: Ticket | None = None) -> None:
         super().__init__(sentence)
@@ -99,15 +99,15 @@ class NotServed(NotTaken):
 
 
 class SessionPassed(NotTaken):
-    """Another process goes on with the session of this call."""
+    """Another process continues the session of this call."""
 
 
 class CallPassed(CallError):
-    """A later call of the session was taken before this one was asked for; its process knows whether this one was taken."""
+    """A later call of the session was taken before this one was sent; its process knows whether this one was taken."""
 
 
 class NoReply(CallError):
-    """No reply came in time. The call may be in its stream; its ticket can be waited for again."""
+    """No reply came in time. The call may be in its stream; the caller can wait for its ticket again."""
 
 
 class SetAside(NoReply):

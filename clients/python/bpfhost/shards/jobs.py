@@ -1,4 +1,4 @@
-"""What a worker does in steps beside calls, between two turns: tenants that leave and arrive, and what others have begun."""
+"""What a worker does in steps between two turns, besides calls: tenants that leave and arrive, and what others have begun."""
 
 from __future__ import annotations
 
@@ -27,18 +27,18 @@ from bpfhost.shards.states import States
 from bpfhost.shards.suspects import Suspects
 from bpfhost.state import Steps
 
-# So long the steps of what is done beside calls take between two turns.
+# For so long, between two turns, the worker does steps of work other than calls.
 _SECONDS_BESIDE = 0.01
 
 
 class Jobs:
-    """Those of one shard."""
+    """The jobs of one shard."""
 
     def __init__(self, shard: Served, states: States, suspects: Suspects) -> None:
         self._shard, self._states, self._suspects = shard, states, suspects
 
     def do_some(self) -> None:
-        """Some steps of the first job. One that Redis or the host broke off is begun anew, when it is due again."""
+        """Does some steps of the first job. A job that Redis or the host interrupted begins anew when it is due again."""
         shard = self._shard
         until = shard.system.now() + _SECONDS_BESIDE
         while shard.jobs:
@@ -66,7 +66,7 @@ class Jobs:
                 return
 
     def _made_again(self, tenant: int) -> bool:
-        """Makes a tenant anew whose job broke off; False where the host ended meanwhile, and all are made anew."""
+        """Restores a tenant whose job broke off; False if the host ended meanwhile and all tenants are restored."""
         try:
             self._shard.waiting(lambda: self._states.make_again(tenant))
         except (HostError, ReplyError, MemoryRefused) as error:
@@ -75,7 +75,7 @@ class Jobs:
         return True
 
     def begin_control(self, item: Leaves | Arrives) -> None:
-        """Lets a tenant leave or arrive, before all else."""
+        """Lets a tenant leave or arrive, before all other jobs."""
         self._shard.begin_job(item.tenant, self._control(item), first=True)
 
     def _control(self, item: Leaves | Arrives) -> Steps[None]:
@@ -97,7 +97,7 @@ class Jobs:
             yield from shard.keeping.forget_old(log, one)
 
     def _arrive(self, log: Log, item: Arrives) -> Steps[None]:
-        """Makes a state that arrives; one that can't be made is refused, and the tenant is empty then."""
+        """Restores an arriving state; if it can't be restored, it is refused, and the tenant is then empty."""
         shard = self._shard
         try:
             self._suspects.demand_hope(log)

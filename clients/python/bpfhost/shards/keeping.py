@@ -1,4 +1,4 @@
-"""Snapshots of tenants, and what is dropped after them: entries that are in a snapshot, replies that are old, sessions of long ago.
+"""Snapshots of tenants, and what is dropped after them: entries that are in a snapshot, old replies, and old sessions.
 
 All of it is done in steps, so that other tenants are served between two of them.
 """
@@ -20,7 +20,7 @@ from bpfhost.shards.settings import Settings
 from bpfhost.shards.writing import Writing
 from bpfhost.state import Steps
 
-# Replies are looked at so often while they get as old as they may.
+# Replies are checked so often during the time for which they are kept.
 _LOOKS = 8
 # Replies have at most so many marks by their bytes.
 _MARKS = 32
@@ -29,7 +29,7 @@ _LEAST_SECONDS, _SECONDS_TO_SETTLE = 1.0, 3.0
 
 
 def _age(marked: tuple[Mark, Log]) -> tuple[float, tuple[int, int]]:
-    """By which marks of several tenants are ordered, the oldest first."""
+    """The order of the marks of several tenants, the oldest first."""
     return marked[0].served, order(marked[0].place)
 
 
@@ -40,28 +40,28 @@ class Keeping:
         self._writing, self._settings, self._build, self._metrics = writing, settings, build, metrics
         self._redis, self._keys = writing.redis, writing.keys
         self._looked = self._settled = 0.0
-        # Tenants of which no snapshot could be taken.
+        # Tenants whose snapshot failed.
         self.failed: set[int] = set()
-        # How many bytes of replies have come since it was looked at.
+        # The bytes of replies that have come since the last check.
         self.came = 0
-        # What is to be played again is not more than so much of what may be.
+        # An upper bound of what has to be played again, as a share of what may be.
         self._share = math.inf
-        # Up to which place replies of tenants are dropped since all have too many bytes.
+        # The place up to which each tenant's replies are dropped because all have too many bytes.
         self._drop_by_bytes: dict[int, bytes] = {}
 
     def begin(self) -> None:
-        """Begins with tenants that were just made."""
+        """Begins with tenants that were just restored."""
         self._looked = self._redis.system.now()
         self.failed.clear()
         self._drop_by_bytes.clear()
         self.reckon()
 
     def reckon(self) -> None:
-        """Looks at all tenants the next time, since one was made anew."""
+        """Checks all tenants the next time, since one was restored."""
         self._share = math.inf
 
     def note(self, frames: int, size: int) -> None:
-        """Notes that a call was answered, of so many frames, and bytes with its replies."""
+        """Notes a call that has its replies: how many frames it has, and how many bytes together with its replies."""
         settings = self._settings
         self._share += 1 / settings.snapshot_entries + frames / settings.snapshot_frames + size / settings.snapshot_bytes
 
@@ -70,7 +70,7 @@ class Keeping:
         return Manifest(entry.decode(), self._build).summed()
 
     def keep(self, serving: Serving, log: Log) -> Steps[Manifest]:
-        """Puts the state of a tenant down, in pieces of which nothing speaks yet."""
+        """Stores the state of a tenant, in pieces that no manifest names yet."""
         stream = yield from serving.state(log.tenant, log.last_snapshot, log.history)
         name, digest = self._redis.system.fresh(), hashlib.sha256()
         for at, piece in enumerate(pieces_of(stream)):
@@ -82,7 +82,7 @@ class Keeping:
     # Snapshots.
 
     def due(self, logs: Sequence[Log], busy: set[int]) -> Log | None:
-        """The tenant that has most to be played again, if all of them have more than a worker that begins should play."""
+        """The tenant that has most to play again, if all tenants together have more than a starting worker should play."""
         settings = self._settings
         if self._share < 1:
             return None
@@ -101,12 +101,12 @@ class Keeping:
         return max(can, key=lambda log: shares[log.tenant]) if can else None
 
     def snapshot(self, serving: Serving, log: Log) -> Steps[None]:
-        """Takes a snapshot of a tenant, and drops what came before the one before it."""
+        """Takes a snapshot of a tenant, and drops what came before the previous one."""
         old, began = log.before, self._redis.system.now()
         if log.since.changed or log.snapshot is None:
             manifest = yield from self.keep(serving, log)
         else:
-            # The same state, behind more frames.
+            # The same state, after more frames.
             manifest = log.snapshot.at(log.place)
         self._writing.keep_snapshot(log, manifest)
         log.since = Since()
@@ -116,7 +116,7 @@ class Keeping:
         yield from self._forget_sessions(log)
 
     def forget_old(self, log: Log, old: Manifest | None) -> Steps[None]:
-        """Drops the pieces of a snapshot, and what is in the one before the last."""
+        """Drops the pieces of a snapshot, and the entries that the snapshot before the last one covers."""
         kept = {name for manifest in (log.snapshot, log.before) if manifest for name in manifest.names()}
         if old:
             yield from self._writing.drop_pieces([name for name in old.names() if name not in kept])
@@ -126,7 +126,7 @@ class Keeping:
         yield from self.drop_old(log)
 
     def drop_before(self, log: Log) -> Steps[None]:
-        """Drops the snapshot before the last one, and what is in the last one: where there is no memory for more."""
+        """Drops the snapshot before the last one, and the entries that the last one covers, if there is no memory for more."""
         if log.before and log.snapshot:
             names = set(log.before.names()) - set(log.snapshot.names())
             self._writing.note(self._keys.snapshots, f"{log.tenant}:before", b"")
@@ -138,15 +138,15 @@ class Keeping:
             yield from self.drop_old(log)
 
     def make_room(self, serving: Serving, log: Log) -> Steps[None]:
-        """Drops all that can be of a tenant: what its state can be made without, and replies that are old."""
+        """Drops all that can be dropped of a tenant: what is not needed to restore its state, and old replies."""
         if log.since.size:
             yield from self.snapshot(serving, log)
         yield from self.drop_before(log)
 
-    # Ages, by how long the shard was served.
+    # Ages, in seconds for which the shard was served.
 
     def look_at_ages(self, logs: Sequence[Log], begin: Callable[[int, Generator[None, None, None]], None], busy: set[int]) -> None:
-        """Now and then marks how far the tenants have come, and drops replies that are old."""
+        """Now and then marks the tenants' places, and drops old replies."""
         now = self._redis.system.now()
         if now < self._looked + max(_LEAST_SECONDS, self._settings.reply_seconds / _LOOKS):
             return
@@ -156,7 +156,7 @@ class Keeping:
                 begin(log.tenant, self.drop_old(log))
 
     def look_at_bytes(self, logs: Sequence[Log], begin: Callable[[int, Generator[None, None, None]], None], busy: set[int]) -> None:
-        """Marks how far tenants have come as often as replies have so many bytes more; where all have more than they may, drops the oldest."""
+        """Marks the place of each tenant once per so many bytes of replies; if all together have more than they may, drops the oldest."""
         most = self._settings.reply_bytes
         if self.came < most // _MARKS:
             return
@@ -172,7 +172,7 @@ class Keeping:
             self._drop_by_bytes[log.tenant] = one.place
 
     def is_due_to_look(self) -> bool:
-        """Whether it is time to look at what waits, and at the server's memory."""
+        """Whether it is time to check what waits, and the server's memory."""
         now = self._redis.system.now()
         if now < self._settled + _SECONDS_TO_SETTLE:
             return False
@@ -180,7 +180,7 @@ class Keeping:
         return True
 
     def look_at_waiting(self, logs: Sequence[Log], busy: set[int]) -> None:
-        """Looks whether something is said to wait where nothing does."""
+        """Checks whether something is recorded as waiting though nothing waits."""
         weights = self._redis.hgetall(self._keys.waiting)
         self._metrics.set("bpfhost_worker_waiting_bytes", sum(map(int, weights.values())))
         for tenant, weight in weights.items():
@@ -188,7 +188,7 @@ class Keeping:
                 logs[int(tenant)].settle(self._writing.note)
 
     def drop_old(self, log: Log) -> Steps[None]:
-        """Marks how far a tenant has come, and drops replies that are old and in the snapshot before the last one."""
+        """Marks a tenant's place, and drops replies that are old and in the snapshot before the last one."""
         served = self._writing.lease.served()
         kept = log.mark(served, self._settings.reply_seconds)
         self._writing.note(self._keys.marks, log.tenant, kept)
@@ -200,7 +200,7 @@ class Keeping:
 
     @staticmethod
     def _kept_from(log: Log) -> bytes:
-        """Behind which entry frames and replies are needed to make the state of the snapshot before the last one."""
+        """The entry after which frames and replies are needed to restore the state of the snapshot before the last one."""
         if log.before:
             return log.before.place.encode()
         return log.snapshot.place.encode() if log.snapshot and log.is_cut else START

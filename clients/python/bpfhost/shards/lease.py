@@ -1,8 +1,8 @@
-"""A lease on a shard: one worker serves it, and one that was paused past its lease can write nothing once another one has it.
+"""A lease on a shard: one worker serves it, and a worker that was paused past its lease can write nothing once another one has it.
 
-The lease is a count that its holder raises. Who wants it watches the count over an interval of its own monotonic clock, and takes it
-where the count stood still; no clock of a server, nor of another machine, is asked. Each script that writes for a worker compares the
-worker's token, in the same step as it writes.
+The lease is a count that its holder raises. A worker that needs the lease watches the count over an interval of its own monotonic clock,
+and takes the lease if the count did not change; it uses no clock of a server or of another machine. Each script that writes for a worker
+compares the worker's token in the same step as it writes.
 """
 
 from __future__ import annotations
@@ -20,7 +20,7 @@ SECONDS = 5.0
 _LEAST_SECONDS = 0.1
 _PAUSE = 0.02
 
-# What is seen of a lease: its token and its count, and how long it runs.
+# What is read of a lease: its token and its count, and how long it runs.
 _Seen = tuple[bytes, bytes]
 
 
@@ -28,7 +28,7 @@ class Lease:
     """The lease of a worker on a shard."""
 
     def __init__(self, redis: Redis, keys: ShardKeys, seconds: float = SECONDS) -> None:
-        """A lease that another worker may take where it was not raised for so many seconds."""
+        """A lease that another worker may take if it was not raised for so many seconds."""
         if seconds < _LEAST_SECONDS:
             raise ValueError(f"a lease runs for at least {_LEAST_SECONDS} seconds, and not for {seconds}")
         self._redis, self._keys, self.seconds = redis, keys, seconds
@@ -36,13 +36,15 @@ class Lease:
         self.token = f"{self._system.fresh()} {socket.gethostname()} process {os.getpid()}"
         self._raised = 0.0
         self._is_lost = False
-        # Whether the worker before ended without giving it back.
+        # Whether the previous worker ended without releasing it.
         self.was_left = False
         self._work_until = 0.0
 
     def take(self, is_stopped: Callable[[], bool] = lambda: False) -> None:
-        """Takes the lease. Where another worker has it, waits until that stood still for its time; a LeaseHeld where it was raised
-        meanwhile, and a Stopped where this worker is told to stop."""
+        """Takes the lease. If another worker has it, waits until its count has not changed for its time.
+
+        Raises LeaseHeld if the count was raised meanwhile, and Stopped if this worker is asked to stop.
+        """
         first: _Seen | None = None
         seen, since = (b"", b""), 0.0
         while True:
@@ -50,7 +52,7 @@ class Lease:
             try:
                 token, count, milliseconds = scripts.TAKE(self._redis, [self._keys.lease], [self.token, self._milliseconds(), *expected])
             except Away:
-                # Its holder may not have reached it either.
+                # Its holder may not have reached Redis either.
                 first = None
                 raise
             if token == self.token.encode():
@@ -70,7 +72,7 @@ class Lease:
         return int(self.seconds * 1000)
 
     def keep(self) -> None:
-        """Raises the count, if a third of the lease's time is gone; a LeaseLost where the lease is another worker's."""
+        """Raises the count, if a third of the lease's time is gone; raises LeaseLost if the lease is another worker's."""
         if self._is_lost:
             raise self.lost()
         now = self._system.now()
@@ -81,9 +83,10 @@ class Lease:
                 raise self.lost()
 
     def keep_beside(self, until: Callable[[], bool]) -> None:
-        """Raises the count beside the work until that ends: however long a write takes over a slow link, the lease goes on.
+        """Raises the count at the same time as the worker works, until `until` holds: the lease outlasts a long write over a slow link.
 
-        It ends where the worker has told nothing for a while (`at_work`): one that hangs is not to hold its shard for ever.
+        The count is not raised any more if the worker has not called `at_work` for a while: a worker that hangs must not hold its shard
+        for ever.
         """
         while not until():
             try:
@@ -92,16 +95,16 @@ class Lease:
             except LeaseLost:
                 return
             except RedisError:
-                # The worker finds the same when it writes, and says so.
+                # The worker finds the same when it writes, and reports it.
                 pass
             self._system.sleep(min(self.seconds / 6, 0.5))
 
     def age(self) -> float:
-        """How many seconds ago it was raised last, by this worker's clock; nothing before it is held."""
+        """The seconds since it was raised last, by this worker's clock; 0 before it is held."""
         return self._system.now() - self._raised if self._raised else 0.0
 
     def at_work(self, seconds: float) -> None:
-        """Says that the worker goes on, and may take so many seconds for what it does now."""
+        """Records that the worker goes on, and may take so many seconds for its next work."""
         self._work_until = self._system.now() + seconds
         if self._is_lost:
             raise self.lost()
@@ -111,15 +114,15 @@ class Lease:
         return self._redis.hget(self._keys.lease, "token") == self.token.encode()
 
     def served(self) -> float:
-        """For how many seconds the shard was served, by all its workers."""
+        """The number of seconds for which the shard was served, by all its workers."""
         return int(self._redis.hget(self._keys.lease, "served") or 0) / 1000
 
     def release(self) -> None:
-        """Gives the lease back, so that another worker need not wait."""
+        """Releases the lease, so that another worker need not wait."""
         scripts.RELEASE(self._redis, [self._keys.lease], [self.token])
 
     def lost(self) -> LeaseLost:
-        """What to raise where the lease is not this worker's any more."""
+        """The error to raise if the lease is not this worker's any more."""
         holder = self._redis.hget(self._keys.lease, "token")
         now = f"; it is now {_who(holder)}'s" if holder else ""
         return LeaseLost(f"the lease on shard {self._keys.number} is lost{now}: this worker writes nothing more")
@@ -131,5 +134,5 @@ def _who(token: bytes) -> str:
 
 
 def holder_of(token: bytes | None) -> str:
-    """Who holds a lease, in words, or nothing."""
+    """The holder of a lease, in words, or an empty string."""
     return _who(token) if token else ""

@@ -1,7 +1,7 @@
 """The host in the worker's own process: the library for C (docs/EMBEDDING.md) as a shared object, called by ctypes.
 
-A call's frames are handled where they lie, and its replies are written behind one another. Test runs of one program that are alike are
-run by one call of the library. The library tells whether memory was ever refused to a tenant, also within a run.
+The library handles a call's frames in place, without a copy, and writes its replies one after another. One call of the library runs all
+test runs of one program that are alike. The library reports whether memory was ever refused to a tenant, also within a run.
 """
 
 from __future__ import annotations
@@ -25,9 +25,9 @@ from bpfhost.shards.shared_object import soname_of
 SONAME = f"libbpfhost.so.{bpfhost.__version__.rpartition('.')[0]}"
 _UNPROVED = "UNPROVED"
 _DONE = 0
-# A test run's frame has its length, tenant, command, descriptor and context before the packet.
+# In the frame of a test run, the length, tenant, command, descriptor and context come before the packet.
 _BEFORE_PACKET = 52
-# Replies are written into so many bytes.
+# The size of the buffer for replies in bytes.
 _ROOM = 1 << 16
 _FUNCTIONS = {
     "bpfhost_c_new": (ctypes.c_void_p, ctypes.c_size_t, ctypes.c_uint64, ctypes.c_uint64),
@@ -42,7 +42,7 @@ _FUNCTIONS = {
 
 
 class Library:
-    """The library in a file. A HostError says why it can't be used."""
+    """The library in a file. Raises HostError with the reason if it can't be used."""
 
     def __init__(self, path: str | os.PathLike[str]) -> None:
         self.path = Path(path)
@@ -55,7 +55,7 @@ class Library:
         if soname != SONAME:
             raise HostError(f"{self.path} is {soname}, and this package is made for {SONAME}")
         try:
-            # Short calls keep the interpreter for themselves; a run of many packets lets other threads go on.
+            # Short calls keep Python's global interpreter lock; a run of many packets releases it.
             short, long = ctypes.PyDLL(str(self.path)), ctypes.CDLL(str(self.path))
             self.new, self.handle, self.run_packets, self.memory_refused, self.free = (
                 getattr(long if "packets" in name else short, name) for name in _FUNCTIONS
@@ -71,7 +71,7 @@ class Library:
         return LibraryHost(self, tenants)
 
     def demand_build_of(self, program: Program) -> None:
-        """A HostError where the library is not of the program's build: one of them has no proofs, and the other has them."""
+        """Raises HostError if the library is not of the program's build: if one of them has no proofs, and the other has them."""
         folders = {name: Path(shutil.which(name) or name).absolute().parent for name in (str(self.path), os.fspath(program))}
         unproved = [name for name, folder in folders.items() if (folder / _UNPROVED).is_file()]
         proved = [name for name in folders if name not in unproved]
@@ -80,8 +80,10 @@ class Library:
 
 
 def find_library(named: str | None, program: Program) -> Library | None:
-    """The library that is named; else that of the variable BPFHOST_LIBRARY, or the one beside the program, or as a release is installed.
-    None where there is none of these, or its name is `none`."""
+    """The library that is named, that of BPFHOST_LIBRARY, the one next to the program, or that of an installed release.
+
+    They are tried in this order. None if there is none of these, or the name is `none`.
+    """
     named = named or os.environ.get("BPFHOST_LIBRARY")
     if named == "none":
         return None
@@ -113,7 +115,7 @@ class LibraryHost:
         self._ends: dict[tuple[int, int], array[int]] = {}
 
     def kill(self) -> None:
-        """Ends it: its memory goes back."""
+        """Ends the host and frees its memory."""
         if self._is_open:
             self._is_open = False
             self._library.free(self._at)
@@ -141,8 +143,10 @@ class LibraryHost:
             yield self._answered(bytearray(frame), None)
 
     def answer(self, stream: bytes, tenant: int, alike: int) -> bytes:
-        """The replies to whole frames for a tenant; what they say of a tenant is replaced, and the replies name tenant 0. Where the
-        frames are alike, how long each is."""
+        """The replies to whole frames for a tenant: its number replaces the one in each frame, and the replies name tenant 0.
+
+        `alike` is the length of each frame if they are alike.
+        """
         if alike > _BEFORE_PACKET and int.from_bytes(stream[6:8], "little") == Command.PROG_TEST_RUN:
             replies = self._runs(stream, tenant, alike)
             if replies is not None:
@@ -150,7 +154,7 @@ class LibraryHost:
         return self._answered(bytearray(stream), tenant)
 
     def _answered(self, stream: bytearray, tenant: int | None) -> bytes:
-        """The replies to frames, each handled where it lies."""
+        """The replies to frames, each handled in place."""
         self._demand_open()
         handle, host, written, room, out = self._library.handle, self._at, self._written, self._room, 0
         begin, at, place, answers = _address_of(stream), 0, ctypes.addressof(written), list[bytes]()
@@ -171,7 +175,7 @@ class LibraryHost:
         return b"".join(answers)
 
     def _runs(self, stream: bytes, tenant: int, size: int) -> bytes | None:
-        """The replies to test runs that are alike but for their packets; None where they are not, or the first of them is refused."""
+        """The replies to test runs that differ only in their packets; None if they differ otherwise, or the first of them is refused."""
         self._demand_open()
         heads, packets = zip(*struct.iter_unpack(f"{_BEFORE_PACKET}s{size - _BEFORE_PACKET}s", stream))
         head, many = heads[0], len(heads)
@@ -187,7 +191,7 @@ class LibraryHost:
         return None if self._status.value else _results(results.tobytes(), many)
 
     def _ends_of(self, size: int, many: int) -> array[int]:
-        """Where packets of one size end."""
+        """The offsets at which packets of one size end."""
         if (size, many) not in self._ends:
             if len(self._ends) >= 64:
                 self._ends.clear()
@@ -196,12 +200,12 @@ class LibraryHost:
 
 
 def _address_of(data: bytearray) -> int:
-    """Where bytes lie, which stay there as long as their length does."""
+    """The address of bytes, which does not change while their length does not."""
     return ctypes.addressof(ctypes.c_char.from_buffer(data))
 
 
 def _results(results: bytes, many: int) -> bytes:
-    """The replies to test runs that were done, of tenant 0."""
+    """The replies to successful test runs, of tenant 0."""
     head = Reply(0, Command.PROG_TEST_RUN, 0, bytes(4)).to_bytes()
     replies = bytearray(head * many)
     for at in range(4):

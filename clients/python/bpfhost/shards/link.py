@@ -1,4 +1,4 @@
-"""A connection to a Redis by its URL. This is the one module that touches the library redis (of Debian: python3-redis)."""
+"""A connection to a Redis by its URL. Only this module uses the library redis (of Debian: python3-redis)."""
 
 from __future__ import annotations
 
@@ -19,9 +19,9 @@ from bpfhost.shards.errors import Away, Moved, NoScript, NotAllowed, OutOfMemory
 from bpfhost.shards.system import Pending, Word
 
 _SECONDS_TO_CONNECT = 5.0
-# How errors begin that say that a server, or its cluster, can't do it just now, and has done nothing of it.
+# How errors begin if a server, or its cluster, can't run a command now, and has run nothing of it.
 _AWAY = ("NOREPLICAS", "UNBLOCKED", "CLUSTERDOWN", "MASTERDOWN", "READONLY", "TRYAGAIN", "ASK ")
-# What was sent and is acknowledged by nobody for so long ends a connection, also where much is on its way over a slow link.
+# A connection ends if what was sent is not acknowledged for so long, even if much is in transit over a slow link.
 _MILLISECONDS_UNACKNOWLEDGED = 10_000
 _READ_AT_ONCE = 1 << 16
 # Linux's TCP_USER_TIMEOUT, which has no name in the types of the library.
@@ -38,7 +38,7 @@ def _library(name: str = "redis") -> Any:
 
 
 def _pool(url: str, classes: Any) -> Any:
-    """What makes connections to a URL; a RedisError where it is none. By TLS, the name in the server's certificate is compared."""
+    """What makes connections to a URL; raises RedisError if it is no URL. With TLS, the name in the server's certificate is checked."""
     try:
         pool = classes.from_url(url)
         if url.startswith("rediss:"):
@@ -50,7 +50,7 @@ def _pool(url: str, classes: Any) -> Any:
 
 @contextlib.contextmanager
 def _told() -> Iterator[None]:
-    """Tells the library's errors as this package's own."""
+    """Turns the library's errors into this package's own."""
     errors = _library().exceptions
     try:
         yield
@@ -79,7 +79,7 @@ def _told() -> Iterator[None]:
 
 
 def packed(words: Sequence[Word]) -> bytes:
-    """A command as the server reads it. A worker's turn names 64 streams, for which the library's own form takes four times as long."""
+    """A command as the server reads it. A worker's turn names 64 streams, for which the library's own encoder takes four times as long."""
     parts = [b"*%d\r\n" % len(words)]
     for word in words:
         parts.append(_bulk(word) if type(word) is str else _bulk_of(word if isinstance(word, bytes) else str(word).encode()))
@@ -108,15 +108,15 @@ class SocketPending:
         return self
 
     def is_answered(self) -> bool:
-        """Whether the answer, or some of it, was there when it was last looked for (`any_of`)."""
+        """Whether the reply, or some of it, was there when `any_of` last looked for it."""
         return self.value is not NOTHING or self.link.has_more
 
     def fileno(self) -> int:
-        """The socket that the answer comes by."""
+        """The socket that the reply comes by."""
         return self.link.fileno()
 
     def answer(self) -> Any:
-        """Waits for the answer."""
+        """Waits for the reply."""
         while self.value is NOTHING:
             self.link.read_one()
         if isinstance(self.value, Exception):
@@ -126,22 +126,22 @@ class SocketPending:
 
 
 class SocketLink:
-    """A connection, made by the library, and made anew where it broke. Commands that are sent behind one another are answered in order."""
+    """A connection, made by the library, and made anew if it broke. Redis replies in order to commands sent one after another."""
 
     def __init__(self, url: str) -> None:
-        """A RedisError where the URL is none."""
+        """Raises RedisError if the URL is none."""
         self._connection = _pool(url, _library().ConnectionPool).make_connection()
         self._answers = Answers()
         self._pending: deque[SocketPending] = deque()
-        # Whether anything has come that was not read yet, as it was last looked.
+        # Whether unread bytes had come at the last check.
         self.has_more = False
 
     def call(self, words: Sequence[Word], seconds: float) -> Any:
-        """The answer to a command, within so many seconds."""
+        """The reply to a command, within so many seconds."""
         return self.begin(words, seconds).answer()
 
     def begin(self, words: Sequence[Word], seconds: float) -> SocketPending:
-        """Sends a command, whose answer is to come within so many seconds."""
+        """Sends a command, whose reply has to come within so many seconds."""
         pending = SocketPending(self, time.monotonic() + seconds)
         self._pending.append(pending)
         try:
@@ -152,7 +152,7 @@ class SocketLink:
         return pending
 
     def read_one(self) -> None:
-        """Waits for the next answer, and gives it to the command that was sent first. Where the connection breaks, no command has one."""
+        """Waits for the next reply, and gives it to the command that was sent first. If the connection breaks, no command has a reply."""
         pending = self._pending[0]
         try:
             while (value := self._answers.next()) is NOTHING:
@@ -169,12 +169,12 @@ class SocketLink:
         pending.value = self._connection._parser.parse_error(value.text) if isinstance(value, Refusal) else value
 
     def is_ready(self) -> bool:
-        """Whether there is no need to wait for the socket."""
+        """Whether a read from the socket does not wait."""
         sock = self._connection._sock
         return self.has_more or not sock or bool(hasattr(sock, "pending") and sock.pending())
 
     def fileno(self) -> int:
-        """The socket; below 0 where there is none."""
+        """The socket; below 0 if there is none."""
         return int(self._connection._sock.fileno()) if self._connection._sock else -1
 
     def _prepare(self, seconds: float) -> None:
@@ -189,7 +189,7 @@ class SocketLink:
         connection._sock.settimeout(seconds)
 
     def _break(self, error: Exception) -> None:
-        """Ends the connection: none of the commands that were sent has an answer."""
+        """Ends the connection: none of the commands that were sent gets a reply."""
         if isinstance(error, NotRedis):
             error = ConnectionError(str(error))
         self._connection.disconnect()
@@ -203,7 +203,7 @@ class SocketLink:
 
 
 def any_of(pending: Sequence[Pending], seconds: float) -> None:
-    """Waits until one of these has an answer, at most so many seconds."""
+    """Waits until one of these has a reply, at most so many seconds."""
     waiting = [one for one in (each.first for each in pending) if isinstance(one, SocketPending) and one.value is NOTHING]
     if len(waiting) < len(pending) or any(one.link.is_ready() for one in waiting):
         seconds = 0.0
@@ -212,14 +212,14 @@ def any_of(pending: Sequence[Pending], seconds: float) -> None:
 
 
 class AsyncConnection:
-    """The same on an event loop, for one call at a time. A call that is broken off ends the connection, and the next one makes it anew."""
+    """The same on an event loop, for one call at a time. A cancelled call ends the connection, and the next one makes a new one."""
 
     def __init__(self, url: str) -> None:
-        """A RedisError where the URL is none."""
+        """Raises RedisError if the URL is none."""
         self._connection = _pool(url, _library("redis.asyncio").ConnectionPool).make_connection()
 
     async def call(self, words: Sequence[Word], seconds: float) -> Any:
-        """The answer to a command, within so many seconds."""
+        """The reply to a command, within so many seconds."""
         connection, is_whole = self._connection, False
         with _told():
             try:

@@ -1,4 +1,4 @@
-"""What Redis has of one tenant: its streams, its snapshots, and how far it has come."""
+"""What Redis has of one tenant: its streams, its snapshots, and the place that it has reached."""
 
 from __future__ import annotations
 
@@ -22,7 +22,7 @@ Replies = dict[bytes, dict[bytes, bytes]]
 
 @dataclass
 class Since:
-    """What came since the last snapshot: so many entries, frames, and bytes of frames and replies."""
+    """What came since the last snapshot: entries, frames, and bytes of frames and replies."""
 
     entries: int = 0
     frames: int = 0
@@ -32,8 +32,10 @@ class Since:
 
 @dataclass
 class Mark:
-    """A place: how many seconds the shard had been served when it was reached, and how many bytes of replies are kept that came behind
-    the mark before it."""
+    """A place: when it was reached, and the bytes of replies since the mark before it.
+
+    The time is the number of seconds for which the shard had been served. The bytes are those of kept replies.
+    """
 
     served: float
     place: bytes
@@ -41,12 +43,12 @@ class Mark:
 
     @classmethod
     def read(cls, kept: bytes) -> Mark:
-        """As it is kept; one without a size has none that is known."""
+        """Reads its text in Redis; a text without a size has no known size."""
         served, place, *size = kept.split(b"@")
         return cls(float(served), place, int(size[0]) if size else 0)
 
     def to_bytes(self) -> bytes:
-        """The same."""
+        """Its text in Redis."""
         return b"%.3f@%s@%d" % (self.served, self.place, self.size)
 
 
@@ -66,7 +68,7 @@ class Log:
     marks: list[Mark] = field(default_factory=list)
     unmarked: int = 0
     aside: Aside | None = None
-    # Whether the last snapshot is the only one, and the stream has nothing of what came before it.
+    # Whether the last snapshot is the only one, and the stream has nothing from before it.
     is_cut: bool = False
 
     @property
@@ -82,7 +84,7 @@ class Log:
         return self.redis.last_id(self.replies)
 
     def manifests(self) -> list[Manifest]:
-        """The snapshots, the last one first; those that are damaged are left out."""
+        """The snapshots, the last one first; damaged ones are left out."""
         found = []
         for name in (f"{self.tenant}", f"{self.tenant}:before"):
             kept = self.redis.hget(self.keys.snapshots, name)
@@ -94,30 +96,30 @@ class Log:
         return found
 
     def reaches(self, place: bytes, last: bytes) -> bool:
-        """Whether the stream still has all entries behind a place that have replies."""
+        """Whether the stream still has all entries after a place that have replies."""
         dropped = self.redis.dropped_id(self.frames)
         if order(dropped) <= order(place) or order(last) <= order(place):
             return True
         return not self.redis.xrange(self.replies, after(place), min(dropped, last, key=order), 1)
 
     def settle(self, note: Callable[[str, int, bytes], None]) -> None:
-        """Where nothing waits, says so: what was dropped by others still has its weight."""
+        """If nothing waits, records that: the recorded weight still counts what others dropped."""
         if not self.redis.xrange(self.frames, after(self.place), b"+", 1):
             note(self.keys.waiting, self.tenant, b"0")
 
     def stream_of(self, manifest: Manifest) -> Steps[bytes]:
-        """The frames of a snapshot, in steps; a SnapshotDamaged where they are not those that were written."""
+        """The frames of a snapshot, in steps; raises SnapshotDamaged if they are not those that were written."""
         return read_pieces(self.redis, self.keys.pieces, manifest)
 
     def last_snapshot(self) -> Steps[bytes]:
-        """Those of the last snapshot."""
+        """The frames of the last snapshot."""
         if not self.snapshot:
             return b""
         stream: bytes = yield from self.stream_of(self.snapshot)
         return stream
 
     def both(self, place: bytes, last: bytes) -> Iterator[tuple[list[Entry], Replies]]:
-        """The entries behind a place up to another one, in pieces, with their replies."""
+        """The entries after a place up to another one, in pieces, with their replies."""
         while order(place) < order(last):
             entries = self.redis.xrange(self.frames, after(place), last, _READ_AT_ONCE)
             if not entries:
@@ -141,19 +143,21 @@ class Log:
     # Ages.
 
     def read_marks(self) -> None:
-        """The marks of this worker and those before it."""
+        """The marks of this worker and the previous ones."""
         kept = self.redis.hget(self.keys.marks, self.tenant) or b""
         self.marks = [Mark.read(one) for one in kept.split()]
 
     def mark(self, served: float, most: float) -> bytes:
-        """Notes how far the tenant has come after so many seconds, and forgets what is older than the last mark above `most` seconds
-        ago; gives the marks as they are kept."""
+        """Marks the tenant's place after so many seconds; returns the marks as Redis keeps them.
+
+        It forgets marks that are older than the last mark above `most` seconds ago.
+        """
         if not self.marks or self.marks[-1].place != self.place:
             self.marks.append(Mark(served, self.place, self.unmarked))
             self.unmarked = 0
         old = [at for at, one in enumerate(self.marks) if one.served <= served - most]
         if old:
-            # What could not be dropped of those that are forgotten is kept as that of the last one.
+            # Replies of forgotten marks that could not be dropped are added to the size of the last of these marks.
             self.marks[old[-1]].size += sum(one.size for one in self.marks[: old[-1]])
             self.marks = self.marks[old[-1] :]
         return b" ".join(one.to_bytes() for one in self.marks)
@@ -164,7 +168,7 @@ class Log:
         return old[-1] if old else START
 
     def kept_size(self) -> int:
-        """How many bytes of replies are kept, as far as it is known."""
+        """The known number of bytes of kept replies."""
         return self.unmarked + sum(one.size for one in self.marks)
 
     def dropped(self, least: bytes) -> None:

@@ -1,4 +1,4 @@
-"""Lines of a log as JSON, by choice: each line that a process writes on standard error is an object."""
+"""Optional JSON lines of a log: each line that a process writes on standard error is an object."""
 
 from __future__ import annotations
 
@@ -11,7 +11,7 @@ from typing import TextIO
 
 
 class JsonLines(io.TextIOBase):
-    """A standard error whose lines are JSON objects, with the time in UTC, the process, and what else is said of all of them."""
+    """A standard error whose lines are JSON objects, with the time in UTC, the process, and fields common to all lines."""
 
     def __init__(self, out: TextIO, **of_all: object) -> None:
         self._out, self._of_all = out, of_all
@@ -19,7 +19,7 @@ class JsonLines(io.TextIOBase):
         self._lock = threading.Lock()
 
     def write(self, text: str) -> int:
-        """Writes text; a line goes out when it is whole."""
+        """Writes text; a line is written when it is whole."""
         with self._lock:
             *lines, self._begun = (self._begun + text).split("\n")
             for line in lines:
@@ -29,5 +29,5 @@ class JsonLines(io.TextIOBase):
         return len(text)
 
     def flush(self) -> None:
-        """Writes what is whole."""
+        """Writes the whole lines."""
         self._out.flush()

@@ -1,8 +1,7 @@
-"""Snapshots in Redis: the frames that make a tenant's state, in pieces, and a manifest that says which they are.
+"""Snapshots in Redis: the frames that make a tenant's state, in pieces, and a manifest that names them.
 
-A manifest is small, and is changed in one step; pieces are written before it speaks of them, and dropped after it has ceased to. Its
-checksum is over what it says (but for the names of pieces) and a digest of all frames: a snapshot that is damaged or not whole is
-refused.
+A manifest is small, and is changed in one step; its pieces are written before it, and dropped after it. Its checksum covers its contents,
+except the names of pieces, and a digest of all frames: a snapshot that is damaged or not whole is refused.
 """
 
 from __future__ import annotations
@@ -23,7 +22,7 @@ _LARGEST = 1 << 32
 
 @dataclass(frozen=True)
 class Manifest:
-    """A snapshot: the entry that its state is behind, the build of bpfhost that had it, its pieces by their names, and checksums."""
+    """A snapshot: the entry after which the state was read, the build of bpfhost that had it, its pieces by their names, and checksums."""
 
     place: str
     build: str
@@ -46,16 +45,16 @@ class Manifest:
         return replace(self, place=place.decode()).summed()
 
     def renamed(self, name: str) -> Manifest:
-        """The same frames in pieces of other names. The checksum is not over the name."""
+        """The same frames in pieces with another name. The checksum does not cover the name."""
         return replace(self, name=name)
 
     def to_bytes(self) -> bytes:
-        """As it is kept."""
+        """Its bytes as Redis keeps them."""
         return json.dumps(asdict(self), sort_keys=True).encode()
 
     @classmethod
     def read(cls, kept: bytes) -> Manifest:
-        """What was kept; a SnapshotDamaged where it is none, or of another version, or not as it was written."""
+        """Reads a manifest; raises SnapshotDamaged if the bytes are none, are of another version, or differ from what was written."""
         try:
             found = cls(**json.loads(kept))
             is_whole = found.checksum == found._sum() and 0 <= found.size <= _LARGEST
@@ -73,13 +72,13 @@ class Manifest:
 
 
 def pieces_of(stream: bytes) -> Iterator[bytes]:
-    """The pieces of frames."""
+    """Splits frames into pieces."""
     for at in range(0, len(stream), PIECE):
         yield stream[at : at + PIECE]
 
 
 def read_pieces(redis: Redis, pieces: str, manifest: Manifest) -> Steps[bytes]:
-    """The frames of a snapshot, in steps; a SnapshotDamaged where a piece is missing or anything of it is not as it was."""
+    """The frames of a snapshot, in steps; raises SnapshotDamaged if a piece is missing or anything of it differs from what was written."""
     stream, digest = bytearray(), hashlib.sha256()
     for name in manifest.names():
         piece = redis.hget(pieces, name)

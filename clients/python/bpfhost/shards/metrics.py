@@ -1,5 +1,6 @@
-"""What a worker or a gateway tells of itself in numbers, and whether it is well, over HTTP: `/metrics` in Prometheus's text format
-(version 0.0.4), and `/health` in JSON.
+"""The metrics and the health of a worker or a gateway, over HTTP.
+
+`/metrics` has Prometheus's text format (version 0.0.4), and `/health` is JSON.
 """
 
 from __future__ import annotations
@@ -13,7 +14,7 @@ from pathlib import Path
 
 from bpfhost.shards.errors import ShardError
 
-# What each number is called, its kind, and what it says.
+# The name of each metric, its kind, and its help text.
 WORKER = {
     "bpfhost_worker_calls_total": ("counter", "calls that were answered"),
     "bpfhost_worker_frames_total": ("counter", "frames of calls that were answered"),
@@ -43,14 +44,14 @@ GATEWAY = {
 }
 PROCESS = {"process_resident_memory_bytes": ("gauge", "memory of the process"), "process_cpu_seconds_total": ("counter", "processor time")}
 
-# A number by its name, and by the values of its label.
+# A metric by its name, and by the values of its label.
 Numbers = Mapping[str, float | Mapping[str, float]]
 _LABEL = "why"
 _PAGE = 4096
 
 
 def text_of(said: Numbers, known: Mapping[str, tuple[str, str]]) -> str:
-    """Numbers as Prometheus reads them."""
+    """Metrics in Prometheus's text format."""
     lines = []
     for name, (kind, what) in known.items():
         value = said.get(name, 0.0)
@@ -63,7 +64,7 @@ def text_of(said: Numbers, known: Mapping[str, tuple[str, str]]) -> str:
 
 
 def of_process() -> Numbers:
-    """The memory and the processor time of this process; nothing where the system does not tell them."""
+    """The memory and the processor time of this process; empty if the system does not report them."""
     try:
         resident = int(Path("/proc/self/statm").read_text().split()[1]) * _PAGE
     except (OSError, ValueError, IndexError):
@@ -72,38 +73,38 @@ def of_process() -> Numbers:
 
 
 class Told:
-    """Numbers that a process counts, and what is asked when they are looked at."""
+    """Metrics that a process counts, and those that are computed when they are read."""
 
     def __init__(self, known: Mapping[str, tuple[str, str]], look: Callable[[], Numbers] = dict) -> None:
         self._known, self._look = known, look
         self._counted: dict[str, float] = dict.fromkeys(known, 0.0)
 
     def add(self, name: str, many: float = 1.0) -> None:
-        """Counts so many more."""
+        """Adds so many to a metric."""
         self._counted[name] += many
 
     def set(self, name: str, value: float) -> None:
-        """Has another value from now on."""
+        """Sets a metric."""
         self._counted[name] = value
 
     def value(self, name: str) -> float:
-        """What a number was counted to."""
+        """The value of a metric."""
         return self._counted[name]
 
     def text(self) -> str:
-        """All of them, as Prometheus reads them."""
+        """All of them, in Prometheus's text format."""
         return text_of({**self._counted, **self._look()}, self._known) + text_of(of_process(), PROCESS)
 
 
-# Whether a process is well, and what it says of that.
+# Whether a process is well, and the details.
 Health = Callable[[], tuple[bool, Mapping[str, object]]]
 
 
 class Page:
-    """An HTTP server with both pages, in a thread of its own. It tells nothing that a customer's frames say, and takes nothing."""
+    """An HTTP server with both pages, in a thread of its own. It shows nothing of customers' frames, and accepts no data."""
 
     def __init__(self, address: str, text: Callable[[], str], health: Health) -> None:
-        """It listens at `host:port`; a ShardError where it can't."""
+        """Listens at `host:port`; raises ShardError if it can't."""
         host, _, port = address.rpartition(":")
         if not host or not port.isdecimal():
             raise ShardError(f"metrics are read at host:port, and not at {address}")
@@ -123,7 +124,7 @@ class Page:
 
 def _handler(text: Callable[[], str], health: Health) -> type[http.server.BaseHTTPRequestHandler]:
     class Handler(http.server.BaseHTTPRequestHandler):
-        # A reader who says nothing is not waited for.
+        # The server does not wait for a client that sends nothing.
         timeout = 5
 
         def do_GET(self) -> None:
@@ -144,6 +145,6 @@ def _handler(text: Callable[[], str], health: Health) -> type[http.server.BaseHT
             self.wfile.write(data)
 
         def log_message(self, format: str, *_arguments: object) -> None:
-            """Nothing is logged of who reads it."""
+            """Requests are not logged."""
 
     return Handler

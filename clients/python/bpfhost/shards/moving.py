@@ -1,8 +1,8 @@
-"""Moves a customer to another shard, or removes it. What was begun and did not end is ended by the same call, or by a worker.
+"""Moves a customer to another shard, or removes it. The same call, or a worker, completes what was begun and did not end.
 
-The old shard takes back the seat and keeps the frames that make the tenant's state; they are kept there until the new shard has made
-it, and the directory then has the new seat. Calls that come in between wait; no other customer is touched. An arrival that the new
-shard refuses turns the move back: the customer gets a new seat where it was.
+The old shard takes back the seat and keeps the frames that make the tenant's state until the new shard has restored it; then the
+directory has the new seat. Calls that come in between wait; no other customer is affected. If the new shard refuses the arrival, the move
+is turned back: the customer gets a new seat on the old shard.
 """
 
 from __future__ import annotations
@@ -28,9 +28,9 @@ Answer = TypeVar("Answer")
 
 
 def move(client: Client, name: str, shard: int | None = None, seconds: float = SECONDS) -> Seat:
-    """Moves a customer to a shard, or to the least loaded other one, and gives its new seat.
+    """Moves a customer to a shard, or to the least loaded other one, and returns its new seat.
 
-    A MoveError where that can't be, and a NoReply where a worker does not answer in time: then the same call goes on later.
+    Raises MoveError if it can't be moved, and NoReply if a worker does not reply in time: then the same call continues the move later.
     """
     deadline = client.system.now() + seconds
     seat, next_seat = _directory(client, deadline, lambda directory: directory.begin_move(name, shard))
@@ -40,7 +40,7 @@ def move(client: Client, name: str, shard: int | None = None, seconds: float = S
 
 
 def remove(client: Client, name: str, seconds: float = SECONDS) -> None:
-    """Removes a customer, with all that it has."""
+    """Removes a customer, with all its data."""
     deadline = client.system.now() + seconds
     seat, _ = _directory(client, deadline, lambda directory: directory.begin_move(name, removed=True))
     moved = _Move(client, name, seat, deadline)
@@ -50,7 +50,7 @@ def remove(client: Client, name: str, seconds: float = SECONDS) -> None:
 
 
 def end_move(client: Client, name: str, seconds: float = SECONDS) -> None:
-    """Ends a move, or a removal, that was begun; nothing where there is none."""
+    """Completes a move, or a removal, that was begun; does nothing if there is none."""
     moves = client.directory.moves()
     if name in moves:
         if moves[name] is None:
@@ -60,9 +60,9 @@ def end_move(client: Client, name: str, seconds: float = SECONDS) -> None:
 
 
 def abort_move(client: Client, name: str, seconds: float = SECONDS) -> Seat:
-    """Takes back a move that was begun, or a removal, and gives the seat that the customer has then.
+    """Takes back a move that was begun, or a removal, and returns the seat that the customer then has.
 
-    It is a new seat of the shard where the customer was; one that has arrived stays where it is.
+    It is a new seat of the shard that the customer was on; a customer that has arrived stays on the new shard.
     """
     deadline = client.system.now() + seconds
     moves = _directory(client, deadline, lambda directory: directory.moves())
@@ -85,14 +85,14 @@ class _Refused(Exception):
 
 
 class _Move:
-    """A customer on its way from a seat."""
+    """A customer that moves from a seat."""
 
     def __init__(self, client: Client, name: str, seat: Seat, deadline: float) -> None:
         self._client, self._name, self._seat, self._deadline = client, name, seat, deadline
         self._redis, self._keys = client.shard(seat.shard, deadline)
 
     def to(self, next_seat: Seat, turned: str = "") -> Seat:
-        """Goes on until the customer has its next seat; where that is refused, back to the shard where it was, once."""
+        """Continues until the customer has its next seat; if that is refused, turns back to the old shard, once."""
         try:
             if not self._has_arrived(next_seat):
                 self.leave()
@@ -115,7 +115,7 @@ class _Move:
         claim = [seat.tenant, seat.generation, seat.owned_by(self._name)]
 
         def leave(redis: Redis) -> bytes | None:
-            # A customer that never called has a seat in the directory alone.
+            # A customer that never called has a seat only in the directory.
             scripts.CLAIM(redis, [keys.seats], claim)
             entry: bytes | None = scripts.LEAVE(redis, [keys.seats, keys.frames(seat.tenant)], claim)
             return entry
@@ -126,7 +126,7 @@ class _Move:
         self._wait(self._redis, keys, seat.tenant, entry)
 
     def _wait(self, redis: Redis, keys: ShardKeys, tenant: int, entry: bytes) -> dict[bytes, bytes]:
-        """The reply to an entry that says that a tenant leaves or arrives; nothing where that was dropped since."""
+        """The reply to an entry with which a tenant leaves or arrives; empty if the reply was dropped since."""
         name, behind = keys.replies(tenant), before(entry)
         while True:
             wait = min(_SECONDS_TO_LOOK, self._deadline - self._client.system.now())
@@ -142,12 +142,12 @@ class _Move:
     # Arriving.
 
     def _arrive(self, next_seat: Seat) -> None:
-        """Gives what has left to the next shard, and waits until it has arrived; a _Refused where the shard refuses it."""
+        """Gives the state of the tenant to the next shard, and waits until it has arrived; raises _Refused if the shard refuses it."""
         redis, keys = self._client.shard(next_seat.shard, self._deadline)
         kept = self._redis.patiently(lambda limited: limited.hget(self._keys.left, self._seat.generation), self._deadline)
         if kept is None:
             if self._has_arrived(next_seat):
-                # Another one has ended the same move meanwhile.
+                # Another process has ended the same move meanwhile.
                 return
             raise MoveError(f"shard {self._seat.shard} has no state of customer {self._name}, which has left it")
         try:
@@ -159,7 +159,7 @@ class _Move:
         words = [next_seat.tenant, next_seat.generation, manifest.to_bytes(), *(word for pair in records.items() for word in pair)]
         entry = scripts.ARRIVE.patiently(redis, used, words, self._deadline)
         if entry is None:
-            # Who took the move back has not come to its end.
+            # The process that took the move back has not finished.
             raise _Refused(b"", f"the seat on shard {next_seat.shard} is closed: the move was taken back")
         if entry != b"has":
             self._demand_made(redis, keys, next_seat, entry)
@@ -195,10 +195,10 @@ class _Move:
         redis, keys = self._client.shard(seat.shard, self._deadline)
         scripts.SEAT.patiently(redis, [keys.seats], [seat.tenant, seat.generation, seat.owned_by(self._name)], self._deadline)
 
-    # The end.
+    # The end of a move.
 
     def forget(self) -> None:
-        """Drops what the old shard has kept."""
+        """Drops the state that the old shard has kept."""
         kept = self._redis.patiently(lambda limited: limited.hget(self._keys.left, self._seat.generation), self._deadline)
         if kept is not None:
             _drop_pieces(self._redis, self._keys, Manifest.read(kept), self._deadline)
@@ -206,14 +206,16 @@ class _Move:
         self._redis.patiently(lambda limited: limited.hdel(self._keys.left, self._seat.generation), self._deadline)
 
     def end(self, next_seat: Seat | None) -> None:
-        """Says it in the directory."""
+        """Records the end in the directory."""
         _directory(self._client, self._deadline, lambda directory: directory.end_move(self._name, self._seat, next_seat))
 
     # Back.
 
     def turn_back(self, next_seat: Seat | None) -> Seat:
-        """Takes the move back: the customer leaves and comes back, so that no step of the move that is late does anything. One that has
-        arrived is ended."""
+        """Takes the move back: the customer leaves and returns, so that no late step of the move has an effect.
+
+        A move whose customer has arrived is completed.
+        """
         if next_seat and not self._close(next_seat, b""):
             return self.to(next_seat)
         self.leave()
@@ -225,14 +227,14 @@ class _Move:
         return self.to(again, "the move was taken back")
 
     def _turn(self, next_seat: Seat, refused: _Refused) -> None:
-        """Lets the customer come back where it was, after the next shard has refused it."""
+        """Lets the customer return to the old shard, after the next shard has refused it."""
         self._close(next_seat, refused.entry)
         again = _directory(self._client, self._deadline, lambda directory: directory.turn_move(self._name, self._seat, next_seat))
         if again:
             self.to(again, refused.why)
 
     def _close(self, seat: Seat, entry: bytes) -> bool:
-        """Closes a seat where nobody has arrived, or an entry by which nobody could; whether it is closed."""
+        """Closes a seat that nobody has arrived at, or an entry by which nobody could; returns whether it is closed."""
         redis, keys = self._client.shard(seat.shard, self._deadline)
         words = [seat.tenant, seat.generation, entry]
         closed = scripts.CLOSE_SEAT.patiently(redis, [keys.seats, keys.sessions(seat.generation)], words, self._deadline)
@@ -244,7 +246,7 @@ class _Move:
 
 
 def arrival(generation: int) -> str:
-    """With which the names of pieces begin that arrive at a seat."""
+    """The prefix of the names of pieces that arrive at a seat."""
     return f"arrival-{generation}"
 
 

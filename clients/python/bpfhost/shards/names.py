@@ -1,7 +1,7 @@
 """The keys of a shard and of the directory in Redis, the fields of entries, and the ids of entries.
 
-No script has keys of two shards, or of a shard and the directory, so each may be on a server of its own. The braces are what a cluster
-of Redis goes by.
+No script has keys of two shards, or of a shard and the directory, so each may be on its own server. The braces are the hash tags of a
+Redis cluster.
 """
 
 from __future__ import annotations
@@ -10,19 +10,19 @@ from dataclasses import dataclass
 
 PREFIX = "bpfhost"
 
-# Fields of an entry of frames, what it asks: frames, or that the tenant leaves or arrives.
+# Fields of an entry of frames: frames, or that the tenant leaves or arrives.
 FRAMES, LEAVES, ARRIVES = b"f", b"leave", b"arrive"
-# Fields of an entry of replies: replies, or a sentence that says why there are none.
+# Fields of an entry of replies: replies, or a sentence with the reason why there are none.
 REPLIES, FAULT = b"r", b"e"
 
-# What one customer may have waiting, in bytes of frames, where a call counts CALL_WEIGHT bytes more. A call more than that waits.
+# The most bytes of frames that one customer may have waiting; each call counts as CALL_WEIGHT bytes more. A further call waits.
 MOST_WAITING, CALL_WEIGHT = 4 << 20, 1024
 # So many sessions of one customer are remembered.
 MOST_SESSIONS = 1000
-# One process of a session gives fewer calls up than this.
+# One process of a session gives up fewer calls than this.
 GIVEN_UP_BY_ONE = 1_000_000
 
-# Where no entry is.
+# The id before all entries.
 START = b"0-0"
 _MOST_SEQUENCE = (1 << 64) - 1
 
@@ -42,7 +42,7 @@ class ShardKeys:
         return self._key(f"frames:{tenant}")
 
     def replies(self, tenant: int) -> str:
-        """The stream of a tenant's replies; each has the id of its entry of frames, so the last id is how far the tenant has come."""
+        """The stream of a tenant's replies; each has the id of its entry of frames, so the last id is the tenant's place."""
         return self._key(f"replies:{tenant}")
 
     @property
@@ -52,7 +52,7 @@ class ShardKeys:
 
     @property
     def seats(self) -> str:
-        """A hash from tenant numbers to generations, and who sits there (`Seat`)."""
+        """A hash from tenant numbers to generations, and the customer of the seat (`Seat`)."""
         return self._key("seats")
 
     @property
@@ -87,7 +87,7 @@ class ShardKeys:
 
     @property
     def words(self) -> str:
-        """A hash from tenant numbers to an operator's words on what is set aside."""
+        """A hash from tenant numbers to an operator's decisions on what is set aside."""
         return self._key("words")
 
     @property
@@ -136,12 +136,12 @@ class DirectoryKeys:
 
     @property
     def drained(self) -> str:
-        """A hash of shards that are given no customers."""
+        """A hash of shards that get no new customers."""
         return self.all[6]
 
     @property
     def servers(self) -> str:
-        """A hash from shards to the URL of their Redis, where that is not the directory's."""
+        """A hash from shards to the URL of their Redis, if that is not the directory's."""
         return self._key("servers")
 
     @property
@@ -169,5 +169,5 @@ def after(entry: bytes) -> bytes:
 
 
 def weight(stream: int) -> int:
-    """What a call of so many bytes counts while it waits."""
+    """The weight of a call of so many bytes while it waits."""
     return stream + CALL_WEIGHT

@@ -1,4 +1,4 @@
-"""An operator's words: a shard that is emptied, what is set aside, and what there is to see."""
+"""Operators' commands: emptying a shard, deciding on what is set aside, and showing the state."""
 
 from __future__ import annotations
 
@@ -19,7 +19,7 @@ _PAUSE = 0.1
 
 
 def drain(client: Client, shard: int, seconds: float) -> Iterator[tuple[str, Seat]]:
-    """Offers a shard to no customer any more, and moves its customers away; yields each with its new seat. The same call goes on later."""
+    """Stops offering a shard, and moves its customers away; yields each with its new seat. The same call goes on later."""
     client.directory.drain(shard)
     moves = client.directory.moves()
     for name, seat in sorted(client.directory.customers().items()):
@@ -29,8 +29,10 @@ def drain(client: Client, shard: int, seconds: float) -> Iterator[tuple[str, Sea
 
 
 def remove_shard(client: Client, shard: int, lost: bool) -> None:
-    """Takes a shard out (`Directory.remove_shard`). One that is said to be served is watched for some seconds: it is not, where its
-    count stands still."""
+    """Removes a shard (`Directory.remove_shard`).
+
+    If the directory has it as served, its count is watched for some seconds: the shard is not served if the count does not change.
+    """
     seen = client.directory.beats().get(shard)
     if seen is not None:
         client.system.sleep(_SECONDS_TO_ANSWER)
@@ -39,9 +41,9 @@ def remove_shard(client: Client, shard: int, lost: bool) -> None:
 
 
 def say(client: Client, name: str, word: str, seconds: float) -> str:
-    """Says a word on what is set aside of a customer, and waits until the worker has done it; gives what was set aside.
+    """Decides on what is set aside of a customer, waits until the worker has done it, and returns what was set aside.
 
-    A ShardError where nothing is set aside, or the word is none for it.
+    Raises ShardError if nothing is set aside, or the decision does not apply to it.
     """
     seat = client.directory.seat(name)
     if seat is None:
@@ -71,8 +73,11 @@ class _Lease:
 
 @dataclass(frozen=True)
 class SeenShard:
-    """A shard: its customers, the bytes that wait, who serves it and whether that one raises the lease, whether it is offered and drained,
-    and what is wrong with its Redis."""
+    """A shard as an operator sees it.
+
+    It has its customers, the bytes that wait, the worker that serves it and whether it raises the lease, whether the shard is offered and
+    drained, and what is wrong with its Redis.
+    """
 
     shard: int
     customers: int
@@ -87,7 +92,7 @@ class SeenShard:
 
 @dataclass(frozen=True)
 class Seen:
-    """All that there is to see. Of moves, the next seats; of what is set aside, the customer's name, or where it is, and why."""
+    """The whole state. For moves, the next seats; for what is set aside, the customer's name, or else its seat, and the reason."""
 
     shards: list[SeenShard]
     moves: dict[str, Seat | None]
@@ -96,7 +101,7 @@ class Seen:
 
 
 def look(client: Client) -> Seen:
-    """Looks at all there is; at the leases twice, to see whether they are raised."""
+    """Reads the whole state; reads the leases twice, to see whether they are raised."""
     loads, drained, beats = client.directory.loads(), client.directory.drained(), client.directory.beats()
     first = {shard: _lease_of(client, shard) for shard in loads}
     held = [lease.seconds for lease in first.values() if isinstance(lease, _Lease) and lease.token]
@@ -120,7 +125,7 @@ def show(client: Client) -> Iterator[str]:
 
 
 def lines(seen: Seen) -> Iterator[str]:
-    """What was seen, in lines."""
+    """The state, in lines."""
     for one in seen.shards:
         offered = "drained" if one.drained else "" if one.offered else "not offered"
         waits = f"{one.waiting // CALL_WEIGHT} KiB of calls wait" if one.waiting is not None else ""
@@ -135,7 +140,7 @@ def lines(seen: Seen) -> Iterator[str]:
 
 
 def plain(seen: Seen) -> dict[str, object]:
-    """What was seen, as JSON has it."""
+    """The state, as JSON."""
     return {
         "shards": [asdict(one) for one in seen.shards],
         "moves": {name: asdict(to) if to else None for name, to in sorted(seen.moves.items())},
@@ -145,7 +150,7 @@ def plain(seen: Seen) -> dict[str, object]:
 
 
 def place(name: str, seat: Seat) -> str:
-    """Where a customer is."""
+    """The seat of a customer."""
     return f"{name}: shard {seat.shard}, tenant {seat.tenant}"
 
 
@@ -155,7 +160,7 @@ def _near(client: Client, shard: int) -> tuple[Redis, ShardKeys]:
 
 
 def _lease_of(client: Client, shard: int) -> _Lease | str:
-    """The lease of a shard, or why it can't be seen."""
+    """The lease of a shard, or why it can't be read."""
     try:
         redis, keys = _near(client, shard)
         said = redis.hgetall(keys.lease)
@@ -165,7 +170,7 @@ def _lease_of(client: Client, shard: int) -> _Lease | str:
 
 
 def _is_raised(first: _Lease | str, second: _Lease) -> bool:
-    """Whether a lease was raised between two looks, or came to another worker."""
+    """Whether a lease was raised between two reads, or is another worker's."""
     return bool(second.token) and (not isinstance(first, _Lease) or (first.token, first.count) != (second.token, second.count))
 
 
@@ -178,7 +183,7 @@ def _health(seen: SeenShard) -> str:
 
 
 def _durability(client: Client, shard: int) -> str:
-    """What is wrong with how a shard's Redis keeps what it is given; nothing where it can't be reached, which its lease tells."""
+    """What is wrong with the durability of a shard's Redis; empty if it can't be reached, which the shard's lease shows."""
     try:
         redis, keys = _near(client, shard)
         return demand_durable(redis.near(keys.lease))
@@ -189,7 +194,7 @@ def _durability(client: Client, shard: int) -> str:
 
 
 def _waiting(client: Client, shard: int) -> int | None:
-    """How much waits in a shard, in bytes; None where its Redis does not say it."""
+    """The number of bytes that wait in a shard; None if its Redis does not report it."""
     try:
         redis, keys = _near(client, shard)
         return sum(int(one) for one in redis.hgetall(keys.waiting).values())

@@ -1,8 +1,8 @@
-"""What a worker reads: the entries of its tenants' streams, each of them from where the tenant has come to.
+"""Reads the entries of the tenants' streams, each stream from the place that the tenant has reached.
 
-The streams are read in several lanes, each with a connection and some of the tenants. A lane waits in Redis for entries, also while
-what another one has brought is played, or is being written. One lane for all would be given the first entry that comes, and have to
-ask for those that come together with it once more.
+The streams are read in several lanes; each lane has a connection and some of the tenants. A lane waits in Redis for entries while the
+entries of another lane are played, or while replies are written. With only one lane, Redis would return the first entry that comes, and
+the entries that come together with it would need a second read.
 """
 
 from __future__ import annotations
@@ -22,13 +22,13 @@ from bpfhost.shards.system import Pending
 # In a turn each tenant has calls of so many frames and bytes at most, or one call.
 TURN_FRAMES, TURN_BYTES = 512, 1 << 18
 _MOST_READ = 64
-# So long a lane waits for entries at most; and where some of its tenants can't be read just now.
+# A lane waits for entries for so long at most; the second number is for a lane with tenants that can't be read now.
 _SECONDS_TO_WAIT, _SECONDS_BESIDE = 1.0, 0.02
 
 
 @dataclass
 class _Asked:
-    """What a lane asks: its tenants with the places from which on they are read, and what it waits for."""
+    """What a lane reads: its tenants with the ids after which they are read, and the pending reply."""
 
     places: dict[int, bytes]
     pending: Pending
@@ -50,11 +50,11 @@ class Reading:
         self._shard = shard
         lanes = shard.settings.lanes
         self._lanes = [_Lane(shard.redis.line(), shard.keys, range(at, MOST_TENANTS, lanes)) for at in range(lanes)]
-        # How far tenants were read, of which replies are not written yet.
+        # The ids up to which tenants were read whose replies are not written yet.
         self._read_to: dict[int, bytes] = {}
 
     def forget(self) -> None:
-        """Begins anew, with tenants that were just made."""
+        """Begins anew, with tenants that were just restored."""
         self._read_to.clear()
         for lane in self._lanes:
             if lane.asked:
@@ -69,7 +69,7 @@ class Reading:
     # How far tenants were read.
 
     def taken(self, calls: Sequence[Call | NoCall]) -> None:
-        """Notes that calls are played: their tenants are read from behind them."""
+        """Notes that calls are played: their tenants are read from the entries after them."""
         for call in calls:
             self._read_to[call.tenant] = call.entry
 
@@ -79,7 +79,7 @@ class Reading:
             del self._read_to[tenant]
 
     def unanswered(self) -> set[int]:
-        """Tenants that were read further than replies are written."""
+        """Tenants that have entries that were read, and have no written replies yet."""
         return set(self._read_to)
 
     def _place(self, log: Log) -> bytes:
@@ -88,7 +88,7 @@ class Reading:
     # Lanes.
 
     def ask(self) -> list[Pending]:
-        """Has all lanes wait for entries, and gives what they wait for."""
+        """Lets all lanes wait for entries, and returns the pending replies."""
         for lane in self._lanes:
             if not lane.asked:
                 self._ask(lane)
@@ -105,7 +105,7 @@ class Reading:
         lane.asked = _Asked(places, lane.line.begin_xread(names, lane.at_once, wait))
 
     def shares(self) -> Iterator[list[Item]]:
-        """What each tenant has in this turn, of what has come: calls, or one entry that is none."""
+        """What each tenant has in this turn: calls, or one entry that is no call."""
         for lane in self._lanes:
             if lane.asked and lane.asked.pending.is_answered():
                 asked, lane.asked = lane.asked, None
@@ -115,7 +115,7 @@ class Reading:
         shard, most = self._shard, 1
         for name, entries in self._found(asked).items():
             log = shard.logs[int(name.rpartition(":")[2])]
-            # Others may have been done with the tenant since it was asked for.
+            # Other work may have been done for the tenant since the read began.
             if log.aside or log.tenant in shard.busy or self._place(log) != asked.places[log.tenant]:
                 continue
             items = [item_of(log.tenant, entry) for entry in entries]
@@ -124,7 +124,7 @@ class Reading:
         lane.at_once = max(1, min(_MOST_READ, TURN_FRAMES // most))
 
     def _found(self, asked: _Asked) -> dict[str, list[Entry]]:
-        """What has come; nothing where Redis is away, which is waited for."""
+        """The entries that have come; empty if Redis is away, and then the worker waits for it."""
         try:
             return entries_of(asked.pending.answer())
         except Away as away:
@@ -133,7 +133,7 @@ class Reading:
 
 
 def share_of(items: Sequence[Item]) -> list[Item]:
-    """What of a tenant's entries has its turn: the calls in front, up to its share, or one entry that is no call."""
+    """The entries of a tenant for this turn: the first calls, up to its share, or one entry that is no call."""
     taken: list[Item] = []
     frames, size = TURN_FRAMES, TURN_BYTES
     for item in items:

@@ -1,6 +1,6 @@
 """A shard and the directory know each other by a name that is made when the shard is first served.
 
-So a worker that was given another Redis, or one that has lost what it had, serves nobody: it would answer as if nothing had been.
+So a worker that was given another Redis, or whose Redis has lost its data, serves nobody: it would reply as if its customers were new.
 """
 
 from __future__ import annotations
@@ -13,9 +13,9 @@ from bpfhost.shards.names import ShardKeys
 
 
 def register(redis: Redis, keys: ShardKeys, directory: Directory, server: str) -> bytes:
-    """Makes a shard known to the directory, whose lease is held and whose Redis keeps what it is given; gives the shard's name.
+    """Registers a shard in the directory, after its lease is held and its Redis is known to be durable; returns its name.
 
-    An OtherShard where the directory knows another one by this number, or none though the shard has customers.
+    Raises OtherShard if the directory knows another one by this number, or none though the shard has customers.
     """
     own = redis.get(keys.incarnation)
     if own is None and directory.incarnation(keys.number) is None:

@@ -1,7 +1,7 @@
-"""A customer that speaks by gateways: its frames go in, and replies come out, by the gateway that answers.
+"""A customer that connects by gateways: it sends frames to a gateway, which returns the replies.
 
-Where a connection breaks, or its gateway ends, the next one goes on: it says how many frames were taken, the replies that are missing
-come, and frames that were not taken are sent again. So each frame is done once. It wants no package.
+If a connection breaks, or its gateway ends, the next connection continues: its gateway reports how many frames were taken and sends the
+missing replies, and the customer sends the frames again that were not taken. So each frame is done once. This module needs no package.
 """
 
 from __future__ import annotations
@@ -29,7 +29,7 @@ from bpfhost.tenant import Tenant
 
 _READ_AT_ONCE = 1 << 18
 _PAUSE, _LONGEST_PAUSE, _SECONDS_TO_CONNECT = 0.02, 0.5, 5.0
-# Why a connection may end, and the next one goes on.
+# Reasons for the end of a connection after which the next one continues.
 _AGAIN = (Why.AGAIN, Why.ENDS, Why.SLOW, Why.BEHIND)
 _ERRORS = {Why.ASIDE: SetAside, Why.GONE: ReplyGone, Why.NOT_DONE: NotDone, Why.PASSED: SessionPassed}
 
@@ -40,14 +40,14 @@ class GatewayRefuses(ShardError):
 
 @dataclass(frozen=True)
 class CustomerTls:
-    """Whom the customer trusts, as a file of certificates or what the system trusts; and its own certificate and key, if it has one."""
+    """The certificates that the customer trusts, as a file or the system's; and its own certificate and key, if it has one."""
 
     authority: Path | None = None
     certificate: Path | None = None
     key: Path | None = None
 
     def context(self) -> ssl.SSLContext:
-        """What TLS begins with."""
+        """The context for TLS."""
         context = ssl.create_default_context(cafile=self.authority)
         if self.certificate:
             context.load_cert_chain(self.certificate, self.key)
@@ -56,23 +56,23 @@ class CustomerTls:
 
 @dataclass
 class Posted:
-    """Frames that were sent together, and the replies to them that have come; or why there are none."""
+    """Frames that were sent together, and their replies so far; or the reason why there are none."""
 
     frames: list[bytes]
     replies: list[bytes] = field(default_factory=list)
     error: ShardError | None = None
 
     def is_answered(self) -> bool:
-        """Whether all that there will be has come."""
+        """Whether all replies have come."""
         return len(self.replies) == len(self.frames)
 
 
 class _Broken(Exception):
-    """The connection has ended; why, in a sentence."""
+    """The connection has ended; the text is the reason."""
 
 
 class GatewayCustomer:
-    """What speaks for a customer, in one thread. It is a context manager, which closes its connection."""
+    """Sends the calls of one customer; only one thread may use it. It is a context manager, which closes its connection."""
 
     def __init__(
         self,
@@ -82,8 +82,10 @@ class GatewayCustomer:
         tls: CustomerTls | None = None,
         seconds: float = SECONDS,
     ) -> None:
-        """Gateways, as `host:port` or `unix:PATH`, of which one is asked. With `tls` they are asked by TLS, but for a Unix socket. The
-        next process goes on with a session that has a name (`resume`)."""
+        """Gateways, as `host:port` or `unix:PATH`, one of which is used.
+
+        With `tls`, connections use TLS, except on a Unix socket. The next process can continue a session that has a name (`resume`).
+        """
         if not addresses or session is not None and (not session or session.startswith(NAMELESS)):
             raise ValueError("a customer knows a gateway, and a session's name is not empty")
         self._addresses, self._token, self.seconds = list(addresses), token, seconds
@@ -91,7 +93,8 @@ class GatewayCustomer:
         self._tls = tls.context() if tls else None
         self._socket: socket.socket | None = None
         self._came = bytearray()
-        # How many frames were taken and answered; what was posted and is not answered, and how many of its frames were sent.
+        # How many frames were taken, and how many have replies; what was posted and has no replies yet, and how many of its frames were
+        # sent.
         self.taken = self._answered = self._acked = 0
         self._open: collections.deque[Posted] = collections.deque()
         self._unanswered = self._size = 0
@@ -138,20 +141,22 @@ class GatewayCustomer:
     # Many at once.
 
     def resume(self, answered: int = 0) -> int:
-        """Goes on with a session of which this process has so many replies from before; how many of its frames were taken. The next
-        frames that are posted are those behind them, and first come the replies that are missing, as `missing` gives them."""
+        """Continues a session of which this process has so many replies from before; returns how many of its frames were taken.
+
+        The frames that are posted next follow these. The missing replies come first; `missing` returns them.
+        """
         self._answered = self._acked = answered
         self._connected(time.monotonic() + self.seconds)
         return self.taken
 
     def missing(self) -> list[bytes]:
-        """The replies to frames that were taken and are not answered, behind `resume`."""
+        """After `resume`, the replies to frames that were taken and have none yet."""
         posted = Posted([b""] * (self.taken - self._answered))
         self._note(posted)
         return self.wait(posted)
 
     def post(self, stream: bytes) -> Posted:
-        """Sends frames, without waiting for their replies, but where more would be on their way than a gateway holds."""
+        """Sends frames, without waiting for their replies unless more frames would be in progress than a gateway holds."""
         posted = Posted(whole_frames(stream))
         deadline = time.monotonic() + self.seconds
         while self._open and (self._unanswered + len(posted.frames) > MOST_FRAMES or self._size + len(stream) > LONGEST_CALL):
@@ -164,8 +169,11 @@ class GatewayCustomer:
         return posted
 
     def wait(self, posted: Posted) -> list[bytes]:
-        """Waits for the replies to frames. A NoReply where none come in time: then it can be called again. A SetAside where an operator
-        has to look, and a NotDone or a ReplyGone where there will be none."""
+        """Waits for the replies to frames.
+
+        Raises NoReply if none come in time: then it can be called again. Raises SetAside if an operator has to decide, and NotDone or
+        ReplyGone if there will be no replies.
+        """
         deadline = time.monotonic() + self.seconds
         while not posted.is_answered():
             self._receive(deadline)
@@ -182,7 +190,7 @@ class GatewayCustomer:
     # A connection.
 
     def _connected(self, deadline: float) -> None:
-        """Makes a connection where there is none, and goes on with the session there."""
+        """Makes a connection if there is none, and continues the session on it."""
         pause, why = _PAUSE, "no gateway answers"
         while self._socket is None:
             try:
@@ -222,7 +230,7 @@ class GatewayCustomer:
         self._flush()
 
     def _flush(self) -> None:
-        """Sends what is to be sent; a _Broken where it can't be."""
+        """Sends what has to be sent; raises _Broken if it can't be sent."""
         if self._socket is None or not self._out:
             return
         # What was not sent is sent anew on the next connection.
@@ -234,7 +242,7 @@ class GatewayCustomer:
             raise _Broken(f"a gateway can't be reached: {error}") from None
 
     def _read_frame(self, deadline: float) -> bytes:
-        """The next frame of the gateway; a _Broken where none comes."""
+        """The next frame of the gateway; raises _Broken if none comes."""
         assert self._socket
         while (size := _whole(self._came)) is None:
             self._socket.settimeout(max(0.01, min(deadline - time.monotonic(), self.seconds)))
@@ -250,7 +258,7 @@ class GatewayCustomer:
         return frame
 
     def _told(self, frame: bytes) -> Any:
-        """What the gateway says of itself; a _Broken where the next connection goes on, and else the error."""
+        """The gateway's own message; raises _Broken if the next connection can continue, and the error otherwise."""
         word, why, told = read_told(frame)
         if word == Word.HELLO:
             return told
@@ -267,7 +275,7 @@ class GatewayCustomer:
     # Replies.
 
     def _receive(self, deadline: float) -> None:
-        """Takes what comes, one reply at least; where the connection breaks, goes on with the next one."""
+        """Takes what comes, at least one reply; if the connection breaks, continues with the next one."""
         self._connected(deadline)
         try:
             if self._answered > self._acked and not self._came:
@@ -299,7 +307,7 @@ class GatewayCustomer:
 
 
 def _whole(held: bytearray) -> int | None:
-    """How long the first frame is, if it is whole."""
+    """The length of the first frame, if it is whole."""
     size = 4 + int.from_bytes(held[:4], "little") if len(held) >= 4 else 0
     return size if size and len(held) >= size else None
 

@@ -1,4 +1,4 @@
-"""Makes a tenant's state: of its last snapshot, or the one before it, or of its stream alone, and of what was answered since."""
+"""Restores a tenant's state from its last snapshot, the one before it, or only its stream, and from the calls since then."""
 
 from __future__ import annotations
 
@@ -17,15 +17,18 @@ from bpfhost.state import Steps
 
 @dataclass
 class Restored:
-    """What came of it: what is to be told, and what has to be set aside."""
+    """The outcome: sentences to log, and what has to be set aside."""
 
     told: list[str] = field(default_factory=list)
     aside: Aside | None = None
 
 
 def restored(serving: Serving, log: Log, alive: Callable[[], None], accepts: bool = False) -> Steps[Restored]:
-    """Makes the state of a tenant that is empty, in steps. With `accepts`, an operator takes what this build makes of it: programs that
-    it refuses are closed, and replies that differ from those that were given are let be."""
+    """Restores the state of a tenant that is empty, in steps.
+
+    With `accepts`, an operator accepts what this build makes of it: programs that it refuses are closed, and replies that differ from the
+    written ones are ignored.
+    """
     found = Restored()
     log.read_marks()
     last = log.last()
@@ -46,7 +49,7 @@ def restored(serving: Serving, log: Log, alive: Callable[[], None], accepts: boo
 def _from_best(
     serving: Serving, log: Log, last: bytes, found: Restored, alive: Callable[[], None], accepts: bool
 ) -> Steps[None]:
-    """From the last snapshot that is whole, or the whole stream."""
+    """Restores from the last snapshot that is whole, or the whole stream."""
     kept = log.redis.hget(log.keys.snapshots, f"{log.tenant}")
     manifests = log.manifests()
     damaged = SnapshotDamaged("what a snapshot says of itself is damaged") if kept and (not manifests or kept != manifests[0].to_bytes()) else None
@@ -73,7 +76,7 @@ def _from_best(
 
 
 def _mend(log: Log) -> None:
-    """Takes a damaged snapshot out, so that the next one does not become the one after it."""
+    """Removes a damaged snapshot, so that it does not become the one before the next one."""
     log.redis.hdel(log.keys.snapshots, f"{log.tenant}", f"{log.tenant}:before")
     if log.snapshot:
         log.redis.hset(log.keys.snapshots, f"{log.tenant}", log.snapshot.to_bytes())
@@ -89,7 +92,7 @@ def _made(serving: Serving, manifest: Manifest, stream: bytes, log: Log, accepts
 def _played(
     serving: Serving, log: Log, place: bytes, last: bytes, alive: Callable[[], None], accepts: bool
 ) -> Steps[None]:
-    """Plays what was answered behind a place, and compares."""
+    """Plays the calls after a place that have replies, and compares the replies."""
     log.place, log.since = place, Since(changed=True)
     for entries, replies in log.both(place, last):
         alive()
@@ -115,7 +118,7 @@ def _play_control(serving: Serving, log: Log, item: Leaves | Arrives) -> Steps[N
 
 
 def _play(serving: Serving, log: Log, item: Item, replies: Replies, accepts: bool) -> None:
-    """Plays a call again; a RepliesDiffer where the reply is another one."""
+    """Plays a call again; raises RepliesDiffer if the reply differs."""
     was = replies.get(item.entry)
     if not isinstance(item, (Call, NoCall)):
         return

@@ -1,6 +1,6 @@
 """The scripts of a shard. Redis runs each as one step.
 
-Each is right to run twice, and late: what was asked on a connection that was cut may be done after it was asked again on another one.
+Each may be run twice, and late: a command of a connection that was cut may run after the same command of another connection.
 """
 
 from bpfhost.shards.connection import Script
@@ -10,7 +10,7 @@ from bpfhost.shards.names import GIVEN_UP_BY_ONE
 
 # Takes a call: once for each number of a session, while the customer has its seat and may have more waiting. The record of a session is
 # the number of its last call, how many calls were given up, how long the shard had been served, and the shard, tenant and entry of the
-# call, or `-`. A call that is older than the last one that was given up is not taken; then it is told how many were given up.
+# call, or `-`. A call that is older than the last one that was given up is not taken; the script then returns how many were given up.
 # KEYS: seats, frames, sessions, waiting, lease. ARGV: session, number, given up, seat, shard, tenant, frames, weight, most waiting, most
 # sessions.
 ASK = Script("""
@@ -33,7 +33,7 @@ redis.call('HSET', KEYS[3], ARGV[1], ARGV[2] .. ' ' .. ARGV[3] .. ' ' .. served 
 return {'taken', place}
 """)
 
-# Gives a call up, so that it is not taken later; where it was taken, says so.
+# Gives a call up, so that it is not taken later; if it was taken, returns that.
 # KEYS: sessions, lease. ARGV: session, number, given up before.
 GIVE_UP = Script("""
 local record = redis.call('HGET', KEYS[1], ARGV[1])
@@ -50,8 +50,9 @@ redis.call('HSET', KEYS[1], ARGV[1], last .. ' ' .. (ARGV[3] + 1) .. ' ' .. serv
 return {'given up'}
 """, without_memory=True)
 
-# Lets another process go on with a session: what one before it has on its way is not taken any more. A process counts what it gives up
-# by ones, and each process counts from another million on. Who has read an old count is told the one that is there, and asks again.
+# Lets another process continue a session: calls that an earlier process has in progress are not taken any more. A process counts the
+# calls it gives up by ones, and each process starts from another million. A process that has read an old count gets the current one, and
+# asks again.
 # KEYS: seats, sessions, lease. ARGV: session, given up before, tenant, seat, most sessions.
 RESUME = Script(f"""
 if redis.call('HGET', KEYS[1], ARGV[3]) ~= ARGV[4] then return {{'seat'}} end
@@ -85,7 +86,7 @@ redis.call('HSET', KEYS[1], ARGV[1], ARGV[3])
 return 1
 """)
 
-# Takes a seat back, and lets its tenant leave: behind this entry no frame of the customer is added.
+# Takes a seat back, and lets its tenant leave: after this entry no frame of the customer is added.
 # KEYS: seats, frames. ARGV: tenant, generation, seat.
 LEAVE = Script("""
 local seat = redis.call('HGET', KEYS[1], ARGV[1])
@@ -97,7 +98,7 @@ redis.call('HSET', KEYS[1], ARGV[1], ARGV[2] .. ' leaves:' .. entry)
 return entry
 """)
 
-# Puts a piece of a customer's state beside a seat where it is to arrive, if it has not yet.
+# Stores a piece of a customer's state for a seat that it has to arrive at, if it has not arrived yet.
 # KEYS: seats, pieces. ARGV: tenant, generation, name of the piece, bytes.
 BRING = Script("""
 local seat = redis.call('HGET', KEYS[1], ARGV[1])
@@ -132,8 +133,8 @@ redis.call('HSET', KEYS[1], ARGV[1], ARGV[3])
 return 1
 """)
 
-# Closes a seat to which nobody has come: nobody arrives there with this generation any more. One that is arriving or has arrived is
-# closed only if the entry is named, whose arrival was refused. KEYS: seats, sessions. ARGV: tenant, generation, entry or nothing.
+# Closes a seat that nobody has arrived at: nobody can arrive there with this generation any more. A seat with an arrival is closed only
+# if the entry is named, and its arrival was refused. KEYS: seats, sessions. ARGV: tenant, generation, entry or nothing.
 CLOSE_SEAT = Script("""
 local seat = redis.call('HGET', KEYS[1], ARGV[1])
 local known = seat and tonumber(string.match(seat, '^%d+')) or -1
@@ -148,9 +149,9 @@ return 1
 """)
 
 # The lease: `token` of the worker that has it, `count` that it raises, `milliseconds` without a raise after which another one may take
-# it, and for how many milliseconds the shard was `served`. Nothing of it goes by the server's clock.
+# it, and for how many milliseconds the shard was `served`. None of this uses the server's clock.
 
-# Takes the lease where nobody has it, or where it is still the one that was seen. Else gives the one that is there.
+# Takes the lease if nobody has it, or if it is still the one that was seen. Otherwise returns the current one.
 # KEYS: lease. ARGV: token, milliseconds, the token and the count that were seen.
 TAKE = Script("""
 local token, count = redis.call('HGET', KEYS[1], 'token') or '', redis.call('HGET', KEYS[1], 'count') or '0'
@@ -162,7 +163,7 @@ redis.call('HINCRBY', KEYS[1], 'count', 1)
 return {ARGV[1], count, ARGV[2]}
 """, without_memory=True)
 
-# Raises the count of a lease that is still held, and adds to how long the shard was served.
+# Raises the count of a lease that is still held, and adds to the time for which the shard was served.
 # KEYS: lease. ARGV: token, milliseconds since the last time.
 KEEP = Script("""
 if redis.call('HGET', KEYS[1], 'token') ~= ARGV[1] then return 0 end
@@ -170,17 +171,17 @@ redis.call('HINCRBY', KEYS[1], 'served', ARGV[2])
 return redis.call('HINCRBY', KEYS[1], 'count', 1)
 """, without_memory=True)
 
-# Gives a lease back. KEYS: lease. ARGV: token.
+# Releases a lease. KEYS: lease. ARGV: token.
 RELEASE = Script("""
 if redis.call('HGET', KEYS[1], 'token') ~= ARGV[1] then return 0 end
 return redis.call('HDEL', KEYS[1], 'token')
 """, without_memory=True)
 
-# What a worker writes, it writes where the lease is held.
+# A worker's writes, which succeed only while it holds the lease.
 _UNDER_LEASE = "if redis.call('HGET', KEYS[1], 'token') ~= ARGV[1] then return 0 end\n"
 
-# Writes replies of some tenants under the ids of their frames; once, if it is asked twice. Where replies before these are on their way
-# too, they are named: without them nothing is written, so that no reply is passed by a later one.
+# Writes replies of some tenants under the ids of their frames; once, even if it is called twice. If earlier replies are still being
+# written, the arguments name them: if they are missing, nothing is written, so that no reply is stored before an earlier one.
 # KEYS: lease, waiting, then the replies of each tenant. ARGV: token, then for each tenant its number, the weight of the calls, how many
 # there are, and the id of the reply before them or nothing; and id, field and bytes of each.
 WRITE = Script(_UNDER_LEASE + """
@@ -203,7 +204,7 @@ end
 return 1
 """)
 
-# Writes that a tenant has left: its state is kept under its generation, and the tenant is as a new one from this entry on.
+# Writes that a tenant has left: its state is kept under its generation, and the tenant is empty from this entry on.
 # KEYS: lease, replies, snapshots, left. ARGV: token, entry, tenant, generation, manifest of the state, manifest of no state.
 WRITE_LEFT = Script(_UNDER_LEASE + """
 if #redis.call('XRANGE', KEYS[2], ARGV[2], ARGV[2]) > 0 then return 1 end
@@ -224,14 +225,14 @@ redis.call('HDEL', KEYS[3], ARGV[3] .. ':before')
 return 1
 """)
 
-# Puts pieces of a snapshot down, of which nothing speaks yet. A snapshot makes room, so it is taken without memory too.
+# Stores pieces of a snapshot, which no manifest names yet. A snapshot makes room, so the script also runs without memory.
 # KEYS: lease, pieces. ARGV: token, then names with their bytes.
 KEEP_PIECES = Script(_UNDER_LEASE + """
 for at = 2, #ARGV, 2 do redis.call('HSET', KEYS[2], ARGV[at], ARGV[at + 1]) end
 return 1
 """, without_memory=True)
 
-# Puts a snapshot of a tenant in the place of the last one, which becomes the one before it.
+# Replaces the last snapshot of a tenant by a new one; the last one becomes the one before it.
 # KEYS: lease, snapshots. ARGV: token, tenant, manifest, manifest of the last snapshot or nothing.
 KEEP_SNAPSHOT = Script(_UNDER_LEASE + """
 local last = redis.call('HGET', KEYS[2], ARGV[2]) or ''
@@ -242,7 +243,7 @@ redis.call('HSET', KEYS[2], ARGV[2], ARGV[3])
 return 1
 """, without_memory=True)
 
-# Drops some of the entries of a stream that are below an id; says how many. KEYS: lease, stream. ARGV: token, id.
+# Drops some of the entries of a stream that are below an id; returns how many. KEYS: lease, stream. ARGV: token, id.
 DROP = Script("""
 if redis.call('HGET', KEYS[1], 'token') ~= ARGV[1] then return -1 end
 local dropped = redis.call('XTRIM', KEYS[2], 'MINID', '~', ARGV[2], 'LIMIT', 1000)
@@ -256,13 +257,13 @@ for at = 2, #ARGV do redis.call('HDEL', KEYS[2], ARGV[at]) end
 return 1
 """, without_memory=True)
 
-# Writes a field of a hash, or takes it out where nothing is given. KEYS: lease, hash. ARGV: token, field, bytes.
+# Writes a field of a hash, or deletes it if no bytes are given. KEYS: lease, hash. ARGV: token, field, bytes.
 NOTE = Script(_UNDER_LEASE + """
 if ARGV[3] == '' then redis.call('HDEL', KEYS[2], ARGV[2]) else redis.call('HSET', KEYS[2], ARGV[2], ARGV[3]) end
 return 1
 """, without_memory=True)
 
-# An operator's word on what is set aside, if that is still the same. KEYS: aside, words. ARGV: tenant, what is set aside, word.
+# An operator's decision on what is set aside, if that is still the same. KEYS: aside, words. ARGV: tenant, what is set aside, word.
 SAY = Script("""
 if redis.call('HGET', KEYS[1], ARGV[1]) ~= ARGV[2] then return 0 end
 redis.call('HSET', KEYS[2], ARGV[1], ARGV[3])
@@ -275,7 +276,7 @@ redis.call('SETNX', KEYS[1], ARGV[1])
 return redis.call('GET', KEYS[1])
 """)
 
-# Which keys are there, as 1 and 0. KEYS: any.
+# Which keys exist, as 1 and 0. KEYS: any.
 ARE_THERE = Script("""
 local found = {}
 for at, key in ipairs(KEYS) do found[at] = redis.call('EXISTS', key) end

@@ -1,6 +1,6 @@
 """The state of a shard: a host of 64 tenants, what each has open, and the replies to their calls.
 
-What a tenant is answered is a function of its own frames. So each tenant's state is made, played, read and emptied by itself.
+The replies to a tenant are a function of its own frames. So each tenant's state is restored, played, read and emptied by itself.
 """
 
 from __future__ import annotations
@@ -28,10 +28,10 @@ from bpfhost.shards.system import System
 from bpfhost.state import FILLER, Steps, read_pairs, same_pairs, split, state_frames, wanted_status, with_tenant
 from bpfhost.tenancy import Tenancy, command_of, status_of
 
-# A host is asked at most so many frames, of which a snapshot may take some four million (docs/PROTOCOL.md: 16,777,216).
+# A host is sent at most so many frames, of which a snapshot may take some four million (docs/PROTOCOL.md: 16,777,216).
 MOST_ASKED = 12_000_000
 _ASKED_AT_ONCE, _MADE_IN_A_STEP, _READ_AT_ONCE = 1024, 400, 1 << 16
-# Commands to which memory may be refused; -12 says nothing else.
+# Commands that may be refused memory; no other error has -12.
 _WANTS_MEMORY = (Command.MAP_CREATE, Command.MAP_UPDATE_ELEM, Command.PROG_LOAD)
 
 # The frames of a tenant with their replies, since its last snapshot.
@@ -40,7 +40,7 @@ History = Callable[[], Iterable[Asked]]
 
 @dataclass(frozen=True)
 class Written:
-    """The entry of replies to a call: its tenant and id, one field, and what the call weighed while it waited."""
+    """The entry of replies to a call: its tenant and id, one field, and the weight of the call while it waited."""
 
     tenant: int
     entry: bytes
@@ -58,7 +58,7 @@ class Serving:
     def __init__(
         self, program: Program, system: System, alive: Callable[[], None] = lambda: None, library: Library | None = None
     ) -> None:
-        """With a library the host is in this process, and else a process of its own."""
+        """With a library the host is in this process, otherwise it is a separate process."""
         self._program, self._system, self._alive, self._library = program, system, alive, library
         self.is_careful = False
         self._start()
@@ -86,15 +86,18 @@ class Serving:
         self._host.kill()
 
     def restart(self) -> None:
-        """Begins anew, on another host: all tenants are new there."""
+        """Begins anew, on another host, on which all tenants are new."""
         self._host.kill()
         self._start()
 
     # Calls.
 
     def play(self, calls: Sequence[Call | NoCall]) -> Iterator[tuple[Written, bool]]:
-        """The replies to calls, in order, and whether the call may have changed anything. A call that ends the host has none, nor has
-        any behind it: a HostError then, or a ReplyError. A MemoryRefused where memory was refused to the next one."""
+        """The replies to calls, in order, and whether the call may have changed anything.
+
+        A call that ends the host has no replies, nor has any call after it: then this raises HostError or ReplyError. It raises
+        MemoryRefused if memory was refused to the next call.
+        """
         if isinstance(self._host, LibraryHost):
             yield from (self._play_here(self._host, call) for call in calls)
             return
@@ -102,7 +105,7 @@ class Serving:
             yield from self._play_alike(list(some)) if is_alike else self._play_each(list(some))
 
     def _play_here(self, host: LibraryHost, call: Call | NoCall) -> tuple[Written, bool]:
-        """Plays a call where it lies. What opens and closes nothing is not looked at frame by frame."""
+        """Plays a call in place. A call that opens and closes nothing is not examined frame by frame."""
         if isinstance(call, NoCall):
             return _fault(call), False
         self._alive()
@@ -121,7 +124,7 @@ class Serving:
         return isinstance(call, Call) and bool(call.alike) and is_short(call.stream) and hasattr(self._host, "pipelined")
 
     def _play_each(self, calls: Sequence[Call | NoCall]) -> Iterator[tuple[Written, bool]]:
-        """Looks at each frame and each reply."""
+        """Examines each frame and each reply."""
         frames_of = [call.frames if isinstance(call, Call) else [] for call in calls]
         replies = self.ask(with_tenant(frame, call.tenant) for call, frames in zip(calls, frames_of) for frame in frames)
         for call, frames in zip(calls, frames_of):
@@ -135,7 +138,7 @@ class Serving:
             yield Written(call.tenant, call.entry, REPLIES, b"".join(own), weight(call.size)), changed
 
     def _play_alike(self, calls: Sequence[Call | NoCall]) -> Iterator[tuple[Written, bool]]:
-        """Sends frames that are alike as they stand, but for the tenant, and takes their replies the same way."""
+        """Sends frames that are alike as they are, except for the tenant number, and takes their replies the same way."""
         real = [call for call in calls if isinstance(call, Call)]
         self.is_new = False
         for call, replies in zip(real, ask_alike(cast(Host, self._host), real)):
@@ -154,7 +157,7 @@ class Serving:
         return self.tenancies[call.tenant].note(frame, status)
 
     def ask_bytes(self, frames: Iterable[bytes]) -> Iterator[bytes]:
-        """Asks the host, and counts what it is asked."""
+        """Sends frames to the host, and counts them."""
         return self.ask(frames)
 
     def ask(self, frames: Iterable[bytes]) -> Iterator[bytes]:
@@ -169,8 +172,10 @@ class Serving:
     # States.
 
     def make(self, tenant: int, stream: bytes, closes_refused: bool = False) -> Steps[None]:
-        """Makes the state of a tenant that is empty, in steps. A StateRefused where the host answers otherwise than the frames want; or,
-        with `closes_refused`, programs that this build refuses are closed, and all else is made."""
+        """Restores the state of a tenant that is empty, in steps. Raises StateRefused if a reply of the host is not the expected one.
+
+        With `closes_refused`, programs that this build refuses are closed, and all else is restored.
+        """
         if self.tenancies[tenant].open:
             raise ShardError(f"tenant {tenant} is not empty, and another one arrives there")
         made = split(stream)
@@ -183,7 +188,7 @@ class Serving:
             made[at] = FILLER
 
     def _first_refused(self, tenant: int, made: Sequence[bytes]) -> Steps[tuple[int, int] | None]:
-        """Plays frames of a state on an empty tenant; the first that is answered otherwise than it should be, and its status."""
+        """Plays the frames of a state on an empty tenant; returns the first one whose reply is not the expected one, and its status."""
         tenancy, found = self.tenancies[tenant], None
         for part in in_parts(enumerate(made), lambda _: 1, _MADE_IN_A_STEP):
             for (at, frame), reply in zip(part, list(self.ask(with_tenant(frame, tenant) for _, frame in part)), strict=True):
@@ -199,7 +204,7 @@ class Serving:
         return found
 
     def empty(self, tenant: int) -> None:
-        """Closes all that a tenant has open: it is as a new one then."""
+        """Closes all descriptors of a tenant: it is then like a new one."""
         tenancy = self.tenancies[tenant]
         closes = [make.close(0, number) for number in list(tenancy.open)]
         for frame, reply in zip(closes, self.ask(with_tenant(frame, tenant) for frame in closes)):
@@ -208,8 +213,11 @@ class Serving:
             tenancy.note(frame, 0)
 
     def state(self, tenant: int, before: Callable[[], Steps[bytes]], history: History) -> Steps[bytes]:
-        """The frames that make a tenant's state, in steps; meanwhile the tenant is asked nothing. `before` gives those of its last
-        snapshot, and `history` what it was asked since: they are played again where a map has no descriptor any more."""
+        """The frames that make a tenant's state, in steps; no calls of the tenant are played meanwhile.
+
+        `before` yields the frames of its last snapshot, and `history` its frames since then: they are played again if a map has no
+        descriptor any more.
+        """
         tenancy = self.tenancies[tenant]
         live = tenancy.live()
         named = [on for on in live if tenancy.is_open(on)]
@@ -249,7 +257,7 @@ def ask_alike(host: Host, calls: Sequence[Call]) -> Iterator[bytes]:
 
 
 def _so_many(host: Host, count: int) -> bytes:
-    """So many replies; a ReplyError where what comes is none."""
+    """So many replies; raises ReplyError if what comes is no reply."""
     held = bytearray()
     at = found = 0
     while True:
@@ -269,7 +277,7 @@ def _so_many(host: Host, count: int) -> bytes:
 
 
 def _of_tenant_zero(replies: bytes, size: int) -> bytes:
-    """Replies that name tenant 0; of one length, where one is given."""
+    """Replies that name tenant 0; all of the given length, if there is one."""
     if not size:
         return b"".join(with_tenant(reply, 0) for reply in split(replies))
     own = bytearray(replies)
@@ -287,7 +295,7 @@ def answered(stream: bytes) -> Iterator[Asked]:
 
 
 def _number_of(made: Sequence[bytes], at: int) -> int:
-    """The descriptor that a frame of a state makes something at."""
+    """The descriptor of the object that a frame of a state creates."""
     tenancy = Tenancy()
     for frame in made[:at]:
         tenancy.note(frame, wanted_status(tenancy, frame))

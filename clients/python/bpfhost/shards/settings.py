@@ -1,4 +1,4 @@
-"""How a worker works."""
+"""The settings of a worker."""
 
 from __future__ import annotations
 
@@ -7,17 +7,20 @@ from dataclasses import dataclass
 from bpfhost.shards.lease import SECONDS
 from bpfhost.shards.serving import MOST_ASKED
 
-# Between two snapshots lie at most so many calls, and bytes.
+# The most calls, and bytes, between two snapshots.
 MOST_ENTRIES, MOST_BYTES = 200_000, 1 << 29
 LEAST_REPLY_BYTES = 1 << 10
 
 
 @dataclass(frozen=True)
 class Settings:
-    """How a worker works: the seconds of its lease; how many calls, frames, or bytes of frames and replies, a worker that begins plays
-    again at most, in all of its tenants (a snapshot is taken of the tenant that has most of them); for how long replies stay for those
-    that have not read them, and how many bytes of them at most, the oldest dropped first; and how many frames a host is asked before another one is started with the same state; how long snapshots are taken at the end; and in how
-    many lanes streams are read."""
+    """The settings of a worker.
+
+    These are the seconds of its lease; how many calls, frames, or bytes of frames and replies, a starting worker plays again at most, in
+    all of its tenants (a snapshot is taken of the tenant that has most of them); for how long replies are kept for those that have not
+    read them, and how many bytes of them at most, the oldest dropped first; how many frames a host is sent before another one is started
+    with the same state; how long snapshots are taken at the end; and in how many lanes streams are read.
+    """
 
     lease_seconds: float = SECONDS
     snapshot_entries: int = 50_000

@@ -1,4 +1,4 @@
-"""The name that a shared object of ELF has for the loader, by which builds of a library that don't fit together are told apart."""
+"""The soname of an ELF shared object. Builds of a library that don't fit together have different ones."""
 
 from __future__ import annotations
 
@@ -12,7 +12,7 @@ _SEGMENTS_AT, _SEGMENT, _ENTRY = 32, struct.Struct("<IIQQQQQQ"), struct.Struct("
 
 
 def soname_of(path: Path) -> str:
-    """The soname; a ValueError where the file is no shared object of 64 bits, or has none."""
+    """The soname; raises ValueError if the file is no 64-bit shared object, or has none."""
     data = path.read_bytes()
     if not data.startswith(_MAGIC):
         raise ValueError("it is no shared object")
@@ -35,5 +35,5 @@ def _segments(data: bytes) -> list[tuple[int, int, int, int]]:
 
 
 def _place(segments: list[tuple[int, int, int, int]], address: int) -> int:
-    """Where an address is in the file."""
+    """The offset of an address in the file."""
     return next(place + address - base for kind, place, base, size in segments if kind == _LOAD and base <= address < base + size)

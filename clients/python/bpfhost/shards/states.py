@@ -1,4 +1,4 @@
-"""Makes the states of a shard's tenants, on a host where they are new."""
+"""Restores the states of a shard's tenants, on a host on which they are new."""
 
 from __future__ import annotations
 
@@ -18,13 +18,13 @@ from bpfhost.state import Steps, at_once
 
 
 class States:
-    """Makes them for one shard."""
+    """Restores the states of one shard."""
 
     def __init__(self, shard: Served) -> None:
         self._shard = shard
 
     def make_all(self) -> None:
-        """Makes all states, of one log. What was played is answered before, if that log is still there."""
+        """Restores all states, from one log. If that log is still there, the replies to all that was played are written before."""
         with contextlib.suppress(LogChanged):
             self._shard.under_way.settle()
         while True:
@@ -34,7 +34,7 @@ class States:
                 continue
 
     def _make_all(self) -> None:
-        """Where the host ends meanwhile, another one is begun; a state that ends it three times is set aside."""
+        """If the host ends meanwhile, another one is started; a state that ends it three times is set aside."""
         shard, ended = self._shard, Counter[int]()
         began = shard.system.now()
         shard.redis.watch()
@@ -55,7 +55,7 @@ class States:
                 shard.tell_of_host(error)
 
     def _tenants_with_a_log(self) -> list[int]:
-        """Those that were ever asked anything; the others are new."""
+        """The tenants that ever had an entry; the others are new."""
         streams = [name for log in self._shard.logs for name in (log.frames, log.replies)]
         found = scripts.ARE_THERE(self._shard.patient, streams, [])
         return [tenant for tenant in range(MOST_TENANTS) if any(found[2 * tenant : 2 * tenant + 2])]
@@ -73,7 +73,7 @@ class States:
         shard.set_aside(log, Aside(STATE, after(log.place).decode(), sentence))
 
     def make(self, log: Log, word: str = "") -> Steps[None]:
-        """Makes a tenant's state; what can't be made is set aside. An operator may have said a word on it."""
+        """Restores a tenant's state; if that fails, sets it aside. An operator may have decided on it."""
         shard = self._shard
         kept = shard.patient.hget(shard.keys.aside, log.tenant)
         found: Restored = yield from restored(shard.serving, log, shard.alive, accepts=word == SKIP)
@@ -89,7 +89,7 @@ class States:
             shard.writing.note(shard.keys.aside, log.tenant, b"")
 
     def make_again(self, tenant: int) -> None:
-        """Makes a tenant anew, whose job broke off anywhere."""
+        """Restores a tenant whose job was interrupted."""
         shard = self._shard
         shard.serving.empty(tenant)
         shard.logs[tenant] = shard.log_of(tenant)

@@ -1,4 +1,4 @@
-"""Which entries, and which jobs, may have ended a host: each is tried three times, one by one, and then set aside or given up."""
+"""Entries and jobs that may have ended a host: each is tried three times, one by one, and then set aside or given up."""
 
 from __future__ import annotations
 
@@ -13,23 +13,23 @@ from bpfhost.shards.states import States
 
 
 class Suspects:
-    """Those of one shard."""
+    """The suspects of one shard."""
 
     def __init__(self, shard: Served, states: States) -> None:
         self._shard, self._states = shard, states
-        # How often each entry, or job behind a place, was tried; and the entry of each tenant that is to be played by itself.
+        # How often each entry, or job after a place, was tried; and the entry of each tenant that has to be played by itself.
         self._tries: dict[tuple[int, bytes], int] = {}
         self._careful: dict[int, bytes] = {}
-        # Tenants with a job that ended hosts, and how far they had come then.
+        # Tenants with a job that ended hosts, and their places then.
         self._given_up: dict[int, bytes] = {}
 
     @property
     def are_there(self) -> bool:
-        """Whether calls are to be played one at a time."""
+        """Whether calls have to be played one at a time."""
         return bool(self._careful)
 
     def host_has_ended(self, suspects: Sequence[Call | NoCall], error: Exception) -> None:
-        """Notes which entries may have done it, sets the one aside that has three times, and begins anew on another host."""
+        """Notes the entries that may have ended the host, sets an entry aside that has done so three times, and starts another host."""
         for call in suspects:
             key = call.tenant, call.entry
             self._tries[key] = self._tries.get(key, 0) + 1
@@ -53,12 +53,14 @@ class Suspects:
             self._tries.pop((tenant, entry), None)
 
     def try_again(self, tenant: int, entry: bytes) -> None:
-        """Has an entry played by itself, which was set aside."""
+        """Lets an entry that was set aside be played by itself."""
         self._careful[tenant] = entry
 
     def job_ended_host(self, tenant: int, error: Exception) -> None:
-        """Begins anew on another host. What ended one three times is given up: no snapshot is taken, or what arrives is refused, or the
-        tenant that leaves is set aside."""
+        """Starts another host. A job that ended the host three times is given up.
+
+        Then no snapshot is taken, or the arriving tenant is refused, or the leaving tenant is set aside.
+        """
         place = self._shard.logs[tenant].place
         key = tenant, b"behind " + place
         self._tries[key] = self._tries.get(key, 0) + 1
@@ -74,6 +76,6 @@ class Suspects:
         self._given_up.pop(tenant, None)
 
     def demand_hope(self, log: Log) -> None:
-        """A StateRefused where a job of the tenant was given up, which has not come further since."""
+        """Raises StateRefused if a job of the tenant was given up, and the tenant has no new entries since."""
         if self._given_up.get(log.tenant) == log.place:
             raise StateRefused(f"it ended the host {MOST_TRIES} times")

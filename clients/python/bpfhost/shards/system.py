@@ -1,6 +1,6 @@
-"""What shards take from the machine: a clock, threads, connections, hosts and names that nobody else has.
+"""What shards use of the machine: a clock, threads, connections, hosts and unique names.
 
-All of the package goes through a `System`, so that tests put a deterministic one in the place of the machine's.
+All of the package uses a `System`, so that tests can replace the machine by a deterministic one.
 """
 
 from __future__ import annotations
@@ -14,29 +14,29 @@ from typing import Any, Protocol
 from bpfhost.host import Host
 from bpfhost.program import Program
 
-# A word of a command of Redis: bytes, a text or a number.
+# An argument of a Redis command: bytes, a text or a number.
 Word = object
 
 
 class Pending(Protocol):
-    """A command that was begun, and whose answer is waited for."""
+    """A command that was begun, and whose reply has not been read yet."""
 
     @property
     def first(self) -> Pending:
-        """What is answered first, where several commands were begun for it, or itself."""
+        """If several commands were begun for it, the one whose reply comes first; otherwise itself."""
 
     def is_answered(self) -> bool:
-        """Whether there is no need to wait for its answer any more, or not for long."""
+        """Whether its reply can be read without a wait, or after a short one."""
 
     def answer(self) -> Any:
-        """The answer. An Away where the server can't be reached, a RedisError where it refuses the words."""
+        """The reply. Raises Away if the server can't be reached, and RedisError if the server refuses the command."""
 
 
 class Link(Protocol):
-    """A connection to a Redis. An Away where the server can't be reached, a RedisError where it refuses the words."""
+    """A connection to a Redis. Raises Away if the server can't be reached, and RedisError if the server refuses a command."""
 
     def call(self, words: Sequence[Word], seconds: float) -> Any:
-        """The answer to a command, which comes within so many seconds."""
+        """The reply to a command, which comes within so many seconds."""
 
     def begin(self, words: Sequence[Word], seconds: float) -> Pending:
         """Begins the same, and does not wait."""
@@ -46,7 +46,7 @@ class Link(Protocol):
 
 
 class NotBegun:
-    """What stands for a command that was begun, where none is done beside something else: it is done when its answer is asked for."""
+    """A command for a system that runs no commands at the same time as others: it is sent when its reply is read."""
 
     def __init__(self, call: Callable[[], Any]) -> None:
         self._call = call
@@ -56,23 +56,23 @@ class NotBegun:
         return self
 
     def is_answered(self) -> bool:
-        """It is not, and takes as long as it takes."""
+        """Always, though it has no reply yet: `answer` takes as long as the command takes."""
         return True
 
     def answer(self) -> Any:
-        """Does it."""
+        """Runs the command."""
         return self._call()
 
 
 class Asked(Protocol):
-    """A host that is asked many frames at once, and gives the bytes of the replies in order."""
+    """A host that takes many frames at once, and yields the bytes of the replies in order."""
 
     def ask_bytes(self, frames: Iterable[bytes]) -> Iterator[bytes]: ...
     def kill(self) -> None: ...
 
 
 class Beside(Protocol):
-    """What runs beside its caller."""
+    """A thread that runs at the same time as its caller."""
 
     def join(self, seconds: float) -> None:
         """Waits until it has ended, at most so many seconds."""
@@ -86,11 +86,11 @@ class System(Protocol):
     def beside(self, run: Callable[[], None]) -> Beside: ...
     def link(self, url: str) -> Link: ...
     def any_of(self, pending: Sequence[Pending], seconds: float) -> None:
-        """Waits until one of these has an answer, at most so many seconds."""
+        """Waits until one of these has a reply, at most so many seconds."""
 
     def host(self, program: Program, tenants: int) -> Asked: ...
     def fresh(self) -> str:
-        """A name that was never given before."""
+        """A name that was never returned before."""
 
 
 class _Thread:

@@ -1,4 +1,4 @@
-"""Calls of a customer: their numbers in a session, and where they are once that is known."""
+"""Calls of a customer: their numbers in a session, and their places once these are known."""
 
 from __future__ import annotations
 
@@ -13,7 +13,7 @@ from bpfhost.tenancy import BODY
 
 @dataclass(frozen=True)
 class Place:
-    """Where a call is: a shard, a tenant number, and the entry."""
+    """The place of a call: a shard, a tenant number, and the entry."""
 
     shard: int
     tenant: int
@@ -21,15 +21,17 @@ class Place:
 
     @classmethod
     def read(cls, text: bytes) -> Place:
-        """As a session's record has it."""
+        """Reads it from a session's record."""
         shard, tenant, entry = text.split()
         return cls(int(shard), int(tenant), entry)
 
 
 @dataclass
 class Ticket:
-    """A call: its frames, its number in a session, in which so many were given up before it, the seat where it was sent last, and its
-    place once that is known."""
+    """A call: its frames, its number in a session, the number of calls given up before it, its last seat, and its place.
+
+    The seat is the one that it was sent to last; the place is set once it is known.
+    """
 
     stream: bytes
     session: str
@@ -47,17 +49,17 @@ class Ticket:
 
 @dataclass
 class Gathered:
-    """Frames of several senders that are one call, once it is sent: its ticket then, or why it was not taken."""
+    """Frames of several senders in one call; after it is sent, its ticket, or why it was not taken."""
 
     stream: bytearray = field(default_factory=bytearray)
     count: int = 0
     ticket: Ticket | None = None
     error: CallError | None = None
-    # The head that all of the frames have, while they are alike and have short replies.
+    # The header of all frames, while they are alike and have short replies.
     head: bytes = b""
 
     def add(self, stream: bytes, count: int, alike: int) -> Part | None:
-        """Lets frames go with these, if there is room for them."""
+        """Adds frames to these, if there is room for them."""
         head = stream[:BODY] if (alike or count == 1) and is_short(stream) else b""
         if self.count and head != self.head:
             head = b""
@@ -71,7 +73,7 @@ class Gathered:
 
 @dataclass(frozen=True)
 class Part:
-    """Frames that go with others in one call: from which one on, and how many they are."""
+    """Frames that are in a call with others: the first one, and how many they are."""
 
     call: Gathered
     first: int

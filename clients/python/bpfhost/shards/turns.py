@@ -1,7 +1,7 @@
-"""The turns of a worker: in each every tenant has its share of calls, which are read, played and answered.
+"""The turns of a worker: in each turn every tenant has its share of calls, which are read and played, and whose replies are written.
 
-All three go on at once: while the host plays what one turn has, what comes next is read (`reading`), and the replies of the turns
-before are written (`answering`).
+All three proceed at the same time: while the host plays the calls of one turn, the next calls are read (`reading`), and the replies of
+the turns before are written (`answering`).
 """
 
 from __future__ import annotations
@@ -20,7 +20,7 @@ from bpfhost.shards.upkeep import SECONDS_TO_LOOK, Upkeep
 
 
 class Turns:
-    """Those of one shard."""
+    """The turns of one shard."""
 
     def __init__(self, shard: Served, suspects: Suspects, jobs: Jobs, upkeep: Upkeep) -> None:
         self._shard, self._suspects, self._jobs, self._upkeep = shard, suspects, jobs, upkeep
@@ -32,7 +32,7 @@ class Turns:
         self._answering.settle()
 
     def forget(self) -> None:
-        """Begins anew, with tenants that were just made."""
+        """Begins anew, with tenants that were just restored."""
         self._reading.forget()
         self._answering.forget()
 
@@ -42,7 +42,7 @@ class Turns:
         self._answering.end()
 
     def turn(self) -> None:
-        """One turn, and some of what is done beside."""
+        """One turn, and some steps of other jobs."""
         shard = self._shard
         shard.alive()
         shard.metrics.add("bpfhost_worker_turns_total")
@@ -63,7 +63,7 @@ class Turns:
         self._jobs.do_some()
 
     def _wait(self) -> None:
-        """Waits until something has come, or is written; not where there is something to do beside."""
+        """Waits until something has come, or is written; does not wait if a job has steps to do."""
         shard, asked = self._shard, self._reading.ask()
         wait = 0.0 if shard.jobs else min(shard.settings.lease_seconds / 4, SECONDS_TO_LOOK)
         if not asked:
@@ -78,7 +78,7 @@ class Turns:
         self._answering.look()
 
     def _play(self, calls: Sequence[Call | NoCall]) -> None:
-        """Plays calls, and answers them; one at a time where one of them may have ended a host."""
+        """Plays calls, and writes their replies; one at a time if one of them may have ended a host."""
         self._reading.taken(calls)
         if self._suspects.are_there:
             self.settle()
@@ -92,7 +92,7 @@ class Turns:
             self._played(calls)
 
     def _played(self, calls: Sequence[Call | NoCall]) -> bool:
-        """Plays calls, and begins to write their replies; False where the host has ended, and all states were made anew."""
+        """Plays calls, and begins to write their replies; False if the host has ended, and all states were restored."""
         played: list[Played] = []
         try:
             for call, (written, changed) in zip(calls, self._shard.serving.play(calls)):
@@ -106,7 +106,7 @@ class Turns:
         return True
 
     def _make_room(self, error: OutOfMemory) -> None:
-        """Makes room. What was read, and may have been played, is not answered yet."""
+        """Makes room. Calls that were read, and may have been played, have no replies yet."""
         self._upkeep.make_room(self._reading.unanswered(), error)
 
     def _note(self, one: Played) -> None:

@@ -1,4 +1,4 @@
-"""What a worker looks at now and then: an operator's words, snapshots that are due, what waits, and the memory that Redis has."""
+"""What a worker checks now and then: operators' decisions, snapshots that are due, what waits, and the memory of Redis."""
 
 from __future__ import annotations
 
@@ -14,21 +14,21 @@ from bpfhost.shards.suspects import Suspects
 from bpfhost.state import Steps, at_once
 
 SECONDS_TO_LOOK = 1.0
-# With so much of its memory in use, Redis is about to have none left.
+# If so much of its memory is in use, Redis is about to have none left.
 _FULL_MEMORY = 0.9
 
 
 class Upkeep:
-    """That of one shard."""
+    """The upkeep of one shard."""
 
     def __init__(self, shard: Served, states: States, suspects: Suspects) -> None:
         self._shard, self._states, self._suspects = shard, states, suspects
         self._looked = -SECONDS_TO_LOOK
 
-    # An operator's words.
+    # Operators' decisions.
 
     def look_at_words(self) -> None:
-        """Does what an operator has said of tenants that are set aside."""
+        """Applies operators' decisions on tenants that are set aside."""
         shard, now = self._shard, self._shard.system.now()
         if now < self._looked + SECONDS_TO_LOOK:
             return
@@ -43,7 +43,7 @@ class Upkeep:
                 shard.begin_job(log.tenant, self._decide(log, log.aside, word))
 
     def _decide(self, log: Log, aside: Aside, word: str) -> Steps[None]:
-        """Does what an operator says of a tenant that is set aside."""
+        """Applies an operator's decision on a tenant that is set aside."""
         shard = self._shard
         self._suspects.forgive(log.tenant)
         if aside.kind == ENTRY:
@@ -56,7 +56,7 @@ class Upkeep:
         shard.tell(f"shard {shard.keys.number}, tenant {log.tenant}: an operator said {word}")
 
     def _decide_entry(self, log: Log, aside: Aside, word: str) -> None:
-        """Skips an entry that is set aside, or has it tried again."""
+        """Skips an entry that is set aside, or lets it be tried again."""
         shard, entry = self._shard, aside.entry.encode()
         if word == SKIP:
             sentence = f"entry {aside.entry} was skipped by an operator: its frames were not done, and won't be"
@@ -71,7 +71,7 @@ class Upkeep:
     # Snapshots.
 
     def look_at_snapshots(self) -> None:
-        """Begins a snapshot of the tenant that has most to be played again, where there is too much of that."""
+        """Begins a snapshot of the tenant that has most to play again, if there is too much of that."""
         shard, keeping = self._shard, self._shard.keeping
         keeping.look_at_ages(shard.logs, shard.begin_job, shard.busy)
         if shard.jobs:
@@ -86,7 +86,7 @@ class Upkeep:
             keeping.look_at_bytes(shard.logs, shard.begin_job, shard.busy)
 
     def _replace_host(self) -> None:
-        """A host that was asked often is replaced by a new one: after snapshots of all, so that little is played again."""
+        """Replaces a host that was sent many frames by a new one, after snapshots of all tenants, so that little is played again."""
         shard = self._shard
         changed = [log for log in shard.logs if not log.aside and log.since.frames > 1000]
         for log in changed:
@@ -96,7 +96,7 @@ class Upkeep:
             self._states.make_all()
 
     def snapshot_all(self) -> None:
-        """Begins snapshots of all tenants that were asked anything, so that the next worker has little to play again."""
+        """Begins snapshots of all tenants that had entries, so that the next worker has little to play again."""
         shard = self._shard
         for log in shard.logs:
             if log.since.frames and not log.aside and log.tenant not in shard.busy | shard.keeping.failed:
@@ -105,7 +105,7 @@ class Upkeep:
     # Memory.
 
     def look_around(self) -> None:
-        """Looks at what waits, and at the memory that Redis has: where little is left, room is made before it is none."""
+        """Checks what waits, and the memory of Redis: if little is left, makes room before there is none."""
         shard = self._shard
         shard.keeping.look_at_waiting(shard.logs, shard.busy)
         used, most = shard.writing.memory()
@@ -118,8 +118,10 @@ class Upkeep:
                     shard.begin_job(log.tenant, shard.keeping.make_room(shard.serving, log))
 
     def make_room(self, played: set[int], error: OutOfMemory) -> None:
-        """Makes room in a Redis that has no memory for replies. Of the tenants whose replies are not written yet no snapshot is taken:
-        their state is behind calls that are not answered."""
+        """Makes room in a Redis that has no memory for replies.
+
+        It takes no snapshot of the tenants whose replies are not written yet: their state includes calls that have no replies.
+        """
         shard = self._shard
         for log in shard.logs:
             if log.tenant in played | shard.busy or log.aside or log.place == START:

@@ -1,7 +1,8 @@
-"""A worker serves a shard: it reads frames from the streams of its tenants, asks its host, and writes each reply under the id of its frames.
+"""A worker serves a shard: it reads frames from its tenants' streams, sends them to its host, and writes the replies.
 
-How far a tenant has come is the last id of its stream of replies, so replies and place are one. A worker that begins makes each
-tenant's state of its last snapshot (`states`), plays again what has replies already, compares, and goes on with the next (`turns`).
+Each reply has the id of its frames. A tenant's place is the last id of its stream of replies, so replies and place are one. A starting
+worker restores each tenant's state from its last snapshot (`states`), plays the calls again that have replies already, compares, and
+continues with the next ones (`turns`).
 """
 
 from __future__ import annotations
@@ -47,7 +48,7 @@ class Worker:
         directory: Redis | None = None,
         library: Library | None = None,
     ) -> None:
-        """The directory is in the shard's Redis where no other one is named. With a library, the host is in this process."""
+        """The directory is in the shard's Redis if no other one is named. With a library, the host is in this process."""
         self.metrics = Told(metrics.WORKER, self._numbers)
         self._program, self._library, self._settings = program, library, settings
         self._server = without_secrets(redis.url) if directory else ""
@@ -61,18 +62,18 @@ class Worker:
 
     @property
     def logs(self) -> list[Log]:
-        """What it knows of each tenant's log."""
+        """The log of each tenant."""
         return self._shard.logs
 
     def run(self, is_stopped: Callable[[], bool] = lambda: False) -> None:
-        """Serves until it is stopped; then the lease is given back. Where Redis is away, it waits, and says so.
+        """Serves until it is stopped; then releases the lease. If Redis is away, it waits, and reports that.
 
-        A LeaseHeld where another worker serves the shard, a LeaseLost where another one has taken the lease, an OtherShard where the
-        directory knows another shard by this number, a HostError or a RedisError else. What was written before is right.
+        Raises LeaseHeld if another worker serves the shard, LeaseLost if another one has taken the lease, OtherShard if the directory
+        knows another shard by this number, and HostError or RedisError for other faults. What was written before is right.
         """
         shard = self._shard
         shard.is_stopped = is_stopped
-        # The host begins first, so that none of the lease's time goes by meanwhile.
+        # The host starts first, so that none of the lease's time passes meanwhile.
         with contextlib.suppress(Stopped), Serving(self._program, shard.system, shard.alive, self._library) as shard.serving:
             try:
                 shard.waiting(self._take_lease)
@@ -129,8 +130,11 @@ class Worker:
                     attending.end()
 
     def _is_careful(self) -> bool:
-        """Where the worker before ended in the middle, what it was asked may have ended it: then the host is a process of its own, of which
-        it is seen what ends it, until it is replaced by another one."""
+        """Whether the host has to be a separate process at first.
+
+        If the previous worker did not end regularly, one of its calls may have ended it. A separate process shows which call ends it. It
+        is used until it is replaced by another host.
+        """
         serving = self._shard.serving
         if not self._shard.lease.was_left or not serving.is_here:
             return False
@@ -139,7 +143,7 @@ class Worker:
         return True
 
     def _turn_or_begin_anew(self) -> None:
-        """A turn; where the log may lack what this host has played, all states are made anew of the log."""
+        """One turn; if the log may lack what this host has played, all states are restored from the log."""
         try:
             self._turns.turn()
         except LogChanged as changed:
@@ -147,7 +151,7 @@ class Worker:
             self._states.make_all()
 
     def _drain(self) -> None:
-        """Takes snapshots, between turns, for as long as it may, and answers all that was played."""
+        """Takes snapshots, between turns, for as long as it may, and writes the replies to all that was played."""
         shard = self._shard
         until = shard.system.now() + self._settings.drain_seconds
         if self._settings.drain_seconds:
@@ -156,10 +160,10 @@ class Worker:
             self._turn_or_begin_anew()
         self._turns.settle()
 
-    # Seen from outside.
+    # For metrics and health.
 
     def _numbers(self) -> metrics.Numbers:
-        """What is looked at when the metrics are read."""
+        """Metrics that are computed when they are read."""
         return {
             "bpfhost_worker_lease_age_seconds": self._shard.lease.age(),
             "bpfhost_worker_aside": sum(log.aside is not None for log in self.logs),

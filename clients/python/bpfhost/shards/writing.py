@@ -1,4 +1,4 @@
-"""What a worker writes, each time where its lease is held."""
+"""A worker's writes, each of which succeeds only while its lease is held."""
 
 from __future__ import annotations
 
@@ -17,14 +17,14 @@ from bpfhost.shards.serving import Written
 from bpfhost.shards.system import Pending, Word
 from bpfhost.state import Steps
 
-# A script is given about so many bytes of replies at most, and so many names of pieces.
+# A script gets about so many bytes of replies at most, and so many names of pieces.
 WRITTEN_AT_ONCE = 1 << 20
 _NAMES_AT_ONCE = 500
 _SECONDS_FOR_REDIS = 10.0
 
 
 class Writing:
-    """What is written of a shard. A LeaseLost where another worker has the lease."""
+    """The writes for a shard. They raise LeaseLost if another worker has the lease."""
 
     def __init__(self, redis: Redis, keys: ShardKeys, lease: Lease) -> None:
         self.redis, self.keys, self.lease = redis, keys, lease
@@ -40,7 +40,7 @@ class Writing:
 
     @staticmethod
     def weight(size: int) -> int:
-        """What a call of so many bytes weighed while it waited."""
+        """The weight of a call of so many bytes while it waited."""
         return names.weight(size)
 
     def write(self, written: Sequence[Written]) -> None:
@@ -48,12 +48,12 @@ class Writing:
         self._do(scripts.WRITE, *self._words(written, {}))
 
     def begin(self, line: Line, written: Sequence[Written], behind: Mapping[int, bytes]) -> Pending:
-        """Begins to write replies on a line. Of some tenants replies are on their way that are to be written before, up to these ids."""
+        """Begins to write replies on a line, after earlier replies of some tenants up to these ids, which are still being written."""
         keys, words = self._words(written, behind)
         return scripts.WRITE.begin(self.redis, line, [self.keys.lease, *keys], [self.lease.token, *words])
 
     def end(self, pending: Pending) -> bool:
-        """Whether replies that were begun are written; if not, they are to be written again. An OutOfMemory where they have no room."""
+        """Whether replies whose write was begun are written; if not, write them again. Raises OutOfMemory if they have no room."""
         try:
             done = pending.answer()
         except (Away, NoScript):
@@ -84,17 +84,17 @@ class Writing:
         log.snapshot, log.before, log.is_cut = state, None, True
 
     def note(self, name: str, field: Word, value: bytes) -> None:
-        """Writes a field of a hash of the shard, or takes it out."""
+        """Writes a field of a hash of the shard, or deletes it."""
         self._do(scripts.NOTE, [name], [field, value])
 
     # Snapshots.
 
     def keep_piece(self, name: str, piece: bytes) -> None:
-        """Puts a piece of a snapshot down."""
+        """Stores a piece of a snapshot."""
         self._do(scripts.KEEP_PIECES, [self.keys.pieces], [name, piece])
 
     def keep_snapshot(self, log: Log, manifest: Manifest) -> None:
-        """Puts a snapshot in the place of the last one, which becomes the one before it."""
+        """Replaces the last snapshot by a new one; the last one becomes the one before it."""
         last = log.snapshot.to_bytes() if log.snapshot else b""
         self._do(scripts.KEEP_SNAPSHOT, [self.keys.snapshots], [log.tenant, manifest.to_bytes(), last])
         log.before, log.snapshot, log.is_cut = log.snapshot, manifest, False
@@ -111,7 +111,7 @@ class Writing:
             yield
 
     def drop_strays(self, logs: Sequence[Log]) -> None:
-        """Drops pieces of which nothing speaks, since a worker died before it could say that they are a snapshot."""
+        """Drops pieces that no manifest names, since a worker died before it could write the manifest."""
         kept: set[str] = set()
         for log in logs:
             kept.update(name for manifest in log.manifests() for name in manifest.names())
@@ -127,6 +127,6 @@ class Writing:
     # Memory.
 
     def memory(self) -> tuple[int, int]:
-        """How many bytes of memory the server uses, and may use at most: 0 where there is no such limit."""
+        """The memory that the server uses, and the most that it may use, in bytes: 0 if there is no such limit."""
         said = told_by(self.redis.near(self.keys.lease), "memory")
         return int(said["used_memory"]), int(said["maxmemory"])

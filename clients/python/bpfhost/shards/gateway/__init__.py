@@ -1,4 +1,4 @@
-"""A gateway: customers speak frames over TCP or a Unix socket, and it alone says which customer they are.
+"""A gateway: customers send frames over TCP or a Unix socket, and only the gateway decides which customer they are.
 
-docs/SCALING.md of the repository has its protocol and how to run it ("Gateways"). It wants redis and greenlet.
+docs/SCALING.md of the repository has its protocol and how to run it ("Gateways"). It needs redis and greenlet.
 """

@@ -1,6 +1,6 @@
-"""The client of shards in asyncio: it runs as it is, and where it waits for Redis or for time to go by, others run.
+"""The client of shards in asyncio: its code is the same, and while it waits for Redis or sleeps, other tasks run.
 
-Each call runs in a greenlet (of Debian: python3-greenlet), which gives way to the event loop where it waits.
+Each call runs in a greenlet (of Debian: python3-greenlet), which yields to the event loop when it waits.
 """
 
 from __future__ import annotations
@@ -21,7 +21,7 @@ Answer = TypeVar("Answer")
 
 
 async def in_turns(call: Callable[[], Answer]) -> Answer:
-    """Runs a function that waits by `waits`, beside all else that the event loop does."""
+    """Runs a function that waits by `waits`, at the same time as all other tasks of the event loop."""
     beside = greenlet.greenlet(call)
     said = beside.switch()
     while not beside.dead:
@@ -36,7 +36,7 @@ async def in_turns(call: Callable[[], Answer]) -> Answer:
 
 
 def waits(what: Coroutine[Any, Any, Answer]) -> Answer:
-    """Waits for what the event loop does; called beneath `in_turns`."""
+    """Waits for a coroutine on the event loop; called inside `in_turns`."""
     found: Answer = greenlet.getcurrent().parent.switch(what)
     return found
 
@@ -48,11 +48,11 @@ class AsyncLink:
         self._connection = AsyncConnection(url)
 
     def call(self, words: Sequence[Word], seconds: float) -> Any:
-        """The answer to a command, within so many seconds."""
+        """The reply to a command, within so many seconds."""
         return waits(self._connection.call(words, seconds))
 
     def begin(self, words: Sequence[Word], seconds: float) -> Pending:
-        """The same, when its answer is asked for."""
+        """The same, but the command is sent when its reply is read."""
         return NotBegun(lambda: self.call(words, seconds))
 
     def close(self) -> None:
@@ -61,7 +61,7 @@ class AsyncLink:
 
 
 class Loop:
-    """This machine, for functions that run in turns."""
+    """This machine, for functions that run in `in_turns`."""
 
     def now(self) -> float:
         return time.monotonic()

@@ -1,7 +1,7 @@
-"""One connection of a customer: frames come in, are gathered into calls, and their replies go out.
+"""One connection of a customer: it gathers frames into calls, and sends their replies.
 
-While a call waits for its replies, the frames that come are gathered, and are the next call. So a connection has one call on its way,
-and it holds what it has read: a call, the next one, and the replies.
+While a call waits for its replies, the frames that come are gathered into the next call. So a connection has one call in progress, and it
+holds a call, the next one, and the replies.
 """
 
 from __future__ import annotations
@@ -25,9 +25,9 @@ if TYPE_CHECKING:
     from bpfhost.shards.gateway.server import Gateway
 
 _READ_AT_ONCE = 1 << 16
-# So many bytes of replies wait in a connection before the gateway waits for the customer to read.
+# If so many bytes of replies wait in a connection, the gateway waits for the customer to read.
 _MOST_UNREAD = 1 << 16
-# So long the end of a connection takes, that its customer may still read why.
+# The end of a connection takes at most so long, so that its customer can still read the reason.
 _SECONDS_TO_END = 2.0
 
 Answer = TypeVar("Answer")
@@ -40,7 +40,7 @@ class Connection:
         self._gateway, self._reader, self._writer = gateway, reader, writer
         self._limits = gateway.limits
         self._incoming = Incoming()
-        # Frames have come, or will not; there is room for more.
+        # Events: frames have come, or no more will come; there is room for more.
         self._came, self._room = asyncio.Event(), asyncio.Event()
         self._known: Known | None = None
         self._customer: Customer | None = None
@@ -49,7 +49,7 @@ class Connection:
         # How many frames were taken, and how many replies were sent.
         self._taken = self._answered = 0
         self._task = asyncio.current_task()
-        # Why it is to end: at once, or behind what came before it.
+        # Why it has to end: at once, or after what came before it.
         self._refusal: Refusal | None = None
         self._wrong: Refusal | None = None
         self._is_calling = False
@@ -70,25 +70,25 @@ class Connection:
             pass
         finally:
             self._leave()
-            # Where TLS has ended by itself, asyncio has nothing beneath it to be aborted any more.
+            # If TLS has ended by itself, asyncio has no lower transport any more that could be aborted.
             with contextlib.suppress(AttributeError):
                 self._writer.transport.abort()
 
     def _leave(self) -> None:
-        """Is no connection of its customer any more."""
+        """Removes the connection from its customer."""
         if self._known:
             self._gateway.left(self._known, self._session, self)
             self._known = None
 
     def refuse(self, refusal: Refusal) -> None:
-        """Ends the connection, when the call that is on its way is answered."""
+        """Ends the connection, after the replies to the call in progress."""
         self._refusal = self._refusal or refusal
         self._came.set()
         if not self._is_calling and self._task:
             self._task.cancel()
 
     def _crowded(self) -> Refusal:
-        """Why the gateway broke it off without a word."""
+        """Why the gateway ended it without a message."""
         if self._gateway.is_ending:
             return Refusal(Why.ENDS, "the gateway ends")
         return Refusal(Why.AGAIN, f"{self._limits.unknown} connections have come since that have not said who they are")
@@ -104,10 +104,10 @@ class Connection:
             with contextlib.suppress(asyncio.CancelledError):
                 await reading
 
-    # Who it is.
+    # The customer.
 
     async def _first(self) -> tuple[bytes, bytes]:
-        """The first frame, and what came behind it."""
+        """The first frame, and what came after it."""
         held, seconds = bytearray(), self._limits.seconds_for_a_frame
         try:
             async with asyncio.timeout(seconds):
@@ -121,7 +121,7 @@ class Connection:
         return bytes(held[:size]), bytes(held[size:])
 
     async def _greet(self, first: bytes) -> None:
-        """Finds out who it is, and sends the replies that a session lacks."""
+        """Identifies the customer, and sends the replies that a session lacks."""
         token, session, answered = read_hello(first)
         tls = self._writer.get_extra_info("ssl_object")
         known = self._gateway.customers.of(token, tls.getpeercert() if tls else None)
@@ -134,7 +134,7 @@ class Connection:
         self._send(missing)
 
     async def _resume(self, customer: Customer, answered: int) -> list[bytes]:
-        """Goes on with a session, and gives the replies that the customer does not have yet."""
+        """Continues a session, and returns the replies that the customer does not have yet."""
         last = await self._behind(customer.last)
         self._taken = last.number if last else 0
         self._answered = answered
@@ -150,7 +150,7 @@ class Connection:
     # Frames.
 
     async def _read(self, came: bytes) -> None:
-        """Reads frames as long as there is room, until they end. What is wrong is told behind the replies to what came before it."""
+        """Reads frames as long as there is room, until they end. A fault is reported after the replies to what came before it."""
         try:
             self._incoming.feed(came)
             self._came.set()
@@ -168,7 +168,7 @@ class Connection:
             self._came.set()
 
     async def _read_some(self) -> bytes:
-        """Some bytes; a Refusal where a frame that has begun does not end, or nothing comes for long."""
+        """Some bytes; raises Refusal if a frame that has begun does not end, or nothing comes for long."""
         while not (room := self._incoming.room()):
             self._room.clear()
             await self._room.wait()
@@ -188,7 +188,7 @@ class Connection:
     # Calls.
 
     async def _call(self) -> None:
-        """Makes calls of what comes, one after the other."""
+        """Makes calls from the frames, one after another."""
         assert self._customer and self._known
         while await self._is_next_there():
             stream, count, replies = self._incoming.take(MOST_FRAMES)
@@ -203,8 +203,10 @@ class Connection:
                 self._gateway.room.give(size)
 
     async def _is_next_there(self) -> bool:
-        """Waits for frames of the next call; False where there will be none. In a session, it comes when the customer has said that it
-        has all replies."""
+        """Waits for frames of the next call; False if there will be none.
+
+        In a session, the next call begins after the customer has acknowledged all replies.
+        """
         while True:
             if self._refusal:
                 raise self._refusal
@@ -228,7 +230,7 @@ class Connection:
         await self._drain()
 
     async def _replies(self, customer: Customer, ticket: Ticket, count: int) -> list[bytes]:
-        """The replies to a call; or so many times what stands in their place, where there are none."""
+        """The replies to a call; if there are none, as many items that take their place."""
         try:
             return await self._behind(lambda: customer.wait(ticket))
         except (NotDone, ReplyGone) as error:
@@ -236,7 +238,7 @@ class Connection:
             return [told(Word.NO_REPLIES, why, frames=count, why=str(error)), *[b""] * (count - 1)]
 
     async def _behind(self, call: Callable[[], Answer]) -> Answer:
-        """Calls what is behind the gateway; a Refusal where it does not do its part."""
+        """Calls the shards; raises Refusal if they fail."""
         try:
             return await in_turns(call)
         except (SessionPassed, CallPassed):
@@ -269,7 +271,7 @@ class Connection:
             raise Refusal(Why.SLOW, f"replies were not read for {self._limits.seconds_to_read:g} s") from None
 
     async def _end(self, refusal: Refusal) -> None:
-        """Says why the connection ends, to a customer who reads."""
+        """Sends the reason why the connection ends, if the customer still reads."""
         self._gateway.counts.refused(refusal.why)
         self._leave()
         with contextlib.suppress(ConnectionError, ssl.SSLError, TimeoutError, RuntimeError, asyncio.CancelledError):
@@ -279,13 +281,13 @@ class Connection:
                     self._writer.write_eof()
                 else:
                     self._writer.close()
-                # What the customer still sends is read and dropped, so that the system does not drop what it has not read yet.
+                # Reads and drops what the customer still sends, so that the system does not drop what the customer has not read yet.
                 while await self._reader.read(_READ_AT_ONCE):
                     pass
 
 
 def _own(session: str | None) -> str:
-    """The name of a gateway's session, which no client without a gateway takes for its own."""
+    """The name of a gateway's session; a client without a gateway can't have it."""
     if session is None:
         return NAMELESS + LOOP.fresh()
     return f"{NAMELESS if session.startswith(NAMELESS) else ''}gateway {session}"

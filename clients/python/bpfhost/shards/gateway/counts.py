@@ -1,4 +1,4 @@
-"""What a gateway has done, in numbers."""
+"""Counts what a gateway has done."""
 
 from __future__ import annotations
 
@@ -21,7 +21,7 @@ class Counts:
     refusals: collections.Counter[str] = field(default_factory=collections.Counter)
 
     def note(self, size: int, frames: int, seconds: float) -> None:
-        """Notes a call, which took so long."""
+        """Notes a call, which took so many seconds."""
         self.seconds += seconds
         self.calls += 1
         self.frames += frames
@@ -32,7 +32,7 @@ class Counts:
         self.refusals[why.name.lower()] += 1
 
     def numbers(self, connections: int, unknown: int) -> Numbers:
-        """The same as metrics, with how many connections there are now."""
+        """The same as metrics, with the number of open connections."""
         return {
             "bpfhost_gateway_calls_total": self.calls,
             "bpfhost_gateway_frames_total": self.frames,

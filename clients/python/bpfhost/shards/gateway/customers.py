@@ -1,4 +1,4 @@
-"""Who a gateway's customers are: a file names them, with the hash of a token or the name in a certificate, and their limits.
+"""A gateway's customers: a file names them, with the hash of a token or the name in a certificate, and their limits.
 
     [customers.acme]
     token-sha256 = "9f86d081884c7d659a2feaa0c55ad015a3bf4f1b2b0b822cd15d6c15b0f00a08"
@@ -7,7 +7,7 @@
     frames = 100000
     bytes = 67108864
 
-The file has no secret: a token is 32 random bytes, which nobody finds by its hash.
+The file has no secret: a token is 32 random bytes, which nobody can find from its hash.
 """
 
 from __future__ import annotations
@@ -40,12 +40,12 @@ class Known:
 
 
 def new_token() -> str:
-    """A token that nobody guesses."""
+    """A new random token."""
     return secrets.token_urlsafe(32)
 
 
 def hash_of(token: str) -> str:
-    """What the file of customers has of a token."""
+    """The hash of a token for the file of customers."""
     return hashlib.sha256(token.encode()).hexdigest()
 
 
@@ -53,7 +53,7 @@ class Customers:
     """The customers of a file."""
 
     def __init__(self, file: Path) -> None:
-        """Reads the file; a ShardError where it says something else than such a file does."""
+        """Reads the file; raises ShardError if it has something else than such a file."""
         try:
             said = tomllib.loads(file.read_text())
         except (ValueError, OSError) as error:
@@ -90,7 +90,7 @@ class Customers:
         return len({id(known) for known in (*self._by_token.values(), *self._by_certificate.values())})
 
     def of(self, token: str | None, certificate: Mapping[str, Any] | None) -> Known:
-        """Whose a token is, or a certificate that was verified; a Refusal where nobody's."""
+        """The customer with this token, or with this certificate, which was verified; raises Refusal if there is none."""
         if token is not None:
             known = self._by_token.get(hash_of(token)) if len(token) <= _LONGEST_TOKEN else None
             if known is None:
@@ -122,6 +122,6 @@ def _put(of: dict[str, Known], key: str, known: Known) -> None:
 
 
 def _names(certificate: Mapping[str, Any]) -> list[str]:
-    """The names in a certificate: the common name, and those for which it is."""
+    """The names in a certificate: the common name, and the alternative names."""
     found = [value for part in certificate.get("subject", ()) for key, value in part if key == "commonName"]
     return found + [value for kind, value in certificate.get("subjectAltName", ()) if kind in ("DNS", "URI", "email")]

@@ -1,4 +1,4 @@
-"""Limits of a gateway and of a customer, and how fast something may come."""
+"""Limits of a gateway and of a customer, and of rates."""
 
 from __future__ import annotations
 
@@ -11,7 +11,7 @@ MEBI = 1 << 20
 
 @dataclass(frozen=True)
 class Limits:
-    """Of a customer: how many connections it may have at once, and how many frames and bytes of frames a second."""
+    """A customer's limits: connections at once, frames per second, and bytes of frames per second."""
 
     connections: int = 8
     frames: float = 100_000.0
@@ -20,10 +20,12 @@ class Limits:
 
 @dataclass(frozen=True)
 class GatewayLimits:
-    """Of a gateway: how many connections it has at once; how many of them may not have said yet who they are; how many new ones it takes
-    a second; the seconds until a frame that has begun is whole; until a customer has read some of its replies; and for which no frame
-    comes; how long a call waits at most for the customer's rate; how many bytes of replies may be on their way; and how long a call
-    is waited for."""
+    """A gateway's limits.
+
+    These are its connections at once; how many of them may have no known customer yet; new connections per second; the seconds until a
+    frame that has begun is whole, until a customer has read some of its replies, and for which no frame comes; how long a call waits at
+    most for the customer's rate; the bytes of replies that may be in progress; and how long the gateway waits for a call.
+    """
 
     connections: int = 1000
     unknown: int = 128
@@ -37,16 +39,16 @@ class GatewayLimits:
 
 
 class Rate:
-    """So many a second, and those of one second at once."""
+    """A rate of so many per second, with those of one second at once."""
 
     def __init__(self, a_second: float, now: float) -> None:
         self._a_second, self._free, self._then = a_second, a_second, now
 
     def delay(self, many: float, now: float) -> float:
-        """In how many seconds so many more may come; nothing is taken."""
+        """The seconds after which so many more may come; takes nothing."""
         self._free = min(self._a_second, self._free + (now - self._then) * self._a_second)
         self._then = now
-        # More than a second's come when all of a second are free.
+        # A number above that of one second may come when all of a second is free.
         return max(0.0, (min(many, self._a_second) - self._free) / self._a_second)
 
     def take(self, many: float) -> None:
@@ -55,14 +57,14 @@ class Rate:
 
 
 class Room:
-    """Bytes that may be taken and are given back; who comes first has them first."""
+    """A pool of bytes that are taken and given back, first come, first served."""
 
     def __init__(self, most: int) -> None:
         self._most, self._free = most, most
         self._waiting: collections.deque[tuple[int, asyncio.Future[None]]] = collections.deque()
 
     async def take(self, size: int) -> int:
-        """Waits until so many bytes are free, at most all of them, and takes them; gives how many."""
+        """Waits until so many bytes are free, at most all of them, and takes them; returns how many."""
         size = min(size, self._most)
         if self._waiting or self._free < size:
             turn = asyncio.get_running_loop().create_future()

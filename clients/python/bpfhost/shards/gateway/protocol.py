@@ -1,5 +1,7 @@
-"""What a customer and a gateway say to each other: the customer's frames and their replies, and beside them the gateway's own frames,
-which name a tenant that no host has. docs/SCALING.md describes them ("The protocol").
+"""The frames between a customer and a gateway.
+
+They are the customer's frames and their replies, and also the gateway's own frames, which name a tenant that no host has. docs/SCALING.md
+describes them ("The protocol").
 """
 
 from __future__ import annotations
@@ -17,16 +19,16 @@ from bpfhost.tenancy import BODY, command_of, status_of
 
 # The tenant that the gateway's own frames name.
 GATEWAY = 0xFFFF
-# What a customer says first has at most so many bytes.
+# A customer's first frame has at most so many bytes.
 LONGEST_HELLO = 4096
 _HEAD = struct.Struct("<IHH")
 _LONG_REPLIES = (Command.MAP_LOOKUP_ELEM, Command.MAP_GET_NEXT_KEY)
 
 
 class Word(enum.IntEnum):
-    """What a frame of the gateway says."""
+    """The kinds of the gateway's own frames."""
 
-    # Who the customer is; and the answer, which says whom the gateway takes it for.
+    # Who the customer is; the reply has the name of the customer that the gateway takes it for.
     HELLO = 1
     # How many replies the customer has.
     ACK = 2
@@ -37,19 +39,19 @@ class Word(enum.IntEnum):
 
 
 class Why(enum.IntEnum):
-    """The statuses of the gateway, as errors of the system have them, without their signs."""
+    """The statuses of the gateway: errno values without their signs."""
 
-    # The bytes are no frames, or not where they stand.
+    # The bytes are no frames, or are not allowed at that point.
     WRONG = 22
     # No customer has this token or certificate.
     WHO = 13
     # A frame is too long.
     LENGTH = 7
-    # A limit is reached, or there is no room just now; it may be tried again.
+    # A limit is reached, or there is no room now; the customer may try again.
     AGAIN = 11
-    # Another connection goes on with the session.
+    # Another connection continues the session.
     PASSED = 103
-    # Nothing whole came, or nothing was read, for too long.
+    # Nothing whole was received, or nothing was read, for too long.
     SLOW = 110
     # A call waits for an operator.
     ASIDE = 16
@@ -57,14 +59,14 @@ class Why(enum.IntEnum):
     NOT_DONE = 125
     # Frames were done, and their replies are gone.
     GONE = 61
-    # What stands behind the gateway does not do its part.
+    # The shards that the gateway calls fail.
     BEHIND = 5
     # The gateway ends.
     ENDS = 108
 
 
 class Refusal(Exception):
-    """A connection that is ended, and why."""
+    """A connection that is ended, and the reason."""
 
     def __init__(self, why: Why, sentence: str) -> None:
         super().__init__(sentence)
@@ -77,24 +79,24 @@ def said(word: Word, body: bytes) -> bytes:
 
 
 def hello(token: str | None = None, session: str | None = None, answered: int = 0) -> bytes:
-    """What a customer says first. In a session, how many replies it has had."""
+    """A customer's first frame. In a session, it has the number of received replies."""
     told = {"token": token, "session": session, "answered": answered or None}
     return said(Word.HELLO, json.dumps({name: value for name, value in told.items() if value is not None}).encode())
 
 
 def ack(answered: int) -> bytes:
-    """That the customer has so many replies."""
+    """Acknowledges that the customer has so many replies."""
     return said(Word.ACK, answered.to_bytes(8, "little"))
 
 
 def told(word: Word, why: Why | None, /, **what: object) -> bytes:
-    """What the gateway says: a reply with a status, whose payload is JSON."""
+    """A frame of the gateway: a reply with a status, whose payload is JSON."""
     status = (-why if why else 0).to_bytes(4, "little", signed=True)
     return said(word, status + json.dumps(what).encode())
 
 
 def read_told(reply: bytes) -> tuple[Word, Why | None, Mapping[str, Any]]:
-    """The same, read; a ValueError where it is none."""
+    """The same, parsed; raises ValueError if the bytes are none."""
     status = status_of(reply)
     found = json.loads(reply[REPLY_HEAD:])
     if not isinstance(found, dict):
@@ -103,7 +105,7 @@ def read_told(reply: bytes) -> tuple[Word, Why | None, Mapping[str, Any]]:
 
 
 def hello_size(held: bytes | bytearray) -> int | None:
-    """How long the first frame is, once it is whole; a Refusal where it is longer than such a frame may be, or shorter."""
+    """The length of the first frame, once it is whole; raises Refusal if it is longer than such a frame may be, or shorter."""
     if len(held) < 4:
         return None
     size = 4 + int.from_bytes(held[:4], "little")
@@ -113,7 +115,7 @@ def hello_size(held: bytes | bytearray) -> int | None:
 
 
 def read_hello(frame: bytes) -> tuple[str | None, str | None, int]:
-    """The token, the session and the number of replies of what a customer says first; a Refusal where it says something else."""
+    """The token, the session and the number of replies in a customer's first frame; raises Refusal if the frame has something else."""
     if command_of(frame) != Word.HELLO or frame[4:6] != b"\xff\xff":
         raise Refusal(Why.WRONG, "a connection begins with a frame that says who the customer is")
     try:
@@ -129,18 +131,19 @@ def read_hello(frame: bytes) -> tuple[str | None, str | None, int]:
 
 
 class Incoming:
-    """Bytes of a customer that came and are in no call yet: a call's bytes of whole frames at most, and one that is not whole."""
+    """Received bytes that are in no call yet: whole frames with at most the bytes of a call, and one that is not whole."""
 
     def __init__(self) -> None:
         self._bytes = bytearray()
-        # Where the first frame begins that is not whole; how long those before it are, and at most the replies to them.
+        # The offset of the first frame that is not whole; for each frame before it, its length and the most bytes that its reply may
+        # have.
         self._whole = 0
         self._sizes: list[tuple[int, int]] = []
-        # How many replies the customer has, as it says.
+        # The number of replies that the customer has acknowledged.
         self.acked = 0
 
     def room(self) -> int:
-        """So many bytes may come."""
+        """How many more bytes may come."""
         return max(0, LONGEST_CALL - self._whole)
 
     def is_partial(self) -> bool:
@@ -148,11 +151,11 @@ class Incoming:
         return len(self._bytes) > self._whole
 
     def count(self) -> int:
-        """How many frames are whole."""
+        """The number of whole frames."""
         return len(self._sizes)
 
     def feed(self, data: bytes) -> None:
-        """Takes bytes, and looks at each frame's head once; a Refusal where one is wrong."""
+        """Takes bytes, and checks each frame's header once; raises Refusal if one is wrong."""
         held = self._bytes
         held += data
         while len(held) - self._whole >= BODY:
@@ -172,7 +175,7 @@ class Incoming:
             self._whole += 4 + length
 
     def _take_ack(self, tenant: int, command: int, length: int) -> bool:
-        """Takes a frame for the gateway out of the others; whether it was whole."""
+        """Removes a frame for the gateway from the others; returns whether it was whole."""
         at = self._whole
         if tenant != GATEWAY:
             raise Refusal(Why.WRONG, f"a frame names tenant 0, and not {tenant}")

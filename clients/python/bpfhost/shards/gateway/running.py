@@ -1,4 +1,4 @@
-"""Runs a gateway until it is told to end."""
+"""Runs a gateway until it is asked to end."""
 
 from __future__ import annotations
 
@@ -15,14 +15,14 @@ from bpfhost.shards.metrics import Page, Told
 
 
 def tls_of(said: Namespace) -> Tls | None:
-    """The files of TLS; a ShardError where one is missing."""
+    """The files of TLS; raises ShardError if one is missing."""
     if bool(said.certificate) != bool(said.key) or said.clients and not said.certificate:
         raise ShardError("TLS needs both --certificate and --key")
     return Tls(said.certificate, said.key, said.clients) if said.certificate else None
 
 
 async def serve(said: Namespace, tell: Callable[[str], None]) -> None:
-    """Serves until SIGTERM or SIGINT; SIGHUP reads the file of customers again. At a TCP address that others reach TLS is needed."""
+    """Serves until SIGTERM or SIGINT; SIGHUP reads the file of customers again. A TCP address that other machines reach needs TLS."""
     tls = tls_of(said)
     limits = GatewayLimits(connections=said.connections, new=said.new_connections, seconds=said.seconds)
     gateway = Gateway(said.redis, said.customers, limits, said.prefix, tell)

@@ -1,4 +1,4 @@
-"""A gateway: where it listens, whom it lets in, and how it ends."""
+"""A gateway: the addresses it listens at, the customers it admits, and how it ends."""
 
 from __future__ import annotations
 
@@ -23,24 +23,24 @@ from bpfhost.shards.gateway.protocol import Refusal, Why
 from bpfhost.shards.metrics import Numbers
 from bpfhost.shards.names import PREFIX
 
-# So many connections wait in the system until the gateway takes them.
+# So many connections wait in the system until the gateway accepts them.
 _BACKLOG = 1024
 _READ_LIMIT = 1 << 16
-# So long the gateway waits at its end for calls that are on their way.
+# At its end the gateway waits so long for calls in progress.
 SECONDS_TO_DRAIN = 30.0
 _PAUSE, _SECONDS_TO_LOOK = 0.05, 5.0
 
 
 @dataclass(frozen=True)
 class Tls:
-    """The gateway's certificate and its key, and who signs the customers' certificates, as files."""
+    """The files of the gateway's certificate, its key, and the authority that signs the customers' certificates."""
 
     certificate: Path
     key: Path
     clients: Path | None = None
 
     def context(self) -> ssl.SSLContext:
-        """What TLS begins with; a ShardError where a file is none."""
+        """The context for TLS; raises ShardError if a file is no certificate or key."""
         context = ssl.create_default_context(ssl.Purpose.CLIENT_AUTH)
         context.minimum_version = ssl.TLSVersion.TLSv1_2
         try:
@@ -55,7 +55,7 @@ class Tls:
 
 
 class Gateway:
-    """Lets customers in, and keeps their limits."""
+    """Accepts customers, and enforces their limits."""
 
     def __init__(
         self,
@@ -75,7 +75,7 @@ class Gateway:
         self._of: dict[str, int] = {}
         self._sessions: dict[tuple[str, str], Connection] = {}
         self._rates: dict[str, tuple[Known, Rate, Rate]] = {}
-        # Those who have not said yet who they are, the first one first.
+        # Connections whose customer is not known yet, the oldest first.
         self._unknown: dict[asyncio.Task[None], None] = {}
         self._tasks: set[asyncio.Task[None]] = set()
         self._listening: list[asyncio.Task[None]] = []
@@ -86,7 +86,7 @@ class Gateway:
     # Listening.
 
     async def listen(self, address: str, tls: Tls | None = None) -> str:
-        """Listens at `host:port`, or at `unix:PATH`, and gives the address; a ShardError where it can't."""
+        """Listens at `host:port`, or at `unix:PATH`, and returns the address; raises ShardError if it can't."""
         context = tls.context() if tls else None
         try:
             listening = _bound(address)
@@ -106,7 +106,7 @@ class Gateway:
                 try:
                     made, _ = await loop.sock_accept(listening)
                 except OSError as error:
-                    # No descriptor is free, or the customer is gone already.
+                    # No descriptor is free, or the customer has closed the connection already.
                     self._tell(f"the gateway can't take a connection: {error.strerror or error}")
                     await asyncio.sleep(_PAUSE)
                     continue
@@ -139,10 +139,10 @@ class Gateway:
             return
         await Connection(self, reader, asyncio.StreamWriter(transport, protocol, reader, loop)).run()
 
-    # Who is there.
+    # Connections.
 
     def came(self, known: Known, session: str | None, connection: Connection) -> None:
-        """Notes a customer's connection; a Refusal where there are too many."""
+        """Notes a customer's connection; raises Refusal if there are too many."""
         if self.is_ending:
             raise Refusal(Why.ENDS, "the gateway ends")
         if len(self.connections) >= self.limits.connections:
@@ -170,7 +170,7 @@ class Gateway:
             del self._sessions[known.name, session]
 
     async def wait_for_rate(self, known: Known, frames: int, size: int) -> None:
-        """Waits until a customer may send so much; a Refusal where that takes long."""
+        """Waits until a customer may send so much; raises Refusal if that takes long."""
         now = asyncio.get_running_loop().time()
         if known.name not in self._rates or self._rates[known.name][0] != known:
             self._rates[known.name] = known, Rate(known.limits.frames, now), Rate(known.limits.bytes, now)
@@ -185,19 +185,19 @@ class Gateway:
         if delay:
             await asyncio.sleep(delay)
 
-    # What is seen of it.
+    # Metrics.
 
     def numbers(self) -> Numbers:
         """The metrics."""
         return self.counts.numbers(len(self.connections), len(self._unknown))
 
     def health(self) -> tuple[bool, dict[str, object]]:
-        """Whether it takes customers, and the directory answers."""
+        """Whether it accepts customers, and the directory's Redis replies."""
         said = {"customers": len(self.customers), "connections": len(self.connections), "ends": self.is_ending, "redis": self._redis_says}
         return not self.is_ending and self._redis_says == "answers", said
 
     async def look(self) -> None:
-        """Asks the directory's Redis now and then whether it answers."""
+        """Checks now and then whether the directory's Redis replies."""
         while True:
             try:
                 await in_turns(self._ping)
@@ -212,7 +212,7 @@ class Gateway:
     # Changes, and the end.
 
     def reload(self) -> None:
-        """Reads the file of customers again; one that is wrong changes nothing, and is told."""
+        """Reads the file of customers again; a wrong file changes nothing, and its error is reported."""
         try:
             self.customers = Customers(self._file)
             self._tell(f"the gateway knows {len(self.customers)} customers")
@@ -220,7 +220,7 @@ class Gateway:
             self._tell(f"the gateway's customers stay as they were: {error}")
 
     async def end(self) -> None:
-        """Takes nothing more; calls that are on their way are answered, and then all connections end."""
+        """Accepts nothing more; calls in progress get their replies, and then all connections end."""
         self.is_ending = True
         for task in self._listening:
             task.cancel()
@@ -238,7 +238,7 @@ class Gateway:
 
 
 def _bound(address: str) -> socket.socket:
-    """A socket at an address; one that a gateway before it left is taken away."""
+    """A socket at an address; removes the socket that an earlier gateway left."""
     if address.startswith("unix:"):
         path = address[len("unix:") :]
         with contextlib.suppress(FileNotFoundError):

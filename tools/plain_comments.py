@@ -31,7 +31,6 @@ MOST: dict[str, int] = {
     "clients/python/bpfhost/classic": 110,
     "clients/python/bpfhost/lowering": 6,
     "clients/python/tests/classic": 40,
-    "clients/python/tests/shards": 150,
     "clients/rust/bpfhost-sys": 2,
     "clients/rust/examples": 5,
     "clients/rust/src": 70,

@@ -1,4 +1,4 @@
-"""Certificates of the tests' own, by the command openssl."""
+"""Certificates for tests, made by the command openssl."""
 
 from __future__ import annotations
 
@@ -15,7 +15,7 @@ def _openssl(*words: str) -> None:
 
 
 def authority(folder: Path, name: str = "authority") -> Path:
-    """Who signs certificates; its own one."""
+    """An authority that signs certificates, and its own certificate."""
     made = folder / f"{name}.pem"
     _openssl("req", "-x509", *_CURVE, "-subj", f"/CN={name}", "-keyout", str(folder / f"{name}.key"), "-out", str(made))
     return made

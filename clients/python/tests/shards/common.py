@@ -1,4 +1,4 @@
-"""What tests of shards share: a Redis for each test, and workers in threads."""
+"""Shared by the tests of shards: a Redis for each test, and workers in threads."""
 
 from __future__ import annotations
 
@@ -17,7 +17,7 @@ from bpfhost.shards.registering import register
 from tests.common import PROGRAM, HostTest
 from tests.shards.redis_server import RedisServer, missing
 
-# A customer makes a map, looks a key up there, and puts a number under it.
+# A customer creates a map, looks a key up there, and updates it with a number.
 CREATE = frames.map_create(0, MapType.HASH, 4, 8, 16)
 LOOK_UP = frames.map_lookup_elem(0, 3, b"key1")
 
@@ -27,12 +27,12 @@ SETTINGS = Settings(lease_seconds=SECONDS)
 
 
 def put(value: int) -> bytes:
-    """The frame that does."""
+    """The frame of this update."""
     return frames.map_update_elem(0, 3, b"key1", value.to_bytes(8, "little"))
 
 
 def call_of(entry: bytes, tenant: int, frames: Sequence[bytes]) -> Call:
-    """A call of frames, however many they are."""
+    """A call of frames, whatever their number is."""
     stream = b"".join(frames)
     return Call(entry, tenant, stream, len(frames), size_of_alike(stream))
 
@@ -64,7 +64,7 @@ class WorkerThread:
             time.sleep(0.005)
 
     def serves(self) -> bool:
-        """Whether it has said so."""
+        """Whether it has logged that it serves."""
         return any("is served, from" in sentence for sentence in self.told)
 
     def stop(self) -> None:
@@ -84,7 +84,7 @@ class ShardTest(HostTest):
 
     def setUp(self) -> None:
         super().setUp()
-        # The library leaves a socket behind where it can't connect.
+        # The library does not close a socket that can't connect.
         warnings.filterwarnings("ignore", "unclosed <socket", ResourceWarning)
         self.server = RedisServer(self.scratch)
         self.addCleanup(self.server.kill)
@@ -99,7 +99,7 @@ class ShardTest(HostTest):
         return worker
 
     def empty_shard(self, number: int) -> tuple[Redis, ShardKeys]:
-        """A shard of the directory that nobody serves any more, and that is offered all the same."""
+        """A shard of the directory that nobody serves any more, but that is still offered."""
         redis, keys = self.client.shard(number)
         name = register(redis, keys, self.client.directory, "")
         self.client.directory.beat(number, name)

@@ -1,11 +1,13 @@
-"""Faults while customers ask: workers and hosts are killed at random moments, workers are paused past their lease, Redis is killed and
-started on its files, connections are cut, customers are moved, and second workers are started on shards that are served.
+"""Faults while customers send calls.
+
+Workers and hosts are killed at random moments, workers are paused past their lease, Redis is killed and restarted on its files,
+connections are cut, customers are moved, and second workers are started on shards that are served.
 
 usage: python3 -m tests.shards.faults [--kills N] [--seconds S] [--seed N]
 
-Each customer's frames are also sent to a host that serves it alone, and each reply is compared, byte for byte. At the end each entry
-of each stream has one reply, and there are as many entries as calls were taken. It ends when so many kills are done, or after so many
-seconds; what was seen is told. The status is 1 where anything differs.
+Each customer's frames are also sent to a host that serves only this customer, and each reply is compared, byte for byte. At the end each
+entry of each stream has one reply, and there are as many entries as calls were taken. The run ends after so many kills or seconds, and
+prints what was seen. The exit status is 1 if anything differs.
 """
 
 from __future__ import annotations
@@ -35,15 +37,15 @@ PROGRAM = os.environ.get("BPFHOST", "")
 SHARDS, CUSTOMERS, LEASE = 3, 10, 1.0
 SNAPSHOT_ENTRIES = 120
 _SECONDS_TO_SETTLE = 150.0
-# What a worker says when it serves.
+# The sentence that a worker logs when it serves.
 _SERVES = "is served, from"
 _CAREFUL = "the host is a process of its own at first"
-# The statuses of a worker that ended since its host or Redis was away, or another worker has its lease.
+# The exit statuses of a worker that ended because its host or Redis was away, or because another worker has its lease.
 _AWAY, _NO_LEASE = 3, 4
 
 
 class Differs(Exception):
-    """Something is not as it has to be."""
+    """A result differs from the expected one."""
 
 
 class Supervisor:
@@ -63,7 +65,7 @@ class Supervisor:
         return WorkerProcess(words, self._folder / f"worker-{self._shard}-{self._started}")
 
     def look(self) -> None:
-        """Starts a new worker where the last one has ended."""
+        """Starts a new worker if the last one has ended."""
         with self.lock:
             status = self.worker.status()
             if status is not None:
@@ -71,7 +73,7 @@ class Supervisor:
                 self.worker = self.start()
 
     def note(self, worker: WorkerProcess, status: int) -> None:
-        """Notes how a worker has ended; a Differs where it should not have."""
+        """Notes how a worker has ended; raises Differs if it should not have."""
         said = worker.said()
         self._counts["served"] += _SERVES in said
         self._counts["careful"] += _CAREFUL in said
@@ -79,7 +81,7 @@ class Supervisor:
             raise Differs(f"the worker of shard {self._shard} ended with {status}: {said}")
 
     def replace(self) -> WorkerProcess:
-        """Puts a second worker in the place of the one that runs, which is given back."""
+        """Replaces the running worker by a second one, and returns the first."""
         with self.lock:
             old, self.worker = self.worker, self.start()
             return old
@@ -93,13 +95,13 @@ class Faults:
         self._kills, self._until, self._draw = kills, time.monotonic() + seconds, random.Random(seed)
         self._redis = RedisServer(folder)
         self._seed, self._failures = seed, list[str]()
-        # No more faults and calls; no more workers in the place of those that end.
+        # No more faults and calls; no more workers to replace those that end.
         self._stopped, self._ended = threading.Event(), threading.Event()
         self._calls: Counter[str] = Counter()
         self.shards = [Supervisor(self._redis.url, shard, folder, self.counts) for shard in range(SHARDS)]
 
     def run(self) -> None:
-        """All of it; a Differs where anything is wrong."""
+        """The whole run; raises Differs if anything is wrong."""
         try:
             self._run()
         finally:
@@ -143,7 +145,7 @@ class Faults:
     # Customers.
 
     def _customer(self, number: int) -> None:
-        """Sends random frames, and compares each reply with that of a host that serves this customer alone."""
+        """Sends random frames, and compares each reply with that of a host that serves only this customer."""
         name, draw = f"customer-{number}", random.Random(f"{self._seed} {number}")
         stream = Stream(PROGRAM, f"{self._seed} {number}")
         with Client(self._redis.url) as client, Host(PROGRAM) as alone:
@@ -176,7 +178,7 @@ class Faults:
             self._move: 6,
             self._second_worker: 1,
         }
-        # Each of them is seen, also in a short run.
+        # Each of them happens, also in a short run.
         first = list(kinds)
         while self.counts["kills"] < self._kills or first:
             if time.monotonic() > self._until or self._stopped.is_set():
@@ -195,7 +197,7 @@ class Faults:
             self.counts["hosts"] += 1
 
     def _end_worker(self) -> None:
-        """Lets a worker end, after which the next one has its host in its own process, where there is a library."""
+        """Lets a worker end, after which the next one has its host in its own process, if there is a library."""
         worker = self._served_shard().worker
         worker.send(signal.SIGTERM)
         # A second SIGTERM would end it in the middle.
@@ -211,12 +213,12 @@ class Faults:
         return shard
 
     def _pause(self) -> None:
-        """Pauses a worker until another one has its lease; when it wakes, it may write nothing more."""
+        """Pauses a worker until another one has its lease; after it wakes, it may write nothing more."""
         shard = self._served_shard()
         old = shard.worker
         old.send(signal.SIGSTOP)
         shard.replace()
-        # However busy the machine is, another worker has the lease when it wakes.
+        # Even on a busy machine, another worker has the lease when it wakes.
         until = time.monotonic() + _SECONDS_TO_SETTLE
         while _SERVES not in shard.worker.said() and time.monotonic() < until:
             time.sleep(0.02)
@@ -235,14 +237,14 @@ class Faults:
         self.counts["redis"] += 1
 
     def _cut(self) -> None:
-        """Closes each connection to Redis, in the middle of whatever is asked there."""
+        """Closes each connection to Redis, whatever command is in progress there."""
         redis = connect(self._redis.url)
         redis.call("CLIENT", "KILL", "TYPE", "normal")
         redis.close()
         self.counts["cut"] += 1
 
     def _move(self) -> None:
-        """Moves a customer. Half of the moves have little time, and those that are broken off are ended by the next call, or by a worker."""
+        """Moves a customer. Half of the moves have little time; the next call, or a worker, completes those that are interrupted."""
         name = f"customer-{self._draw.randrange(CUSTOMERS)}"
         with Client(self._redis.url) as client:
             if client.directory.seat(name) is None:
@@ -259,8 +261,10 @@ class Faults:
                 self.counts["not moved"] += 1
 
     def _second_worker(self) -> None:
-        """Starts a second worker on a shard that is served: it ends, and says why; or the first one stood still for longer than its
-        lease, as on a machine that is busy, and then the second one serves."""
+        """Starts a second worker on a shard that is served: it ends, and reports why.
+
+        Or the first one paused for longer than its lease, as on a busy machine, and then the second one serves.
+        """
         shard = self._served_shard()
         first, second = shard.worker, shard.start()
         until = time.monotonic() + _SECONDS_TO_SETTLE

@@ -1,4 +1,4 @@
-"""Gateways of the tests, each on an event loop of its own in a thread, and what a customer says to them byte by byte."""
+"""Gateways for tests, each on its own event loop in a thread, and connections that send bytes to them."""
 
 from __future__ import annotations
 
@@ -30,7 +30,7 @@ class GatewayThread:
     """A gateway in a thread."""
 
     def __init__(self, url: str, customers: Path, limits: GatewayLimits, addresses: Sequence[tuple[str, Any]]) -> None:
-        """It listens at addresses, each with the files of TLS or None."""
+        """Listens at addresses, each with the files of TLS or None."""
         from bpfhost.shards.gateway.server import Gateway
 
         self.told: list[str] = []
@@ -72,7 +72,7 @@ class GatewayThread:
 
 
 class Raw:
-    """A connection to a gateway that says whatever it is told to."""
+    """A connection to a gateway that sends any bytes it is given."""
 
     def __init__(self, address: str, tls: ssl.SSLContext | None = None) -> None:
         if address.startswith("unix:"):
@@ -98,16 +98,16 @@ class Raw:
         return self
 
     def greet(self, token: str, session: str | None = None, answered: int = 0) -> dict[str, Any]:
-        """Says who it is, and gives what is answered."""
+        """Sends the first frame, and returns the gateway's reply."""
         self.say(hello(token, session, answered))
         return self.told()[2]
 
     def ends(self) -> None:
-        """Says that nothing comes any more."""
+        """Ends the sent data."""
         self._socket.shutdown(socket.SHUT_WR)
 
     def frame(self) -> bytes:
-        """The next frame; a ConnectionError at the end."""
+        """The next frame; raises ConnectionError at the end."""
         while len(self._came) < 4 or len(self._came) < 4 + int.from_bytes(self._came[:4], "little"):
             data = self._socket.recv(1 << 16)
             if not data:

@@ -1,5 +1,7 @@
-"""The shared library that tests call: that of the variable BPFHOST_LIBRARY, or one that lies beside the program, or is linked of the
-archive beside it."""
+"""The shared library that tests call.
+
+It is that of the variable BPFHOST_LIBRARY, or the one next to the program, or one that is linked from the archive next to the program.
+"""
 
 from __future__ import annotations
 
@@ -18,7 +20,7 @@ _scratch = tempfile.TemporaryDirectory()
 
 @functools.cache
 def library_file() -> Path | None:
-    """The file, or None where there is none to try."""
+    """The file, or None if there is none to try."""
     named = os.environ.get("BPFHOST_LIBRARY")
     if named:
         return Path(named)

@@ -1,4 +1,4 @@
-"""A cluster of Redis of the tests' own: three masters, each with a replica, which all write each change to the disk before they answer."""
+"""A Redis cluster for tests: three masters, each with a replica; all of them write each change to the disk before they reply."""
 
 from __future__ import annotations
 
@@ -18,7 +18,7 @@ _SECONDS = 60
 
 
 def _free_ports(many: int) -> list[int]:
-    """Ports that nobody has just now, whose buses' ports, 10,000 above them, nobody has either."""
+    """Ports that are free at the moment, and whose bus ports, 10,000 above them, are free too."""
     found: list[int] = []
     for port in range(21_000, 29_000):
         with contextlib.suppress(OSError), contextlib.ExitStack() as stack:
@@ -40,7 +40,7 @@ class Node:
         self.redis = connect(f"redis://{self.address}/0")
 
     def start(self) -> None:
-        """Starts it on what its folder has, and waits until it answers."""
+        """Starts it on the files in its folder, and waits until it replies."""
         options = {
             "port": str(self.port),
             "bind": "127.0.0.1",
@@ -66,11 +66,11 @@ class Node:
         return False
 
     def call(self, *words: object) -> object:
-        """The answer to a command."""
+        """The reply to a command."""
         return self.redis.until(time.monotonic() + 2).call(*words)
 
     def told(self, section: str) -> dict[str, str]:
-        """A section of INFO; nothing where it does not answer."""
+        """A section of INFO; empty if it does not reply."""
         with contextlib.suppress(RedisError):
             return told_by(self.redis.until(time.monotonic() + 2), section)
         return {}
@@ -96,7 +96,7 @@ class RedisCluster:
 
     def __init__(self, folder: Path) -> None:
         self.nodes = [Node(folder / f"node-{number}", port) for number, port in enumerate(_free_ports(2 * MASTERS))]
-        # The second half begin as replicas of the first.
+        # The second half start as replicas of the first.
         self.url = f"redis://{self.nodes[0].address}/0?cluster=1&replicas=1"
         try:
             self._begin()
@@ -162,5 +162,5 @@ class RedisCluster:
         raise AssertionError(f"nobody serves {key}")
 
     def redis(self) -> Redis:
-        """The cluster, as the package asks it."""
+        """A connection of the package to the cluster."""
         return connect(self.url)

@@ -1,4 +1,4 @@
-"""A Redis of the tests' own: a folder, a Unix socket and no port, each change on the disk before it is answered."""
+"""A Redis server for tests: a folder, a Unix socket and no port; it replies after each change is on the disk."""
 
 from __future__ import annotations
 
@@ -17,7 +17,7 @@ _SECONDS = 20
 
 
 def missing() -> str | None:
-    """What is missing for tests of shards, in a word, or None."""
+    """What tests of shards lack on this machine, as a word, or None."""
     if SERVER is None:
         return "redis-server is missing"
     return None if importlib.util.find_spec("redis") else "python3-redis is missing"
@@ -27,7 +27,7 @@ class RedisServer:
     """A running redis-server in a folder. It is a context manager, which kills it."""
 
     def __init__(self, folder: Path, fsync: str = "always", user: str = "", options: Mapping[str, str] | None = None) -> None:
-        """With a user, as `name:password`, who may ask whether it answers; and with more options."""
+        """With a user, as `name:password`, who may send PING; and with more options."""
         self.folder, self._fsync, self._options = folder, fsync, options or {}
         # The path of a Unix socket has 107 bytes at most.
         self.url = f"unix://{user}{'@' if user else ''}{folder}/s"
@@ -41,7 +41,7 @@ class RedisServer:
         self.kill()
 
     def start(self) -> None:
-        """Starts the server on what its folder has, and waits until it answers."""
+        """Starts the server on the files in its folder, and waits until it replies."""
         options = {
             "port": "0",
             "unixsocket": f"{self.folder}/s",

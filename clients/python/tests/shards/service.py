@@ -1,11 +1,13 @@
-"""All of it under faults: a cluster of three masters with a replica each, four workers, two gateways, and customers by TLS, half of them by
-certificates. Once a second one process of each kind is killed: a worker, a host, a gateway, a server of Redis; and a customer's process goes
-and the next one goes on with its session.
+"""The whole service under faults.
+
+It has a cluster of three masters with a replica each, four workers, two gateways, and customers over TLS, half of them with certificates.
+Once a second one process of each kind is killed: a worker, a host, a gateway, a server of Redis; and the process of a customer is
+replaced by one that continues its session.
 
 usage: python3 -m tests.shards.service [--seconds S] [--seed N]
 
-Each customer's frames are also sent to a host that serves it alone, and each reply is compared, byte for byte. At the end each frame was
-taken once, and each entry of each stream has one reply. The status is 1 where anything differs.
+Each customer's frames are also sent to a host that serves only this customer, and each reply is compared, byte for byte. At the end each
+frame was taken once, and each entry of each stream has one reply. The exit status is 1 if anything differs.
 """
 
 from __future__ import annotations
@@ -41,12 +43,12 @@ from tests.shards.worker_process import WorkerProcess
 PROGRAM = os.environ.get("BPFHOST", "")
 WORKERS, GATEWAYS, CUSTOMERS = 4, 2, 6
 _SECONDS_TO_SETTLE = 120.0
-# A server of Redis that is killed stays away until a replica has taken over, one time in so many; else it is started at once.
+# A server of Redis that is killed stays away until a replica has taken over, one time in so many; otherwise it is started at once.
 _ONE_IN = 4
 
 
 class Differs(Exception):
-    """Something is not as it has to be."""
+    """A result differs from the expected one."""
 
 
 class Kept:
@@ -61,7 +63,7 @@ class Kept:
         return WorkerProcess(self._words, self._errors.with_suffix(f".{self._started}"))
 
     def look(self) -> None:
-        """Starts it again where it has ended; a Differs where it ended by a fault of its own."""
+        """Starts it again if it has ended; raises Differs if it ended by a fault of its own."""
         if self.process.status() is not None:
             if "Traceback" in self.process.said():
                 raise Differs(f"{' '.join(self._words[:2])}: {self.process.said()}")
@@ -70,7 +72,7 @@ class Kept:
 
 @dataclass
 class Asked:
-    """A customer, and what it was told: how many replies it has, and how long each call took."""
+    """A customer, and what it has received: how many replies it has, and how long each call took."""
 
     name: str
     tls: CustomerTls
@@ -118,7 +120,7 @@ class Service:
         return made
 
     def run(self) -> None:
-        """All of it; a Differs where anything is wrong."""
+        """The whole run; raises Differs if anything is wrong."""
         try:
             self._run()
         finally:
@@ -160,7 +162,7 @@ class Service:
     # Customers.
 
     def _ask(self, asked: Asked) -> None:
-        """Sends random frames, and compares each reply. Now and then its process goes, with calls on their way, and the next goes on."""
+        """Sends random frames, and compares each reply. Now and then its process ends during calls, and the next one continues."""
         stream, draw = Stream(PROGRAM, f"{self._seed} {asked.name}"), random.Random(f"{self._seed} {asked.name}")
         with Host(PROGRAM) as alone:
             customer = self._customer(asked, draw)
@@ -187,7 +189,7 @@ class Service:
         return GatewayCustomer(addresses, asked.token, f"session of {asked.name}", asked.tls, _SECONDS_TO_SETTLE)
 
     def _go_on(self, customer: GatewayCustomer, answered: int, sent: list[bytes]) -> list[bytes]:
-        """Goes on in the place of a process that is gone: the replies to what was taken come, and what was not is sent."""
+        """Continues after a process that has ended: the replies to taken frames come, and the others are sent."""
         self.counts["customers"] += 1
         taken = customer.resume(answered) - answered
         told = customer.missing()
@@ -198,7 +200,7 @@ class Service:
     # Faults.
 
     def _kill_for(self, seconds: float) -> None:
-        """Kills one process of each kind once a second, when each customer was answered once."""
+        """Kills one process of each kind once a second, after each customer has had a reply."""
         until = time.monotonic() + _SECONDS_TO_SETTLE
         while not all(one.seconds for one in self.customers) and not self._stopped.is_set() and time.monotonic() < until:
             time.sleep(0.02)

@@ -1,6 +1,6 @@
 """Random frames of one tenant: maps come and go, programs keep maps whose descriptors are closed, and read, write, add and delete keys.
 
-Most frames mean something, since what is open is followed by the replies; some are wrong in all ways.
+Most frames are valid, since the replies show what is open; some are wrong in all ways.
 """
 
 from __future__ import annotations
@@ -14,7 +14,7 @@ from bpfhost.program import MapShape
 from bpfhost.slots import renamed_maps
 from bpfhost.tenancy import LiveMap, Tenancy
 
-# A key of four bytes from the packet at r10 - 4; where there is none, key 0.
+# A key of four bytes from the packet at r10 - 4; if there is none, key 0.
 _KEY = "*(u32 *)(r10 - 4) = 0\nr2 = 0\nr3 = r10\nr3 += -4\nr4 = 4\ncall 26\nr2 = r10\nr2 += -4\nr1 = map_fd 3 ll\n"
 _OR_EXIT = "if r0 != 0 goto +2\nr0 = 0\nexit\n"
 _ADD = "r1 = *(u64 *)(r0 + 0)\nr1 += 1\n*(u64 *)(r0 + 0) = r1\nr0 = r1\nexit\n"
@@ -155,5 +155,5 @@ class Stream:
 
 
 def is_without_descriptor(tenancy: Tenancy) -> bool:
-    """Whether a map lives on that no descriptor names."""
+    """Whether there is a map that no descriptor names."""
     return any(not tenancy.is_open(on) for on in tenancy.live())

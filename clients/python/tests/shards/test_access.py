@@ -1,5 +1,7 @@
-"""Users of Redis: the file of users that stands beside the package, in a real Redis; what each may, and may not; TLS; and no secret in
-the directory."""
+"""Users of Redis: the package's file of users in a real Redis.
+
+The tests check what each user may do, and may not; TLS; and that the directory has no secret.
+"""
 
 from __future__ import annotations
 
@@ -41,7 +43,7 @@ def users(folder: Path) -> Path:
 
 
 def user(kind: str) -> str:
-    """A user and its password, as a URL has them."""
+    """A user and its password, in the form of a URL."""
     return f"bpfhost-{kind}:{kind[::-1]}"
 
 
@@ -134,7 +136,7 @@ class Users(HostTest):
         self.assertIsNone(worker.error)
 
     def test_the_file_as_it_stands(self) -> None:
-        """Nobody has a password in the file of the repository, so nobody comes in."""
+        """In the repository's file nobody has a password, so nobody can log in."""
         (self.scratch / "bare").mkdir()
         bare = self.scratch / "bare"
         (bare / "users.acl").write_text(USERS.read_text())
@@ -177,7 +179,7 @@ class Urls(unittest.TestCase):
 
 
 def free_port() -> int:
-    """A port that nobody has just now."""
+    """A port that is free at the moment."""
     with socket.create_server(("127.0.0.1", 0)) as made:
         return int(made.getsockname()[1])
 
@@ -185,7 +187,10 @@ def free_port() -> int:
 @unittest.skipIf(_WHY is not None or OPENSSL is None, _WHY or "openssl is missing")
 class ByTls(HostTest):
     def test_a_redis_by_tls(self) -> None:
-        """Worker, customer and gateway by TLS with certificates of their own; who has none, or trusts somebody else, is refused."""
+        """Worker, customer and gateway over TLS with their own certificates.
+
+        A client without a certificate, or with another trusted authority, or another host name, is refused.
+        """
         own, other = authority(self.scratch), authority(self.scratch, "other")
         (certificate, key), port = signed(self.scratch, "redis", own, "IP:127.0.0.1"), free_port()
         mine = signed(self.scratch, "worker", own)
@@ -210,7 +215,7 @@ class ByTls(HostTest):
                 redis.close()
 
     def by_gateway(self, url: str) -> None:
-        """A gateway asks by TLS too."""
+        """A gateway uses TLS to Redis too."""
         gateway = GatewayThread(url, customers_file(self.scratch, two="token"), GatewayLimits(), [(f"unix:{self.scratch}/g", None)])
         with Raw(gateway.addresses[0]) as raw:
             raw.greet("token")

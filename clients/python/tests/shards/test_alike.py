@@ -1,4 +1,4 @@
-"""Frames that are alike are looked at together, and answered as they are one by one."""
+"""Frames that are alike are handled together, with the same replies as one by one."""
 
 from __future__ import annotations
 
@@ -23,7 +23,7 @@ from tests.shards.streams import slots_of
 
 class Alike(HostTest):
     def test_answers(self) -> None:
-        """Calls of three tenants, of frames that are done and that are refused, beside calls of others."""
+        """Calls of three tenants, of frames that are done and that are refused, next to calls of other frames."""
         draw = random.Random(1)
         begins = [CREATE, frames.prog_load(0, slots_of(PROGRAM, "add")), put(1)]
         kinds: list[Callable[[], list[bytes]]] = [
@@ -119,7 +119,7 @@ class Sizes(unittest.TestCase):
         short = frames.prog_test_run(0, 4)
         self.assertEqual(count_of(short * MOST_ALIKE)[0], MOST_ALIKE)
         self.assertEqual(count_of(LOOK_UP * MOST_FRAMES)[0], MOST_FRAMES)
-        # What has long replies, and what is not alike, is in smaller calls.
+        # Calls with long replies, and those that are not alike, are split into smaller ones.
         mixed = (short + frames.prog_test_run(0, 4, b"1")) * 257
         for wrong in (short * (MOST_ALIKE + 1), run * 2400, LOOK_UP * (MOST_FRAMES + 1), mixed, frames.prog_test_run(1, 4, bytes(64)) * 8, frames.frame(0, 1, bytes(40_000)) * 8):
             with self.assertRaises(ValueError):

@@ -1,4 +1,4 @@
-"""Answers of Redis in bytes, as its protocol's page has them, whole and in pieces; and commands that are sent behind one another."""
+"""Redis replies in bytes, as in the protocol's page, whole and in pieces; and commands that are sent one after another."""
 
 from __future__ import annotations
 
@@ -48,7 +48,7 @@ class Bytes(unittest.TestCase):
 
 class Commands(ShardTest):
     def test_many_at_once(self) -> None:
-        """Answers come in the order of the commands, also of those that nobody asks for."""
+        """Replies come in the order of the commands, also those that nobody waits for."""
         line = connect(self.server.url).line()
         pending = [line.begin("ECHO", number) for number in range(50)]
         self.assertEqual(pending[7].answer(), b"7")
@@ -71,7 +71,7 @@ class Commands(ShardTest):
             line.begin("SET", "a", "b").answer()
 
     def test_a_line_that_is_cut(self) -> None:
-        """None of what was sent has an answer, and the next command has a new connection."""
+        """None of the sent commands has a reply, and the next command has a new connection."""
         line = connect(self.server.url).line()
         waits, behind = line.begin_xread({"none": b"0-0"}, 1, 5.0), line.begin("ECHO", 1)
         self.assertFalse(waits.is_answered())
@@ -95,7 +95,7 @@ class Commands(ShardTest):
             line.close()
 
     def test_of_a_server_with_replicas(self) -> None:
-        """What is sent behind a command, to wait for replicas, is not what is looked at."""
+        """`is_answered` is for the reply to the command, not for the reply to the WAIT that is sent after it."""
         line = connect(f"{self.server.url}?replicas=0").line()
         waits, done = line.begin_xread({"none": b"0-0"}, 1, 0.2), connect(f"{self.server.url}?replicas=0").line().begin("ECHO", 1)
         any_of([waits, done], 20.0)

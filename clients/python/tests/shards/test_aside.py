@@ -1,4 +1,4 @@
-"""What goes wrong with one customer is told to that customer, and all others go on."""
+"""An error of one customer is reported to that customer, and all others go on."""
 
 from __future__ import annotations
 
@@ -10,7 +10,7 @@ from bpfhost.shards.manifest import Manifest
 from tests.common import PROGRAM
 from tests.shards.common import CREATE, LOOK_UP, SECONDS, ShardTest, WorkerThread, put
 
-# A host that ends when it is asked about a key that says so.
+# A host that ends at a lookup of a key with these bytes.
 _POISON = b"poison!!"
 _FRAGILE = """
 import subprocess
@@ -67,7 +67,7 @@ class Poison(AsideTest):
                 customer.wait(ticket)
         self.assertLess(time.monotonic() - began, 15)
         self.assertIn("acme is set aside: entry", "\n".join(operating.show(self.client)))
-        # It is as before where it is tried again, and done where the host takes it.
+        # It is as before if it is tried again, and done if the host takes it.
         operating.say(self.client, "acme", "retry", 20)
         with self.assertRaises(SetAside):
             customer.wait(poison)
@@ -91,13 +91,13 @@ class Poison(AsideTest):
             customer.wait(poison)
         with self.assertRaisesRegex(ShardError, "nothing of customer acme is set aside"):
             operating.say(self.client, "acme", "skip", 20)
-        # What was skipped is skipped when the log is played again.
+        # A skipped entry is skipped when the log is played again.
         first.stop()
         self.serve()
         self.assertEqual([reply.status for reply in customer.ask_all([LOOK_UP, put(4)])], [-2, 0])
 
     def test_a_state_that_ends_the_host_each_time(self) -> None:
-        """What one build has answered ends another one when it is played again."""
+        """A call that one build has played ends another build when it is played again."""
         first = self.serve()
         customer = self.client.customer("acme", 60)
         self.assertEqual([reply.status for reply in customer.ask_all([CREATE, POISON])], [3, 0])
@@ -131,10 +131,10 @@ while head := read(4):
 
 
 class Damage(AsideTest):
-    """Snapshots that are not as they were written."""
+    """Snapshots that differ from what was written."""
 
     def served(self) -> None:
-        """A customer with two snapshots, and entries behind them."""
+        """A customer with two snapshots, and entries after them."""
         worker = self.serve(settings=Settings(SECONDS, snapshot_entries=20))
         customer = self.client.customer("acme")
         customer.ask(CREATE)
@@ -205,7 +205,7 @@ class OtherBuilds(AsideTest):
         self.assertEqual(other.ask(put(1)).status, 0)
         with self.assertRaisesRegex(SetAside, "the state of tenant 0 can't be made: the host answers .*; build [0-9a-f]+ made its snapshot"):
             customer.ask(LOOK_UP)
-        # An operator takes what this build makes of it: the program is closed.
+        # An operator accepts what this build makes of it: the program is closed.
         operating.say(self.client, "acme", "skip", 20)
         self.assertEqual([reply.status for reply in customer.ask_all([frames.prog_test_run(0, 4), LOOK_UP])][:1], [-9])
         self.assertEqual(customer.ask(LOOK_UP).payload, (7).to_bytes(8, "little"))
@@ -240,7 +240,7 @@ class OtherBuilds(AsideTest):
         self.assertEqual(customer.ask(LOOK_UP).payload, (7).to_bytes(8, "little"))
         self.assertEqual(customer.ask(frames.prog_test_run(0, 4)).status, 0)
         self.assertEqual((self.client.directory.loads()[0], self.client.directory.moves()), (1, {}))
-        # The number is free for the next one there, who is a new customer.
+        # The number is free for the next customer there, who is new.
         self.client.directory.drain(0)
         self.assertEqual(self.client.customer("third").ask(frames.map_create(0, MapType.HASH, 4, 8, 1)).status, 3)
 

@@ -1,4 +1,4 @@
-"""A cluster of Redis, whose masters are killed and whose replicas take over: nothing that was answered is lost."""
+"""A cluster of Redis, whose masters are killed and whose replicas take over: no call that has a reply is lost."""
 
 from __future__ import annotations
 
@@ -24,7 +24,7 @@ SECONDS = 60
 
 
 class Customer:
-    """A customer in a thread, whose replies are compared with those of a host that serves it alone."""
+    """A customer in a thread, whose replies are compared with those of a host that serves only this customer."""
 
     def __init__(self, url: str, number: int) -> None:
         self.calls, self.failed = 0, ""
@@ -46,7 +46,7 @@ class Customer:
             self.failed = repr(error)
 
     def end(self) -> None:
-        """Lets it end."""
+        """Ends it."""
         self._ended.set()
         self._thread.join(SECONDS)
 
@@ -66,7 +66,7 @@ class Cluster(HostTest):
         return made
 
     def test_masters_that_are_killed(self) -> None:
-        """Masters of two shards and of the directory are killed while customers ask; each reply is that of a host alone."""
+        """Masters of two shards and of the directory are killed during calls; each reply is that of a separate host."""
         workers = [self.worker(shard) for shard in (0, 1)]
         customers = [Customer(self.cluster.url, number) for number in range(3)]
         for key in (ShardKeys(0).lease, DirectoryKeys().customers):
@@ -74,7 +74,7 @@ class Cluster(HostTest):
             master = self.cluster.master_of(key)
             master.kill()
             self.until(lambda: self.cluster.master_of(key) is not master)
-            # Until it is there again as a replica, nothing is answered.
+            # Until it is there again as a replica, no reply comes.
             master.start()
             self.until_more(customers, [one.calls for one in customers])
             self.cluster.until_whole()
@@ -110,14 +110,14 @@ class Cluster(HostTest):
             time.sleep(0.05)
 
     def until_more(self, customers: list[Customer], before: list[int]) -> None:
-        """Waits until each customer was answered again."""
+        """Waits until each customer has a new reply."""
         until = time.monotonic() + SECONDS
         while not all(one.calls > calls + 2 or one.failed for one, calls in zip(customers, before)):
             self.assertLess(time.monotonic(), until, "a customer waits for ever")
             time.sleep(0.02)
 
     def test_what_no_replica_has(self) -> None:
-        """A call that no replica has is not answered; where it is lost with its master, it is sent again, and done once."""
+        """A call that no replica has gets no reply; if it is lost with its master, it is sent again, and done once."""
         worker, keys = self.worker(0), ShardKeys(0)
         with Client(self.cluster.url) as client:
             customer = client.customer("acme", SECONDS)
@@ -125,7 +125,7 @@ class Cluster(HostTest):
             master = self.cluster.master_of(keys.lease)
             replica = self.cluster.nodes[self.cluster.nodes.index(master) + 3]
             assert replica.process
-            # The replica has nothing from here on, and the master does not know it yet.
+            # The replica gets nothing from here on, and the master does not know it yet.
             replica.process.send_signal(signal.SIGSTOP)
             with self.assertRaisesRegex(NoReply, "not known whether a call of customer acme was taken: 0 replicas have what was written"):
                 customer.post(put(1), 1.5)

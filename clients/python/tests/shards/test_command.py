@@ -1,4 +1,4 @@
-"""The command: a worker, a client, moves, and what is wrong in one sentence."""
+"""The command: a worker, a client, moves, and each error in one sentence."""
 
 from __future__ import annotations
 
@@ -22,14 +22,14 @@ FROM_HOST = re.compile(r"served by \S+ process [0-9]+")
 
 class Commands(ShardTest):
     def call(self, *words: str, given: bytes = b"") -> subprocess.CompletedProcess[bytes]:
-        """The command with these words."""
+        """The command with these arguments."""
         return subprocess.run(self.words(*words), input=given, capture_output=True, timeout=150)
 
     def words(self, *words: str) -> list[str]:
         return [sys.executable, "-m", "bpfhost.shards", words[0], "--redis", self.server.url, *words[1:]]
 
     def start(self, shard: int, *words: str) -> subprocess.Popen[str]:
-        """A worker, which says that it serves."""
+        """A worker, which logs that it serves."""
         worker = subprocess.Popen(self.words("worker", str(shard), "--lease", "3", *words), stderr=subprocess.PIPE, text=True)
         assert worker.stderr is not None
         self.addCleanup(worker.stderr.close)
@@ -63,7 +63,7 @@ class Commands(ShardTest):
         worker.kill()
         began = time.monotonic()
         self.start(0)
-        # When the lease of the one that was killed has run out.
+        # After the lease of the killed worker has run out.
         self.assertGreater(time.monotonic() - began, 1)
         self.assertEqual(self.call("client", "acme", given=frame).stdout[8:], bytes([4, 0, 0, 0]))
 
@@ -76,7 +76,7 @@ class Commands(ShardTest):
             self.assertIn("shard 4: 1 customers, 0 KiB of calls wait, served by", self.call("show").stdout.decode())
 
     def test_each_word_of_a_worker(self) -> None:
-        """Each word has its effect, and no other one."""
+        """Each option has its effect, and no other one."""
         redis = connect(self.server.url)
         self.addCleanup(redis.close)
         for shard, words, seconds, has_snapshot, drops in (
@@ -161,7 +161,7 @@ class Commands(ShardTest):
         # One line for each connection.
         before = redis.call("CLIENT", "LIST").count(b"\n")
         self.start(0)
-        # One of its own, one that raises the lease beside it, and one that attends to the directory.
+        # The worker's own connection, one to raise the lease at the same time, and one for the directory.
         self.assertLessEqual(redis.call("CLIENT", "LIST").count(b"\n"), before + 3)
 
     def test_a_missing_package(self) -> None:

@@ -1,4 +1,4 @@
-"""Customers by a gateway: each is who it says it is, what is wrong is refused with a sentence, and others go on."""
+"""Customers by a gateway: each is identified, a wrong frame is refused with a sentence, and others go on."""
 
 from __future__ import annotations
 
@@ -36,7 +36,7 @@ DONE = bytes.fromhex("08000000 0000 0200 00000000")
 @unittest.skipIf(WHY_NOT is not None, WHY_NOT or "")
 class GatewayTest(ShardTest):
     def gateway(self, limits: GatewayLimits = LIMITS, text: str = "", tls: Any = None) -> GatewayThread:
-        """A gateway that customer acme asks by a Unix socket, with a token; or all by TLS."""
+        """A gateway for customer acme on a Unix socket, with a token; or for all customers by TLS."""
         file = customers_file(self.scratch, text, acme="token of acme", other="token of other")
         made = GatewayThread(self.server.url, file, limits, [("127.0.0.1:0", tls) if tls else (f"unix:{self.scratch}/g", None)])
         self.addCleanup(made.stop)
@@ -77,7 +77,7 @@ class Asking(GatewayTest):
         self.assertEqual(dict(counts.items()), {b"key1": (7).to_bytes(8, "little")})
 
     def test_without_a_session(self) -> None:
-        """Frames and replies alone, as `bpfhost serve` has them, behind the one that says who it is."""
+        """Only frames and replies, as `bpfhost serve` has them, after the first frame, which names the customer."""
         self.shard(0)
         with Host(PROGRAM) as host:
             asked, wanted = Stream(PROGRAM, 5).play(host, 1500)
@@ -161,7 +161,7 @@ class Refused(GatewayTest):
             with self.subTest(sentence):
                 raw = self.raw(gateway)
                 raw.greet("token of acme")
-                # What comes before it is done, and answered.
+                # The frames before it are done, and have replies.
                 raw.say(CREATE + bytes_)
                 if ends_there:
                     raw.ends()
@@ -260,14 +260,14 @@ def _ignoring(call: Callable[[], object]) -> None:
 
 class Sessions(GatewayTest):
     def test_replies_that_did_not_come(self) -> None:
-        """A session goes on with another gateway: replies that are missing come, and nothing is done twice."""
+        """A session continues with another gateway: missing replies come, and nothing is done twice."""
         self.shard(0)
         gateways = [self.gateway(), self.gateway_at("h")]
         first = self.raw(gateways[0])
         self.assertEqual(first.greet("token of acme", "one"), {"customer": "acme", "taken": 0})
         first.say(CREATE + put(1) + put(2))
         replies = [first.frame() for _ in range(3)]
-        # Without a word that they have come, the next call is not taken.
+        # Without an acknowledgement of the replies, the next call is not taken.
         first.say(put(3))
         second = self.raw(gateways[1])
         self.assertEqual(second.greet("token of acme", "one", 1), {"customer": "acme", "taken": 3})
@@ -304,7 +304,7 @@ class Sessions(GatewayTest):
             elif at == 700:
                 gateways[1].stop()
             elif at % 200 == 0:
-                # As if the network had gone.
+                # As if the network were down.
                 assert customer._socket
                 customer._socket.shutdown(socket.SHUT_RDWR)
             replies += [reply for one in posted for reply in customer.wait(one)]
@@ -365,10 +365,10 @@ class ByTls(GatewayTest):
             with self.assertRaisesRegex(GatewayRefuses, sentence), GatewayCustomer(gateway.addresses, tls=tls) as customer:
                 customer.ask(CREATE)
         for tls in (CustomerTls(own, *forged), CustomerTls(clients)):
-            # Signed by somebody else; or a gateway that the customer does not trust.
+            # Signed by another authority; or a gateway that the customer does not trust.
             with self.assertRaises(ShardError), GatewayCustomer(gateway.addresses, "token of acme", tls=tls, seconds=0.5) as customer:
                 customer.ask(CREATE)
-        # Who does not speak TLS, or begins it and says nothing more.
+        # Clients without TLS, or that begin it and send nothing more.
         raw = self.raw(gateway)
         raw.say(hello("token of acme"))
         self.assertIn(raw._socket.recv(100)[:1], (b"", b"\x15"))
@@ -379,7 +379,7 @@ class ByTls(GatewayTest):
 
 class Command(GatewayTest):
     def words(self, *words: str) -> list[str]:
-        """The command with these words, and a file of customers."""
+        """The command with these arguments, and a file of customers."""
         return [sys.executable, "-m", "bpfhost.shards", *words]
 
     def test_a_gateway(self) -> None:
@@ -417,7 +417,7 @@ class Command(GatewayTest):
 
 class Crowd(GatewayTest):
     def test_connections_that_say_nothing(self) -> None:
-        """Many that say nothing, and many with wrong tokens, slow no customer down that is there, and take little memory."""
+        """Many connections that send nothing, and many with wrong tokens, do not slow down a customer, and take little memory."""
         self.shard(0)
         gateway = self.gateway(replace(LIMITS, new=400.0, unknown=64))
         customer = self.customer(gateway)
@@ -455,7 +455,7 @@ class Crowd(GatewayTest):
         self.assertLessEqual(len(gateway.gateway._unknown), 65)
         self.assertGreater(gateway.gateway.counts.refusals["who"], 50)
         self.assertGreater(gateway.gateway.counts.refusals["again"], 50)
-        # Under a crowd a customer waits longer by a turn of the loop, and not by the crowd's number.
+        # With many connections a customer waits longer by a turn of the loop, and not in proportion to their number.
         self.assertLess(statistics.median(beside), 5 * statistics.median(alone) + 0.05)
         self.assertLess(resource.getrusage(resource.RUSAGE_SELF).ru_maxrss - before, 64 * 1024)
 

@@ -1,4 +1,4 @@
-"""The host in the worker's own process, by the library: it answers as a host of its own does, and what is no library is refused."""
+"""The host in the worker's own process: the library replies as a separate host does, and a file that is no library is refused."""
 
 from __future__ import annotations
 
@@ -34,9 +34,9 @@ from tests.shards.worker_process import WorkerProcess
 
 _FILE = library_file() if PROGRAM else None
 _WHY = "there is no library beside the program, and BPFHOST_LIBRARY names none"
-# A value from which on the program `add` counts what it is given packets of zeros for.
+# A value from which on the program `add` counts packets of zeros.
 ZERO = frames.map_update_elem(0, 3, bytes(4), bytes(8))
-# A library that ends the process when it is asked a frame of a customer.
+# A library that ends the process at a frame of a customer.
 _FRAGILE = """
 #include <stdint.h>
 #include <stdlib.h>
@@ -60,7 +60,7 @@ class Answers(HostTest):
         return Serving(PROGRAM, MACHINE, library=loaded())
 
     def test_random_streams(self) -> None:
-        """Calls of random frames, right and wrong, of some tenants in turns, answered as by a host of each alone."""
+        """Calls of random frames, right and wrong, of some tenants in turns, with the replies of a separate host for each."""
         with self.serving() as serving, contextlib.ExitStack() as stack:
             alone = {tenant: stack.enter_context(Host(PROGRAM)) for tenant in (0, 7, 63)}
             streams = {tenant: Stream(PROGRAM, f"library {tenant}") for tenant in alone}
@@ -106,7 +106,7 @@ class Answers(HostTest):
         self.assertEqual([reply[12:] for reply in split(replies)], [number.to_bytes(4, "little") for number in range(1, 301)])
 
     def test_states(self) -> None:
-        """A state is read of one form of host, and made on the other one."""
+        """A state is read from one form of host, and restored on the other one."""
         with self.serving() as here, Serving(PROGRAM, MACHINE) as beside:
             stream = Stream(PROGRAM, "states")
             with Host(PROGRAM) as alone:
@@ -129,7 +129,7 @@ class Answers(HostTest):
         raise AssertionError("a map is without a descriptor")
 
     def test_memory_that_is_refused(self) -> None:
-        """The library tells it also of a run, whose reply does not."""
+        """The library also reports a refusal within a run, whose reply does not show it."""
         with self.serving() as serving:
             list(serving.play([call_of(b"1-0", 5, [CREATE])]))
             assert isinstance(serving._host, LibraryHost)
@@ -226,7 +226,7 @@ class Workers(ShardTest):
         self.assertIsNone(worker.status(), worker.said())
 
     def test_a_worker_with_its_host(self) -> None:
-        """It has no other process; one that comes behind a killed one has, and one behind a worker that has ended has none."""
+        """A worker has no host process, except one that follows a killed worker; one that follows a regular end has none."""
         first = self.worker("first", "--library", str(_FILE))
         self.serves(first)
         customer = self.client.customer("acme", 60)
@@ -250,7 +250,7 @@ class Workers(ShardTest):
         self.assertIsNone(third.host())
 
     def test_a_host_that_is_replaced(self) -> None:
-        """Behind a worker that was killed, the host is here again when it was asked often."""
+        """After a worker that was killed, the host is in this process again after many calls."""
         redis, keys = self.client.shard(0)
         redis.hset(keys.lease, "token", "another worker")
         redis.hset(keys.lease, "milliseconds", 200)
@@ -275,7 +275,7 @@ class Workers(ShardTest):
             thread.join()
 
     def test_a_library_that_ends_the_worker(self) -> None:
-        """What ends it in a process of its own is known from then on, so the shard is not stuck."""
+        """A separate host process shows which call ends it, so the shard is not stuck."""
         if not shutil.which("cc"):
             self.skipTest("there is no C compiler")
         source, fragile = self.scratch / "fragile.c", self.scratch / SONAME

@@ -1,6 +1,6 @@
-"""The protocol in all interleavings of small cases, and mistakes that are planted in the scripts, each of which is found.
+"""The protocol in all interleavings of small cases, and mistakes that are inserted into the scripts, each of which is found.
 
-`python3 -m tests.shards.test_model FAULTS` goes through the cases with more faults.
+`python3 -m tests.shards.test_model FAULTS` explores the cases with more faults.
 """
 
 from __future__ import annotations
@@ -25,14 +25,14 @@ def case(name: str) -> Sequence[Process]:
     from tests.shards.model.cases import aborter, client, mover, sharing, worker
 
     def served() -> list[Process]:
-        # Shard 0 with two of its tenants, since a customer that comes back has another number there.
+        # Shard 0 with two of its tenants, since a customer that returns has another number there.
         return [worker(0, "w0", 0), worker(0, "w0", 0, tenant=1), worker(1, "w1", 0)]
 
     if name == "calls":
         # A client, and two workers who take the lease from each other; the first call may be skipped.
         return [client(2), worker(0, "a", 2, b"call 1"), worker(0, "b", 2, b"call 1")]
     if name == "calls that wait":
-        # Two workers, which write the replies to one call while those to the one before are on their way.
+        # Two workers, which write the replies to one call while those to the call before are being written.
         return [worker(0, "a", 2), worker(0, "b", 2)]
     if name == "sessions":
         # Two processes of one session, each of which may die, or be late.
@@ -46,7 +46,7 @@ def case(name: str) -> Sequence[Process]:
 
 
 def explore(name: str, faults: int, mistake: str | None = None) -> int:
-    """Goes through a case with so many faults of the network, and gives how many states it has."""
+    """Explores a case with so many faults of the network, and returns the number of its states."""
     from tests.shards.model.cases import begun, calls_are_known, mutated, replies_are_right
     from tests.shards.model.explorer import Explorer
 
@@ -60,7 +60,7 @@ def explore(name: str, faults: int, mistake: str | None = None) -> int:
 class Model(TimedTest):
     def test_all_interleavings(self) -> None:
         for name, faults, least in (("calls", 1, 20_000), ("calls that wait", 1, 10_000), ("moves", 0, 4_000), ("one call moves", 1, 10_000), ("aborts", 0, 5_000), ("sessions", 3, 300)):
-            # Each case has the time of a test.
+            # Each case has the time limit of a test.
             signal.alarm(SECONDS)
             self.assertGreater(explore(name, faults), least, name)
 

@@ -1,4 +1,4 @@
-"""Customers that are moved and removed, also by calls that break off."""
+"""Customers that are moved and removed, also by calls that are interrupted."""
 
 from __future__ import annotations
 
@@ -28,7 +28,7 @@ class Moves(ShardTest):
         self.assertEqual(dict(counts.items()), {b"key1": bytes([1] * 8)})
         self.assertEqual(other.ask(LOOK_UP).status, -Errno.ENOENT)
         self.assertEqual(self.client.directory.loads(), {0: 0, 1: 2})
-        # Its number is free, and who comes there begins as a new tenant.
+        # Its number is free, and the next customer with it begins as a new tenant.
         third = self.client.customer("third")
         self.assertEqual(third.ask(CREATE).status, 3)
         self.assertEqual(self.client.directory.seat("third"), Seat(0, 0, seat.generation + 1))
@@ -43,7 +43,7 @@ class Moves(ShardTest):
                 move(self.client, "acme", shard)
 
     def test_each_step_is_taken_up_again(self) -> None:
-        """A move that breaks off behind any of its calls of Redis is ended by the next one."""
+        """A move that breaks off after any of its calls of Redis is completed by the next one."""
         for shard in (0, 1):
             self.shard(shard)
         customer = self.client.customer("acme")
@@ -77,7 +77,7 @@ class Moves(ShardTest):
                 self.assertEqual(self.client.shard(shard)[0].hgetall(ShardKeys(shard).left), {})
 
     def test_steps_that_come_late(self) -> None:
-        """What belongs to a move that has ended does nothing any more, also where the next one has begun."""
+        """Steps of a move that has ended do nothing any more, also if the next one has begun."""
         for shard in (0, 1):
             self.shard(shard)
         customer = self.client.customer("acme")
@@ -115,7 +115,7 @@ class Moves(ShardTest):
             self.assertEqual(sum(self.client.directory.loads().values()), 1)
 
     def move_alone(self) -> None:
-        """Moves the customer by a client of its own; one that finds the move ended, or the customer gone again, says so."""
+        """Moves the customer by a client of its own, which may find that the move has ended, or that the customer is gone again."""
         with Client(self.server.url) as client, contextlib.suppress(MoveError):
             move(client, "acme")
 

@@ -1,4 +1,4 @@
-"""What a connection to a cluster does if a node serves a slot no longer."""
+"""Connections to a cluster, if a node does not serve a slot any more."""
 
 from __future__ import annotations
 
@@ -12,7 +12,7 @@ from bpfhost.shards.system import Link, Pending, Word
 
 
 class MovedPending:
-    """A command that its node sends on."""
+    """A command that its node redirects."""
 
     def __init__(self, node: str) -> None:
         self._node = node
@@ -29,7 +29,7 @@ class MovedPending:
 
 
 class MovedLink:
-    """A connection to a node that sends each command on."""
+    """A connection to a node that redirects each command."""
 
     def __init__(self, node: str) -> None:
         self._node = node
@@ -57,7 +57,7 @@ class SlotThatMoved(unittest.TestCase):
         self.links = [NodesLink(place, nodes, link) for _ in range(2)]
 
     def test_commands_behind_one_another(self) -> None:
-        """The first connection learns the new node. A command that another one sent before is an Away too, and not an error."""
+        """The first connection learns the new node. A command that another one sent before raises Away too, and no other error."""
         sent = [link.begin(["GET", "key"], 1.0) for link in self.links]
         for pending in sent:
             with self.assertRaises(Away):
@@ -65,7 +65,7 @@ class SlotThatMoved(unittest.TestCase):
         self.assertEqual(self.nodes.find(slot_of("key"), None), "b:1")
 
     def test_calls(self) -> None:
-        """A call goes on to the node that is named, as often as nodes agree."""
+        """A call is redirected to the node that is named, as often as nodes agree."""
         with self.assertRaisesRegex(Away, "do not agree"):
             self.links[0].call(["GET", "key"], 1.0)
 

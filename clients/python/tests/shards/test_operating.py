@@ -1,4 +1,4 @@
-"""What an operator says and sees, and shards that are not the ones that the directory knows."""
+"""Operators' commands, and shards that are not the ones that the directory knows."""
 
 from __future__ import annotations
 
@@ -27,7 +27,7 @@ class OtherShards(ShardTest):
         self.assertRegex(str(worker.error), sentence)
 
     def test_a_worker_with_another_redis(self) -> None:
-        """It serves nobody, and takes no client from the worker that does."""
+        """It serves nobody, and takes no customer from the worker that does."""
         self.shard(0)
         customer = self.client.customer("acme")
         customer.ask(CREATE)
@@ -86,7 +86,7 @@ class Offered(ShardTest):
             move(self.client, "new", 0)
 
     def test_a_shard_whose_worker_died(self) -> None:
-        """The worker of another shard sees that its count stands still."""
+        """The worker of another shard sees that its count does not change."""
         self.shard(1, Settings(0.6))
         self.empty_shard(0)
         self.until(lambda: 0 not in self.client.directory.beats())
@@ -158,7 +158,7 @@ class BrokenMoves(ShardTest):
                     self.assertEqual(abort_move(self.client, "acme").shard, was.shard)
                     self.assertEqual((self.client.directory.moves(), self.client.directory.loads()[1 - was.shard]), ({}, 0))
                     self.assertEqual(self.customer.ask(LOOK_UP).payload, (7).to_bytes(8, "little"))
-                    # What comes late of the move that was taken back does nothing.
+                    # Late steps of the move that was taken back have no effect.
                     redis, keys = self.client.shard(late.shard)
                     used = [keys.seats, keys.frames(late.tenant), keys.sessions(late.generation)]
                     self.assertIsNone(scripts.ARRIVE(redis, used, [late.tenant, late.generation, b"{}"]))
@@ -169,7 +169,7 @@ class BrokenMoves(ShardTest):
 
 class Memory(ShardTest):
     def test_room_is_made(self) -> None:
-        """A Redis without memory: replies that are old go first, and the worker says what it needs; then all goes on."""
+        """A Redis without memory: old replies are dropped first, and the worker logs what it needs; then all goes on."""
         worker = self.shard(0, Settings(SECONDS, reply_seconds=0.5))
         customer = self.client.customer("acme", 60)
         self.assertEqual(customer.ask(frames.map_create(0, MapType.HASH, 4, 4096, 16)).status, 3)

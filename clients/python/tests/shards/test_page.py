@@ -1,4 +1,4 @@
-"""The program that docs/SCALING.md shows writes what the page says."""
+"""The program in docs/SCALING.md prints what the page says."""
 
 from __future__ import annotations
 

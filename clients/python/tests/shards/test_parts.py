@@ -1,4 +1,4 @@
-"""What is cut has all of it, in order, and no part that is too large."""
+"""Parts have all of what is split, in order, and none is too large."""
 
 from __future__ import annotations
 

@@ -1,4 +1,4 @@
-"""Customers ask, and their shards answer: once each, also where a worker, a client or Redis went in between."""
+"""Customers send calls, and their shards reply once to each, also if a worker, a client or Redis ended in between."""
 
 from __future__ import annotations
 
@@ -71,7 +71,7 @@ class Asking(ShardTest):
         self.assertEqual(values, [value.to_bytes(8, "little") for value in range(2000)])
 
     def test_frames_that_go_together(self) -> None:
-        """What is sent before it is waited for is one call, and each sender has its own replies, in order."""
+        """Frames that are sent before one is waited for are one call, and each sender has its own replies, in order."""
         self.shard(0)
         customer = self.client.customer("acme")
         parts = [customer.send(CREATE)] + [customer.send(put(value) + LOOK_UP) for value in range(200)]
@@ -86,7 +86,7 @@ class Asking(ShardTest):
         parts = [customer.send(LOOK_UP * 300) for _ in range(3)]
         self.assertEqual([len(customer.receive(part)) for part in parts], [300] * 3)
         self.assertEqual(redis.xlen(keys.frames(0)), 6)
-        # Of frames that are alike and have short replies a call has more.
+        # A call has more frames if they are alike and have short replies.
         parts = [customer.send(put(value) * 300) for value in range(3)] + [customer.send(LOOK_UP)]
         self.assertEqual([len(customer.receive(part)) for part in parts], [300] * 3 + [1])
         self.assertEqual(redis.xlen(keys.frames(0)), 8)
@@ -124,7 +124,7 @@ class Asking(ShardTest):
 
 
 class Calls(ShardTest):
-    """A call is taken once, whatever becomes of its answer."""
+    """A call is taken once, even if its reply is lost."""
 
     def test_a_number_of_a_session_is_taken_once(self) -> None:
         redis, keys = self.empty_shard(0)
@@ -187,7 +187,7 @@ class Calls(ShardTest):
         self.assertEqual(customer.ask(CREATE).status, 3)
 
     def test_a_call_that_comes_late(self) -> None:
-        """A call that was given up is refused when what was on its way comes to the server after all."""
+        """A call that was given up is refused when a delayed command with it reaches the server after all."""
         redis, keys = self.empty_shard(0)
         customer = self.client.customer("acme", seconds=0.1)
         right, late = Script.__call__, list[tuple[object, ...]]()
@@ -252,7 +252,7 @@ class Calls(ShardTest):
             with self.assertRaisesRegex(NotTaken, "customer acme has as many calls waiting as one may have: the worker of shard 0 is behind"):
                 for _ in range(65):
                     customer.post(frames.frame(0, 1, bytes(100_000)))
-            # What one has waiting takes nothing from another.
+            # The waiting calls of one customer leave the limit of another unchanged.
             ticket = other.post(CREATE)
         self.shard(0, Settings(SECONDS, snapshot_bytes=1 << 20))
         redis, keys = self.client.shard(0)
@@ -274,7 +274,7 @@ class Calls(ShardTest):
                 customer.wait(ticket)
 
     def test_replies_of_too_many_bytes(self) -> None:
-        """The oldest replies are dropped where all tenants have too many bytes, and are in a snapshot; also those of a worker before."""
+        """If all tenants have too many bytes of replies, drops the oldest that are in a snapshot; also those of an earlier worker."""
         settings = Settings(SECONDS, snapshot_entries=1, reply_bytes=40_000)
         worker = self.shard(0, settings)
         redis, keys = self.client.shard(0)
@@ -337,7 +337,7 @@ class Calls(ShardTest):
             self.client.customer("acme", session="counts").ask(LOOK_UP)
 
     def test_a_session_that_counts_frames(self) -> None:
-        """What a process before it has on its way is not taken, also where the next one has other calls."""
+        """Calls that an earlier process has in progress are not taken, also if the next one has other calls."""
         redis, keys = self.empty_shard(0)
         first = self.client.customer("acme", session="frames")
         first.post(CREATE + put(1), by=2)
@@ -356,7 +356,7 @@ class Calls(ShardTest):
         ticket = second.post(put(3), by=1)
         self.assertEqual((ticket.number, scripts.ASK(*late[0])[0]), (3, b"given up"))  # type: ignore[arg-type]
         self.assertEqual((redis.xlen(keys.frames(0)), second.resume()), (2, 3))
-        # One that has read an old count is told the new one.
+        # A process that has read an old count gets the new one.
         seat = self.client.directory.seat("acme")
         assert seat is not None
         used, words = [keys.seats, keys.sessions(1), keys.lease], ["frames", 0, 0, seat.owned_by("acme"), 1]
@@ -443,7 +443,7 @@ class Workers(ShardTest):
         self.assertIsNone(second.error)
 
     def test_a_reply_that_was_another_one(self) -> None:
-        """The tenant alone is set aside; its customer is told, others go on, and an operator's word decides."""
+        """Only the tenant is set aside; its customer gets an error, others go on, and an operator decides."""
         redis, keys = self.empty_shard(0)
         ticket = self.client.customer("acme").post(CREATE)
         redis.call("XADD", keys.replies(0), ticket.entry, "r", bytes.fromhex("0800000000000000 04000000"))

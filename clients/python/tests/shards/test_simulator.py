@@ -1,4 +1,7 @@
-"""Shards in the simulator: some seeds, and that a seed is played again the same way. `python3 -m tests.shards.simulator.play` plays more."""
+"""Shards in the simulator: some seeds, and a check that a seed plays the same run again.
+
+`python3 -m tests.shards.simulator.play` plays more.
+"""
 
 from __future__ import annotations
 
@@ -21,10 +24,10 @@ class Simulated(TimedTest):
 
         counts = Counter[str]()
         for seed in SEEDS:
-            # Each seed has the time of a test.
+            # Each seed has the time limit of a test.
             signal.alarm(common.SECONDS)
             counts.update(play(seed, SECONDS))
-        # Each kind of fault is seen, and work is done beside it.
+        # Each kind of fault is seen, and work is done at the same time.
         for what in ("kills", "pauses", "hosts", "servers away", "jumps", "movers killed", "moved", "resumed", "set aside", "skipped", "failovers"):
             self.assertGreater(counts[what], 0, what)
         self.assertGreater(counts["calls"], 500)

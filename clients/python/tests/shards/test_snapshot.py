@@ -1,4 +1,4 @@
-"""A snapshot makes a tenant's state anew: what follows is answered as before, and as by a host that serves the tenant alone."""
+"""A snapshot restores a tenant's state: later replies are as before, and as those of a host that serves only this tenant."""
 
 from __future__ import annotations
 
@@ -30,14 +30,14 @@ class Played:
         self.before, self.asked = b"", list[Asked]()
 
     def play(self, frames: list[bytes]) -> list[bytes]:
-        """Plays frames as a call, and gives the replies."""
+        """Plays frames as a call, and returns the replies."""
         ((written, _),) = self.serving.play([call_of(b"1-0", self.tenant, frames)])
         replies = split(written.value)
         self.asked += zip(frames, replies, strict=True)
         return replies
 
     def snapshot(self) -> bytes:
-        """The frames of a snapshot; what is played from then on is behind it."""
+        """The frames of a snapshot; what is played from then on comes after it."""
         self.before = at_once(self.serving.state(self.tenant, self._last, lambda: self.asked))
         self.asked = []
         return self.before
@@ -64,7 +64,7 @@ def serving() -> Serving:
 
 
 class Told:
-    """A stream of frames, and what a host that serves it alone replies."""
+    """A stream of frames, and the replies of a host that serves only this stream."""
 
     def __init__(self, seed: int | str, many: int) -> None:
         with Host(PROGRAM) as host:
@@ -74,7 +74,7 @@ class Told:
         self.at = 0
 
     def call(self, many: int) -> tuple[list[bytes], list[bytes]]:
-        """The next frames, and the replies that are wanted."""
+        """The next frames, and the expected replies."""
         start, self.at = self.at, min(self.at + many, len(self.frames))
         return self.frames[start : self.at], self.replies[start : self.at]
 
@@ -92,7 +92,7 @@ def tenants(host: Serving) -> Tenants:
 
 class Snapshots(HostTest):
     def play(self, hosts: list[Tenants], streams: dict[int, Told], draw: random.Random, until: int = LENGTH) -> None:
-        """Plays streams by chance, up to so many frames each, on all of the hosts; each is told what it is told alone."""
+        """Plays random streams, up to so many frames each, on all of the hosts; each has the replies of a separate host."""
         while going := [tenant for tenant, one in streams.items() if one.at < min(until, len(one.frames))]:
             tenant = draw.choice(going)
             asked, wanted = streams[tenant].call(min(draw.randrange(1, 40), until - streams[tenant].at))
@@ -102,7 +102,7 @@ class Snapshots(HostTest):
     def test_hundreds_of_streams(self) -> None:
         without = 0
         for number in range(SERVINGS):
-            # Each host has the time of a test.
+            # Each host has the time limit of a test.
             signal.alarm(SECONDS)
             draw = random.Random(number)
             streams = {tenant: Told(f"{number} {tenant}", LENGTH) for tenant in range(TENANTS)}
@@ -143,7 +143,7 @@ class Snapshots(HostTest):
                 moved = {tenant + 1: streams.pop(tenant) for tenant in range(0, 16, 2)}
                 self.play([second], moved, draw)
                 self.play([first], streams, draw)
-                # What comes next to a tenant's number finds it as a new one, on both.
+                # The next user of a tenant's number finds it empty, on both.
                 for host in (first, second):
                     for tenant in range(16):
                         host[tenant].leave()
@@ -161,7 +161,7 @@ class WrongFrames(TimedTest):
 
 
 class MapsWithoutDescriptors(HostTest):
-    """Maps that live on in programs alone."""
+    """Maps that only programs keep."""
 
     def play(self, asked: list[bytes]) -> tuple[Tenancy, list[Asked]]:
         tenancy, played = Tenancy(), []
@@ -273,9 +273,9 @@ class Entries(HostTest):
 
 
 class RefusedStates(HostTest):
-    """States that a build does not make as another one did."""
+    """States that a build does not restore as another one did."""
 
-    # A program that no build takes stands for one that a stricter one refuses.
+    # A program that no build accepts takes the place of one that a stricter build refuses.
     REFUSED = frames.prog_load(0, bytes(8))
     ONE = frames.prog_load(0, bytes.fromhex("b700000001000000 9500000000000000"))
 

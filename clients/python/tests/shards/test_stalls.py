@@ -1,4 +1,4 @@
-"""What one customer asks does not hold up another: each has its turn, and what takes long is done in steps."""
+"""Calls of one customer do not delay another: each has its turn, and long work is done in steps."""
 
 from __future__ import annotations
 
@@ -19,7 +19,7 @@ from tests.common import PROGRAM, HostTest
 from tests.shards.common import CREATE, LOOK_UP, SECONDS, ShardTest, call_of, put
 from tests.shards.streams import slots_of
 
-# A step asks the host so many frames at most (the end of one part and the begin of another), and gives Redis so many bytes.
+# A step sends the host at most so many frames (the end of one part and the begin of another), and sends Redis so many bytes.
 STEP_FRAMES, STEP_BYTES = 820, 300_000
 STEP_SECONDS = 0.05
 
@@ -36,7 +36,7 @@ class InSteps(HostTest):
     """The steps in which the state of a customer with full maps is read and made."""
 
     def steps_of(self, serving: Serving, steps: Steps[bytes] | Steps[None]) -> tuple[object, list[int], list[float]]:
-        """What comes of it, and of each step how many frames it asks, and its processor time."""
+        """The result, and for each step the number of frames that it sends, and its processor time."""
         asked, took = list[int](), list[float]()
         while True:
             before, began = serving.asked, time.thread_time()
@@ -59,7 +59,7 @@ class InSteps(HostTest):
             _, asked, took_to_make = self.steps_of(serving, serving.make(1, state))
             self.assertGreater(len(asked), 50)
             self.assertLessEqual(max(asked), STEP_FRAMES)
-            # By the processor's time, since others share it.
+            # By processor time, since other processes use the processor too.
             slow = [one for one in took + took_to_make if one > STEP_SECONDS]
             self.assertLessEqual(len(slow), 1, slow)
 
@@ -71,7 +71,7 @@ def nothing() -> Steps[bytes]:
 
 
 class Counting(Machine):
-    """A machine that notes the largest command that Redis is given, or gives an answer to."""
+    """A machine that notes the largest command that Redis receives, and its largest reply."""
 
     def __init__(self) -> None:
         self.largest = 0
@@ -94,7 +94,7 @@ class _CountingLink:
 
 class Stalls(ShardTest):
     def longest(self, work: Callable[[], object]) -> tuple[float, int]:
-        """The longest that another customer waits for a look-up meanwhile, and how often it asks."""
+        """The longest wait of another customer for a look-up meanwhile, and the number of its look-ups."""
         other = self.client.customer("other")
         if other.resume() == 0:
             other.ask(CREATE).done()
@@ -143,7 +143,7 @@ class Stalls(ShardTest):
         self.until(lambda: 0 in self.client.directory.beats())
 
     def test_a_customer_with_full_maps(self) -> None:
-        """No command of the worker is so large that Redis stands still for it."""
+        """No command of the worker is so large that it blocks Redis."""
         counting = Counting()
         self.worker_with_snapshots(counting)
         full = self.client.customer("full", 100)
@@ -161,7 +161,7 @@ class Stalls(ShardTest):
         self.assertLess(counting.largest, STEP_BYTES)
 
     def test_maps_that_only_programs_have(self) -> None:
-        """Their values are read by playing their customer's own frames again, and nobody else's."""
+        """Their values are read by playing only their customer's own frames again."""
         self.worker_with_snapshots(MACHINE)
         customers = [self.client.customer(f"closed-{number}", 100) for number in range(10)]
         load = frames.prog_load(0, slots_of(PROGRAM, "add"))
@@ -181,7 +181,7 @@ class Stalls(ShardTest):
         self.assertGreater(len(self.client.redis.hkeys(ShardKeys(0).snapshots)), 10)
 
     def test_a_slow_link(self) -> None:
-        """A reply of 2 MB over 300 kB a second outlasts the lease, which is raised beside it."""
+        """A reply of 2 MB over 300 kB a second takes longer than the lease, which is raised at the same time."""
         slow = SlowLink(f"{self.scratch}/s", 300_000)
         self.addCleanup(slow.close)
         worker = Worker(connect(slow.url), ShardKeys(0), PROGRAM, Settings(1.0), lambda _: None)
@@ -209,7 +209,7 @@ class Stalls(ShardTest):
 
 
 class SlowLink:
-    """A port that hands on to a Unix socket, each connection with so many bytes a second towards it."""
+    """A port that forwards to a Unix socket, each connection with so many bytes a second towards it."""
 
     def __init__(self, to: str, speed: int) -> None:
         self._to, self._speed = to, speed

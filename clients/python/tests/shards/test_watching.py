@@ -1,4 +1,4 @@
-"""What is seen of workers and gateways from outside: metrics, health, logs, what is shown; the files of deploy/; and how they end."""
+"""Workers and gateways from outside: metrics, health, logs, the output of `show`; the files of deploy/; and how they end."""
 
 from __future__ import annotations
 
@@ -30,7 +30,7 @@ _LINE = re.compile(r'(# (HELP|TYPE) [a-z_]+ .+|[a-z_]+(\{[a-z]+="[a-z_]+"\})? [0
 
 
 def read(address: str, page: str) -> tuple[int, str]:
-    """The status of a page, and what it says."""
+    """The status of a page, and its body."""
     try:
         with urllib.request.urlopen(f"http://{address}{page}", timeout=10) as answer:
             return answer.status, answer.read().decode()
@@ -124,7 +124,7 @@ class Processes(ShardTest):
         return said
 
     def test_the_end_of_a_worker(self) -> None:
-        """A worker that is told to end answers what came, and takes snapshots: the next one plays nothing again."""
+        """A worker that is asked to end replies to what came, and takes snapshots: the next one plays nothing again."""
         (self.scratch / "shards.toml").write_text(f'redis = "unix:///nowhere"\nlog = "json"\n[worker]\nlease = 3\nbpfhost = "{PROGRAM}"\n')
         worker = self.start("worker", "0", "--config", f"{self.scratch}/shards.toml")
         self.assertEqual(self.line(worker), {"word": "worker", "shard": 0, "says": "shard 0 is served, from entry 0-0 on"})
@@ -178,7 +178,7 @@ class Processes(ShardTest):
 
 class Files(unittest.TestCase):
     def test_the_dashboard(self) -> None:
-        """Each number that it shows is one that a worker, a gateway or a process tells, and each of these is shown."""
+        """Each number that it shows is a metric of a worker, a gateway or a process, and it shows each of these."""
         told = {*metrics.WORKER, *metrics.GATEWAY, *metrics.PROCESS}
         shown = set(re.findall(r"(?:bpfhost|process)_[a-z_]+", " ".join(self.expressions())))
         self.assertEqual(shown - told, set())
@@ -186,19 +186,19 @@ class Files(unittest.TestCase):
         self.assertEqual(told - shown, left)
 
     def expressions(self) -> list[str]:
-        """What the dashboard asks Prometheus for."""
+        """The queries of the dashboard to Prometheus."""
         board = json.loads((DEPLOY / "grafana.json").read_text())
         return [target["expr"] for panel in board["panels"] for target in panel["targets"]]
 
     def test_the_configuration(self) -> None:
-        """The file says what the words know."""
+        """The file has only keys that the command knows."""
         for word in ("worker", "gateway"):
             asked = [sys.executable, "-m", "bpfhost.shards", word, "--config", str(DEPLOY / "shards.toml"), "--help"]
             self.assertEqual(subprocess.run(asked, capture_output=True).returncode, 0)
         self.assertEqual(set(tomllib.loads((DEPLOY / "shards.toml").read_text())), {"redis", "log", "worker", "gateway"})
 
     def test_the_container(self) -> None:
-        """What it copies is in the repository, or is what the build leaves; and it needs no more packages than the gateway."""
+        """The files that it copies are in the repository, or come from the build; and it needs no more packages than the gateway."""
         text = (DEPLOY / "Containerfile").read_text()
         top = PACKAGE.parents[1]
         copied = re.findall(r"^COPY (\S+) ", text, re.M)
@@ -213,7 +213,7 @@ class Files(unittest.TestCase):
             self.assertEqual(said, [])
 
     def test_the_redis(self) -> None:
-        """The file says what a worker asks for."""
+        """The file has the commands that a worker uses."""
         said = dict(line.split(None, 1) for line in (DEPLOY / "redis.conf").read_text().splitlines() if line and line[0] != "#")
         self.assertEqual((said["appendonly"], said["appendfsync"], said["maxmemory-policy"]), ("yes", "always", "noeviction"))
         self.assertTrue(Path(said["aclfile"]).name == "users.acl")
@@ -221,7 +221,7 @@ class Files(unittest.TestCase):
 
 class Upgrade(ShardTest):
     def test_one_after_the_other(self) -> None:
-        """Workers of another build take over, one after the other, and customers go on where they were."""
+        """Workers of another build take over, one after the other, and customers continue."""
         other = self.scratch / "other-build"
         other.write_bytes(Path(PROGRAM).read_bytes() + b"\0")
         other.chmod(0o755)

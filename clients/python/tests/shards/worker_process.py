@@ -1,4 +1,4 @@
-"""Workers as processes of their own, which begin quickly: they are forked from a server that has imported all they need."""
+"""Workers as separate processes, which start quickly: they are forked from a server that has imported all modules."""
 
 from __future__ import annotations
 
@@ -37,7 +37,7 @@ class WorkerProcess:
         return self._process.pid or 0
 
     def status(self) -> int | None:
-        """The status it has ended with, a signal with a minus, or None."""
+        """Its exit status, negative for a signal, or None."""
         return self._process.exitcode
 
     def send(self, number: signal.Signals) -> None:
@@ -60,5 +60,5 @@ class WorkerProcess:
         return self.status()
 
     def said(self) -> str:
-        """What it wrote to standard error."""
+        """Its output on standard error."""
         return self._errors.read_text() if self._errors.exists() else ""

@@ -1,5 +1,7 @@
-"""Small cases of the protocol. A call asks a tenant to count, and is answered how many calls were done; so a call that is lost, done twice
-or done on another state shows in its reply.
+"""Small cases of the protocol.
+
+A call increments a tenant's count, and its reply is the number of calls that were done; so a call that is lost, done twice or done on
+another state shows in its reply.
 
 The processes do what the package does, in the same order, and call the same scripts: client.py, worker.py, moving.py.
 """
@@ -67,8 +69,10 @@ def _next(number: int, calls: int) -> Local:
 
 
 def resuming(call: int, more: int) -> Process:
-    """A process that goes on with a session which others go on with too. Its call has a number of its own, and is sent once, as by a
-    process that dies then; whether it was taken is for the next one to say."""
+    """A process that continues a session which others continue too.
+
+    Its call has its own number, and is sent once, as by a process that dies then; the next process finds out whether it was taken.
+    """
 
     def steps(local: Local) -> list[Step]:
         if local[0] == "done":
@@ -84,7 +88,7 @@ def resuming(call: int, more: int) -> Process:
             return [Step(words, lambda said: _resumed(local[1], said))]
         used = [keys.seats, keys.frames(tenant), keys.sessions(generation), keys.waiting, keys.lease]
         words = _script(scripts.ASK, used, "s", local[2], local[3], seat, shard, tenant, f"call {call}", 1, 1000, 10)
-        # An old seat is no reason to send it to another one: the model asks who is refused there to resume again.
+        # An old seat is no reason to send it to another one: in the model a process that is refused there resumes again.
         return [Step(words, lambda said: ("place",) if said[0] == b"seat" else ("done",))]
 
     def _resumed(seat: bytes, said: Any) -> Local:
@@ -96,12 +100,15 @@ def resuming(call: int, more: int) -> Process:
 
 
 # A worker: ("idle", starts, seen), ("restore", token), ("read", token, place, count), ("write", token, place, count, entry, fields), and
-# with another call's replies on their way behind the first one's ("both", token, count, entry, next entry).
+# ("both", token, count, entry, next entry) if the replies of another call are being written after those of the first one.
 
 
 def worker(shard: int, name: str, starts: int, skips: bytes = b"", tenant: int = 0) -> Process:
-    """A worker of one tenant of a shard, which begins so many times at most, when it has died or its lease was taken. An entry with
-    these frames may be skipped, as an operator says of what is set aside. One that begins no time has the lease, and does not die."""
+    """A worker of one tenant of a shard, which starts so many times at most, when it has died or its lease was taken.
+
+    An entry with these frames may be skipped, as if an operator had skipped it. A worker that never starts has the lease, and does not
+    die.
+    """
     keys = _KEYS[shard]
 
     def died(token: str) -> Local:
@@ -118,7 +125,7 @@ def worker(shard: int, name: str, starts: int, skips: bytes = b"", tenant: int =
             return _both(local)
         ways = [Step(words, functools.partial(_written, local, count)) for words, count in _writes(local)]
         if local[5][0] == b"f" and not skips:
-            # The next one is read, played and written beside.
+            # The next one is read, played and written at the same time.
             ways.append(Step(_behind(local[4]), functools.partial(_read_on, local)))
         return ways
 
@@ -132,7 +139,7 @@ def worker(shard: int, name: str, starts: int, skips: bytes = b"", tenant: int =
         return ("both", local[1], local[3], local[4], found[0][0])
 
     def _both(local: Local) -> list[Step]:
-        """Both writes may come first. The second one writes nothing without the first one, which is written again until it is there."""
+        """Both writes may reach the server first. The second one writes nothing without the first one, which is then repeated."""
         _, token, count, entry, other = local
         first, second = _write(token, b"", entry, count + 1), _write(token, entry, other, count + 2)
         after = ("write", token, entry, count + 1, other, (b"f", b"-"))
@@ -196,7 +203,7 @@ def worker(shard: int, name: str, starts: int, skips: bytes = b"", tenant: int =
 
 
 def mover(dies: bool, shard: str = "1") -> Process:
-    """Who moves the customer to a shard; one that dies does not come again."""
+    """A process that moves the customer to a shard; if it dies it does not start again."""
 
     def steps(local: Local) -> list[Step]:
         if local[0] in ("done", "dead"):
@@ -227,7 +234,7 @@ def _moved(local: Local) -> Step:
     both = (seat, next_seat)
     claim = [tenant, generation, f"{generation} name:{NAME}"]
     if at == "look":
-        # Whether another one has let the customer arrive.
+        # Whether another process has let the customer arrive.
         return Step(("HGET", others.seats, next_tenant), lambda said: _looked(said, next_generation, both))
     if at == "claim":
         return Step(_script(scripts.CLAIM, [keys.seats], *claim), lambda _: ("leave", *both))
@@ -267,7 +274,7 @@ def _looked(said: bytes | None, generation: int, both: tuple[bytes, bytes]) -> L
 
 
 def aborter() -> Process:
-    """Who takes the move of the customer back, if there is one, and lets it come back where it was."""
+    """A process that takes the move of the customer back, if there is one, and lets it return to its old shard."""
 
     def steps(local: Local) -> list[Step]:
         at = local[0]
@@ -293,7 +300,7 @@ def _turned(local: Local) -> Step:
     keys, others = _KEYS[old], _KEYS[new]
     if at == "close":
         words = _script(scripts.CLOSE_SEAT, [others.seats, others.sessions(next_generation)], next_tenant, next_generation, "")
-        # Where it has arrived, the move goes on to its end.
+        # If it has arrived, the move goes on to its end.
         return Step(words, lambda closed: ("claim", seat, next_seat) if closed else ("back look", seat, next_seat))
     claim = [tenant, generation, f"{generation} name:{NAME}"]
     if at == "claim":
@@ -311,7 +318,7 @@ def _turned(local: Local) -> Step:
     return Step(words, lambda said: ("back look", seat, said[0]) if said[0] else ("done",))
 
 
-# What each state has to be like.
+# The invariants of each state.
 
 
 def replies_are_right(keys: dict[bytes, Any]) -> None:
@@ -332,15 +339,17 @@ def replies_are_right(keys: dict[bytes, Any]) -> None:
 
 
 def calls_are_known(keys: dict[bytes, Any]) -> None:
-    """A process that goes on with a session is told of each call that was taken by then; so none is taken below it: the numbers of
-    calls, each of which is so many above the last one that its process was told, are told apart by this."""
+    """A process that continues a session gets the number of each call that was taken by then, so none is taken below it.
+
+    The number of each call is so many above the last one that its process was given: that shows which calls they are.
+    """
     replies_are_right(keys)
     entries = [value for field, value in keys.get(_KEYS[0].frames(0).encode(), Stream()).entries.values() if field == b"f"]
     record = keys.get(_KEYS[0].sessions(1).encode(), {}).get(b"s", b"0").split()
     assert int(record[0]) == sum(_MORE[value] for value in entries), f"{entries} were taken, and the session has {record[0]!r}"
 
 
-# How far the calls of processes of one session are above the last one that they were told.
+# How far the calls of processes of one session are above the last number that they were given.
 _MORE = {b"call 1": 5, b"call 2": 3}
 
 
@@ -362,7 +371,7 @@ def begun(held: bool = False, waiting: int = 0) -> dict[bytes, Any]:
     return store.keys
 
 
-# Mistakes that are planted, by the script and what is changed in its text.
+# Mistakes that are inserted, by the script and the change of its text.
 MISTAKES = {
     "no token is compared": (scripts.WRITE, "if redis.call('HGET', KEYS[1], 'token') ~= ARGV[1] then return 0 end\n", ""),
     "a reply passes the one before it": (scripts.WRITE, "ARGV[at + 3], ARGV[at + 3]) == 0 then return 2 end", "ARGV[at + 3], ARGV[at + 3]) == 0 then end"),

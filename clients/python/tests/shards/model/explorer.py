@@ -1,8 +1,8 @@
-"""Goes through all interleavings of processes that call Redis, each call one step.
+"""Explores all interleavings of processes that call Redis, each call one step.
 
-A process is a state machine: its local state says what it may call next, and what it becomes by the answer. With each call the network
-may lose the answer, or keep the call and deliver it later, or the process may die there, as often as the case allows together. States
-that were seen are not gone through again.
+A process is a state machine: its local state determines the calls that it may make next, and the reply determines its next state. At each
+call the network may lose the reply, or keep the call and deliver it later, or the process may die, together as often as the case allows.
+States that were seen are not explored again.
 """
 
 from __future__ import annotations
@@ -22,7 +22,7 @@ Local = tuple[Any, ...]
 
 @dataclass(frozen=True)
 class Step:
-    """A call, and what the process becomes by its answer; None for an answer that says nothing new, after which it asks again."""
+    """A call, and the process's next state for each reply; None for a reply with nothing new, after which it calls again."""
 
     words: Words
     then: Callable[[Any], Local | None]
@@ -30,8 +30,11 @@ class Step:
 
 @dataclass(frozen=True)
 class Process:
-    """A process: where it begins, what it may do, whether it is at its end, what it becomes when it dies, if it can, and whether it has
-    died as often as the case allows, so that others may wait for it for ever."""
+    """A process: a state machine for the explorer.
+
+    It has its first state, the calls of each state, whether a state is its end, its state after it dies, if it can die, and whether it
+    has died as often as the case allows, so that others may wait for it for ever.
+    """
 
     begin: Local
     steps: Callable[[Local], Sequence[Step]]
@@ -43,7 +46,7 @@ class Process:
 
 @dataclass(frozen=True)
 class State:
-    """The keys of Redis, the processes, calls that are on their way, and how many faults are left."""
+    """The keys of Redis, the processes, delayed calls, and the number of faults that are left."""
 
     keys: bytes
     locals: tuple[Local, ...]
@@ -52,7 +55,7 @@ class State:
 
 
 class Broken(AssertionError):
-    """A state that must not be, with the steps that lead to it."""
+    """A forbidden state, with the steps that lead to it."""
 
 
 class Explorer:
@@ -61,7 +64,7 @@ class Explorer:
     def __init__(
         self, processes: Sequence[Process], invariant: Callable[[dict[bytes, Any]], None], faults: int, mutations: dict[str, str] | None = None
     ) -> None:
-        """`mutations` are the texts of scripts that are put in the place of others, to see that their mistakes are found."""
+        """`mutations` are the texts of scripts that replace others, to check that their mistakes are found."""
         self._processes, self._invariant, self._faults = processes, invariant, faults
         self._mutations = mutations or {}
         self._scripts, self._store = Scripts(), Store()
@@ -69,7 +72,7 @@ class Explorer:
         self._came: dict[State, tuple[State, str] | None] = {}
 
     def run(self, keys: dict[bytes, Any]) -> int:
-        """Goes through all states, and gives how many there are. A Broken where the invariant does not hold, or nothing goes on."""
+        """Explores all states, and returns their number. Raises Broken if the invariant does not hold, or no process can go on."""
         first = State(_frozen(keys), tuple(process.begin for process in self._processes), (), self._faults)
         self._came = {first: None}
         waiting = [first]
@@ -105,7 +108,7 @@ class Explorer:
         return "\n".join(reversed(labels))
 
     def _after(self, state: State) -> Iterable[tuple[str, State]]:
-        """The states that come next, but for the same one again."""
+        """The next states, except for the same one again."""
         for at, words in enumerate(state.late):
             keys, _ = self._called(state.keys, words)
             yield f"late: {_shown(words)}", State(keys, state.locals, state.late[:at] + state.late[at + 1 :], state.faults)
@@ -123,7 +126,7 @@ class Explorer:
         if not state.faults or not process.is_lossy:
             return
         fewer = State(state.keys, state.locals, state.late, state.faults - 1)
-        # The answer is lost: the process asks again, or died of it. Or the call is on its way, and comes later.
+        # The reply is lost: the process calls again, or dies. Or the call is delayed, and comes later.
         again = process.dies(local) if process.dies else local
         if keys != state.keys:
             yield f"{shown}, and the answer is lost", self._with(fewer, number, again, keys)
@@ -136,11 +139,11 @@ class Explorer:
         return State(keys, state.locals[:number] + (local,) + state.locals[number + 1 :], state.late, state.faults)
 
     def _called(self, keys: bytes, words: Words) -> tuple[bytes, Any]:
-        """What a call makes of the keys, and its answer; an error of a script is no answer."""
+        """What a call makes of the keys, and its reply; an error of a script is no reply."""
         known = self._known.get((keys, words))
         if known is None:
             self._store.keys = _thawed(keys)
-            # Each entry has an id of its own, in whichever stream it is.
+            # Each entry has its own id, in whichever stream it is.
             streams = [stream for stream in self._store.keys.values() if isinstance(stream, Stream)]
             self._store.milliseconds = 1000 + sum(stream.added for stream in streams)
             try:
@@ -162,7 +165,7 @@ class Explorer:
 
 
 def _frozen(keys: dict[bytes, Any]) -> bytes:
-    """The keys as bytes, the same for the same keys."""
+    """The keys as bytes, the same bytes for the same keys."""
     plain: list[tuple[bytes, object]] = []
     for name in sorted(keys):
         value = keys[name]
@@ -177,7 +180,7 @@ def _frozen(keys: dict[bytes, Any]) -> bytes:
 
 
 def _thawed(frozen: bytes) -> dict[bytes, Any]:
-    """The keys again."""
+    """The keys of these bytes."""
     keys: dict[bytes, Any] = {}
     for name, (kind, value, *rest) in marshal.loads(frozen):
         if kind == "stream":

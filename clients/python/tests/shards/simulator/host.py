@@ -1,5 +1,7 @@
-"""A host that stands for bpfhost: maps with keys, and programs that count in the map they name. What it answers is a function of a
-tenant's own frames, in the protocol's bytes."""
+"""A host that takes the place of bpfhost: maps with keys, and programs that count in the map they name.
+
+Its replies are a function of a tenant's own frames, in the protocol's bytes.
+"""
 
 from __future__ import annotations
 
@@ -46,7 +48,7 @@ class FakeHost:
         self.is_killed = True
 
     def ask_bytes(self, frames: Iterable[bytes]) -> Iterator[bytes]:
-        """The replies to frames; a HostError where the host has ended or ends."""
+        """The replies to frames; raises HostError if the host has ended or ends."""
         for frame in frames:
             if self.is_killed or frame[20:24] == POISON:
                 self.is_killed = True

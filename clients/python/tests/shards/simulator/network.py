@@ -1,4 +1,4 @@
-"""The network and the machines of the simulator: what becomes of each call of Redis is decided by chance."""
+"""The network and the machines of the simulator: chance decides what happens to each call of Redis."""
 
 from __future__ import annotations
 
@@ -18,7 +18,7 @@ _FOR_EVER = 1e9
 
 @dataclass
 class Weather:
-    """How likely a call is lost before the server has it, or its answer, or the call comes late; and how long a way takes at most."""
+    """How likely a call is lost before the server has it, or its reply is lost, or the call comes late; and how long a way takes at most."""
 
     lost: float = 0.0
     unanswered: float = 0.0
@@ -34,7 +34,7 @@ class Server:
         self._world, self._scripts = world, scripts
         self.store = Store()
         self.away_until = 0.0
-        # How often a replica took over: each time connections are cut, and another history is told.
+        # How often a replica took over: each time connections are cut, and the server reports another history.
         self.failovers = 0
         self.jumped = 0.0
         self.waiting: list[Actor] = []
@@ -45,7 +45,7 @@ class Server:
             actor.wakes = min(actor.wakes, self._world.now)
 
     def do(self, words: Sequence[Word]) -> Any:
-        """What the server answers; an Away where it is away."""
+        """The server's reply; raises Away if it is away."""
         if self._world.now < self.away_until:
             raise Away("the server is away")
         if list(words) == ["INFO", "replication"]:
@@ -57,14 +57,14 @@ class Server:
 
 
     def fail_over(self) -> None:
-        """A replica takes over, which lacks what no answer to WAIT speaks of."""
+        """A replica takes over, which lacks the writes that no reply to WAIT confirms."""
         self.store.fail_over()
         self.failovers += 1
         self._wake()
 
 
 class Network:
-    """The servers by their URLs, and what the way to them does."""
+    """The servers by their URLs, and the faults on the way to them."""
 
     def __init__(self, world: World, weather: Weather) -> None:
         self.world, self.weather = world, weather
@@ -80,13 +80,13 @@ class Network:
 
 
 class SimulatedPending:
-    """A command that is called beside what its process does, behind those that were begun before it."""
+    """A command in progress while its process goes on; the server runs it after those that were begun before it."""
 
     def __init__(self, link: SimulatedLink, process: Process, words: Sequence[Word], seconds: float) -> None:
         self._link, self._words, self._seconds, self._before = link, words, seconds, link.last
         self._answer: Any = None
         self._error: Exception | None = None
-        # Whether the server has done it, and whether its answer is there.
+        # Whether the server has done it, and whether its reply is there.
         self.has_come = self.is_done = False
         self._waiting: list[Actor] = []
         self.world = link.network.world
@@ -114,19 +114,19 @@ class SimulatedPending:
         return self.is_done
 
     def wait(self) -> None:
-        """Waits until the server has done it, or never does."""
+        """Waits until the server has run it, or never will."""
         wait_until(lambda: self.has_come, [self], self.world, _FOR_EVER)
 
     def notify(self, actor: Actor) -> None:
-        """Has an actor go on when something of it is known."""
+        """Lets an actor continue when its state changes."""
         self._waiting.append(actor)
 
     def forget(self, actor: Actor) -> None:
-        """No longer."""
+        """Ends that."""
         self._waiting.remove(actor)
 
     def answer(self) -> Any:
-        """Its answer."""
+        """Its reply."""
         while not self.is_done:
             wait_until(lambda: self.is_done, [self], self.world, _FOR_EVER)
         if self._error:
@@ -182,16 +182,16 @@ class SimulatedLink:
         self.last = None
 
     def call(self, words: Sequence[Word], seconds: float) -> Any:
-        """The answer to a command, or what becomes of it."""
+        """The reply to a command, or the error if it fails."""
         return self.go(words, seconds, lambda: None, lambda: None)
 
     def begin(self, words: Sequence[Word], seconds: float) -> Pending:
-        """The same, beside what its process does. The server has it behind what was begun before."""
+        """The same, while its process goes on. The server runs it after what was begun before."""
         self.last = SimulatedPending(self, self._process, words, seconds)
         return self.last
 
     def go(self, words: Sequence[Word], seconds: float, turn: Callable[[], None], has_come: Callable[[], None]) -> Any:
-        """The same, which waits for its turn at the server, and tells when it has come there."""
+        """The same, which waits for its turn at the server, and calls `has_come` when it has come there."""
         world, weather, draw = self.network.world, self.network.weather, self.network.world.draw
         deadline, chance = world.now + seconds, draw.random()
         world.sleep(draw.random() * weather.seconds)
@@ -200,7 +200,7 @@ class SimulatedLink:
         if chance < weather.lost:
             raise Away("the connection was cut")
         if chance < weather.lost + weather.late:
-            # It was on its way when the connection was cut, and the server has it later.
+            # It was in transit when the connection was cut, and the server gets it later.
             failovers = self._server.failovers
             world.later(draw.random() * weather.seconds_late, lambda: self._late(words, failovers))
             raise Away("the connection was cut, and the call comes late")
@@ -221,7 +221,7 @@ class SimulatedLink:
             pass
 
     def _block(self, words: Sequence[Word], deadline: float) -> Any:
-        """Asks until there is something, as a server that blocks does."""
+        """Repeats the call until there is something, like a server that blocks."""
         world, server = self.network.world, self._server
         at = list(words).index("BLOCK")
         until = min(deadline, world.now + float(str(words[at + 1])) / 1000)
@@ -241,7 +241,7 @@ class SimulatedLink:
 
 
 class Simulated:
-    """The machine of a process: its clock began at another time than others' did."""
+    """The machine of a process: its clock began at another time than those of others."""
 
     def __init__(self, network: Network, process: Process) -> None:
         self._network, self._world, self._process = network, network.world, process

@@ -1,9 +1,11 @@
-"""Plays shards in the simulator: customers ask, their processes and all others die, servers go away and their clocks jump, customers are
-moved; each reply is compared with that of a host that serves the customer alone.
+"""Plays shards in the simulator.
 
-usage: python3 -m tests.shards.simulator.play [--seed N] [--runs N] [--seconds S] [--tell]
+Customers send calls, their processes and all others die, servers go away and their clocks jump, customers are moved; each reply is
+compared with that of a host that serves only this customer.
 
-A run is decided by its seed: the same one is played again the same way.
+usage: `python3 -m tests.shards.simulator.play [--seed N] [--runs N] [--seconds S] [--tell]`
+
+A run is determined by its seed: the same seed plays the same run again.
 """
 
 from __future__ import annotations
@@ -53,7 +55,7 @@ _BAD_WEATHER = Weather(lost=0.02, unanswered=0.02, late=0.02)
 
 
 class Differs(AssertionError):
-    """Something is not as it has to be."""
+    """A result differs from the expected one."""
 
 
 def frame_of(draw: random.Random, poison: bool) -> bytes:
@@ -75,19 +77,19 @@ def frame_of(draw: random.Random, poison: bool) -> bytes:
 
 
 class Said:
-    """A customer of the simulator: what it has asked, and what a host that serves it alone answers."""
+    """A customer of the simulator: its calls, and the replies of a host that serves only this customer."""
 
     def __init__(self, name: str, seed: str, poison: bool) -> None:
         self.name, self._draw, self._poison = name, random.Random(f"{seed} {name}"), poison
         self._alone = FakeHost()
-        # How many calls were taken, and the next one, which may be taken.
+        # The number of calls that were taken, and the next one, which may be taken.
         self.taken, self.next, self.calls = 0, self._new(), 0
 
     def _new(self) -> list[bytes]:
         return [frame_of(self._draw, self._poison) for _ in range(self._draw.randrange(1, 5))]
 
     def change(self) -> None:
-        """Has another next call than before."""
+        """Draws another next call."""
         self.next = self._new()
 
     def is_poison(self) -> bool:
@@ -118,7 +120,7 @@ class Play:
         self._replicas = "?replicas=1" if seed % 2 else ""
 
     def run(self) -> None:
-        """All of it; a Differs where anything is wrong."""
+        """The whole run; raises Differs if anything is wrong."""
         try:
             keeper = Process("supervisor")
             for shard in range(SHARDS):
@@ -189,7 +191,7 @@ class Play:
                     self.counts["not taken"] += 1
 
     def _posted(self, customer: Customer, said: Said) -> Ticket | None:
-        """Sends the next call; nothing where it is not taken, and the ticket also where that is not known."""
+        """Sends the next call; None if it is not taken, but the ticket if it is not known whether it was."""
         try:
             return customer.post(b"".join(said.next))
         except NoReply as error:
@@ -198,7 +200,7 @@ class Play:
             return None
 
     def _resume(self, said: Said, last: Ticket | None, wait: Callable[[Ticket], list[bytes]]) -> None:
-        """Goes on where the last process died: the call behind those that were answered was taken, or is sent again."""
+        """Continues after the last process died: the call after those with replies was taken, or is sent again."""
         number = last.number if last else 0
         if number not in (said.taken, said.taken + 1):
             raise Differs(f"{said.name} has {number} calls taken, and was answered {said.taken}")
@@ -235,7 +237,7 @@ class Play:
             except (NotTaken, RedisError):
                 self.world.sleep(0.5)
 
-    # An operator, who says a word where something is set aside, and moves customers.
+    # An operator, who decides on what is set aside, and moves customers.
 
     def _operate(self) -> None:
         with Client(self._url(0), system=Simulated(self.network, Process("operator"))) as client:
@@ -308,7 +310,7 @@ class Play:
         self.counts["kills"] += 1
 
     def _pause_worker(self) -> None:
-        """Pauses a worker, so that another one that is started beside it has the lease when it goes on."""
+        """Pauses a worker, so that another one that is started meanwhile has the lease when the first one goes on."""
         shard, process, _ = self._draw.choice(self._workers)
         process.paused_until = self.world.now + 1 + self._draw.random() * 4
         second = Process(f"second worker {shard}")
@@ -350,7 +352,7 @@ class Play:
     # The end.
 
     def _compare(self) -> None:
-        """All is answered, each entry once, and nobody is on the way."""
+        """All calls have replies, each entry has one, and no move is in progress."""
         for said in self.customers:
             self.counts["calls"] += said.calls
         if any(self._asking[said.name] in [actor.process for actor in self.world.actors] for said in self.customers):
@@ -368,7 +370,7 @@ class Play:
 
 
 def play(seed: int, seconds: float, tell: bool = False) -> Counter[str]:
-    """A run by its seed; a Differs where anything is wrong, which names the seed."""
+    """A run by its seed; if anything is wrong, raises Differs, which names the seed."""
     played = Play(seed, seconds)
     try:
         played.run()

@@ -24,7 +24,7 @@ class Stream:
 
 
 class Store:
-    """What a server has, and its commands. It does not know of scripts, and its clock is what it is told."""
+    """The keys of a server, and its commands. It does not know of scripts, and its clock is set from outside."""
 
     def __init__(self) -> None:
         self.keys: dict[bytes, Value] = {}
@@ -37,12 +37,12 @@ class Store:
         self._before: collections.deque[tuple[int, bytes, Value]] = collections.deque()
 
     def replicas_have(self, written: int) -> None:
-        """A failover loses nothing more of what was written up to there."""
+        """A failover loses nothing of what was written up to here."""
         while self._before and self._before[0][0] <= written:
             self._before.popleft()
 
     def fail_over(self) -> None:
-        """Has what the replicas have."""
+        """Takes the keys that the replicas have."""
         while self._before:
             _, name, value = self._before.pop()
             if value is None:
@@ -51,7 +51,7 @@ class Store:
                 self.keys[name] = value
 
     def do(self, words: Sequence[object]) -> Value:
-        """The answer to a command."""
+        """The reply to a command."""
         name, *rest = [_bytes(word) for word in words]
         command = getattr(self, f"_{name.decode().lower()}", None)
         if command is None:
@@ -190,7 +190,7 @@ class Store:
         return found[: int(count[1])] if count else found
 
     def _xread(self, *words: bytes) -> list[Value] | None:
-        """Never blocks: who waits asks again."""
+        """Never blocks: the caller asks again."""
         at = words.index(b"STREAMS")
         many = int(words[1]) if words[0] == b"COUNT" else 1 << 30
         names = words[at + 1 : at + 1 + (len(words) - at - 1) // 2]
@@ -256,7 +256,7 @@ class Scripts:
         self._lua.globals()[b"redis"] = self._lua.table_from({b"call": self._call, b"error_reply": self._error})
 
     def run(self, store: Store, words: Sequence[object]) -> Value:
-        """The answer to EVALSHA or EVAL."""
+        """The reply to EVALSHA or EVAL."""
         command, text, count, *rest = [_bytes(word) for word in words]
         if command == b"EVAL":
             self._load(text)

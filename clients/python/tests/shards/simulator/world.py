@@ -1,7 +1,7 @@
-"""A world with one clock, in which one actor runs at a time: what they do is decided by a seed alone.
+"""A world with one clock, in which one actor runs at a time; only a seed decides what they do.
 
-An actor is a thread that goes on until it waits for time to go by; then the one whose time comes first runs. Actors belong to processes,
-which can be killed and paused at any wait.
+An actor is a thread that runs until it sleeps; then the one that wakes first runs. Actors belong to processes, which can be killed and
+paused at any wait.
 """
 
 from __future__ import annotations
@@ -12,7 +12,7 @@ from collections.abc import Callable
 
 
 class Killed(BaseException):
-    """The process of this actor was killed: nothing that it does any more has an effect."""
+    """The process of this actor was killed: its further actions have no effect."""
 
 
 class Process:
@@ -55,7 +55,7 @@ class Actor:
         self.world.back.acquire()
 
     def wait(self, wakes: float) -> None:
-        """Gives way until a time; a Killed where the process was killed meanwhile."""
+        """Sleeps until a time; raises Killed if the process was killed meanwhile."""
         if self.process.is_killed:
             raise Killed
         self.wakes, self.order = wakes, self.world.draw.random()
@@ -82,15 +82,15 @@ class World:
         self.running: Actor | None = None
         self._later: list[tuple[float, float, Callable[[], object]]] = []
         self._named = 0
-        # What happened, by the time.
+        # The events, by their times.
         self.told: list[str] = []
 
     def tell(self, sentence: str) -> None:
-        """Notes what happened."""
+        """Notes an event."""
         self.told.append(f"{self.now:10.3f} {sentence}")
 
     def fresh(self) -> str:
-        """A name that was never given before."""
+        """A name that was never returned before."""
         self._named += 1
         return f"{self._named:08x}"
 
@@ -101,7 +101,7 @@ class World:
         return actor
 
     def later(self, seconds: float, run: Callable[[], object]) -> None:
-        """Does something when so many seconds have gone by."""
+        """Does something after so many seconds."""
         self._later.append((self.now + seconds, self.draw.random(), run))
 
     def sleep(self, seconds: float) -> None:
@@ -110,7 +110,7 @@ class World:
         self.running.wait(self.now + max(0.0, seconds))
 
     def run(self, until: float) -> None:
-        """Lets all go on up to a time; what an actor did not expect is raised here."""
+        """Lets all run up to a time; an actor's unexpected error is raised here."""
         while True:
             actor = min((one for one in self.actors if not one.has_ended), key=_when, default=None)
             event = min(self._later, default=None)
@@ -153,6 +153,6 @@ class World:
 
 
 def _when(actor: Actor) -> tuple[float, float]:
-    """When an actor goes on."""
+    """When an actor continues."""
     wakes = actor.wakes if actor.process.is_killed else max(actor.wakes, actor.process.paused_until)
     return wakes, actor.order

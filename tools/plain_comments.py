@@ -28,7 +28,6 @@ MOST: dict[str, int] = {
     "clients/python": 7,
     "clients/python/bench": 9,
     "clients/python/bpfhost": 2,
-    "clients/python/bpfhost/classic": 110,
     "clients/python/bpfhost/lowering": 6,
     "clients/python/tests/classic": 40,
     "clients/rust/bpfhost-sys": 2,

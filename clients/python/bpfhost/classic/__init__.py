@@ -1,6 +1,6 @@
-"""Filters as tcpdump writes them: classic BPF programs, from expressions, numbers and texts, as programs of this host.
+"""Classic BPF filters, as tcpdump writes them, as programs of this host: from expressions, numbers and texts.
 
-FILTERS.md of clients/python has the translation, and how libpcap and the kernel differ.
+FILTERS.md of clients/python describes the translation, and how libpcap and the kernel differ.
 """
 
 from bpfhost.classic.errors import ClassicError, ExpressionError, MissingLibrary

@@ -1,4 +1,4 @@
-"""Loads of what the kernel knows of a packet beside its bytes (linux/filter.h, SKF_AD_*), as words of a run's context."""
+"""Ancillary loads: what the kernel knows of a packet besides its bytes (linux/filter.h, SKF_AD_*), as words of a run's context."""
 
 from __future__ import annotations
 
@@ -14,15 +14,15 @@ class ContextWord:
 
     name: str
     offset: int
-    # Whether it is two bytes in the packet's order, which a classic program sees as a number.
+    # Whether it is two bytes in the packet's order, which a classic program loads as a number.
     is_packet_order: bool = False
 
 
 LENGTH = ContextWord("len", 0)
-# No ancillary load reads this word, so it can have what a run has no word of its own for.
+# No ancillary load reads this word, so it can hold a value for which a run has no word.
 WIRE_LENGTH = ContextWord("priority", 32)
 
-# What the ancillary area has by the offset in it: the kernel's name, and the word, or why there is none.
+# The ancillary area, by the offset in it: the kernel's name, and the word, or the reason why there is none.
 _XOR = 40
 _WORDS: Mapping[int, tuple[str, ContextWord]] = {
     0: ("SKF_AD_PROTOCOL", ContextWord("protocol", 16, is_packet_order=True)),
@@ -46,13 +46,13 @@ _WITHOUT_WORD: Mapping[int, str] = {
 
 
 def context_word(k: int) -> ContextWord | None:
-    """The word that an ancillary load at k reads, or None where the context has none."""
+    """The context word that an ancillary load at k reads, or None if the context has none."""
     found = _WORDS.get(k - ANCILLARY)
     return found[1] if found else None
 
 
 def is_exclusive_or(k: int) -> bool:
-    """Whether an ancillary load at k is none, but the exclusive or of A with X (SKF_AD_ALU_XOR_X)."""
+    """Whether an ancillary load at k loads nothing, and is the exclusive or of A with X (SKF_AD_ALU_XOR_X)."""
     return k == ANCILLARY + _XOR
 
 
@@ -62,5 +62,5 @@ def is_known(k: int) -> bool:
 
 
 def without_word(k: int) -> str | None:
-    """What the kernel gives at k, where the context has no word for it."""
+    """What the kernel loads at k, if the context has no word for it."""
     return _WITHOUT_WORD.get(k - ANCILLARY)

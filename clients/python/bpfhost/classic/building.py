@@ -1,4 +1,4 @@
-"""A filter as a file that is loaded without Python, in the format of built programs."""
+"""A filter as a file, in the format of built programs, which can be loaded without Python."""
 
 from __future__ import annotations
 

@@ -18,10 +18,11 @@ def refused_at(at: int, instruction: Instruction, why: str) -> ClassicError:
 
 
 def check(instructions: Sequence[Instruction]) -> None:
-    """A ClassicError where the kernel refuses the program, with the first instruction that breaks a rule.
+    """Raises ClassicError if the kernel refuses the program, with the first instruction that breaks a rule.
 
-    Jumps inside and forward, known codes, no division by the number 0, no shift by 32 and more, scratch memory within its sixteen words
-    and stored before it is loaded on all paths, known ancillary loads, and a return at the end.
+    The rules: jumps stay inside and go forward, codes are known, no division is by the number 0 and no shift by 32 or more, scratch
+    memory accesses are within its sixteen words, on all paths a word is stored before it is loaded, ancillary loads are known, and the
+    program ends with a return.
     """
     count = len(instructions)
     if not count:
@@ -70,8 +71,8 @@ def _fault_of_operand(operator: Operator | None, k: int) -> str | None:
 
 
 def _check_scratch(instructions: Sequence[Instruction]) -> None:
-    """A ClassicError where a word is loaded that some path has not stored (the kernel's `check_load_and_stores`)."""
-    # What all jumps to an instruction have stored, and what the way from the instruction before it has.
+    """Raises ClassicError if a word is loaded that some path has not stored (the kernel's `check_load_and_stores`)."""
+    # For each instruction, the words that all jumps to it have stored, and those that the path from the instruction before it has stored.
     at_target, stored = [_ALL] * len(instructions), 0
     for at, instruction in enumerate(instructions):
         form = FORMS[instruction.code]

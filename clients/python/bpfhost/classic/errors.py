@@ -1,4 +1,4 @@
-"""What is wrong with a classic program or an expression, each as one sentence."""
+"""Errors of classic programs and expressions, each as one sentence."""
 
 from __future__ import annotations
 
@@ -6,7 +6,7 @@ from bpfhost.errors import InputError, MissingPackage
 
 
 class ClassicError(InputError):
-    """A classic program that is refused: its text is damaged, the kernel's checks do not hold, or it can't be translated."""
+    """A classic program that is refused: its text is damaged, it fails the kernel's checks, or it can't be translated."""
 
 
 class ExpressionError(InputError):
@@ -14,7 +14,7 @@ class ExpressionError(InputError):
 
 
 class MissingLibrary(MissingPackage):
-    """libpcap is not there, which compiles expressions."""
+    """libpcap, which compiles expressions, is missing."""
 
     def __init__(self) -> None:
         Exception.__init__(self, "libpcap is missing, which compiles expressions: apt-get install libpcap0.8")

@@ -10,13 +10,13 @@ from typing import NamedTuple
 # The most instructions of a program, and the words of its scratch memory (BPF_MAXINSNS, BPF_MEMWORDS).
 MOST_INSTRUCTIONS = 4096
 SCRATCH_WORDS = 16
-# Where loads begin that are none of the packet's bytes but of what the kernel knows of it, and where offsets begin that count from the
-# network header and from the link header (SKF_AD_OFF, SKF_NET_OFF, SKF_LL_OFF of linux/filter.h).
+# The first offset of ancillary loads, which load what the kernel knows of a packet and none of its bytes, and the first offsets that are
+# relative to the network header and to the link header (SKF_AD_OFF, SKF_NET_OFF, SKF_LL_OFF of linux/filter.h).
 ANCILLARY, NETWORK_HEADER, LINK_HEADER = 0xFFFFF000, 0xFFF00000, 0xFFE00000
 
 
 class Instruction(NamedTuple):
-    """One instruction: its code, how far it jumps where its test holds and where it does not, and its number."""
+    """One instruction: its code, how far it jumps if its test holds and if it does not, and its number."""
 
     code: int
     jt: int
@@ -25,7 +25,7 @@ class Instruction(NamedTuple):
 
 
 class Kind(Enum):
-    """What an instruction does, whatever its register, its size and its operator are."""
+    """The kinds of instructions, without register, size and operator."""
 
     ABSOLUTE = "load of the packet at k"
     INDIRECT = "load of the packet at X + k"
@@ -43,20 +43,23 @@ class Kind(Enum):
 
 
 class Operator(Enum):
-    """The operators of arithmetic, by their bits in a code; each stands in an eBPF instruction of 32 bits as well."""
+    """The operators of arithmetic, by their bits in a code; 32-bit eBPF instructions have the same bits."""
 
     ADD, SUB, MUL, DIV, OR, AND, LSH, RSH, MOD, XOR = 0x00, 0x10, 0x20, 0x30, 0x40, 0x50, 0x60, 0x70, 0x90, 0xA0
 
 
 class Test(Enum):
-    """The tests of jumps, by their bits in a code: equal, above, at least, and a bit in common, all unsigned."""
+    """The tests of jumps, by their bits in a code: equal, greater, greater or equal, and a common bit, all unsigned."""
 
     EQ, GT, GE, SET = 0x10, 0x20, 0x30, 0x40
 
 
 @dataclass(frozen=True)
 class Form:
-    """What a code says: `is_x` of a load, a store or a move that X is its register or its source; of all others that X is its operand."""
+    """The fields of a code.
+
+    In a load, a store or a move `is_x` is whether X is its register or its source, in all others whether X is its operand.
+    """
 
     kind: Kind
     mnemonic: str
@@ -90,5 +93,5 @@ def _forms() -> Iterator[tuple[int, Form]]:
     yield 0x87, Form(Kind.MOVE, "txa", is_x=True)
 
 
-# The codes that are known, those of the kernel's `chk_code_allowed`. Of a return, `is_x` says that A is returned.
+# The known codes, those of the kernel's `chk_code_allowed`. In a return, `is_x` is whether A is returned.
 FORMS: Mapping[int, Form] = dict(_forms())

@@ -1,4 +1,4 @@
-"""What is known of the steps of a graph: what is read later, how large numbers are, and which stay in the packet's byte order."""
+"""Analyses of a graph: which values are read later, how large numbers are, and which stay in the packet's byte order."""
 
 from __future__ import annotations
 
@@ -37,13 +37,13 @@ Known = Mapping[Storage, int]
 
 @dataclass(frozen=True)
 class Live:
-    """What is read later, before and after each step: what is not, need not be written."""
+    """What is read later, before and after each step: other values need not be written."""
 
     before: Mapping[Place, frozenset[Storage]]
     after: Mapping[Place, frozenset[Storage]]
 
     def needs(self, place: Place, step: Step) -> bool:
-        """Whether a step does anything that is seen later: a load of the packet does, since the packet may end before it."""
+        """Whether a step has an effect that is seen later: a load of the packet has, since the packet may end before it."""
         target = written(step)
         if target is None:
             return not isinstance(step, Pass)
@@ -51,7 +51,7 @@ class Live:
 
 
 def live(graph: Graph, order: list[Place]) -> Live:
-    """What is read later, of the steps in an order in which each stands before its followers."""
+    """What is read later, for steps in an order in which each comes before its followers."""
     before: dict[Place, frozenset[Storage]] = {}
     after: dict[Place, frozenset[Storage]] = {}
     found = Live(before, after)
@@ -65,7 +65,7 @@ def live(graph: Graph, order: list[Place]) -> Live:
 
 
 def uses_context(step: Step) -> bool:
-    """Whether a step reads the context, or hands it to a call."""
+    """Whether a step reads the context, or passes it to a call."""
     return isinstance(step, LoadContext | LoadLength | LoadPacket | Fetch)
 
 
@@ -79,7 +79,7 @@ def after_calls(graph: Graph, order: list[Place]) -> set[Place]:
 
 
 def behind_calls_that_went_well(graph: Graph, order: list[Place]) -> set[Place]:
-    """The steps before which each path has a call, the last of which went well: so it has left 0 as its result."""
+    """The steps before which each path has a call, the last of which succeeded: so it has left 0 as its result."""
     found = set(order) - {graph.entry}
     for place in order:
         is_call = isinstance(graph.steps[place], Fetch | LoadPacket)
@@ -126,7 +126,7 @@ def _of(operand: Operand, known: Known) -> int:
 
 
 def _greatest_result(operator: Operator, a: int, b: int, is_number: bool) -> int:
-    """The greatest result of numbers up to a and up to b; of b alone, if it is a number."""
+    """The greatest result of numbers up to a and up to b; of exactly b, if it is a number."""
     match operator:
         case Operator.ADD:
             found = a + b
@@ -150,17 +150,17 @@ def _greatest_result(operator: Operator, a: int, b: int, is_number: bool) -> int
 
 
 def in_packet_order(graph: Graph, order: list[Place], needed: Live) -> dict[Place, int]:
-    """Loads of the packet, and the tests of what they load, for which the packet's byte order does as well; each with the size.
+    """Loads of the packet, and the tests of what they load, that can use the packet's byte order; each with the size.
 
-    Such a number is tested for equality and for common bits with numbers alone, and each of its tests sees loads of one size alone.
+    Such a value is only tested for equality and for common bits, and only with numbers; each of its tests sees loads of only one size.
     """
     return _in_packet_order(graph, order, needed, Register.A) | _in_packet_order(graph, order, needed, Register.MOVED)
 
 
 def _in_packet_order(graph: Graph, order: list[Place], needed: Live, register: Register) -> dict[Place, int]:
-    """Those into one register."""
+    """Those of one register."""
     groups = _Groups(register)
-    # The step that wrote it last, or where ways meet one of those that did, which then have one group if it is read later.
+    # The step that wrote it last; if paths meet, one of the steps that did, which then are in one group if the register is read later.
     sources: dict[Place, Place | str] = {graph.entry: _START}
     for place in order:
         step, source = graph.steps[place], sources[place]
@@ -176,7 +176,7 @@ def _in_packet_order(graph: Graph, order: list[Place], needed: Live, register: R
 
 
 class _Groups:
-    """Steps that have to agree on the byte order of a register, each led by one of them."""
+    """Groups of steps that have to agree on the byte order of a register, each led by one of them."""
 
     def __init__(self, register: Register) -> None:
         self._register = register
@@ -189,7 +189,7 @@ class _Groups:
         return each
 
     def join(self, one: Place | str, other: Place | str) -> None:
-        """Makes one group of those of both."""
+        """Joins the groups of both."""
         self._leaders[self._leader(one)] = self._leader(other)
 
     def of_one_size(self, graph: Graph) -> dict[Place, int]:
@@ -203,14 +203,14 @@ class _Groups:
         return {each: agreed[leader] for each, leader in members if leader in agreed and isinstance(each, Place)}
 
     def _is_test_of_bytes(self, graph: Graph, each: Place | str) -> bool:
-        """Whether this is a test that does as well with the bytes of the register and of a number in another order."""
+        """Whether this test has the same result with the bytes of the register and of the number in another order."""
         match graph.steps[each] if isinstance(each, Place) else None:
             case Branch(register=register, test=Test.EQ | Test.SET, operand=int()):
                 return register is self._register
         return False
 
     def _loaded_size(self, graph: Graph, each: Place | str) -> int:
-        """The size of a load of the packet; 0 of all else, which needs the number itself or makes one."""
+        """The size of a load of the packet; 0 for all other steps, which need the number itself or make one."""
         match graph.steps[each] if isinstance(each, Place) else None:
             case LoadHeader(to=register, size=size) | LoadPacket(to=register, size=size):
                 return size if register is self._register else 0

@@ -1,4 +1,7 @@
-"""Tests of a packet's length, made stricter and fewer: a packet too short for any result but 0 ends at once, and nothing is tested twice."""
+"""Makes tests of a packet's length stricter and fewer.
+
+A packet that is too short for any result except 0 ends at once, and nothing is tested twice.
+"""
 
 from __future__ import annotations
 
@@ -14,7 +17,7 @@ def with_few_tests(graph: Graph) -> Graph:
 
 
 def _strict(graph: Graph) -> Graph:
-    """Each test of the length asks for all bytes that a result other than 0 needs behind it, where no shorter packet has such a result."""
+    """Each test of the length is for all bytes that a result other than 0 needs after it, if no shorter packet has such a result."""
     found, needed = graph.copy(), dict[Place, int]()
     for place in reversed(graph.order()):
         step, behind = graph.steps[place], [needed[each] for each in graph.followers[place]]
@@ -27,7 +30,7 @@ def _strict(graph: Graph) -> Graph:
 
 
 def _put_strict(graph: Graph, place: Place, least: int) -> None:
-    """A test of the length behind which shorter packets end with 0."""
+    """A test of the length after which shorter packets end with 0."""
     end = graph.end(place.view)
     if least < _NEVER:
         _put(graph, place, TestLength(least), graph.followers[place][0], end)
@@ -40,7 +43,7 @@ def _put(graph: Graph, place: Place, step: Step, *followers: Place) -> None:
 
 
 def _needed(step: Step, followers: list[int]) -> int:
-    """So many bytes a packet has to have for a result other than 0, where its followers need so many."""
+    """How many bytes a packet must have for a result other than 0, if its followers need so many."""
     match step:
         case Return(value=0):
             return _NEVER
@@ -52,7 +55,7 @@ def _needed(step: Step, followers: list[int]) -> int:
 
 
 def _end(step: LoadHeader | LoadPacket | Fetch) -> int:
-    """Where the bytes that a step has loaded end at least: X may be 0, and a sum that wraps may be as well."""
+    """The least end of the bytes that a step has loaded: X may be 0, and so may a sum that wraps."""
     match step:
         case Fetch(headers=headers):
             return headers.end
@@ -62,11 +65,11 @@ def _end(step: LoadHeader | LoadPacket | Fetch) -> int:
 
 
 def _without_known(graph: Graph) -> Graph:
-    """No test of the length, and no call that may fail, where the packet is known to be long enough."""
+    """Leaves out tests of the length, and the failure of calls, if the packet is known to be long enough."""
     found, known = graph.copy(), {graph.entry: 0}
     for place in graph.order():
         if place not in known:
-            # Only what was left out leads here.
+            # Only left-out steps lead here.
             continue
         step, least, first = graph.steps[place], known[place], graph.followers[place][:1]
         match step:
@@ -82,7 +85,7 @@ def _without_known(graph: Graph) -> Graph:
 
 
 def _least_behind(step: Step) -> int:
-    """So many bytes a packet has to have for the first follower of a step."""
+    """How many bytes a packet must have for the first follower of a step."""
     match step:
         case TestLength(least=least):
             return least

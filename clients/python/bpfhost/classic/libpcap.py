@@ -10,17 +10,17 @@ from bpfhost.classic.errors import ExpressionError, MissingLibrary
 from bpfhost.classic.instructions import Instruction
 from bpfhost.packets import ETHERNET
 
-# The version of the library's interface, which Linux's distributions name the file by.
+# The version of the library's interface, which is in the file's name on Linux distributions.
 _LIBRARY = "libpcap.so.0.8"
-# What a whole packet has at most, as tcpdump asks for: a filter answers so many bytes for a packet that it keeps.
+# The most bytes that a whole packet has, as tcpdump sets it: a filter returns so many bytes for a packet that it keeps.
 SNAPSHOT = 262_144
-# An expression is as long as this at most; libpcap takes any, and time for it.
+# The longest expression; libpcap accepts longer ones, and takes more time for them.
 LONGEST_EXPRESSION = 65_536
 _LONGEST_SHOWN = 100
-# Link types that captures number otherwise than libpcap does in memory (libpcap's pcap-common.c, "LINKTYPE_").
+# Link types whose number in captures differs from libpcap's number in memory (libpcap's pcap-common.c, "LINKTYPE_").
 _IN_MEMORY = {100: 11, 101: 12, 102: 15, 103: 16, 106: 19}
 _NO_NUMBER = -1
-# What libpcap tells of an expression that its grammar does not have, and how many beginnings of it are tried then.
+# The error of libpcap for an expression that its grammar does not have, and how many beginnings of the expression are then tried.
 _SYNTAX, _MOST_BEGINNINGS = "syntax error", 100
 
 
@@ -38,7 +38,7 @@ class _Program(ctypes.Structure):
 
 @cache
 def library() -> ctypes.CDLL:
-    """The library; a MissingLibrary where it is not there."""
+    """The library; raises MissingLibrary if it is not there."""
     try:
         found = ctypes.CDLL(_LIBRARY)
     except OSError as error:
@@ -64,7 +64,7 @@ def is_there() -> bool:
 
 
 def link_type_number(name: str) -> int:
-    """A link type by its number in captures, or by libpcap's name, as `EN10MB`, `RAW` or `LINUX_SLL`; a ValueError where it is none."""
+    """A link type by its number in captures, or by libpcap's name, as `EN10MB`, `RAW` or `LINUX_SLL`; raises ValueError if it is none."""
     if name.isascii() and name.isdecimal() and int(name) < 2**16:
         return int(name)
     found = library().pcap_datalink_name_to_val(name.encode()) if name.isascii() else _NO_NUMBER
@@ -76,10 +76,10 @@ def link_type_number(name: str) -> int:
 def compile_expression(
     expression: str, link_type: int = ETHERNET, *, netmask: int = 0, snapshot: int = SNAPSHOT, optimized: bool = True
 ) -> list[Instruction]:
-    """The classic program of an expression for packets of a link type, as captures number it; an ExpressionError where libpcap refuses.
+    """The classic program of an expression for packets of a link type, as captures number it.
 
-    `netmask` is what `ip broadcast` looks at, the first byte of the mask the lowest one, and 0 as for captures that tcpdump reads.
-    `snapshot` is what the program answers for a packet that it keeps.
+    Raises ExpressionError if libpcap refuses the expression. `netmask` is what `ip broadcast` compares with, the first byte of the mask
+    the lowest one, and 0 as for captures that tcpdump reads. `snapshot` is what the program returns for a packet that it keeps.
     """
     if "\0" in expression or len(expression) > LONGEST_EXPRESSION:
         raise ExpressionError(f"an expression has no zero byte, and {LONGEST_EXPRESSION:,} characters at most")
@@ -101,7 +101,7 @@ def compile_expression(
 
 
 def _where(handle: int, expression: str) -> str:
-    """Where an expression goes wrong, which libpcap does not tell: behind the longest beginning that is an expression by itself."""
+    """The place of an error, which libpcap does not report: after the longest beginning that is an expression by itself."""
     pcap, program = library(), _Program()
     ends = [found.start() for found in re.finditer(r"\s+|[()]", expression)][:_MOST_BEGINNINGS]
     for end in reversed(ends):
@@ -113,6 +113,6 @@ def _where(handle: int, expression: str) -> str:
 
 
 def shown(expression: str) -> str:
-    """An expression, short enough for a sentence, and without what a terminal takes for more than signs."""
+    """An expression, shortened for a sentence, and without control characters."""
     cut = expression if len(expression) <= _LONGEST_SHOWN else f"{expression[:_LONGEST_SHOWN]}..."
     return "".join(sign if sign.isprintable() else "?" for sign in cut)

@@ -6,17 +6,17 @@ from collections.abc import Sequence
 
 from bpfhost.classic.instructions import FORMS, Form, Instruction, Kind, Operator
 
-# Operands that are shown in hexadecimal digits.
+# Operands that are shown in hexadecimal.
 _HEX = (Operator.AND, Operator.OR, Operator.XOR)
 
 
 def listing(instructions: Sequence[Instruction]) -> str:
-    """The program, an instruction on each line."""
+    """The program, with an instruction on each line."""
     return "".join(f"{shown(at, each)}\n" for at, each in enumerate(instructions))
 
 
 def shown(at: int, instruction: Instruction) -> str:
-    """The instruction that stands at a place, as a line: `(001) jeq      #0x800           jt 2	jf 3`."""
+    """The instruction at a place, as a line: `(001) jeq      #0x800           jt 2	jf 3`."""
     form = FORMS.get(instruction.code)
     if form is None:
         return f"({at:03}) unimp    0x{instruction.code:x}"

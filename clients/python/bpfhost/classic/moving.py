@@ -1,4 +1,4 @@
-"""Tests in another order: IPv4 first among the kinds of packets, and last what most packets pass."""
+"""Reorders tests: IPv4 first among the kinds of packets, and tests that most packets pass last."""
 
 from __future__ import annotations
 
@@ -8,14 +8,14 @@ from bpfhost.classic.instructions import Test
 from bpfhost.classic.knowledge import live
 from bpfhost.classic.steps import Branch, Graph, LoadHeader, LoadPacket, Pass, Place, Register, Return, Step
 
-# What stands for IPv4 in the headers of Ethernet and its kin.
+# The EtherType of IPv4 in the headers of Ethernet and similar links.
 _IPV4 = 0x0800
-# A test is moved behind so many steps at most, and to so many places.
+# A test is moved after so many steps at most, and to so many places.
 _MOST_STEPS, _MOST_PLACES = 64, 3
 
 
 def with_tests_moved(graph: Graph) -> Graph:
-    """The same program with its tests in an order in which most packets are through with fewer steps."""
+    """The same program with its tests in an order in which most packets need fewer steps."""
     found = _Linked(graph)
     for place in reversed(graph.order()):
         _put_ipv4_first(found, place)
@@ -26,7 +26,7 @@ def with_tests_moved(graph: Graph) -> Graph:
 
 
 class _Linked:
-    """A copy of a graph, with the steps that stand before each one."""
+    """A copy of a graph, with the steps that come before each one."""
 
     def __init__(self, graph: Graph) -> None:
         self.graph = graph.copy()
@@ -40,19 +40,19 @@ class _Linked:
             self.before.setdefault(follower, set()).add(place)
 
     def link(self, place: Place, *followers: Place) -> None:
-        """Has other steps follow a step."""
+        """Sets the followers of a step."""
         for follower in self.followers.get(place, ()):
             self.before[follower].discard(place)
         self.followers[place] = followers
         self._note(place, followers)
 
     def put(self, place: Place, step: Step, *followers: Place) -> None:
-        """Puts a step to a place."""
+        """Sets the step of a place."""
         self.steps[place] = step
         self.link(place, *followers)
 
     def replace(self, place: Place, old: Place, new: Place) -> None:
-        """Has a step follow where another one followed."""
+        """Replaces a follower of a step by another one."""
         self.link(place, *(new if follower == old else follower for follower in self.followers[place]))
 
     def ends_with_0(self, place: Place) -> bool:
@@ -63,7 +63,7 @@ class _Linked:
 
 
 def _put_ipv4_first(linked: _Linked, place: Place) -> None:
-    """Where a test for IPv4 follows a test of the same number for something else, it comes to stand before that."""
+    """If a test for IPv4 follows a test of the same number for something else, moves it before that test."""
     step = linked.steps[place]
     if place == linked.graph.entry or not isinstance(step, Branch):
         return
@@ -78,7 +78,7 @@ def _put_ipv4_first(linked: _Linked, place: Place) -> None:
 
 
 class _Mover:
-    """Moves tests that most packets pass, and that end the program else, behind others that end it."""
+    """Moves tests that most packets pass, and that otherwise end the program, after other tests that end it."""
 
     def __init__(self, linked: _Linked) -> None:
         self._linked = linked
@@ -86,7 +86,7 @@ class _Mover:
         self._copies = 0
 
     def move(self, load: Place) -> None:
-        """Moves the test of bytes of the packet that are loaded here, if it is such a test and there is something to gain."""
+        """Moves the test of bytes of the packet that are loaded here, if it is such a test and the move saves steps."""
         linked, step = self._linked, self._linked.steps[load]
         if not isinstance(step, LoadHeader | LoadPacket) or step.to is not Register.A or len(linked.followers[load]) > 1:
             return
@@ -111,7 +111,7 @@ class _Mover:
                 linked.replace(place, target, new_load)
 
     def _is_weak(self, place: Place) -> bool:
-        """Whether a test ends the program for few packets: those of another kind than IPv4, and those with a bit that is rarely set."""
+        """Whether a test ends the program for few packets: those that are not IPv4, and those with a bit that is rarely set."""
         step, followers = self._linked.steps[place], self._linked.followers[place]
         match step:
             case Branch(test=Test.SET, operand=int()):
@@ -121,7 +121,7 @@ class _Mover:
         return False
 
     def _passed(self, test: Place, on: Place) -> list[Place]:
-        """The steps that a test is moved behind: those that nothing else leads to and that lead to an end with 0."""
+        """The steps after which a test is moved: those that no other step leads to and that lead to an end with 0."""
         found: dict[Place, None] = {}
         left = [on] if self._linked.before[on] == {test} else []
         while left and len(found) < _MOST_STEPS:

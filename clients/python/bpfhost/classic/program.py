@@ -1,4 +1,4 @@
-"""Classic programs as objects: made of numbers, of texts and of expressions, checked, shown, and translated."""
+"""Classic programs as objects: made from numbers, texts and expressions, checked, printed, and translated."""
 
 from __future__ import annotations
 
@@ -17,7 +17,7 @@ from bpfhost.packets import ETHERNET
 
 @dataclass(frozen=True)
 class ClassicProgram:
-    """A classic BPF program that the kernel's checks let pass; `name` is its expression, or where it was read.
+    """A classic BPF program that passes the kernel's checks; `name` is its expression, or the file that it was read from.
 
     A ClassicError names the instruction that breaks a rule.
     """
@@ -33,7 +33,7 @@ class ClassicProgram:
 
     @classmethod
     def of(cls, instructions: Iterable[Sequence[int]]) -> ClassicProgram:
-        """The program of these codes, each with jt, jf and k; a ValueError where one has not these four numbers."""
+        """The program of these codes, each with jt, jf and k; raises ValueError if one does not have these four numbers."""
         made = []
         for each in instructions:
             code, jt, jf, k = each
@@ -42,14 +42,14 @@ class ClassicProgram:
 
     @classmethod
     def of_text(cls, text: str, name: str = "standard input") -> ClassicProgram:
-        """The program of a text as `tcpdump -dd`, `tcpdump -ddd` or iptables' bytecode has it; a ClassicError where it is damaged."""
+        """The program of a text as `tcpdump -dd`, `tcpdump -ddd` or iptables' bytecode has it; raises ClassicError if it is damaged."""
         return cls(tuple(texts.read(text, name)), name)
 
     @classmethod
     def of_expression(cls, expression: str, link_type: int = ETHERNET, *, netmask: int = 0, optimized: bool = True) -> ClassicProgram:
         """The program that libpcap makes of an expression for a link type, as captures number it (pcap-filter(7)).
 
-        An ExpressionError with libpcap's sentence where it refuses, and a MissingLibrary without libpcap. Names of hosts are looked up.
+        Raises ExpressionError with libpcap's sentence if it refuses, and MissingLibrary without libpcap. Names of hosts are looked up.
         """
         made = libpcap.compile_expression(expression, link_type, netmask=netmask, optimized=optimized)
         return cls(tuple(made), f"the expression '{libpcap.shown(expression)}'")
@@ -71,7 +71,7 @@ class ClassicProgram:
         return texts.bytecode(self.instructions)
 
     def reads_length(self) -> bool:
-        """Whether it reads the packet's length."""
+        """Whether it loads the packet's length."""
         return any(FORMS[each.code].kind is Kind.LENGTH for each in self.instructions)
 
     def context_words(self) -> list[str]:
@@ -82,9 +82,9 @@ class ClassicProgram:
     def translated(
         self, semantics: Semantics = Semantics.LIBPCAP, length: Length = Length.PACKET, *, fast: bool = True
     ) -> Translation:
-        """The program as slots with the same result on every packet; a ClassicError where it has none.
+        """The program as slots with the same result on every packet; raises ClassicError if it has none.
 
-        `semantics` says whose results they are where libpcap's interpreter and the kernel differ, and `length` what a load of the length
+        If libpcap's interpreter and the kernel differ, `semantics` selects whose results these are; `length` is what a load of the length
         reads. Without `fast` each load of the packet is a call.
         """
         try:

@@ -1,4 +1,4 @@
-"""Filters of several tenants on the packets of a capture, each filter by a tenant of its own."""
+"""Runs filters of several tenants on the packets of a capture, each filter for its own tenant."""
 
 from __future__ import annotations
 
@@ -20,13 +20,13 @@ if TYPE_CHECKING:
 
     Accept = Callable[[Piece, tuple[int, ...]], None]
 
-# The word of the context that has how long a packet of a capture was on the wire.
+# The context word for the length on the wire of a packet of a capture.
 _WIRE = WIRE_LENGTH.name
 
 
 @dataclass
 class Kept:
-    """What a filter kept of so many packets. A result is how many bytes of a packet are kept, and 0 keeps none."""
+    """What a filter kept of so many packets. A result is the number of bytes of a packet that are kept, and 0 keeps none."""
 
     filter: ClassicProgram
     packets: int = 0
@@ -34,7 +34,7 @@ class Kept:
     bytes_kept: int = 0
 
     def add(self, packets: Packets, results: tuple[int, ...]) -> None:
-        """Counts the results of packets."""
+        """Adds the results of packets."""
         self.packets += len(results)
         self.kept += len(results) - results.count(0)
         self.bytes_kept += sum(min(result, length) for result, length in zip(results, packets.lengths))
@@ -42,9 +42,10 @@ class Kept:
 
 @dataclass
 class Outcome:
-    """What came of a run: of each filter what it kept, what is wrong with the capture behind these packets, and the seconds it took.
+    """The outcome of a run.
 
-    `long` counts packets of more than 65,536 bytes, which were run on their first ones.
+    It has what each filter kept, the fault of the capture after these packets, and the seconds that the run took. `long` counts packets
+    of more than 65,536 bytes, on whose first 65,536 bytes the filters ran.
     """
 
     kept: list[Kept]
@@ -77,7 +78,7 @@ class Filters:
     def run(self, capture: Capture, pieces: Iterator[Piece], limit: int | None, accept: Accept) -> Outcome:
         """Runs each filter on each packet of a capture, at most so many; `accept` is given pieces with the results of the first filter.
 
-        Where the capture is wrong, or a packet is of another link type, the outcome has what was before.
+        If the capture is wrong, or a packet is of another link type, the outcome has what came before.
         """
         outcome = Outcome([Kept(program) for program, _ in self._filters], self._link_type)
         begun = time.perf_counter()

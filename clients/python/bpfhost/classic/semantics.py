@@ -1,4 +1,4 @@
-"""Words that choose where libpcap's interpreter and the kernel differ. FILTERS.md of clients/python has the differences."""
+"""Options that choose between libpcap's interpreter and the kernel. FILTERS.md of clients/python lists their differences."""
 
 from __future__ import annotations
 
@@ -7,7 +7,7 @@ from enum import Enum
 
 
 class Semantics(Enum):
-    """Whose results a translation has, where they differ."""
+    """Whose results a translation has, if they differ."""
 
     LIBPCAP = "libpcap"
     KERNEL = "kernel"

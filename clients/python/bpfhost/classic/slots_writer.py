@@ -1,4 +1,4 @@
-"""eBPF slots, written one behind the other, with jumps to labels that are set later (RFC 9669; docs/INSTRUCTIONS.md)."""
+"""eBPF slots, written one after another, with jumps to labels that are set later (RFC 9669; docs/INSTRUCTIONS.md)."""
 
 from __future__ import annotations
 
@@ -8,7 +8,7 @@ from collections.abc import Hashable
 from bpfhost.numbers import SLOT_SIZE
 
 R0, R1, R2, R3, R4, R5, R10 = 0, 1, 2, 3, 4, 5, 10
-# Opcodes: a `W` works on 32 bits, a `K` has a number for its operand, an `X` a register.
+# Opcodes: a `W` is a 32-bit operation, a `K` has a number as its operand, an `X` a register.
 MOVE_K, MOVE_K_W, MOVE_X_W, MOVE_X, ADD_K, ADD_K_W, ADD_X = 0xB7, 0xB4, 0xBC, 0xBF, 0x07, 0x04, 0x0F
 LEFT_K_W, OR_X_W, NEGATE_W, TO_BIG_ENDIAN = 0x64, 0x4C, 0x84, 0xDC
 JUMP, CALL, EXIT = 0x05, 0x85, 0x95
@@ -19,7 +19,7 @@ LOAD_BYTES = 26
 
 
 class SlotsWriter:
-    """The slots of a program that grows."""
+    """The slots of a program while they are written."""
 
     def __init__(self) -> None:
         self._slots: list[bytes] = []
@@ -31,17 +31,17 @@ class SlotsWriter:
         return len(self._slots)
 
     def put(self, opcode: int, to: int = 0, source: int = 0, *, offset: int = 0, number: int = 0) -> None:
-        """A slot; a number is taken modulo 2^32."""
+        """Writes a slot; a number is taken modulo 2^32."""
         self._slots.append(struct.pack("<BBhI", opcode, to | source << 4, offset, number % 2**32))
 
     def jump(self, label: Hashable, opcode: int = JUMP, register: int = 0, source: int = 0, *, number: int = 0) -> None:
-        """A jump to a label."""
+        """Writes a jump to a label."""
         self._jumps.append((len(self), label))
         self._targets.add(label)
         self.put(opcode, register, source, number=number)
 
     def label(self, label: Hashable) -> None:
-        """Sets a label: the next slot."""
+        """Sets a label at the next slot."""
         self._labels[label] = len(self)
 
     def is_jumped_to(self, label: Hashable) -> bool:
@@ -49,7 +49,7 @@ class SlotsWriter:
         return label in self._targets
 
     def slots(self) -> bytes:
-        """The slots, with the distances of all jumps; of at most 4,096 slots, which no jump is too long for."""
+        """The slots, with the offsets of all jumps; of at most 4,096 slots, within which every jump offset fits."""
         found = bytearray(b"".join(self._slots))
         for at, label in self._jumps:
             struct.pack_into("<h", found, SLOT_SIZE * at + 2, self._labels[label] - at - 1)

@@ -1,4 +1,4 @@
-"""Where a translation has what on the stack, by offsets from its upper end: a buffer for one load, scratch memory, headers."""
+"""The stack layout of a translation, as offsets from the stack's upper end: a buffer for one load, scratch memory, headers."""
 
 from __future__ import annotations
 
@@ -8,26 +8,26 @@ from bpfhost.classic.instructions import SCRATCH_WORDS
 from bpfhost.classic.steps import Headers, LoadHeader
 
 BUFFER = -8
-# So many bytes of headers are brought to the stack at most.
+# At most so many bytes of headers are copied to the stack.
 MOST_HEADERS = 128
 
 
 def scratch(word: int) -> int:
-    """Where a word of scratch memory lies, the first one right below the buffer."""
+    """The offset of a word of scratch memory; the first one is right below the buffer."""
     return BUFFER - 4 * (word + 1)
 
 
-# Headers lie below the last word.
+# Headers are below the last word.
 _HEADERS_END = scratch(SCRATCH_WORDS - 1)
 
 
 class Layout:
-    """Where the packet's headers lie: so that as many loads as can be are aligned, since the verifier wants them so."""
+    """The offset of the packet's headers, so that as many loads as possible are aligned, since the verifier needs aligned loads."""
 
     def __init__(self, headers: Sequence[Headers], loads: Sequence[LoadHeader]) -> None:
-        """A layout for these headers, and for the loads that are in the program."""
+        """Computes a layout for these headers, and for the loads that are in the program."""
         end = max((each.first + each.count for each in headers), default=0)
-        # The packet's byte 0 lies at one of four places, of which the first byte that is fetched may be far above.
+        # The offset of the packet's byte 0 is one of four; the first byte that is fetched may be far above it.
         self._byte_0 = min(range(_HEADERS_END - end - 3, _HEADERS_END - end + 1), key=lambda at: self._pieces(at, loads))
 
     @staticmethod
@@ -35,12 +35,12 @@ class Layout:
         return sum(len(pieces(byte_0 + load.offset, load.size)) for load in loads)
 
     def place(self, offset: int) -> int:
-        """Where a byte of the packet lies."""
+        """The offset of a byte of the packet."""
         return self._byte_0 + offset
 
 
 def pieces(place: int, size: int) -> list[tuple[int, int]]:
-    """A load as aligned ones, each with its place and its size."""
+    """Splits a load into aligned ones, each with its offset and its size."""
     found = []
     end = place + size
     while place < end:

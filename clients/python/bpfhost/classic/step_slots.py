@@ -1,4 +1,4 @@
-"""The slots of each step, but for the jumps to what follows it."""
+"""Writes the slots of each step, except for the jumps to its followers."""
 
 from __future__ import annotations
 
@@ -34,18 +34,18 @@ _FARTHEST = 2**31 - 1
 
 
 class StepSlots:
-    """Writes the slots of steps. `context` is the register that has the context where a step stands."""
+    """Writes the slots of steps. `context` is the register that has the context at a step."""
 
     def __init__(self, writer: SlotsWriter, layout: Layout) -> None:
         self._writer = writer
         self._layout = layout
 
     def number(self, to: int, number: int) -> None:
-        """The register becomes a number."""
+        """Sets a register to a number."""
         self._writer.put(op.MOVE_K_W, to, number=number)
 
     def step(self, step: Step, context: int, in_order: bool) -> None:
-        """A step that can't fail; of a load of the packet `in_order` says that the packet's byte order stays."""
+        """Writes a step that can't fail; if `in_order`, a load of the packet keeps the packet's byte order."""
         put = self._writer.put
         match step:
             case SetNumber(to=to, number=number):
@@ -77,7 +77,7 @@ class StepSlots:
             self._writer.put(op.TO_BIG_ENDIAN, to, number=16)
 
     def _load_stack(self, to: int, place: int, size: int, in_order: bool) -> None:
-        """Bytes of the stack in one register: those that come first are the lowest ones, and then the order is turned."""
+        """Loads bytes of the stack into one register, the first byte lowest; then their order is swapped."""
         (first, whole), *others = pieces(place, size)
         self._writer.put(op.LOAD[whole], to, op.R10, offset=first)
         for part, part_size in others:
@@ -91,7 +91,7 @@ class StepSlots:
         self._writer.put(_ALU | operator.value, to, number=number)
 
     def end(self, step: Return, is_zero: bool) -> None:
-        """The end; `is_zero` says that the result is 0 already, as a call has left it."""
+        """Writes the end; with `is_zero` the register of the result is 0 already, from a call."""
         if isinstance(step.value, Register):
             self._writer.put(op.MOVE_X_W, op.R0, NUMBERS[step.value])
         elif step.value or not is_zero:
@@ -101,12 +101,12 @@ class StepSlots:
     # Calls of the helper that copies bytes of the packet.
 
     def fetch(self, headers: Headers, context: int) -> None:
-        """Headers come to the stack."""
+        """Copies headers to the stack."""
         self.number(op.R2, headers.first)
         self._call(context, self._layout.place(headers.first), headers.count)
 
     def load(self, step: LoadPacket, context: int, known: Known, shorter: Hashable | None) -> None:
-        """Bytes of the packet come to the buffer; a jump to a label where the packet ends before, if it may."""
+        """Bytes of the packet come to the buffer; if the packet may end before them, a jump to a label follows for that case."""
         if step.is_behind_x:
             self._offset_behind_x(step, known, shorter)
         else:
@@ -116,11 +116,11 @@ class StepSlots:
             self._writer.jump(shorter, op.JUMP_NOT_EQUAL_K, op.R0)
 
     def take(self, step: LoadPacket, in_order: bool) -> None:
-        """The register becomes what the buffer has."""
+        """Loads the bytes of the buffer into a register."""
         self._load_stack(NUMBERS[step.to], BUFFER, step.size, in_order)
 
     def _offset_behind_x(self, step: LoadPacket, known: Known, drop: Hashable | None) -> None:
-        """X and an offset in register 2: the helper looks at 32 bits of it, so a sum that needs more is refused first."""
+        """Puts X plus an offset into register 2: the helper reads 32 bits of it, so a larger sum is refused first."""
         put = self._writer.put
         put(op.MOVE_X_W, op.R2, NUMBERS[Register.X])
         if not step.offset:

@@ -1,4 +1,4 @@
-"""A classic program as a graph of small steps, from which slots are written: what each step reads and writes, and what follows it."""
+"""A classic program as a graph of small steps, from which slots are written: what each step reads and writes, and its followers."""
 
 from __future__ import annotations
 
@@ -12,16 +12,16 @@ from bpfhost.classic.instructions import Operator, Test
 
 
 class Register(Enum):
-    """The registers of a classic program, and two of its translation."""
+    """The registers of a classic program, and two more for its translation."""
 
     A = "A"
     X = "X"
-    # The packet's length, and what a test reads that was moved to another place.
+    # The packet's length, and the value that a moved test reads.
     LENGTH = "length"
     MOVED = "moved"
 
 
-# In place of an instruction's number: the end that a load out of the packet leads to.
+# Instead of an instruction's number: the end that a load out of the packet leads to.
 NO_INSTRUCTION = -1
 # What steps read and write: a register, a word of scratch memory by its number, or the run's context.
 CONTEXT = "context"
@@ -39,7 +39,7 @@ class Headers:
 
     @property
     def end(self) -> int:
-        """Where they end: a packet that has them has so many bytes at least."""
+        """Their end: a packet that has them has at least so many bytes."""
         return self.first + self.count
 
     def has(self, offset: int, size: int) -> bool:
@@ -49,12 +49,12 @@ class Headers:
 
 @dataclass(frozen=True)
 class Pass:
-    """Nothing: what follows goes on."""
+    """Does nothing."""
 
 
 @dataclass(frozen=True)
 class SetNumber:
-    """The register becomes a number."""
+    """Sets a register to a number."""
 
     to: Register
     number: int
@@ -62,7 +62,7 @@ class SetNumber:
 
 @dataclass(frozen=True)
 class Copy:
-    """A register becomes the other one."""
+    """Copies one register to another."""
 
     to: Register
     source: Register
@@ -70,7 +70,7 @@ class Copy:
 
 @dataclass(frozen=True)
 class LoadContext:
-    """The register becomes a word of the context."""
+    """Loads a word of the context into a register."""
 
     to: Register
     word: ContextWord
@@ -78,7 +78,7 @@ class LoadContext:
 
 @dataclass(frozen=True)
 class LoadScratch:
-    """The register becomes a word of scratch memory."""
+    """Loads a word of scratch memory into a register."""
 
     to: Register
     word: int
@@ -86,7 +86,7 @@ class LoadScratch:
 
 @dataclass(frozen=True)
 class StoreScratch:
-    """A word of scratch memory becomes the operand."""
+    """Stores an operand to a word of scratch memory."""
 
     word: int
     value: Operand
@@ -94,7 +94,7 @@ class StoreScratch:
 
 @dataclass(frozen=True)
 class LoadHeader:
-    """The register becomes bytes of the packet that lie on the stack."""
+    """Loads bytes of the packet that are on the stack into a register."""
 
     to: Register
     offset: int
@@ -103,10 +103,10 @@ class LoadHeader:
 
 @dataclass(frozen=True)
 class LoadPacket:
-    """The register becomes bytes of the packet, by a call; the second follower is where the packet ends before them.
+    """The register becomes bytes of the packet, by a call; the second follower is for a packet that ends before them.
 
-    There is none where the packet is known to have them. They stand at an offset, or at X and the offset together, whose sum has 32 bits
-    where it wraps, and else as many as it needs.
+    There is no second follower if the packet is known to have them. They are at an offset, or at the sum of X and the offset, which has
+    32 bits if it wraps, and otherwise as many as it needs.
     """
 
     to: Register
@@ -118,7 +118,7 @@ class LoadPacket:
 
 @dataclass(frozen=True)
 class Operate:
-    """A register becomes the result of an operator on it and an operand."""
+    """Applies an operator to a register and an operand."""
 
     to: Register
     operator: Operator
@@ -127,12 +127,12 @@ class Operate:
 
 @dataclass(frozen=True)
 class Negate:
-    """A becomes its negation."""
+    """Negates A."""
 
 
 @dataclass(frozen=True)
 class Branch:
-    """The first follower is where the test of a register with an operand holds, and the second is where it does not."""
+    """The first follower is for a test of a register with an operand that holds, and the second for one that does not."""
 
     register: Register
     test: Test
@@ -141,19 +141,19 @@ class Branch:
 
 @dataclass(frozen=True)
 class LoadLength:
-    """The register for the packet's length becomes it."""
+    """Loads the packet's length into its register."""
 
 
 @dataclass(frozen=True)
 class TestLength:
-    """The first follower is where the packet has so many bytes at least, and the second is where it is shorter."""
+    """The first follower is for a packet that has at least so many bytes, and the second for a shorter one."""
 
     least: int
 
 
 @dataclass(frozen=True)
 class Fetch:
-    """Headers come to the stack, of a packet that is known to have them."""
+    """Copies headers to the stack, of a packet that is known to have them."""
 
     headers: Headers
 
@@ -185,11 +185,11 @@ Step = (
 
 
 class View(NamedTuple):
-    """What is known where an instruction stands: which headers lie on the stack, and what their first bytes of IPv4 are.
+    """What is known at an instruction: which headers are on the stack, and what their first bytes of IPv4 are.
 
-    `fetched` is None where no headers are looked for any more: the packet is too short for some, or has options. `usual` is the offset of
-    a byte that was seen to be 0x45, as IPv4 without options begins; `is_x_usual` is whether X is the header's length that this byte
-    tells, and so no register is needed for it.
+    `fetched` is None if no headers are looked for any more: the packet is too short for some, or has options. `usual` is the offset of a
+    byte that was seen to be 0x45, as IPv4 without options begins; `is_x_usual` is whether X is the header's length in this byte, so that
+    X needs no register.
     """
 
     fetched: tuple[Headers, ...] | None = None
@@ -202,7 +202,7 @@ class View(NamedTuple):
 
 
 class Place(NamedTuple):
-    """A step by its instruction, the view there, and its number among the steps of that instruction; copies have numbers below 0."""
+    """A step by its instruction, the view there, and its number among the steps of that instruction; copies have negative numbers."""
 
     at: int
     view: View
@@ -211,14 +211,14 @@ class Place(NamedTuple):
 
 @dataclass
 class Graph:
-    """Steps by their places, with those that follow; no step follows itself."""
+    """Steps by their places, with their followers; no step follows itself."""
 
     entry: Place
     steps: dict[Place, Step] = field(default_factory=dict)
     followers: dict[Place, tuple[Place, ...]] = field(default_factory=dict)
 
     def copy(self) -> Graph:
-        """The same steps in a graph of its own."""
+        """A copy of the graph with the same steps."""
         return Graph(self.entry, dict(self.steps), dict(self.followers))
 
     def end(self, view: View) -> Place:
@@ -231,7 +231,7 @@ class Graph:
     def order(self) -> list[Place]:
         """The places that a path leads to, each before its followers.
 
-        Right behind a step stands, where it can be, the follower that it goes on to without a jump: of a test the second one.
+        If possible, right after a step comes the follower that it goes on to without a jump: of a test the second one.
         """
         order: list[Place] = []
         seen, open_places = {self.entry}, [(self.entry, self._farthest_first(self.entry))]
@@ -247,13 +247,13 @@ class Graph:
         return order[::-1]
 
     def _farthest_first(self, place: Place) -> Iterator[Place]:
-        """The followers of a step, the one last that is to stand right behind it."""
+        """The followers of a step; the last one should come right after it."""
         followers = self.followers[place]
         return iter(followers if isinstance(self.steps[place], Branch) else followers[::-1])
 
 
 def reads(step: Step) -> tuple[Storage, ...]:
-    """What a step reads, the context left aside."""
+    """What a step reads, except the context."""
     match step:
         case Copy(source=source):
             return (source,)

@@ -16,7 +16,7 @@ _ROOM = (2**16, 2**8, 2**8, 2**32)
 
 
 def read(text: str, name: str = "standard input") -> list[Instruction]:
-    """The instructions of a text in any of these forms, told by what it begins with; a ClassicError names the line that is damaged."""
+    """The instructions of a text in any of these forms, which differ in how they begin; a ClassicError names the damaged line."""
     begun = text.lstrip()
     if not begun:
         raise ClassicError(f"{name}: there is no classic program")
@@ -26,7 +26,7 @@ def read(text: str, name: str = "standard input") -> list[Instruction]:
 
 
 def _read_elements(text: str, name: str) -> list[Instruction]:
-    """The elements of an array in C, of which nothing is left beside blanks and commas."""
+    """The elements of an array in C, which has nothing else except blanks and commas."""
     found: list[Instruction] = []
     for number, line in enumerate(text.split("\n"), 1):
         place = f"{name}:{number}"
@@ -42,12 +42,12 @@ def _read_lines(text: str, name: str) -> list[Instruction]:
 
 
 def _read_counted(parts: Sequence[str], name: str, what: str) -> list[Instruction]:
-    """A number, and so many parts of four numbers."""
+    """A number, and so many groups of four numbers."""
     parts = [part.strip() for part in parts]
     before = next(at for at, part in enumerate(parts) if part)
     parts = parts[before:]
     if what == "part" and not parts[-1]:
-        # bpf_asm writes a comma behind the last one as well.
+        # bpf_asm writes a comma after the last one as well.
         parts.pop()
     if not re.fullmatch(r"[0-9]{1,10}", parts[0]):
         raise ClassicError(f"{name}: {_cut(parts[0])} is no count of instructions, as tcpdump -ddd and iptables begin with one")
@@ -79,7 +79,7 @@ def _limited(found: list[Instruction], name: str) -> list[Instruction]:
 
 
 def _cut(text: str) -> str:
-    """A text of others, short enough for a sentence, and without what a terminal takes for more than signs."""
+    """A text from outside, shortened for a sentence, and without control characters."""
     shown = text.strip() or "nothing"
     return "".join(sign if sign.isprintable() else "?" for sign in shown[:60]) + ("..." if len(shown) > 60 else "")
 

@@ -1,4 +1,7 @@
-"""Classic programs as programs of this host, with the same result on every packet. clients/python/FILTERS.md has the table by code."""
+"""Translates classic programs to programs of this host with the same result on every packet.
+
+clients/python/FILTERS.md has the table by code.
+"""
 
 from __future__ import annotations
 
@@ -17,7 +20,7 @@ from bpfhost.classic.unfolding import Plan, unfolded
 from bpfhost.classic.writing import written_slots
 from bpfhost.numbers import MOST_SLOTS, SLOT_SIZE
 
-# So many bytes come to the stack by one call at most: what lies farther is brought by a call of its own, for the packets that need it.
+# One call copies at most so many bytes to the stack; bytes farther on are copied by a separate call, for the packets that need them.
 _MOST_BY_CALL = 40
 _PLAIN = Plan()
 
@@ -41,10 +44,10 @@ class Translation:
 
 
 def translate(instructions: Sequence[Instruction], meaning: Meaning = Meaning(), *, fast: bool = True) -> Translation:
-    """The program with the same result on every packet; a ClassicError where there is none.
+    """The program with the same result on every packet; raises ClassicError if there is none.
 
-    The kernel's checks come first. With `fast` the packet's headers come to the stack by one call, where the program has room for that
-    beside the way for shorter packets; without it each load is a call.
+    The kernel's checks come first. With `fast` one call copies the packet's headers to the stack, if the program has room for that in
+    addition to the path for shorter packets; without it each load is a call.
     """
     check(instructions)
     count = 0
@@ -60,7 +63,7 @@ def translate(instructions: Sequence[Instruction], meaning: Meaning = Meaning(),
 
 
 def _plans(instructions: Sequence[Instruction], meaning: Meaning) -> Iterator[Plan]:
-    """Ways to bring headers to the stack, the one with the most slots first, and the one without headers last."""
+    """Plans of headers on the stack, the one with the most slots first, and the one without headers last."""
     all_loads = unfolded(instructions, Plan((Headers(0, MOST_HEADERS),), has_usual=True), meaning)
     headers = _headers(all_loads) if all_loads else ()
     if headers:
@@ -72,7 +75,7 @@ def _plans(instructions: Sequence[Instruction], meaning: Meaning) -> Iterator[Pl
 
 
 def _headers(graph: Graph) -> tuple[Headers, ...]:
-    """The bytes that loads need, each with others that lie close to it. For one load a call of its own is as good."""
+    """The bytes that loads need, in groups of bytes that are close together. For only one load, its own call is as good."""
     found: list[Headers] = []
     loads = sorted({(step.offset, step.size) for step in graph.steps.values() if isinstance(step, LoadHeader)})
     while loads:

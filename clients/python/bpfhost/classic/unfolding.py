@@ -1,4 +1,4 @@
-"""A classic program as a graph of steps: each instruction by what is known where it stands."""
+"""A classic program as a graph of steps: each instruction once for each state of what is known at it."""
 
 from __future__ import annotations
 
@@ -48,20 +48,20 @@ from bpfhost.classic.steps import (
 A, X = Register.A, Register.X
 # The first byte of an IPv4 header without options, and its length.
 USUAL_BYTE, USUAL_LENGTH = 0x45, 20
-# The greatest offset that the helper takes.
+# The greatest offset that the helper accepts.
 _FARTHEST = 2**31 - 1
 _SHIFTS = (Operator.LSH, Operator.RSH)
 _DIVISIONS = (Operator.DIV, Operator.MOD)
-# Nothing is on the stack, and nothing comes to it: each load of the packet is a call.
+# Nothing is on the stack, and nothing is copied to it: each load of the packet is a call.
 _BY_CALLS = View()
-# A graph with more steps would have more slots than a program may have, or take too long to look at: a program can be made so that each
-# of its instructions stands for hundreds of views.
+# A graph with more steps would have more slots than a program may have, or take too long to analyze: a program can be made so that each
+# of its instructions has hundreds of views.
 _MOST_STEPS = 8 * MOST_INSTRUCTIONS
 
 
 @dataclass(frozen=True)
 class Plan:
-    """Which headers come to the stack, each where the first load of them stands, and whether the usual IPv4 header is a case of its own."""
+    """Which headers come to the stack, each at the first load of them, and whether the usual IPv4 header is a case of its own."""
 
     headers: tuple[Headers, ...] = ()
     has_usual: bool = False
@@ -72,9 +72,9 @@ class Plan:
 
 
 def unfolded(instructions: Sequence[Instruction], plan: Plan, meaning: Meaning) -> Graph | None:
-    """The steps of a program that was checked, or None where they are too many; those without headers never are.
+    """The steps of a program that was checked, or None if they are too many; without headers they never are.
 
-    A ClassicError names a load that no run has an answer for.
+    A ClassicError names a load that no run has a value for.
     """
     return _Unfolding(instructions, plan, meaning).graph()
 
@@ -103,10 +103,10 @@ class _Unfolding:
                 self._unfold(place)
         return self._graph
 
-    # Steps of an instruction are added one behind the other.
+    # Steps of an instruction are added one after another.
 
     def _add(self, step: Step, *others: Place) -> None:
-        """A step that the next one of this instruction follows, and these where it fails."""
+        """A step that the next one of this instruction follows, and these if it fails."""
         following = self._next_part()
         self._put(step, (following, *others))
         self._place = following
@@ -166,7 +166,7 @@ class _Unfolding:
 
     @staticmethod
     def _view_behind(view: View, form: Form) -> View:
-        """The view behind an instruction that is no jump: whether it writes X."""
+        """The view after an instruction that is no jump: whether it writes X."""
         writes_x = form.mnemonic == "tax" or (form.is_x and form.kind in (Kind.NUMBER, Kind.SCRATCH, Kind.LENGTH))
         return view._replace(is_x_usual=False) if writes_x else view
 
@@ -199,7 +199,7 @@ class _Unfolding:
         self._end(Operate(A, operator, operand), following)
 
     def _add_branch(self, branch: Branch, yes: Place) -> None:
-        """A test of this instruction, whose next step follows where it does not hold."""
+        """A test of this instruction; its next step follows if the test does not hold."""
         following = self._next_part()
         self._put(branch, (yes, following))
         self._place = following
@@ -207,9 +207,9 @@ class _Unfolding:
     # Loads of the packet.
 
     def _fetches(self, view: View, form: Form, k: int) -> bool:
-        """Whether an instruction is a load of headers that come to the stack first: then it is unfolded once more, in the view behind that.
+        """Whether an instruction loads headers that come to the stack first: then it is unfolded once more, in the view after that.
 
-        A packet that is too short for them goes the way with a call for each load.
+        A packet that is too short for them takes the path with a call for each load.
         """
         offset = self._offset(view, form, k)
         headers = None if offset is None else self._plan.with_bytes(offset, form.size)
@@ -226,7 +226,7 @@ class _Unfolding:
         return True
 
     def _offset(self, view: View, form: Form, k: int) -> int | None:
-        """Where a load of the packet has its bytes, if that is known."""
+        """The offset of the bytes of a load of the packet, if that is known."""
         match form.kind:
             case Kind.INDIRECT if view.is_x_usual:
                 return self._offset_behind_x(k)
@@ -235,7 +235,7 @@ class _Unfolding:
         return None
 
     def _offset_behind_x(self, k: int) -> int:
-        """X + k where X is known."""
+        """X + k if X is known."""
         return (k + USUAL_LENGTH) % 2**32 if self._meaning.semantics is Semantics.KERNEL else k + USUAL_LENGTH
 
     def _load_at(self, at: int, k: int, size: int, following: Place) -> None:
@@ -246,7 +246,7 @@ class _Unfolding:
             self._load(A, k, size, following)
 
     def _load(self, to: Register, offset: int, size: int, following: Place) -> None:
-        """A load at an offset that is known: from the stack where it lies there."""
+        """A load at a known offset: from the stack if the bytes are there."""
         if offset > _FARTHEST:
             self._end(Pass(), self._drop())
         elif following.view.has(offset, size):
@@ -256,12 +256,12 @@ class _Unfolding:
             self._end(LoadPacket(to, offset, size), following, *self._drop_behind_call())
 
     def _add_length_test(self, least: int) -> None:
-        """A packet that is too short for a load ends here, where the length is at hand."""
+        """A packet that is too short for a load ends here, if the length is in a register."""
         if self._plan.headers:
             self._add(TestLength(least), self._drop())
 
     def _drop_behind_call(self) -> tuple[Place, ...]:
-        """Where a load goes that finds the packet too short, if no test of the length stands before it."""
+        """The follower of a load that finds the packet too short, if there is no test of the length before it."""
         return () if self._plan.headers else (self._drop(),)
 
     def _load_ancillary(self, at: int, k: int, following: Place) -> None:
@@ -285,7 +285,7 @@ class _Unfolding:
             self._end(LoadPacket(A, k, size, is_behind_x=True, wraps=is_kernel), following, self._drop())
 
     def _load_header_length(self, view: View, k: int, following: Place) -> None:
-        """Four times the low half of a byte: 20 where the byte is that of an IPv4 header without options, else by arithmetic."""
+        """Four times the low half of a byte: 20 if the byte is that of an IPv4 header without options, otherwise by arithmetic."""
         usual = following._replace(view=view._replace(usual=k, is_x_usual=True))
         other = following._replace(view=view._replace(is_x_usual=False))
         has_usual = self._plan.has_usual and view.has(k, 1)

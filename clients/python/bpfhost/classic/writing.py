@@ -1,4 +1,7 @@
-"""The slots of a graph of steps. A is register 7, X register 8, the context register 6, and scratch memory lies on the stack."""
+"""Writes the slots of a graph of steps.
+
+A is register 7, X register 8, the context register 6, and scratch memory is on the stack.
+"""
 
 from __future__ import annotations
 
@@ -14,7 +17,7 @@ from bpfhost.classic.step_slots import CONTEXT, NUMBERS, StepSlots
 from bpfhost.classic.steps import Branch, Fetch, Graph, LoadHeader, LoadPacket, Place, Register, Return, TestLength
 from bpfhost.numbers import MOST_SLOTS
 
-# Of comparisons of 32 bits with a number: the opcode, and that of the opposite one, which common bits do not have.
+# Of 32-bit comparisons with a number: the opcode, and that of the opposite comparison, which a test of common bits (JSET) does not have.
 _TESTS: Mapping[Test, tuple[int, int | None]] = {
     Test.EQ: (0x16, 0x56),
     Test.GT: (0x26, 0xB6),
@@ -28,8 +31,8 @@ _BY_REGISTER = 0x08
 class Written:
     """How many slots there are, and what they are, if a program may have so many.
 
-    `lines` has where in them other instructions begin: pairs of a slot and the instruction that it comes from, -1 for the end that a load
-    out of the packet leads to.
+    `lines` has the slots at which other instructions begin: pairs of a slot and the instruction that it comes from, -1 for the end that a
+    load out of the packet leads to.
     """
 
     count: int
@@ -59,7 +62,7 @@ class _Writing:
         self._steps = StepSlots(self._writer, Layout(headers, [step for step in steps if isinstance(step, LoadHeader)]))
 
     def written(self) -> Written:
-        """All slots, those of each step once, where a jump leads there or the step before goes on there."""
+        """All slots; those of each step once, if a jump leads there or the step before goes on there."""
         self._begin()
         reached: Place | None = self._with_slots(self._graph.entry)
         for place, following in zip(self._order, [*self._order[1:], None]):
@@ -76,7 +79,7 @@ class _Writing:
             self._lines.append((len(self._writer), place.at))
 
     def _begin(self) -> None:
-        """The context is kept where a step behind a call needs it, and a register that is read before it is written is 0."""
+        """The context is kept if a step after a call needs it, and a register that is read before it is written is 0."""
         if any(uses_context(self._graph.steps[place]) and place in self._after_calls for place in self._order):
             self._writer.put(op.MOVE_X, CONTEXT, op.R1)
         for register in (Register.A, Register.X):
@@ -84,13 +87,13 @@ class _Writing:
                 self._steps.number(NUMBERS[register], 0)
 
     def _with_slots(self, place: Place) -> Place:
-        """The step that has slots, from one on that may have none."""
+        """The first step with slots from a step on, which may have none."""
         while not self._live.needs(place, self._graph.steps[place]):
             place = self._graph.followers[place][0]
         return place
 
     def _write(self, place: Place, following: Place | None) -> Place | None:
-        """A step with the jumps behind it; the step that it goes on to without a jump."""
+        """Writes a step with the jumps after it; returns the step that it goes on to without a jump."""
         step = self._graph.steps[place]
         followers = [self._with_slots(each) for each in self._graph.followers[place]]
         context, in_order = CONTEXT if place in self._after_calls else op.R1, place in self._sizes_in_order
@@ -115,7 +118,7 @@ class _Writing:
         return self._go_on(followers[0], following, isinstance(step, Fetch | LoadPacket) or place in self._with_zero)
 
     def _go_on(self, follower: Place, following: Place | None, is_zero: bool) -> Place | None:
-        """Goes on to a step: without a jump where it stands next, and in place of a jump to a return there is a copy of it."""
+        """Goes on to a step: without a jump if it comes next; instead of a jump to a return, writes a copy of the return."""
         step = self._graph.steps[follower]
         if follower == following:
             return follower
@@ -127,7 +130,7 @@ class _Writing:
         return None
 
     def _test_length(self, least: int, followers: tuple[Place, Place], following: Place | None) -> Place | None:
-        """A test of the packet's length with its jump; the step that it goes on to without one."""
+        """Writes a test of the packet's length with its jump; returns the step that it goes on to without one."""
         (far, near), length = followers, NUMBERS[Register.LENGTH]
         if near == following:
             self._writer.jump(far, op.JUMP_NOT_BELOW_K_W, length, number=least)
@@ -136,7 +139,7 @@ class _Writing:
         return self._go_on(far, following, is_zero=False)
 
     def _branch(self, place: Place, step: Branch, yes: Place, no: Place, following: Place | None) -> Place | None:
-        """A test with its jump; the step that it goes on to without one."""
+        """Writes a test with its jump; returns the step that it goes on to without one."""
         size = self._sizes_in_order.get(place)
         opcode, opposite = _TESTS[step.test]
         register, operand = NUMBERS[step.register], step.operand
@@ -150,7 +153,7 @@ class _Writing:
 
 
 def _in_order(test: Test, number: int, size: int | None) -> int:
-    """The number that a test compares with bytes in the packet's order, or the number itself where they are turned."""
+    """The number that a test compares with bytes in the packet's order, or the number itself if the bytes are swapped."""
     if size is None:
         return number
     room = 2 ** (8 * size)

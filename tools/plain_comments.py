@@ -29,7 +29,6 @@ MOST: dict[str, int] = {
     "clients/python/bench": 9,
     "clients/python/bpfhost": 2,
     "clients/python/bpfhost/lowering": 6,
-    "clients/python/tests/classic": 40,
     "clients/rust/bpfhost-sys": 2,
     "clients/rust/examples": 5,
     "clients/rust/src": 70,

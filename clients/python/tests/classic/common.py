@@ -1,4 +1,4 @@
-"""What the tests of classic programs share: results of this host, of libpcap's interpreter, and of the kernel."""
+"""Shared by the tests of classic programs: results of this host, of libpcap's interpreter, and of the kernel."""
 
 from __future__ import annotations
 
@@ -15,14 +15,14 @@ from bpfhost.classic import ClassicError, Instruction, Translation, libpcap
 from bpfhost.classic.program import ClassicProgram
 
 needs_libpcap = unittest.skipUnless(libpcap.is_there(), "libpcap0.8 is missing")
-# How many times as many cases the tests have: more by a word.
+# A factor for the number of cases of the tests.
 MANY = int(os.environ.get("BPFHOST_CLASSIC_TIMES", "1"))
 EXAMPLES = Path(__file__).resolve().parents[4] / "examples"
 _SO_ATTACH_FILTER, _SO_DETACH_FILTER = 26, 27
 
 
 def translated(program: ClassicProgram, **words: object) -> Translation | None:
-    """The translation, or None where there is none for want of a context word or of slots."""
+    """The translation, or None if there is none because a context word or slots are missing."""
     try:
         return program.translated(**words)  # type: ignore[arg-type]
     except ClassicError:
@@ -57,10 +57,10 @@ def packed(instructions: Sequence[Instruction]) -> bytes:
 
 
 class KernelFilter:
-    """The kernel on a program, which a Unix datagram socket has: it sees a datagram from its first byte on, and cuts it to its result."""
+    """The kernel's result of a program, as the filter of a Unix datagram socket: it sees a datagram from its first byte on, and cuts it."""
 
     def __init__(self, instructions: Sequence[Instruction]) -> None:
-        """Attaches the program; an OSError where the kernel refuses it."""
+        """Attaches the program; raises OSError if the kernel refuses it."""
         self._sender, self._receiver = socket.socketpair(socket.AF_UNIX, socket.SOCK_DGRAM)
         code = ctypes.create_string_buffer(packed(instructions))
         try:
@@ -83,7 +83,7 @@ class KernelFilter:
         self._receiver.close()
 
     def kept(self, packet: bytes) -> int:
-        """How many bytes of a packet are kept."""
+        """The number of bytes of a packet that are kept."""
         try:
             self._sender.send(packet)
             return len(self._receiver.recv(len(packet) + 1))

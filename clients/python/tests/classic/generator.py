@@ -1,4 +1,4 @@
-"""Random classic programs and packets, by a seed: programs that the kernel's checks let pass, with every code, and such as they may refuse."""
+"""Random classic programs and packets, from a seed: programs with every code that pass the kernel's checks, and some that may fail them."""
 
 from __future__ import annotations
 
@@ -10,7 +10,7 @@ from bpfhost.classic.instructions import ANCILLARY, FORMS, Form, Kind, Operator
 from tests.classic.interpreter import ANCILLARY as WORDS
 
 _CODES = sorted(FORMS)
-# Offsets at which filters look.
+# Offsets that filters load from.
 _USUAL = (0, 6, 9, 12, 14, 16, 18, 20, 23, 26, 30, 34, 36, 38, 46, 54, 56)
 _FAR = (2**31 - 1, 2**31 - 2, 2**31, 2**31 + 14, 2**32 - 1, 2**32 - 4, 2**32 - 20, 65_535, 65_536)
 _NUMBERS = (0, 1, 2, 5, 6, 17, 20, 31, 32, 33, 0x45, 0x0800, 0x86DD, 0xFFFF, 0x10000, 2**31, 2**32 - 1)
@@ -19,14 +19,14 @@ MOST = 40
 
 
 class Generator:
-    """What draws programs and packets."""
+    """Draws programs and packets."""
 
     def __init__(self, seed: int | str, *, has_ancillary: bool = False) -> None:
         self._draw = random.Random(seed)
         self._has_ancillary = has_ancillary
 
     def program(self) -> list[Instruction]:
-        """A program that the kernel's checks let pass."""
+        """A program that passes the kernel's checks."""
         count = self._draw.randint(1, MOST)
         at_target, stored, found = [_ALL] * count, 0, list[Instruction]()
         for at in range(count):
@@ -46,7 +46,7 @@ class Generator:
         return Instruction(self._draw.choice((0x06, 0x16)), 0, 0, self._number())
 
     def _instruction(self, farthest: int, stored: int) -> Instruction:
-        """An instruction, behind which a jump goes over so many at most, where these words of scratch memory are stored."""
+        """An instruction, after which a jump skips at most so many, if these words of scratch memory are stored."""
         code = self._draw.choice(_CODES)
         form = FORMS[code]
         words = [word for word in range(16) if stored >> word & 1]

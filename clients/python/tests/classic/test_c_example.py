@@ -100,7 +100,7 @@ class InC(HostTest):
             self.assertEqual((ended.stdout, ended.stderr, ended.returncode), ("", f"expression: {told}\n", 1))
 
     def test_no_text_breaks_it(self) -> None:
-        """Programs that the checks may refuse, read by a build that looks at each access."""
+        """Programs that the checks may refuse, read by a build with sanitizers."""
         checked = f"{self.folder.name}/checked"
         words = ["-std=c11", "-D_DEFAULT_SOURCE", "-O1", "-fsanitize=address,undefined", "-fno-sanitize-recover=all"]
         built = subprocess.run(

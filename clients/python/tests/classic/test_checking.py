@@ -56,7 +56,7 @@ class Checking(TimedTest):
         ClassicProgram.of([(0x02, 0, 0, 15), (0x61, 0, 0, 15), RETURN])
         told = "ld M[3]: M[3] is loaded, and not stored before on each path"
         self.refuses(f"instruction 0, {told}", LOAD_SCRATCH, STORE, RETURN)
-        # Stored on the way that falls through alone; on both ways; before a jump over the store.
+        # Stored only on the path that falls through; on both paths; before a jump over the store.
         self.refuses(f"instruction 2, {told}", (0x15, 1, 0, 0), STORE, LOAD_SCRATCH, RETURN)
         ClassicProgram.of([(0x15, 0, 2, 0), STORE, (0x05, 0, 0, 1), STORE, LOAD_SCRATCH, RETURN])
         ClassicProgram.of([STORE, (0x15, 1, 0, 0), STORE, LOAD_SCRATCH, RETURN])
@@ -73,7 +73,7 @@ class Checking(TimedTest):
 
 
 class WithoutAnswer(TimedTest):
-    """Programs that the kernel takes, and that no run of this host has an answer for."""
+    """Programs that the kernel accepts, and that no run of this host has a result for."""
 
     def refuses(self, k: int, told: str) -> None:
         for semantics in Semantics:

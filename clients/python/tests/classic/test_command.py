@@ -1,4 +1,4 @@
-"""The command with filters as tcpdump writes them: `run`, `check`, `dis`, `build`, and one sentence for each input that is wrong."""
+"""The command with filters as tcpdump writes them: `run`, `check`, `dis`, `build`, and one sentence for each wrong input."""
 
 from __future__ import annotations
 
@@ -168,7 +168,7 @@ class BesideTcpdump(FilterTest):
         self.same("pcapng", "--nano")
 
     def test_another_link_type(self) -> None:
-        """Also where nothing is kept, and so no packet tells the link type."""
+        """Also if nothing is kept, and so no packet shows the link type."""
         packets = [(packet[14:], Stamp(at, 0, len(packet) - 14)) for at, packet in enumerate(ethernet()) if packet[12:14] == b"\x08\0"]
         (self.scratch / "raw").write_bytes(pcap(packets, link_type=101))
         self.same("raw", expressions=("udp", "greater 100000"))

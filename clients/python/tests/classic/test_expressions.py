@@ -1,4 +1,4 @@
-"""Expressions as people write them: this host beside libpcap's interpreter, on the repository's captures, for each link type."""
+"""Expressions as people write them: this host compared with libpcap's interpreter, on the repository's captures, for each link type."""
 
 from __future__ import annotations
 
@@ -15,9 +15,9 @@ from tests.classic.traffic import ethernet, of_link
 from tests.common import PROGRAM, HostTest
 
 EXPRESSIONS = (Path(__file__).parent / "expressions.txt").read_text().splitlines()
-# Of the issue of this: what the bench measures as well.
+# Expressions that the bench measures as well.
 HOSTS = " or ".join(f"host 10.0.0.{host}" for host in range(1, 17))
-# What is asked for each link type that libpcap compiles it for.
+# Expressions for each link type that libpcap compiles them for.
 OF_LINKS = [
     "ip", "ip6", "tcp port 443", "host 192.0.2.1 and port 53", "len > 60 and udp", "tcp[tcpflags] & tcp-syn != 0",
     "tcp[((tcp[12] & 0xf0) >> 2):4] = 0x47455420", "ip[2:2] > 100", "not ip", "link[1] & 1 = 0 or link[2:2] > 5", "ip6[6] = 17",
@@ -26,7 +26,7 @@ OF_802_11 = ["type data", "type mgt subtype beacon", "subtype qos-data", "wlan a
 
 
 def compiled(expressions: list[str], link_type: int = 1) -> Iterator[ClassicProgram]:
-    """The programs of those that libpcap compiles: it has no names of ports and protocols where the system has no list of them."""
+    """The programs of those that libpcap compiles: it has no names of ports and protocols if the system has no list of them."""
     for expression in expressions:
         try:
             yield ClassicProgram.of_expression(expression, link_type)
@@ -53,7 +53,7 @@ class Expressions(HostTest):
 
     def test_on_ethernet(self) -> None:
         programs = list(compiled([*EXPRESSIONS, HOSTS]))
-        # Some have names that libpcap asks the system for.
+        # Some have names that libpcap looks up in the system.
         self.assertGreater(len(programs), len(EXPRESSIONS) - 10)
         for at, program in enumerate(programs):
             self.same(program, ethernet()[at % 4 :: 4] if MANY == 1 else ethernet())
@@ -100,10 +100,10 @@ class Expressions(HostTest):
 
 @needs_libpcap
 class Sizes(HostTest):
-    """How large translations are, and what is left out where there is no room."""
+    """How large translations are, and what is left out if there is no room."""
 
     def test_headers_are_left_out_where_there_is_no_room(self) -> None:
-        """Many loads: with the headers on the stack the program stands twice, and that is more than a host takes."""
+        """Many loads: with the headers on the stack the program is there twice, and that is more than a host takes."""
         for many, is_fast in ((180, True), (250, False)):
             program = ClassicProgram.of_expression(" or ".join(f"tcp[{at}] = {at % 256}" for at in range(many)))
             translation, plain = program.translated(), program.translated(fast=False)
@@ -111,7 +111,7 @@ class Sizes(HostTest):
             self.assertTrue(plain.count < translation.count <= 4096 if is_fast else translation == plain)
 
     def test_calls_for_headers(self) -> None:
-        """The numbers of bytes that calls for headers ask for: a second one where loads lie far apart."""
+        """The numbers of bytes that calls for headers ask for: a second one if loads are far apart."""
         for expression, sizes in {
             "tcp port 443": [26],
             "host 10.0.0.1 and port 53": [26],
@@ -125,7 +125,7 @@ class Sizes(HostTest):
             self.assertEqual([number for number in numbers if number > 4], sizes, expression)
 
     def test_programs_that_are_made_to_take_long(self) -> None:
-        """Each instruction behind tests of many first bytes of IPv4 has a view for each of them; and sums of many loads meet."""
+        """Each instruction after tests of many first bytes of IPv4 has a view for each of them; and sums of many loads meet."""
         lengths = [Instruction(0xB1, 0, 0, at % 120) for at in range(700)]
         mixed = [each for at in range(600) for each in (Instruction(0xB1, 0, 0, at % 120), Instruction(0x2D, at % 7, 1, 0))]
         loads = [each for at in range(600) for each in (Instruction(0x30, 0, 0, at % 120), Instruction(0x25, 250, 250 - at % 250, at))]

@@ -1,4 +1,4 @@
-"""Filters as libpcap makes them, a test behind the other: the order that the translation gives them, and packets that end anywhere."""
+"""Filters as libpcap makes them, one test after another: the order in the translation, and packets that end anywhere."""
 
 from __future__ import annotations
 
@@ -13,7 +13,7 @@ from tests.classic.common import MANY, BpfFilter, needs_libpcap, on_host
 from tests.classic.interpreter import run
 from tests.common import PROGRAM, HostTest
 
-# Loads with the tests of what they load: the codes and the numbers of both. Some stand behind X, which is 0 or the length of a header.
+# Loads with the tests of what they load: the codes and the numbers of both. Some are relative to X, which is 0 or the length of a header.
 _TESTS = [
     (0x28, 12, 0x15, 0x0800), (0x28, 12, 0x15, 0x0800), (0x28, 12, 0x15, 0x86DD), (0x28, 20, 0x45, 0x1FFF), (0x28, 20, 0x45, 0x1FFF),
     (0x30, 23, 0x15, 6), (0x30, 20, 0x15, 6), (0x20, 26, 0x15, 0x0A000001), (0x20, 30, 0x15, 0x0A000001), (0x20, 30, 0x25, 0x0A000001),
@@ -29,7 +29,7 @@ _FIELDS = {
 
 
 def filter_of(draw: random.Random) -> list[Instruction]:
-    """Tests one behind the other: each goes on where it holds, or where it does not, and else to the end, or over the next one."""
+    """Tests one after another: each goes on if it holds, or if it does not, and otherwise to the end, or over the next one."""
     tests = [draw.choice(_TESTS) for _ in range(draw.randint(2, 8))]
     end, found = 2 * len(tests) + 1, list[Instruction]()
     for number, (load, offset, test, k) in enumerate(tests):
@@ -43,7 +43,7 @@ def filter_of(draw: random.Random) -> list[Instruction]:
 
 
 def packet_of(draw: random.Random) -> bytes:
-    """A packet with what the tests look for, or nearly so."""
+    """A packet with the bytes that the tests look for, or nearly so."""
     packet = bytearray(draw.choice((90, 90, 220)))
     for offset, values in _FIELDS.items():
         value = bytes.fromhex(draw.choice(values))
@@ -59,7 +59,7 @@ class Order(HostTest):
         self.tenant = host.tenant()
 
     def same(self, program: ClassicProgram, packets: Sequence[bytes], semantics: Semantics = Semantics.LIBPCAP) -> list[int]:
-        """This host has the results of the book."""
+        """This host has the results of the interpreter."""
         found = on_host(self.tenant, program.translated(semantics).slots, Packets.of(list(packets), 0))
         self.assertEqual(found, [run(program.instructions, each, semantics=semantics) for each in packets], program.listing())
         return found
@@ -74,7 +74,7 @@ class Order(HostTest):
         self.assertGreater(kept, 1000 * MANY)
 
     def test_every_length(self) -> None:
-        """A packet that a filter keeps, and each beginning of it."""
+        """A packet that a filter keeps, and each prefix of it."""
         draw, kept = random.Random("lengths"), 0
         for _ in range(100 * MANY):
             program = ClassicProgram(tuple(filter_of(draw)))
@@ -85,7 +85,7 @@ class Order(HostTest):
         self.assertGreater(kept, 20 * MANY)
 
     def test_loads_side_by_side(self) -> None:
-        """Where one load is enough for a result, and where two are, the second of which ends where the first one does, or a byte later."""
+        """Two loads, of which one is enough for a result, or both are needed; the second ends with the first one, or a byte later."""
         loads = [Instruction(code, 0, 0, at) for at in range(20, 23) for code in (0x30, 0x28)]
         packets = [bytes(20) + first + bytes(9) for first in (b"\0", b"\1")]
         cut = [packet[:length] for packet in packets for length in range(len(packet) + 1)]
@@ -112,14 +112,14 @@ class Order(HostTest):
 
     @needs_libpcap
     def test_which_lengths_are_tested(self) -> None:
-        """First that of the headers, then that which a result needs: a TCP header may begin where an address begins, if X is 0."""
+        """First that of the headers, then that which a result needs: a TCP header may begin at the same byte as an address, if X is 0."""
         for expression, lengths in {"tcp port 443": [38, 58, 24, 56, 56, 58], "host 10.0.0.1 and port 53": [38, 30, 34]}.items():
             found = [int(line.split()[3]) for line in self.text(expression).splitlines() if line.startswith("if w9 < ")]
             self.assertEqual(found, lengths, expression)
 
     @needs_libpcap
     def test_fragments(self) -> None:
-        """A test that was moved behind others still ends the program."""
+        """A test that was moved after others still ends the program."""
         program = ClassicProgram.of_expression("tcp port 443")
         whole = bytearray(60)
         whole[12:15], whole[23], whole[34:36] = b"\x08\0\x45", 6, b"\x01\xbb"

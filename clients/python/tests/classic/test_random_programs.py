@@ -1,4 +1,4 @@
-"""Random classic programs on random packets: this host beside an interpreter by the book, libpcap's `bpf_filter`, and the kernel."""
+"""Random classic programs on random packets: this host compared with an independent interpreter, libpcap's `bpf_filter`, and the kernel."""
 
 from __future__ import annotations
 
@@ -56,13 +56,13 @@ class RandomPrograms(HostTest):
             ends = (Instruction(0x06, 0, 0, 1), Instruction(0x06, 0, 0, 2))
             program = ClassicProgram((Instruction(code, 0, 0, at), Instruction(test, 0, 1, number), *ends))
             wanted = [run(program.instructions, packet)]
-            # Behind a second load the headers come to the stack first.
+            # After a second load the headers come to the stack first.
             longer = ClassicProgram((Instruction(0x30, 0, 0, 11), *program.instructions))
             for each in (program, longer):
                 self.assertEqual(on_host(self.tenant, each.translated().slots, Packets.of([packet], 0)), wanted, each.listing())
 
     def test_loads_of_two_sizes_before_one_test(self) -> None:
-        """What is tested was loaded as two bytes on one way and as four on the other."""
+        """The tested value was loaded as two bytes on one path and as four on the other."""
         for number in (0x0102, 0x0201, 0x0102_0304, 0x0403_0201, 0x0304, 0):
             ways = [Instruction(0x28, 0, 0, 2), Instruction(0x05, 0, 0, 1), Instruction(0x20, 0, 0, 4)]
             test = [Instruction(0x15, 0, 1, number), Instruction(0x06, 0, 0, 1), Instruction(0x06, 0, 0, 2)]
@@ -85,7 +85,7 @@ class RandomPrograms(HostTest):
         for way in ways:
             steps = [Instruction(code, 0, 0, k) for code, k in way]
             ends = [Instruction(0x07, 0, 0, 0), Instruction(0x50, 0, 0, 32), Instruction(0x16, 0, 0, 0)]
-            # Also where another way, on which X is small, leads to the same load.
+            # Also if another path, on which X is small, leads to the same load.
             other = [byte, Instruction(0x15, 0, len(steps) + 1, 7), number, *steps]
             for program in (ClassicProgram((number, *steps, *ends)), ClassicProgram((*other, *ends))):
                 for semantics, wanted in ((Semantics.LIBPCAP, 0), (Semantics.KERNEL, packet[16])):
@@ -97,7 +97,7 @@ class RandomPrograms(HostTest):
         """Every word of scratch memory is stored, then each byte of the headers is read; and the same in the other order."""
         numbers = [2**32 - 1 - 3**at for at in range(16)]
         stores = [each for at, number in enumerate(numbers) for each in (Instruction(0x00, 0, 0, number), Instruction(0x02, 0, 0, at))]
-        # X is what came of the bytes and words before: X becomes 5 A - X.
+        # X is computed from the bytes and words before: X becomes 5 A - X.
         mixed = (Instruction(0x24, 0, 0, 5), Instruction(0x1C, 0, 0, 0), Instruction(0x07, 0, 0, 0))
         loads = [each for at in range(128) for each in (Instruction(0x30, 0, 0, at), *mixed)]
         words = [each for at in range(16) for each in (Instruction(0x60, 0, 0, at), *mixed)]

@@ -1,4 +1,4 @@
-"""Classic programs as texts: read, shown as tcpdump shows them, and refused where they are damaged."""
+"""Classic programs as texts: read, shown as tcpdump shows them, and refused if they are damaged."""
 
 from __future__ import annotations
 
@@ -74,7 +74,7 @@ class Texts(TimedTest):
     def test_each_code_is_shown_as_libpcap_shows_it(self) -> None:
         image = libpcap.library().bpf_image
         image.restype, image.argtypes = ctypes.c_char_p, [ctypes.c_char_p, ctypes.c_int]
-        # libpcap has no words for this one.
+        # libpcap has no keyword for this one.
         for code in sorted(FORMS.keys() - {0x81} | {0x42}):
             for k in (0, 5, 2**31, 2**32 - 16):
                 instruction = Instruction(code, 1, 2, k)

@@ -1,4 +1,4 @@
-"""Packets for tests of filters: those of the repository's captures and scripts, cut, and behind the headers of other links."""
+"""Packets for tests of filters: those of the repository's captures and scripts, cut, and after the headers of other links."""
 
 from __future__ import annotations
 
@@ -42,7 +42,7 @@ def _made() -> list[bytes]:
     return list(packets())
 
 
-# What stands before a packet of IP on other links, by link types as captures number them; the argument is the type of Ethernet.
+# The header before a packet of IP on other links, by link types as captures number them; the argument is the EtherType.
 _HEADS: dict[int, Callable[[bytes], bytes]] = {
     0: lambda kind: b"\x02\0\0\0" if kind == b"\x08\0" else b"\x0a\0\0\0",
     6: lambda kind: bytes(14) + _SNAP + kind,
@@ -64,7 +64,7 @@ _HEADS: dict[int, Callable[[bytes], bytes]] = {
 
 
 def of_link(link_type: int) -> list[bytes]:
-    """Packets of a link type: those of Ethernet behind another header where that is known, as they are, and random ones."""
+    """Packets of a link type: those of Ethernet after another header if that is known, as they are, and random ones."""
     draw = random.Random(link_type)
     drawn = [draw.randbytes(draw.randint(0, 100)) for _ in range(30)]
     head = _HEADS.get(link_type)

@@ -84,7 +84,9 @@ ghost use Rattle.bpfhost_c.specs.Calls.{states, StandsAt, new_code, host_code, r
 ghost use Rattle.bpfhost_c.specs.Packets.{RunsPackets};
 ghost use Rattle.bpfhost_c.specs.declared.codes.TheConstants.{DONE, ERR_NO_MEMORY};
 
-use codes::{DONE, ERR_BUFFER_TOO_SMALL, ERR_HAS_HOST, ERR_NO_HOST, ERR_NO_MEMORY, ERR_TENANT_COUNT};
+use codes::{
+    DONE, ERR_BUFFER_TOO_SMALL, ERR_HAS_HOST, ERR_NO_HOST, ERR_NO_MEMORY, ERR_TENANT_COUNT,
+};
 use handle::Handle;
 use host_core::{GIVEN_WORDS, HashSeed, LONGEST_REPLY, MOST_TENANTS};
 use session::Session;

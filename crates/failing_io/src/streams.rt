@@ -3,9 +3,7 @@
 ghost use Rattle.std.specs.Prelude.{◌≤◌};
 ghost use Rattle.host_core.specs.Limits.{most_frames};
 
-use host::{
-    Counted, HashSeed, Host, ServeFault, ServeFaultKind, refuse_unread_words, run_words, serve,
-};
+use host_core::{Counted, HashSeed, Host, ServeFault, ServeFaultKind, serve};
 use std::alloc::Global;
 use std::io::{self, ErrorKind, Read, Write};
 use std::test::*;
@@ -255,68 +253,5 @@ fn a_writer_that_sends_nothing_on(rt: HostRuntime) -> Result<(), Fail> {
     assert_eq!(rt; end, fault(ServeFaultKind::Write, 0));
     assert_eq!(rt; written.as_slice(), front(&REPLIES, FIRST_REPLY));
     assert_eq!(rt; failures, 1);
-    Ok(())
-}
-
-/// The status and the fault line of `asm` with this reader and this writer.
-fn assembled<R: Read + Drop, W: Write + Drop>(
-    alloc: Global,
-    input: R,
-    output: W,
-) -> Result<(u8, String), Fail> {
-    let mut faults = Vec::new(alloc);
-    let status = run_words(alloc, None, &["asm"], input, output, &mut faults);
-    let line = String::from_utf8(faults).map_err(|_| "a fault line is text")?;
-    Ok((status, line))
-}
-
-#[test]
-fn a_text_that_is_not_read(rt: HostRuntime) -> Result<(), Fail> {
-    let alloc = rt.alloc();
-    let mut output = Vec::new(alloc);
-    let (status, line) = assembled(alloc, Broken { bytes: b"exit" }, &mut output)?;
-    assert_eq!(rt; status, 3);
-    assert!(rt; output.is_empty());
-    assert_eq!(rt; line.as_str(), "read fault\n");
-    Ok(())
-}
-
-#[test]
-fn a_text_that_is_not_written(rt: HostRuntime) -> Result<(), Fail> {
-    let alloc = rt.alloc();
-    let mut written = Vec::new(alloc);
-    let output = NarrowWriter {
-        room: 5,
-        at_once: usize::MAX,
-        written: &mut written,
-    };
-    let (status, line) = assembled(alloc, b"exit".as_slice(), output)?;
-    assert_eq!(rt; status, 3);
-    assert_eq!(rt; line.as_str(), "write fault\n");
-    let output = Stuck {
-        written: &mut written,
-    };
-    let (status, line) = assembled(alloc, b"exit".as_slice(), output)?;
-    assert_eq!(rt; status, 3);
-    assert_eq!(rt; line.as_str(), "write fault\n");
-    Ok(())
-}
-
-/// The status and the fault line if the arguments can't be read for this reason.
-fn unread(alloc: Global, kind: ErrorKind) -> Result<(u8, String), Fail> {
-    let mut faults = Vec::new(alloc);
-    let status = refuse_unread_words(&io::Error::from(kind), &mut faults);
-    let line = String::from_utf8(faults).map_err(|_| "a fault line is text")?;
-    Ok((status, line))
-}
-
-#[test]
-fn arguments_that_are_not_read(rt: HostRuntime) -> Result<(), Fail> {
-    let (status, line) = unread(rt.alloc(), ErrorKind::InvalidData)?;
-    assert_eq!(rt; status, 2);
-    assert_eq!(rt; line.as_str(), "wrong words\n");
-    let (status, line) = unread(rt.alloc(), ErrorKind::OutOfMemory)?;
-    assert_eq!(rt; status, 4);
-    assert_eq!(rt; line.as_str(), "out of memory\n");
     Ok(())
 }

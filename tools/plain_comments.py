@@ -24,9 +24,9 @@ COMMENT = {
 MOST: dict[str, int] = {
     "tests/conformance": 1,
     "tests/library": 4,
-    "clients/c/include": 30,
+    "clients/c/include": 1,
     "clients/python": 7,
-    "clients/python/bench": 9,
+    "clients/python/bench": 5,
     "clients/python/bpfhost": 2,
     "clients/python/bpfhost/lowering": 6,
     "clients/rust/bpfhost-sys": 2,

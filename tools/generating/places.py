@@ -118,7 +118,7 @@ def _members(codes: dict[str, tuple[int, str]]) -> list[str]:
 def _header_codes(shared: Shared) -> list[str]:
     own = {each.name: (each.number, each.text) for each in [*shared.codes, *shared.header_codes]}
     lines = _members(own)
-    return [*lines[:len(shared.codes)], "/* of this header alone; if more than one of them holds, the call returns one that does */",
+    return [*lines[:len(shared.codes)], "/* only of this header; if more than one of them holds, the call returns one that does */",
             *lines[len(shared.codes):]]
 
 

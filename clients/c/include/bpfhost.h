@@ -21,8 +21,8 @@
  *
  * What each function tests before it writes anything: that no pointer is null which must lead somewhere, that no length is above
  * PTRDIFF_MAX, and that what it may write overlaps nothing else that it is given. If a test fails, the function returns which one, or
- * 0 if it builds a frame, and writes nothing; bpfhost_handle_lent alone may empty its reply then. Only bpfhost_put16 and the small
- * functions beside it test nothing.
+ * 0 if it builds a frame, and writes nothing; only bpfhost_handle_lent may empty its reply then. Only bpfhost_put16 and the small
+ * functions next to it test nothing.
  */
 #ifndef BPFHOST_H
 #define BPFHOST_H
@@ -72,7 +72,7 @@ enum bpfhost_code {
     BPFHOST_ERR_TENANT_COUNT = -3,     /* a host has 1 to 64 tenants */
     BPFHOST_ERR_NO_MEMORY = -4,        /* out of memory for the host */
     BPFHOST_ERR_BUFFER_TOO_SMALL = -5, /* the buffer is smaller than the longest reply */
-    /* of this header alone; if more than one of them holds, the call returns one that does */
+    /* only of this header; if more than one of them holds, the call returns one that does */
     BPFHOST_ERR_NULL = -16,            /* a pointer is null */
     BPFHOST_ERR_LENGTH = -17,          /* a length is above PTRDIFF_MAX */
     BPFHOST_ERR_OVERLAP = -18,         /* an object that the call may write, the handle included, overlaps another one */
@@ -129,7 +129,7 @@ static inline int bpfhost_pair_code(const void *a, size_t a_length, const void *
     return bpfhost_are_apart(a, a_length, b, b_length) ? BPFHOST_DONE : BPFHOST_ERR_OVERLAP;
 }
 
-/* Where bytes stand; if there are none, they may be null. */
+/* The address of bytes; if there are none, it may be null. */
 static inline const uint8_t *bpfhost_bytes_at(const void *bytes, size_t length)
 {
     static const uint8_t no_bytes[1] = {0};
@@ -171,7 +171,7 @@ static inline int bpfhost_new(bpfhost **host, size_t tenants, const bpfhost_seed
     return code;
 }
 
-/* What is wrong with the objects of a call that handles a frame and writes `out` beside its host, or DONE. */
+/* What is wrong with the objects of a call that handles a frame and writes `out` and its host, or DONE. */
 static inline int bpfhost_frame_code(const bpfhost *host, const uint8_t *frame, size_t frame_length, const void *out,
                                      size_t out_length)
 {
@@ -207,7 +207,7 @@ static inline bool bpfhost_may_empty(const bpfhost_bytes *reply, const bpfhost *
         && (frame == NULL || bpfhost_are_apart(reply, sizeof *reply, frame, frame_length));
 }
 
-/* The same, but the reply is lent where it stands, in the host's own room, until the next call on this host: nothing is
+/* The same, but the reply is lent in the host's own buffer, until the next call on this host: nothing is
  * copied. ERR_NULL, ERR_LENGTH, ERR_OVERLAP: no tenant's state has changed, and `reply` has no bytes. But it is as
  * it was if the frame's length is above PTRDIFF_MAX, or if `reply` itself overlaps the host or the frame. */
 static inline int bpfhost_handle_lent(bpfhost *host, const void *frame, size_t frame_length, bpfhost_bytes *reply)
@@ -221,19 +221,19 @@ static inline int bpfhost_handle_lent(bpfhost *host, const void *frame, size_t f
     return code == BPFHOST_DONE ? (int)bpfhost_c_handle_lent(host, at, frame_length, reply) : code;
 }
 
-/* What a run finds in its context behind the packet's length: the fields of the kernel's __sk_buff, with any values. */
+/* What a run finds in its context after the packet's length: the fields of the kernel's __sk_buff, with any values. */
 typedef struct bpfhost_context {
     uint32_t pkt_type, mark, queue_mapping, protocol, vlan_present, vlan_tci, vlan_proto, priority, ingress_ifindex, ifindex;
 } bpfhost_context;
 
-/* Where a context stands; one of zeros for null. */
+/* The address of a context; of one with zeros for null. */
 static inline const bpfhost_context *bpfhost_context_at(const bpfhost_context *context)
 {
     static const bpfhost_context zeros = {0, 0, 0, 0, 0, 0, 0, 0, 0, 0};
     return context == NULL ? &zeros : context;
 }
 
-/* The words of a context as they stand behind one another; zeros for a null context. ERR_NULL, ERR_OVERLAP: nothing is written. */
+/* The words of a context in their order; zeros for a null context. ERR_NULL, ERR_OVERLAP: nothing is written. */
 static inline int bpfhost_context_words(const bpfhost_context *context, uint32_t words[10])
 {
     const bpfhost_context *c = bpfhost_context_at(context);
@@ -253,7 +253,7 @@ static inline int bpfhost_context_words(const bpfhost_context *context, uint32_t
     return BPFHOST_DONE;
 }
 
-/* What is wrong with what a run of many packets reads, beside an object that it may write, or DONE. */
+/* What is wrong with what a run of many packets reads, together with an object that it may write, or DONE. */
 static inline int bpfhost_packets_code(const void *out, size_t out_length, const bpfhost_context *context, const uint8_t *bytes,
                                        size_t byte_count, const size_t *ends, size_t packets)
 {
@@ -315,7 +315,7 @@ static inline int bpfhost_run_packets(bpfhost *host, uint16_t tenant, uint32_t f
     return code;
 }
 
-/* Whether memory was ever refused to a tenant: then its replies may differ from those that it would be given alone. False for a
+/* Whether memory was ever refused to a tenant: then its replies may differ from those of a host with only this tenant. False for a
  * number that is not served. ERR_NULL, ERR_OVERLAP: nothing is written. */
 static inline int bpfhost_memory_refused(bpfhost *host, uint16_t tenant, bool *refused)
 {
@@ -328,7 +328,7 @@ static inline int bpfhost_memory_refused(bpfhost *host, uint16_t tenant, bool *r
     return code;
 }
 
-/* Frees a host. Null is left alone. */
+/* Frees a host. Null is ignored. */
 static inline void bpfhost_free(bpfhost *host)
 {
     if (host == NULL)
@@ -337,9 +337,9 @@ static inline void bpfhost_free(bpfhost *host)
     free(host);
 }
 
-/* ---- frames. Each function writes a frame into a room and answers its length. If the room is too small, a pointer is null that
- * has bytes to give, a length is above PTRDIFF_MAX, or what it is given overlaps the room, it answers 0 and writes nothing. A number
- * of a tenant, a descriptor or a size need not be right: the host says so in its reply. */
+/* ---- frames. Each function writes a frame into a room and returns its length. If the room is too small, a pointer is null that
+ * has bytes to give, a length is above PTRDIFF_MAX, or what it is given overlaps the room, it returns 0 and writes nothing. A number
+ * of a tenant, a descriptor or a size need not be right: the host reports it in its reply. */
 
 enum bpfhost_command {
     /* commands: written by tools/generate */
@@ -390,7 +390,7 @@ static inline uint32_t bpfhost_get32(const uint8_t *at)
     return (uint32_t)bpfhost_get16(at) | (uint32_t)bpfhost_get16(at + 2) << 16;
 }
 
-/* The head of a frame and a first number, if a frame of `fixed` bytes and `more` behind them fits; else null, and nothing is
+/* The head of a frame and a first number, if a frame of `fixed` bytes and `more` after them fits; else null, and nothing is
  * written. */
 static inline uint8_t *bpfhost_frame_begin(void *frame, size_t room, size_t fixed, size_t more, uint16_t tenant,
                                            enum bpfhost_command command, uint32_t first)
@@ -477,7 +477,7 @@ static inline size_t bpfhost_frame_prog_load(void *frame, size_t room, uint16_t 
     return bpfhost_frame_of_key(frame, room, tenant, BPFHOST_PROG_LOAD, type, slots, 8 * slot_count);
 }
 
-/* PROG_TEST_RUN without its packet: writes BPFHOST_TEST_RUN_HEAD bytes in front of a packet that stands behind them already, so
+/* PROG_TEST_RUN without its packet: writes BPFHOST_TEST_RUN_HEAD bytes before a packet that is already in place after them, so
  * that it is not copied. The frame is these bytes and the packet. `context` may be null, for zeros. */
 static inline size_t bpfhost_frame_test_run_head(void *head, size_t room, uint16_t tenant, uint32_t fd,
                                                  const bpfhost_context *context)

@@ -7,12 +7,13 @@ import os
 import threading
 import urllib.parse
 from collections.abc import Callable, Mapping, Sequence
+from functools import partial
 from typing import Any, TypeVar
 
 from bpfhost.shards.cluster import NodesLink, Place, told_to
 from bpfhost.shards.errors import Away, NoScript, NotAllowed, RedisError
 from bpfhost.shards.names import START, before
-from bpfhost.shards.system import MACHINE, Link, Pending, System, Word
+from bpfhost.shards.system import MACHINE, Link, NotBegun, Pending, System, Word
 
 DEFAULT_URL = "redis://127.0.0.1:6379/0"
 # A server that does not reply for so many seconds is taken to be away. No call blocks for longer than LONGEST_WAIT.
@@ -99,6 +100,10 @@ class _Links:
             link.close()
 
 
+def _fail(error: RedisError) -> Any:
+    raise error
+
+
 class Line:
     """A connection on which commands are sent one after another, without a wait for each reply."""
 
@@ -110,7 +115,7 @@ class Line:
         try:
             return self._link.begin(*self._redis.prepared(words, wait))
         except RedisError as error:
-            return Failed(error)
+            return NotBegun(partial(_fail, error))
 
     def begin_xread(self, places: Mapping[str, bytes], many: int, wait: float) -> Pending:
         """Begins what `Redis.xread` does; `entries_of` reads the reply."""
@@ -119,26 +124,6 @@ class Line:
     def cut(self) -> None:
         """Ends the connection: no more replies come to what was sent. The next command makes a new connection."""
         self._link.close()
-
-
-class Failed:
-    """A command that was not sent."""
-
-    def __init__(self, error: RedisError) -> None:
-        self._error = error
-
-    @property
-    def first(self) -> Pending:
-        """Itself."""
-        return self
-
-    def is_answered(self) -> bool:
-        """Its reply is the error."""
-        return True
-
-    def answer(self) -> Any:
-        """Raises the error."""
-        raise self._error
 
 
 class Redis:

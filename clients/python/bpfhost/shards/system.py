@@ -46,7 +46,7 @@ class Link(Protocol):
 
 
 class NotBegun:
-    """A command for a system that runs no commands at the same time as others: it is sent when its reply is read."""
+    """A command that is not under way: `answer` runs it, or raises why it was not sent."""
 
     def __init__(self, call: Callable[[], Any]) -> None:
         self._call = call
@@ -56,7 +56,7 @@ class NotBegun:
         return self
 
     def is_answered(self) -> bool:
-        """Always, though it has no reply yet: `answer` takes as long as the command takes."""
+        """Always: there is nothing to wait for before `answer`, which takes as long as the command takes."""
         return True
 
     def answer(self) -> Any:

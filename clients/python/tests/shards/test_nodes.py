@@ -8,24 +8,7 @@ from typing import Any
 
 from bpfhost.shards.cluster import NodesLink, Place, slot_of
 from bpfhost.shards.errors import Away, Moved
-from bpfhost.shards.system import Link, Pending, Word
-
-
-class MovedPending:
-    """A command that its node redirects."""
-
-    def __init__(self, node: str) -> None:
-        self._node = node
-
-    @property
-    def first(self) -> Pending:
-        return self
-
-    def is_answered(self) -> bool:
-        return True
-
-    def answer(self) -> Any:
-        raise Moved(self._node)
+from bpfhost.shards.system import Link, NotBegun, Pending, Word
 
 
 class MovedLink:
@@ -38,7 +21,10 @@ class MovedLink:
         return self.begin(words, seconds).answer()
 
     def begin(self, words: Sequence[Word], seconds: float) -> Pending:
-        return MovedPending(self._node)
+        return NotBegun(self._send_on)
+
+    def _send_on(self) -> Any:
+        raise Moved(self._node)
 
     def close(self) -> None:
         """There is nothing to close."""

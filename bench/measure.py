@@ -1,7 +1,8 @@
 #!/usr/bin/env python3
 """Measures a built bpfhost, and other interpreters for comparison. bench/README.md explains the output.
 
-usage: measure.py [--rounds N] [--only WORD] BPFHOST [PLAIN [DPDK]]
+usage: measure.py [--rounds N] [--only WORD] [--counting PROGRAM] BPFHOST [PLAIN [DPDK]]
+PROGRAM counts the instructions that its runs execute; without it, the filters that clang compiles are left out.
 """
 
 from __future__ import annotations
@@ -14,8 +15,11 @@ import subprocess
 import sys
 import tempfile
 from collections.abc import Callable, Mapping
+from dataclasses import replace
+from pathlib import Path
 from typing import IO, Protocol
 
+from compiled import compiled
 from programs import LOADED, RUN, SLOTS, Program
 from streams import loads_of, runs_of
 
@@ -123,6 +127,15 @@ def least(rounds: int, tasks: list[tuple[Host, str]]) -> dict[tuple[Host, str], 
     return best
 
 
+def compiled_filters(streams: Streams, bpfhost: str, counting: str) -> Programs:
+    """The filters that clang compiles, with the number of instructions that a run executes after the first one."""
+    found = {}
+    for name, program in compiled(bpfhost, Path(streams.folder)).items():
+        once, twice = (int(Host(counting, [counting]).replies(streams.of(runs_of, program, runs))) for runs in (1, 2))
+        found[name] = replace(program, executed=twice - once)
+    return found
+
+
 def runs_for(program: Program) -> int:
     return min(MOST_RUNS, EXECUTED // program.executed)
 
@@ -216,6 +229,7 @@ def main() -> None:
     parser = argparse.ArgumentParser(description=__doc__.split("\n")[0])
     parser.add_argument("--rounds", type=int, default=9)
     parser.add_argument("--only", default="", help="a word of the programs' names")
+    parser.add_argument("--counting", help="plain.c built with -DCOUNT")
     parser.add_argument("bpfhost")
     parser.add_argument("plain", nargs="?")
     parser.add_argument("dpdk", nargs="?")
@@ -229,7 +243,10 @@ def main() -> None:
     print(f"machine instructions are counted by {tool}" if tool else "machine instructions are not counted: no perf, no valgrind")
     with tempfile.TemporaryDirectory() as folder:
         streams = Streams(folder)
-        programs = {name: make() for name, make in RUN.items() if name == "empty" or given.only in name}
+        programs = {name: make() for name, make in RUN.items()}
+        if given.counting:
+            programs |= compiled_filters(streams, given.bpfhost, given.counting)
+        programs = {name: program for name, program in programs.items() if name == "empty" or given.only in name}
         same_replies(streams, programs, hosts)
         if len(programs) > 1:
             print_runs(streams, programs, hosts, given.rounds, count)

@@ -49,6 +49,8 @@ class Program:
     # Each map's kind, key size, value size and entries; their descriptors are 3, 4, ..
     maps: list[tuple[int, int, int, int]] = field(default_factory=list)
     packet: bytes = b""
+    # The ten words of context of a frame.
+    context: Sequence[int] = WORDS
     # How many instructions a run executes, if it is known.
     executed: int = 0
 

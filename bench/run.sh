@@ -15,10 +15,12 @@ if [ -z "${BPFHOST:-}" ]; then
     (cd crates/bpfhost && rt run -- serve --tenants 1 < /dev/null > "$scratch/log" 2>&1) || { cat "$scratch/log"; exit 1; }
     BPFHOST=crates/bpfhost/out/bpfhost
 fi
-plain=()
+plain=() words=()
 if command -v "${CC:-cc}" > /dev/null; then
     "${CC:-cc}" -std=gnu11 -O3 -fno-strict-aliasing -o "$scratch/plain" bench/plain.c
+    "${CC:-cc}" -std=gnu11 -O1 -fno-strict-aliasing -DCOUNT -o "$scratch/counting" bench/plain.c
     plain=("$scratch/plain")
+    words=(--counting "$scratch/counting")
     if command -v pkg-config > /dev/null && pkg-config --exists libdpdk; then
         read -ra dpdk <<< "$(pkg-config --cflags libdpdk)"
         "${CC:-cc}" -std=gnu11 -O3 -fno-strict-aliasing -DDPDK "${dpdk[@]}" -o "$scratch/dpdk" bench/plain.c -lrte_bpf -lrte_eal
@@ -27,4 +29,4 @@ if command -v "${CC:-cc}" > /dev/null; then
 else
     echo "no C compiler ${CC:-cc}: nothing to compare with"
 fi
-python3 bench/measure.py "$@" "$BPFHOST" "${plain[@]}"
+python3 bench/measure.py "$@" "${words[@]}" "$BPFHOST" "${plain[@]}"

@@ -10,7 +10,7 @@ from __future__ import annotations
 import struct
 import sys
 
-from programs import LOADED, RUN, WORDS, Program
+from programs import LOADED, RUN, Program
 
 MAP_CREATE, PROG_LOAD, PROG_TEST_RUN, CLOSE = 0, 5, 10, 256
 SOCKET_FILTER, FIRST = 1, 3
@@ -27,7 +27,7 @@ def load(program: Program) -> bytes:
 def runs_of(program: Program, runs: int) -> bytes:
     maps = [frame(MAP_CREATE, struct.pack("<5I", *shape, 0)) for shape in program.maps]
     descriptor = FIRST + len(maps)
-    run = frame(PROG_TEST_RUN, struct.pack("<11I", descriptor, *WORDS) + program.packet)
+    run = frame(PROG_TEST_RUN, struct.pack("<11I", descriptor, *program.context) + program.packet)
     return b"".join(maps) + load(program) + run * runs
 
 

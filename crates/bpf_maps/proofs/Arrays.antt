@@ -26,7 +26,7 @@ module _ (s : MapShape) (array : s.kind ≡ Array) where
     indices = λ _. ap keys_of entries_are;
   }
 
-  -- an index is found where it is in range
+  -- an index is found if it is in range
   found_new : (key : List ℕ) (i : ℕ) → index_key i ≡ key → i < 2 ^ 32 → look_up (table_of (new_places s)) key ≡ (if nat_lt i s.max_entries then Some i else None)
   found_new key i same small =
       let few = few_entries s in

@@ -1,4 +1,4 @@
--- What callers can tell of live maps.
+-- What callers can conclude about live maps.
 use Rattle.std.proofs.Common.{◌≡◌, ◌≢◌, ℕ, ◌+◌, ◌-◌, List, ◌++◌, length, take, drop, Option, IsSome, is_some, Result, Ok, Err, ap, ◌∙◌, arith}
 use Rattle.std.specs.Result.{OnErr}
 use Rattle.std.proofs.lemmas.List.{drop-drop}

@@ -36,7 +36,7 @@ pub record IsUnder (a : Inside) (t : LiveMaps) (place map key : ℕ) (e : Entry)
   pub keyed : get_or a.keys place None ≡ Some key
   pub here : get a.entries key ≡ Some e
 
--- as the calls tell it that led to the entry
+-- the same, from the clauses of the calls that lead to the entry
 pub is_under : {a : Inside} {t : LiveMaps} {place map key : ℕ} {e : Entry} → as_live_maps a ≡ t → IsWellFormedMaps a → place ≡ map → get_or a.keys place None ≡ Some key → get a.entries key ≡ Some e → IsUnder a t place map key e
 is_under view whole same keyed here = record { view = view; whole = whole; same = same; keyed = keyed; here = here }
 
@@ -75,7 +75,7 @@ module _ {a : Inside} {t : LiveMaps} {place map key : ℕ} {old new : Entry} (c 
   abbrev after : Bool → Inside
   after refused = with_entry a key new refused
 
-  -- where the maps are, and their entries, whether or not memory was refused
+  -- the places of the maps, and their entries, whether or not memory was refused
   abbrev now : Inside
   now = after a.refused
 
@@ -125,7 +125,7 @@ module _ {a : Inside} {t : LiveMaps} {place map key : ℕ} {old new : Entry} (c 
   pub others_keep : (bytes : List ℕ) → KeepsOthers map t bytes (as_live_maps now) bytes
   others_keep bytes other ne = keeps_live t (as_live_maps now) bytes bytes other (values_stay bytes) (sound_before other) (others_stay other ne)
 
-  -- ---- a change of the holds alone
+  -- ---- a change of only the holds
 
   module _ (same : new.map ≡ old.map) where
     places_stay : places_at (as_live_maps now) map ≡ places_at t map

@@ -1,4 +1,4 @@
--- How often a place stands in a list, and how many entries there are.
+-- How often a place occurs in a list, and how many entries there are.
 use Rattle.std.proofs.Common.{◌≡◌, ℕ, ◌+◌, ◌≤◌, Bool, true, false, cond, List, [], ◌∷◌, ◌++◌, length, Some, None, refl, sym, ap, subst, ◌∙◌, nat_eq, nat_lt, if◌then◌else◌, arith, eq-eqb}
 use Rattle.std.proofs.lemmas.Option.{none-some, same_Some}
 use Rattle.std.proofs.lemmas.Bool.Decides.{nat_tests}
@@ -24,7 +24,7 @@ pub values_of-append : {K : Type 0} (es fs : List (K × ℕ)) → values_of (es 
 values_of-append [] fs = refl
 values_of-append (e ∷ es) fs = ap (λ r. e.1 ∷ r) (values_of-append es fs)
 
--- ---- sums over the places of a list, as how often a place stands in it, and its length
+-- ---- sums over the places of a list, such as how often a place occurs in it, and its length
 
 abbrev pub IsSum : (List ℕ → ℕ) → Type 0
 IsSum f = (xs ys : List ℕ) → f (xs ++ ys) ≡ f xs + f ys

@@ -184,7 +184,7 @@ module _ {a : Inside} {t : LiveMaps} {shape : MapShape} {size place : ℕ} (r : 
     pub laid_one : IsLaid (as_live_maps after)
     laid_one = laid whole_one
 
-    -- it stands behind the others
+    -- it is after the others
     pub last_one : start_at (as_live_maps after) place ≡ STACK_AND_CONTEXT + areas t
     last_one = told_of (λ l. l.start) live_new ∙ d.start ∙ ap (λ (n : ℕ). STACK_AND_CONTEXT + n) (h.sum ∙ ap areas view)
 
@@ -248,13 +248,13 @@ pub created : (f : Option MapFault) (old new : LiveMaps) (s : MapShape) (k : ℕ
 created None old new s k h = h
 created (Some f) old new s k h = cc (h.0)
 
--- ---- what a caller can tell
+-- ---- what a caller can conclude
 
 -- if there is room, a creation is not refused with `NoSpace`
 pub not_full : (old new : LiveMaps) (s : MapShape) (answer : Result ℕ MapFault) → create_fault old s ≡ None → Creates (create_fault old s) old s answer new → answer ≢ Err NoSpace
 not_full old new s answer none made e = subst (λ (a : Result ℕ MapFault). Creates None old s a new) e (subst (λ (f : Option MapFault). Creates f old s answer new) none made)
 
--- a new map stands at no higher place than one that was free
+-- a new map is at no higher place than one that was free
 pub made_low : (f : Option MapFault) (old new : LiveMaps) (s : MapShape) (k : ℕ) (answer : Result ℕ MapFault) → live_at old k ≡ None → Creates f old s answer new → IfOk answer (λ made. made ≤ k)
 made_low f old new s k (Ok made) none h = lowest_most made k old (created f old new s made h).lowest none
 made_low f old new s k (Err e) none h = tt

@@ -19,7 +19,7 @@ module _ (value max stride : ℕ) (round : stride ≡ (value + 7) / 8 * 8) where
   wide : value ≤ stride
   wide = omega arith
 
-  -- a value ends where the next begins, or before
+  -- a value ends at the start of the next one, or before it
   pub value_before : (p q : ℕ) → p < q → p * stride + value ≤ q * stride
   value_before p q l = let m = times_less (p + 1) q stride (omega arith) in let w = wide in omega arith
 
@@ -51,7 +51,7 @@ apart_places value stride start p q round ne =
 
 -- ---- an area is gone
 
--- where another begins then
+-- the start of another one after that
 module _ (end size start : ℕ) where
   pub lower : end ≤ start → start_without end size start ≡ start - size
   lower l = ap (λ (b : Bool). if b then start - size else start) (le-leb end start l)

@@ -16,7 +16,7 @@ use Rattle.bpf_maps.proofs.Slots.{live_is, value_stays}
 use Rattle.bpf_maps.proofs.Values.{written, table_written, agreeing_tables, used_in_entries}
 use Rattle.bpf_maps.proofs.Written.{length_same, front_same, before_same, after_same, own}
 
--- ---- where values are
+-- ---- the addresses of values
 
 apart_at : (t : LiveMaps) → IsLaid t → (k p j q : ℕ) → IsSome (live_at t k) → IsSome (live_at t j) → p < (shape_at t k).max_entries → q < (shape_at t j).max_entries → (k ≡ j → p ≢ q)
     → (offset_at t k p + (shape_at t k).value_size ≤ offset_at t j q) ⊎ (offset_at t j q + (shape_at t j).value_size ≤ offset_at t k p)
@@ -83,7 +83,7 @@ module _ (along : CallsRefineValues ℕ (List ℕ)) (tell : MapVerdictsMatchLook
   abbrev value : ℕ → List ℕ
   value = value_in part old k
 
-  -- the values lie where they lay
+  -- the values are at the same addresses as before
   moved : (t : PlaceTable) → map.with_values (value_in part new k) (table_of t) ≡ map.with_values value (table_of t)
   moved t = agreeing_tables (value_in part new k) value t (λ p used. value_stays old new k areas live part p)
 

@@ -1,4 +1,4 @@
--- The entry at each place, where one entry or one key is changed.
+-- The entry at each place, after one entry or one key is changed.
 use Rattle.std.proofs.Common.{◌≡◌, ◌≢◌, ℕ, zero, suc, ◌+◌, ◌<◌, ◌≤◌, ◌⊎◌, inl, inr, List, [], ◌∷◌, length, Option, Some, None, IsSome, is_some, option_map, refl, sym, ap, ◌∙◌, get_or, set, arith, cond, count_by, get_or-set_same, get_or-set_other, true≢false, length-set}
 use Rattle.std.specs.Prelude.{is_none, position}
 use Rattle.std.specs.Option.{option_and_then}
@@ -67,7 +67,7 @@ module _ {A : Type 0} (xs : List (Option A)) (i : ℕ) where
       let one : one_if (get_or xs i None) ≡ 1 = one_in x at in
       omega arith
 
--- there are fewer keys than places where one has none
+-- there are fewer keys than places if one place has none
 pub fewer_keys : (keys : List (Option ℕ)) (p : ℕ) → p < length keys → get_or keys p None ≡ None → count_by is_some keys + 1 ≤ length keys
 fewer_keys keys p l free =
     let n : count_by is_some (set keys p (Some 0)) ≡ count_by is_some keys + 1 = filled_len keys p 0 l free in
@@ -108,7 +108,7 @@ pub no_value : {A : Type 0} (o : Option A) → ((x : A) → o ≡ Some x → ⊥
 no_value None h = refl
 no_value (Some x) h = absurd (h x refl)
 
--- an entry stands at one of the places
+-- an entry is at one of the places
 pub in_places : (keys : List (Option ℕ)) (entries : Slab Entry) → AreKeys keys entries → (p : ℕ) (e : Entry) → get_or (placed keys entries) p None ≡ Some e → p < MAPS
 in_places keys entries is p e at =
     let below = within (placed keys entries) p e at in

@@ -50,7 +50,7 @@ pub record Goes (a : Inside) (t : LiveMaps) (place map key size : ℕ) (old gone
 abbrev pub without_entry : Inside → ℕ → ℕ → Slab Entry → List MapLayout → Inside
 without_entry a size place entries layouts = record a { keys = set a.keys place None; entries = entries; layouts = layouts; bytes = a.bytes - size }
 
--- a map without its area is the same where it stands elsewhere
+-- a map without its area is the same at another address
 held_still : (gone : LiveMap) (o : Option LiveMap) → option_map without_area (option_map (map_without gone) o) ≡ option_map without_area o
 held_still gone None = refl
 held_still gone (Some l) = refl
@@ -187,7 +187,7 @@ module _ {a : Inside} {t : LiveMaps} {place map key size : ℕ} {old gone : Entr
     pub front_gone : take STACK_AND_CONTEXT later ≡ take STACK_AND_CONTEXT bytes
     front_gone = ap (take STACK_AND_CONTEXT) written ∙ front_same bytes moved gone.start many long_moved room STACK_AND_CONTEXT (gone_behind g.taken)
 
-    -- the bytes that move are those behind
+    -- the bytes that move are those after it
     from_behind : (x n : ℕ) → x + n ≤ many → take n (drop x moved) ≡ take n (drop (gone.start + size + x) bytes)
     from_behind x n l =
         sym (drop-take x n moved)

@@ -54,7 +54,7 @@ live_is t k live = by (live_at t k) live
     by None h = absurd (true≢false (sym h))
     by (Some l) h = refl
 
--- they keep where each value lies, and its bytes
+-- they keep the address of each value, and its bytes
 module _ (old new : LiveMaps) (k : ℕ) (areas : SameAreas old new) (live : IsSome (live_at new k)) where
   pub offsets_stay : (p : ℕ) → offset_at new k p ≡ offset_at old k p
   offsets_stay p = let m = areas k (live_or (live_at new k)) (live_is new k live) in offset_same (live_or (live_at new k)) m.0 p m.3 m.4 ∙ ap (λ (o : Option LiveMap). offset (live_or o) p) (sym m.1)

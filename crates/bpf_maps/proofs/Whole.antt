@@ -189,7 +189,7 @@ module _ {a : Inside} (b : Inside) (k : ℕ) (h : IsWellFormedMaps a) (others : 
         let y = ap (weight area_of) (live_by (entries_of b) (entries_of b) k e bt) in
         omega arith
 
-  -- its area stands behind the others
+  -- its area is after the others
   module _ (e : Entry) (at : get_or (entries_of a) k None ≡ None) (bt : entry_at b k e) (start : e.start ≡ STACK_AND_CONTEXT + a.bytes) (stride : e.stride ≡ ((places_of e.map).shape.value_size + 7) / 8 * 8) (held : 1 ≤ e.holds) (sound : IsSound (places_of e.map)) (bytes : b.bytes ≡ a.bytes + area_of (live_of e)) (few : b.bytes ≤ LARGEST_SUM) (layouts : AreLaidOut (entries_of b) b.layouts) where
     aligned_now : (a.bytes + area_of (live_of e)) % 8 ≡ 0
     aligned_now = let al = h.aligned in let r = area_aligned (places_of e.map).shape.value_size (places_of e.map).shape.max_entries in omega arith
@@ -203,7 +203,7 @@ module _ {a : Inside} (b : Inside) (k : ℕ) (h : IsWellFormedMaps a) (others : 
     is_new : (j : ℕ) (g : Entry) → j ≡ k → entry_at b j g → g ≡ e
     is_new j g s gt = sym (same_at (entries_of b) bt s gt)
 
-    -- the others stand before it
+    -- the others are before it
     stands_last : (j : ℕ) (g : Entry) → j ≢ k → entry_at b j g → StandsBefore (live_of g) (live_of e)
     stands_last j g o gt = let w = (h.placed j g (still j g o gt)).within in omega arith
 
@@ -227,7 +227,7 @@ module _ {a : Inside} (b : Inside) (k : ℕ) (h : IsWellFormedMaps a) (others : 
       laid_out = layouts;
     }
 
--- ---- a map goes, and those behind it close up
+-- ---- a map is removed, and those after it move down
 
 -- what an entry that has closed up was
 pub opened_up : (end size : ℕ) (o : Option Entry) (g : Entry) → option_map (closed_up end size) o ≡ Some g → (f : Entry) × (o ≡ Some f) × (closed_up end size f ≡ g)

@@ -27,7 +27,7 @@ module _ (size : ℕ) (key : List ℕ) (small : AreBytes key) (long : length key
   pub key_below : number_of key < 256 ^ size
   key_below = subst (λ (n : ℕ). number_of key < 256 ^ n) long (number_below key small)
 
-  -- two keys are the same where their numbers are
+  -- two keys are the same if their numbers are
   same_word : (word : ℕ) → word < 256 ^ size → nat_eq (number_of key) word ≡ is_key key (low_bytes size word)
   same_word word h = by (nat_eq (number_of key) word) refl (is_key key (low_bytes size word)) refl
     where
@@ -90,7 +90,7 @@ number_of_zeros : (n : ℕ) → number_of (replicate n 0) ≡ 0
 number_of_zeros zero = refl
 number_of_zeros (suc n) = let h = number_of_zeros n in omega arith
 
--- zeros behind the bytes add nothing
+-- zeros after the bytes add nothing
 pub zeros_behind : (key : List ℕ) (n : ℕ) → number_of (key ++ replicate n 0) ≡ number_of key
 zeros_behind [] n = number_of_zeros n
 zeros_behind (b ∷ key) n = ap (λ (x : ℕ). b + 256 * x) (zeros_behind key n)

@@ -1,5 +1,5 @@
--- The effects of writes and calls on live maps, as keys with the bytes of their values. The calls are those of bpf(2); where
--- values lie is this project's own.
+-- The effects of writes and calls on live maps, as keys with the bytes of their values. The calls are those of bpf(2); the
+-- addresses of values are this project's own.
 use Rattle.std.specs.Prelude.{◌≡◌, ◌≢◌, ℕ, ◌<◌, List, length, take, Some, IsSome, Ok}
 use Rattle.words.specs.Bytes.{written_at}
 use Rattle.tagged_model.specs.Table as map

@@ -1,4 +1,4 @@
--- A tenant's live maps, and where their values lie in the tenant's part. The limits and the layout are this project's own.
+-- A tenant's live maps, and the addresses of their values in the tenant's part. The limits and the layout are this project's own.
 use Rattle.std.specs.Prelude.{◌≡◌, ◌≢◌, ℕ, ◌+◌, ◌-◌, ◌*◌, ◌/◌, ◌%◌, ◌^◌, ◌<◌, ◌≤◌, ◌⊎◌, Bool, true, false, ◌||◌, nat_le, nat_lt, if◌then◌else◌, List, take, drop, Option, Some, None, IsSome, is_none, option_map, position, Result, Ok, Err, slice_index_or, refl}
 use Rattle.tagged_model.specs.declared.shape.MapKind.TheVariants.{Hash}
 use Rattle.tagged_model.specs.declared.shape.MapShape.{MapShape}
@@ -52,7 +52,7 @@ holds_at t k = (live_or (live_at t k)).holds
 abbrev pub AreSound : LiveMaps → Type 0
 AreSound t = (k : ℕ) → IsSome (live_at t k) → IsSound (places_at t k)
 
--- ---- where the values lie
+-- ---- the addresses of the values
 
 -- the offset in the part of the value at a place of a live map
 unfoldable pub offset : LiveMap → ℕ → ℕ
@@ -118,7 +118,7 @@ area_of l = area_by l.places.shape
 abbrev pub areas : LiveMaps → ℕ
 areas t = total area_of t.maps
 
--- ---- where the areas lie
+-- ---- the addresses of the areas
 
 -- the offset in the part of the area of the map at a place
 abbrev pub start_at : LiveMaps → ℕ → ℕ
@@ -136,7 +136,7 @@ pub record IsPacked (t : LiveMaps) : Type 0 where
   pub apart : (k j : ℕ) (l m : LiveMap) → live_at t k ≡ Some l → live_at t j ≡ Some m → k ≢ j → StandsBefore l m ⊎ StandsBefore m l
   pub stride : (k : ℕ) (l : LiveMap) → live_at t k ≡ Some l → l.stride ≡ (l.places.shape.value_size + 7) / 8 * 8
 
--- where an area begins after another, of `size` bytes up to `end`, is gone
+-- the start of an area after another one, of `size` bytes up to `end`, is removed
 abbrev pub start_without : ℕ → ℕ → ℕ → ℕ
 start_without end size start = if nat_le end start then start - size else start
 

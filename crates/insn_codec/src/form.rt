@@ -1,6 +1,6 @@
 //! The form of an instruction: what its opcode determines, and which fields it may have.
 
-ghost use Rattle.std.specs.Prelude.{◌≡◌, ◌≢◌, ◌+◌, ◌%◌, ◌≤◌, [], ◌∷◌, IfSome, IsTrue};
+ghost use Rattle.std.specs.Prelude.{◌≡◌, ◌≢◌, ◌+◌, ◌%◌, ◌≤◌, [], ◌∷◌, None, IfSome, IsTrue};
 
 use crate::opcode::{SourceBit, lists_offset, signed_form, size_at};
 use insn_set::{
@@ -50,6 +50,8 @@ pub enum OpcodeForm {
 
 impl OpcodeForm {
     ghost use Rattle.insn_codec.specs.inside.Form.{form_at, alu_at, jump_at, load_at, store_at, register_store_at, listed, is_form};
+    ghost use Rattle.insn_set.specs.OperatorRows.{alu_by_number};
+    ghost use Rattle.insn_set.specs.ConditionRows.{condition_by_number};
     ghost use Rattle.insn_set.specs.Numbers.{opcode as opcode_from, alu_class, jump_class};
     ghost use Rattle.insn_codec.specs.Spelled.{source_number};
     ghost use Rattle.insn_codec.specs.inside.Opcodes.{opcode_of};
@@ -63,27 +65,32 @@ impl OpcodeForm {
             ≡ opcode_from code (source_number source) (alu_class wide)) }
         ensures form { IfSome result (λ f. IsTrue (is_form f)) }
     {
-        match code {
-            8 => match source {
-                SourceBit::Imm => Some(OpcodeForm::Neg { wide }),
-                SourceBit::Reg => None,
-            },
-            13 => match (wide, source) {
-                (false, SourceBit::Imm) => Some(OpcodeForm::End {
-                    how: ByteOrder::Little,
-                }),
-                (false, SourceBit::Reg) => Some(OpcodeForm::End {
-                    how: ByteOrder::Big,
-                }),
-                (true, SourceBit::Imm) => Some(OpcodeForm::End {
-                    how: ByteOrder::Swap,
-                }),
-                (true, SourceBit::Reg) => None,
-            },
-            _ => {
-                let op = alu_by_number(code)?;
-                Some(OpcodeForm::Alu { wide, op, source })
-            }
+        match alu_by_number(code) {
+            Some(op) => Some(OpcodeForm::Alu { wide, op, source }),
+            None => OpcodeForm::one_operand(wide, source, code),
+        }
+    }
+
+    /// The form of a negation or of a byte-order conversion, whose codes no operator with two operands has.
+    fn one_operand(wide: bool, source: SourceBit, code: u8) -> Option<OpcodeForm>
+        requires { alu_by_number code ≡ None }
+        ensures value { result ≡ alu_at wide source code }
+        ensures number { IfSome result (λ f. opcode_of f
+            ≡ opcode_from code (source_number source) (alu_class wide)) }
+        ensures form { IfSome result (λ f. IsTrue (is_form f)) }
+    {
+        match (code, wide, source) {
+            (8, _, SourceBit::Imm) => Some(OpcodeForm::Neg { wide }),
+            (13, false, SourceBit::Imm) => Some(OpcodeForm::End {
+                how: ByteOrder::Little,
+            }),
+            (13, false, SourceBit::Reg) => Some(OpcodeForm::End {
+                how: ByteOrder::Big,
+            }),
+            (13, true, SourceBit::Imm) => Some(OpcodeForm::End {
+                how: ByteOrder::Swap,
+            }),
+            _ => None,
         }
     }
 
@@ -93,18 +100,26 @@ impl OpcodeForm {
             ≡ opcode_from code (source_number source) (jump_class wide)) }
         ensures form { IfSome result (λ f. IsTrue (is_form f)) }
     {
-        match (code, source) {
-            (0, SourceBit::Imm) => Some(if wide {
-                OpcodeForm::Ja
-            } else {
-                OpcodeForm::Jal
-            }),
-            (8, SourceBit::Imm) if wide => Some(OpcodeForm::Call),
-            (9, SourceBit::Imm) if wide => Some(OpcodeForm::Exit),
-            _ => {
-                let cond = condition_by_number(code)?;
-                Some(OpcodeForm::Jump { wide, cond, source })
-            }
+        match condition_by_number(code) {
+            Some(cond) => Some(OpcodeForm::Jump { wide, cond, source }),
+            None => OpcodeForm::unconditional(wide, source, code),
+        }
+    }
+
+    /// The form of a jump without a condition, of a call or of the exit, whose codes no condition has.
+    fn unconditional(wide: bool, source: SourceBit, code: u8) -> Option<OpcodeForm>
+        requires { condition_by_number code ≡ None }
+        ensures value { result ≡ jump_at wide source code }
+        ensures number { IfSome result (λ f. opcode_of f
+            ≡ opcode_from code (source_number source) (jump_class wide)) }
+        ensures form { IfSome result (λ f. IsTrue (is_form f)) }
+    {
+        match (code, wide, source) {
+            (0, true, SourceBit::Imm) => Some(OpcodeForm::Ja),
+            (0, false, SourceBit::Imm) => Some(OpcodeForm::Jal),
+            (8, true, SourceBit::Imm) => Some(OpcodeForm::Call),
+            (9, true, SourceBit::Imm) => Some(OpcodeForm::Exit),
+            _ => None,
         }
     }
 
@@ -158,21 +173,15 @@ impl OpcodeForm {
         ensures number { IfSome result (λ f. opcode_of f ≡ opcode) }
         ensures form { IfSome result (λ f. IsTrue (is_form f)) }
     {
-        let code = opcode / 16;
-        let source = if opcode / 8 % 2 == 0 {
-            SourceBit::Imm
-        } else {
-            SourceBit::Reg
-        };
         match opcode % 8 {
             0 => (opcode == 0x18).then_some(OpcodeForm::Wide),
             1 => OpcodeForm::load(opcode),
             2 => OpcodeForm::store(opcode, SourceBit::Imm),
             3 => OpcodeForm::register_store(opcode),
-            4 => OpcodeForm::alu(false, source, code),
-            5 => OpcodeForm::jump(true, source, code),
-            6 => OpcodeForm::jump(false, source, code),
-            _ => OpcodeForm::alu(true, source, code),
+            4 => OpcodeForm::alu(false, SourceBit::of(opcode), opcode / 16),
+            5 => OpcodeForm::jump(true, SourceBit::of(opcode), opcode / 16),
+            6 => OpcodeForm::jump(false, SourceBit::of(opcode), opcode / 16),
+            _ => OpcodeForm::alu(true, SourceBit::of(opcode), opcode / 16),
         }
     }
 

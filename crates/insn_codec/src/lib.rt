@@ -35,18 +35,18 @@
 //! - A program keeps its slots as they are spelled, eight bytes each (`RawSlot`), and the instructions by slot. The slots are
 //!   for the machine that runs: it dispatches on the opcode, one byte with the operation, its width and the kind of its
 //!   operand. The instructions are for the verifier and the disassembler. They are decoded once, at the load, when each slot
-//!   has to be read anyway. One function adds to both, and the type's invariant says that they are the same program; laws
-//!   determine the instruction from the opcode and the fields of its first slot.
+//!   has to be read anyway. The type's invariant says that both are the same program; laws determine the instruction from the
+//!   opcode and the fields of its first slot.
 //! - The instructions are one vector by slot, with `exit` as a filler at the second slot of a wide instruction. A filler is
 //!   never wide, so one look at the previous slot identifies a second slot.
 //! - The forms of opcodes (`OpcodeForm`) and of lines (`Form` of the crate for lines of text) are enums of their own, apart
-//!   from `Insn`. An opcode determines less than an instruction, and a line may name a label where an instruction has a
+//!   from `Insn`. An opcode determines less than an instruction, and a line may name a label in place of an instruction's
 //!   distance. The order of the codec's faults and the laws by opcode are about the first, the law of one reading about the
 //!   second.
-//! - A slot is read once while it is decoded, and lent to what looks at its fields. Before, it was read two or three times, as
-//!   fields. Machine instructions for each slot, in a program of 3,902 slots (callgrind, builds without proofs; subcommands of
-//!   `host`): `asm` 5,623 before, 5,594 now; `dis` 1,339 and 1,343; `verify` 1,086 and 1,092. Passed by value, a slot makes
-//!   `decode` cost 17% more, as its fields are packed again.
+//! - `read_program` copies the slots from the bytes first, a word of eight bytes each. Then it decodes each instruction from its
+//!   slot in that list, into an entry of a vector with room for all, so no entry needs a test of the capacity. Operators and
+//!   conditions are looked up by their code (`insn_set`). Machine instructions a slot (callgrind, builds without proofs):
+//!   58 of straight code, and 98 when each slot was decoded and added in one step.
 #![tactic(auto)]
 
 mod code;

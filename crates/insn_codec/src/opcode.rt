@@ -19,9 +19,20 @@ pub enum SourceBit {
 }
 
 impl SourceBit {
-    ghost use Rattle.insn_codec.specs.inside.Form.{one_operand};
+    ghost use Rattle.insn_codec.specs.inside.Form.{one_operand, source_at};
     ghost use Rattle.insn_codec.specs.Spelled.{source_number};
     ghost use Rattle.insn_set.specs.Spelling.{source_bit, src_field, imm_field, IsOperand};
+
+    /// The source bit of an opcode of arithmetic or of a jump.
+    pub(crate) fn of(opcode: u8) -> SourceBit
+        ensures { result ≡ source_at opcode }
+    {
+        if opcode / 8 % 2 == 0 {
+            SourceBit::Imm
+        } else {
+            SourceBit::Reg
+        }
+    }
 
     /// Whether the unused operand field is zero.
     pub fn lists_operand(self, slot: &RawSlot) -> bool

@@ -2,13 +2,13 @@
 
 ghost use Rattle.std.specs.Prelude.{List, ℕ, ◌≡◌, ◌≢◌, ◌≤◌, [], ◌∷◌, length, map, IfOk, OnOk, IfErr, IsErrAnd, Ok, Some, None, IsTrue};
 ghost use Rattle.std.specs.Option.{option_to_list};
-ghost use Rattle.insn_set.specs.Slot.{fields};
+ghost use Rattle.insn_set.specs.Slot.{fields, slot_of};
 ghost use Rattle.insn_codec.specs.inside.Code.{IsSecond};
 ghost use Rattle.insn_codec.specs.inside.Form.{listed, is_form};
 ghost use Rattle.insn_codec.specs.inside.Opcodes.{opcode_of};
-ghost use Rattle.insn_set.specs.Spelling.{slots, IsInsn, Begins};
+ghost use Rattle.insn_set.specs.Spelling.{slots, is_wide, IsInsn, Begins};
 ghost use Rattle.insn_codec.specs.Fault.{HasFault};
-ghost use Rattle.insn_codec.specs.inside.FirstFault.{fault_in_form, first_fault, second_fault};
+ghost use Rattle.insn_codec.specs.inside.FirstFault.{fault_in_form, IsFaultOf, first_fault, second_fault};
 ghost use Rattle.insn_codec.specs.declared.fault.FaultKind.{FaultKind as AnyKind};
 ghost use Rattle.insn_codec.specs.declared.form.OpcodeForm.TheVariants.{Wide};
 
@@ -62,8 +62,7 @@ fn check_fields(form: OpcodeForm, slot: &RawSlot) -> Result<(), FaultKind>
     ensures listed { OnOk result (IsTrue (listed form (fields slot.now))) }
     ensures dst { OnOk result ((fields slot.now).dst ≤ 10) }
     ensures src { OnOk result ((fields slot.now).src ≤ 10) }
-    ensures fault { IfErr result (λ kind. (rest : List ℕ) → fault_in_form form (fields slot.now) rest
-        ≡ Some kind) }
+    ensures fault { IfErr result (λ kind. IsFaultOf form (fields slot.now) kind) }
 {
     if !form.lists(slot) {
         return Err(FaultKind::Reserved);
@@ -83,8 +82,7 @@ fn read_as(form: OpcodeForm, entry: &mut Insn, slot: &RawSlot) -> Result<Option<
     ensures value { OnOk result (IsInsn entry.new) }
     ensures slots { OnOk result (slots entry.new ≡ fields slot.now ∷ []) }
     ensures none { IfOk result (λ second. second ≡ None) }
-    ensures fault { IfErr result (λ kind. (rest : List ℕ) → fault_in_form form (fields slot.now) rest
-        ≡ Some kind) }
+    ensures fault { IfErr result (λ kind. IsFaultOf form (fields slot.now) kind) }
 {
     check_fields(form, slot)?;
     form.put(entry, slot, Reg::new(slot.dst()), Reg::new(slot.src()));
@@ -107,7 +105,8 @@ fn read_form(
     ensures slots { IfOk result (λ second. slots entry.new
         ≡ map fields (slot.now ∷ option_to_list second)) }
     ensures second { IfOk result (λ second. IsSecond rest.now second) }
-    ensures fault { IfErr result (λ kind. fault_in_form form (fields slot.now) rest.now ≡ Some kind) }
+    ensures fault { IfErr result (λ kind. fault_in_form form (fields slot.now) rest.now
+        ≡ Some kind) }
 {
     match form {
         OpcodeForm::Alu { wide, op, source } => match source {
@@ -158,38 +157,37 @@ fn read_form(
     }
 }
 
-/// Reads the instruction at the front of the bytes into an entry, in place, since an instruction is as large as two slots.
-/// Returns its one or two slots.
+/// Reads the instruction at the front of the bytes, whose first slot is given, into an entry: in place, since an instruction is as
+/// large as two slots. Returns whether it is wide.
+#[inline(always)]
 #[tactic(auto, unfolding(crate::specs::inside::FirstFault::first_fault))]
-pub(crate) fn read_front(
-    entry: &mut Insn,
-    bytes: &[u8],
-) -> Result<(RawSlot, Option<RawSlot>), FaultKind>
+pub(crate) fn read_from(entry: &mut Insn, first: &RawSlot, bytes: &[u8]) -> Result<bool, FaultKind>
+    requires long { 8 ≤ length bytes.now }
+    requires first { fields first.now ≡ slot_of bytes.now }
     ensures found { OnOk result (IsInsn entry.new × Begins entry.new bytes.now) }
-    ensures slots { IfOk result (λ read. map fields (read.0 ∷ option_to_list read.1)
-        ≡ slots entry.new) }
+    ensures wide { IfOk result (λ wide. wide ≡ is_wide entry.new) }
+    ensures fault { IfErr result (λ kind. first_fault bytes.now ≡ Some kind) }
+{
+    let Some(form) = OpcodeForm::of(first.opcode) else {
+        return Err(FaultKind::Opcode);
+    };
+    let (_, rest) = bytes.split_at(8);
+    let second = read_form(form, entry, first, rest)?;
+    Ok(second.is_some())
+}
+
+/// Reads the instruction at the front of the bytes into an entry.
+#[tactic(auto, unfolding(crate::specs::inside::FirstFault::first_fault))]
+fn read_front(entry: &mut Insn, bytes: &[u8]) -> Result<(), FaultKind>
+    ensures found { OnOk result (IsInsn entry.new × Begins entry.new bytes.now) }
     ensures fault { IfErr result (λ kind. first_fault bytes.now ≡ Some kind) }
 {
     if bytes.len() < 8 {
         return Err(FaultKind::Ragged);
     }
-    let slot = RawSlot::first(bytes);
-    let Some(form) = OpcodeForm::of(slot.opcode) else {
-        return Err(FaultKind::Opcode);
-    };
-    let (_, rest) = bytes.split_at(8);
-    let second = read_form(form, entry, &slot, rest)?;
-    Ok((slot, second))
-}
-
-/// The number of slots that were read: 1 or 2.
-fn count(slots: (RawSlot, Option<RawSlot>)) -> usize
-    ensures { result ≡ length (map fields (slots.0 ∷ option_to_list slots.1)) }
-{
-    match slots.1 {
-        None => 1,
-        Some(_) => 2,
-    }
+    let first = RawSlot::first(bytes);
+    read_from(entry, &first, bytes)?;
+    Ok(())
 }
 
 /// Decodes the instruction at the front of the bytes. Returns it and the number of its slots, 1 or 2. Bytes may follow it.
@@ -213,7 +211,10 @@ pub fn decode(bytes: &[u8]) -> Result<(Insn, usize), CodecFault>
 {
     let mut insn = Insn::Exit;
     match read_front(&mut insn, bytes) {
-        Ok(slots) => Ok((insn, count(slots))),
+        Ok(()) => {
+            let slots = insn.slots();
+            Ok((insn, slots))
+        }
         Err(kind) => Err(CodecFault { slot: 0, kind }),
     }
 }

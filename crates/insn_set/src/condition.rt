@@ -4,7 +4,7 @@ ghost use Rattle.std.specs.Prelude.{◌≡◌, ◌≤◌, IfSome};
 ghost use Rattle.insn_set.specs.Condition.{condition_number, condition_symbol};
 ghost use Rattle.insn_set.specs.ConditionRows.{condition_by_number, condition_by_symbol};
 
-use crate::table::{by_number, by_symbol};
+use crate::table::by_symbol;
 use words::Condition;
 
 /// Each condition in the order of its variants, its code (RFC 9669, section 4.3), and the symbol that a line of text has for it.
@@ -22,6 +22,26 @@ const CONDITIONS: [(Condition, u32, &str); 11] = [
     (Condition::CommonBit, 4, "&"),
 ];
 
+/// The condition of each code, by the code: a look-up without a search. It is proved to agree with `CONDITIONS`.
+const CONDITIONS_BY_CODE: [Option<Condition>; 16] = [
+    None,
+    Some(Condition::Equal),
+    Some(Condition::Above),
+    Some(Condition::AboveOrEqual),
+    Some(Condition::CommonBit),
+    Some(Condition::NotEqual),
+    Some(Condition::SignedAbove),
+    Some(Condition::SignedAboveOrEqual),
+    None,
+    None,
+    Some(Condition::Below),
+    Some(Condition::BelowOrEqual),
+    Some(Condition::SignedBelow),
+    Some(Condition::SignedBelowOrEqual),
+    None,
+    None,
+];
+
 /// The code of a condition.
 pub fn condition_number(condition: Condition) -> u8
     ensures value { result ≡ condition_number condition }
@@ -35,7 +55,7 @@ pub fn condition_by_number(number: u8) -> Option<Condition>
     ensures value { result ≡ condition_by_number number }
     ensures inverse { IfSome result (λ c. condition_number c ≡ number) }
 {
-    by_number(&CONDITIONS, u32::from(number))
+    *CONDITIONS_BY_CODE.get(usize::from(number))?
 }
 
 /// The symbol of a condition in a line of text.

@@ -1,5 +1,5 @@
 //! Instructions of the virtual machine: what each reads, writes and names, how it is spelled in slots of eight bytes (RFC
-//! 9669), and where it begins in a program.
+//! 9669), and the slot at which it begins.
 //!
 //! A table has a row for each instruction, [`Profile`], with the properties that no register value affects. `insn_codec` reads
 //! and writes the slots.

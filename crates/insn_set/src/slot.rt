@@ -32,13 +32,18 @@ impl RawSlot {
         requires { 8 ≤ length bytes.now }
         ensures { fields result ≡ slot_of bytes.now }
     {
+        // One word, which a compiler loads, and stores as it is.
+        let word = u64::from_le_bytes([
+            bytes[0], bytes[1], bytes[2], bytes[3], bytes[4], bytes[5], bytes[6], bytes[7],
+        ]);
         RawSlot {
-            opcode: bytes[0],
-            registers: bytes[1],
-            offset: u16::from_le_bytes([bytes[2], bytes[3]]),
-            imm: u32::from_le_bytes([bytes[4], bytes[5], bytes[6], bytes[7]]),
+            opcode: (word % 0x100) as u8,
+            registers: (word / 0x100 % 0x100) as u8,
+            offset: (word / 0x1_0000 % 0x1_0000) as u16,
+            imm: (word / 0x1_0000_0000) as u32,
         }
     }
+
     /// The slot with these fields. Both register numbers are below 16.
     #[inline(always)]
     pub fn new(opcode: u8, dst: u8, src: u8, offset: u16, imm: u32) -> RawSlot

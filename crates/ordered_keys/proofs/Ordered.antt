@@ -42,7 +42,7 @@ module _ {K : Type 0} where
       by true g r = absurd (none-some x.1 (sym g))
       by false g r = ap (λ (ys : List (K × ℕ)). x ∷ ys) (r g)
 
-  -- one index alone has a key that passes
+  -- only one index has a key that passes
   pub one_index : (eq : K → K → Bool) (test : K → Bool) → IsSole eq test → (es : List (K × ℕ)) → IsDistinct eq (keys_of es) → (i j : ℕ) (a b : K × ℕ) → slice_get es i ≡ Some a → slice_get es j ≡ Some b → test a.0 ≡ true → test b.0 ≡ true → i ≡ j
   one_index eq test sole [] d i j a b at_i at_j ta tb = absurd (none-some a at_i)
   one_index eq test sole (x ∷ es) d zero zero a b at_i at_j ta tb = refl

@@ -3,7 +3,7 @@ use Rattle.std.proofs.Common.{◌≡◌, ◌≢◌, ℕ, zero, suc, ◌+◌, ◌
 use Rattle.ordered_keys.specs.Orders.{occurrences, first_place, following, taken_out}
 use Rattle.ordered_keys.specs.inside.Links.{chain, IsPath, AreWithin}
 
--- ---- how often a place stands in a list
+-- ---- how often a place occurs in a list
 
 pub times_head : (p : ℕ) (xs : List ℕ) → 0 < occurrences p (p ∷ xs)
 times_head p xs = let e : nat_eq p p ≡ true = eq-eqb p p refl in let P : Bool → Type 0 = λ b. 0 < (if b then 1 else 0) + occurrences p xs in subst P (sym e) (omega arith)
@@ -84,7 +84,7 @@ module _ (after before : ℕ → ℕ) where
       later s (inl f) = inl (s ∙ f)
       later {q} s (inr g) = inr (subst (λ r. 0 < occurrences r (x ∷ xs)) (sym s) (let t : occurrences (after q) (x ∷ xs) ≡ (if nat_eq (after q) x then 1 else 0) + occurrences (after q) xs = refl in omega arith))
 
-  -- ---- what follows, as a list tells it
+  -- ---- the place that follows, in a list of places
 
   abbrev pub unless_end : ℕ → ℕ → Option ℕ
   unless_end b p = if nat_eq p b then None else Some p
@@ -109,7 +109,7 @@ module _ (after before : ℕ → ℕ) where
     | inr l ↦ following_is x xs b p h.2 w.1 l.1 ∙ ap (λ (t : Bool). if t then first_place xs else following p xs) (sym (unequal p x l.0))
   ]
 
--- ---- a path depends on its own links alone
+-- ---- a path depends only on its own links
 
 pub path_stays : (f g f' g' : ℕ → ℕ) (a : ℕ) (xs : List ℕ) (b : ℕ) → IsPath f g a xs b → f' a ≡ f a → ((q : ℕ) → 0 < occurrences q xs → f' q ≡ f q) → ((q : ℕ) → 0 < occurrences q xs → g' q ≡ g q) → g' b ≡ g b → IsPath f' g' a xs b
 path_stays f g f' g' a [] b h fa fs gs gb = (fa ∙ h.0, gb ∙ h.1)

@@ -44,7 +44,7 @@ module _ {K : Type 0} (es fs : List (K × ℕ)) (is js : List ℕ) where
       ∙ ap (λ (ys : List (K × ℕ)). (h.0.0, q) ∷ ys) (in_order-append ps p k h.1 e)
       ∙ ap (λ (o : Option (K × ℕ)). (option_to_list o ++ in_order fs js ps) ++ (k, p) ∷ []) (sym h.0.1)
 
--- ---- an entry behind a list
+-- ---- an entry after a list
 
 pub front_stays : {X : Type 0} (xs : List X) (y : X) (i : ℕ) (x : X) → slice_get xs i ≡ Some x → slice_get (xs ++ y ∷ []) i ≡ Some x
 front_stays [] y i x h = absurd (none-some x h)
@@ -174,7 +174,7 @@ module _ {K : Type 0} (es : List (K × ℕ)) (is : List ℕ) (order : Order) (h 
   pub index_small : i < 2 ^ 32
   index_small = let l = slice_get_within es i (key, p) at in let m = h.many in let f = h.few in let s = h.small in omega arith
 
-  -- the place that is moved is that of the last entry, or p where the last entry has left
+  -- the place that is moved is that of the last entry, or p if the last entry has left
   moved_is : ((k : K) × (i < last) × (slice_get es last ≡ Some (k, moved))) ⊎ ((moved ≡ p) × (i ≡ last))
   moved_is = by (slice_get left i) refl
     where

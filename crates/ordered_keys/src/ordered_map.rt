@@ -34,7 +34,8 @@ impl<K: Eq + Hash, S: BuildHasher> Model for OrderedMap<K, S> {
     ghost use Rattle.ordered_keys.specs.Orders.{bounded_keys};
     ghost use Rattle.ordered_keys.specs.inside.Ordered.{in_order, IsIndexed};
 
-    ghost view = { λ m. bounded_keys m.order.bound (in_order m.table.entries m.indices.items m.order.places) };
+    ghost view = { λ m. bounded_keys m.order.bound
+        (in_order m.table.entries m.indices.items m.order.places) };
 
     ghost invariant = { λ m. IsIndexed m.table.entries m.indices.items m.order };
 }
@@ -75,7 +76,8 @@ impl<K: Eq + Hash, S: BuildHasher> OrderedMap<K, S> {
     /// The key that follows a key, if there is one. After an absent key it is the first.
     pub fn key_after<Q: Equivalent<K>>(&self, key: Q) -> Option<&K>
         requires { IsSole K.eq (Q.equivalent key) }
-        ensures { option_map (λ k. k.now) result ≡ key_following (Q.equivalent key) self.now.entries }
+        ensures { option_map (λ k. k.now) result
+            ≡ key_following (Q.equivalent key) self.now.entries }
     {
         let _len = self.table.len();
         let Some(place) = self.table.get(key) else {

@@ -1,6 +1,6 @@
 -- The fault at the front of bytes, in the order in which the code looks for it. That it is the fault of the grammar (`HasFault`) is
 -- proved. The fields are those of RFC 9669, sections 3 to 5; the order is this project's own.
-use Rattle.std.specs.Prelude.{ℕ, Bool, ◌&&◌, ◌||◌, not, List, length, drop, Option, Some, None, nat_lt, nat_le, ◌==◌, if◌then◌else◌}
+use Rattle.std.specs.Prelude.{◌≡◌, ℕ, Bool, ◌&&◌, ◌||◌, not, List, length, drop, Option, Some, None, nat_lt, nat_le, ◌==◌, if◌then◌else◌}
 use Rattle.insn_set.specs.declared.slot.SlotFields.{SlotFields}
 use Rattle.insn_codec.specs.declared.form.OpcodeForm.{OpcodeForm}
 use Rattle.insn_codec.specs.declared.form.OpcodeForm.TheVariants as form
@@ -25,6 +25,10 @@ second_fault _ src rest = None
 unfoldable pub fault_in_form : OpcodeForm → SlotFields → List ℕ → Option FaultKind
 fault_in_form f s rest =
     if listed f s then (if nat_le s.dst 10 && nat_le s.src 10 then second_fault f s.src rest else Some Register) else Some Reserved
+
+-- a first slot of this form has the fault, whatever bytes follow it
+abbrev pub IsFaultOf : OpcodeForm → SlotFields → FaultKind → Type 0
+IsFaultOf f s kind = (rest : List ℕ) → fault_in_form f s rest ≡ Some kind
 
 abbrev pub fault_by_form : Option OpcodeForm → SlotFields → List ℕ → Option FaultKind
 fault_by_form None s rest = Some Opcode

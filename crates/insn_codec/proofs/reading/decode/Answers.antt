@@ -11,7 +11,7 @@ use Rattle.insn_codec.proofs.reading.decode.Goals as goal
 pub returns-in-Ok-clause-only : goal.returns-in-Ok-clause-only
 returns-in-Ok-clause-only c = λ insn fits begins.
     let same : c.read_front.new.entry ≡ insn = same_insn c.read_front.new.entry insn c.args.bytes.now c.in-Ok.ensures.found.0 fits c.in-Ok.ensures.found.1 begins in
-    let used : c.count.result ≡ length (slots insn) = c.count.ensures ∙ ap length c.in-Ok.ensures.slots ∙ ap (λ (i : Insn). length (slots i)) same in
+    let used : c.slots-slots.result ≡ length (slots insn) = c.slots-slots.ensures.count ∙ ap (λ (i : Insn). length (slots i)) same in
     cc
 
 pub returns-in-Ok-clause-faulty : goal.returns-in-Ok-clause-faulty

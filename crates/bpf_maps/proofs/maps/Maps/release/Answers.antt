@@ -137,7 +137,7 @@ module _ (c : goal.Joined-gone) where
     };
   }
 
-  -- the bytes behind it have moved down
+  -- the bytes after it have moved down
   moved : c.copy_within.new.self ≡ take c.remove-gone.result.start c.args.part.now ++ (take (STACK_AND_CONTEXT + c.self.inside.bytes - (c.remove-gone.result.start + c.area-size.result)) (drop (c.remove-gone.result.start + c.area-size.result) c.args.part.now) ++ drop (c.remove-gone.result.start + (STACK_AND_CONTEXT + c.self.inside.bytes - (c.remove-gone.result.start + c.area-size.result))) c.args.part.now)
   moved = c.copy_within.ensures.after ∙ append_assoc (take c.remove-gone.result.start c.args.part.now) _ _
 

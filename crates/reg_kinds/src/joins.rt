@@ -188,7 +188,9 @@ pub fn join_stack(facts: &mut Facts, edge: &Facts) -> bool
 {
     let mut changes = false;
     for i in 0..STACK_SLOTS {
-        changes |= join_slot(&mut facts.slots[i], &edge.slots[i]);
+        if join_slot(&mut facts.slots[i], &edge.slots[i]) {
+            changes = true;
+        }
     }
     changes
 }

@@ -1,4 +1,4 @@
-use Rattle.std.proofs.Common.{◌≡◌, ◌||◌, Bool, true, false, arith, set, length-set, refl, sym, ap, ap₂, ◌∙◌}
+use Rattle.std.proofs.Common.{◌≡◌, arith, set, length-set, sym, ap, ap₂, ◌∙◌}
 use Rattle.std.proofs.lemmas.List.{get_or_default, set-get_or}
 use Rattle.std.proofs.lemmas.Bool.{false≢true}
 use Rattle.reg_kinds.specs.declared.kind.Slot.TheVariants.{Bytes}
@@ -6,24 +6,24 @@ use Rattle.reg_kinds.specs.declared.facts.Facts.{Facts}
 use Rattle.reg_kinds.specs.Kinds.{slot_at, with_slots}
 use Rattle.reg_kinds.specs.Join.{slot_join}
 use Rattle.reg_kinds.proofs.Tables.{filled, fill_more, rest_more, same_facts}
+use Rattle.reg_kinds.proofs.joins.join_stack.Goals.{then-join_slot, else-join_slot}
 use Rattle.reg_kinds.proofs.joins.join_stack.Goals as goal
-
-both_false : (a b : Bool) → (a || b) ≡ false → (a ≡ false) × (b ≡ false)
-both_false false b none = (refl, none)
-both_false true b none = absurd (false≢true (sym none))
 
 pub loop-i-preserved : goal.loop-i-preserved
 loop-i-preserved c =
     record {
       long = length-set _ _ _ ∙ c.loop-i.invariant.long;
       kept = c.loop-i.invariant.kept;
-      done = fill_more (λ k. slot_join (slot_at c.args.facts.now k) (slot_at c.args.edge.now k)) c.loop-i.facts.slots c.loop-i.i _ (Bytes 0) (omega arith) (c.join_slot-changes.ensures.slot ∙ ap₂ slot_join (get_or_default c.loop-i.facts.slots c.loop-i.i _ (Bytes 0) (omega arith) ∙ c.loop-i.invariant.rest c.loop-i.i (omega arith)) (get_or_default c.args.edge.now.slots c.loop-i.i _ (Bytes 0) (omega arith))) c.loop-i.invariant.done;
+      done = fill_more (λ k. slot_join (slot_at c.args.facts.now k) (slot_at c.args.edge.now k)) c.loop-i.facts.slots c.loop-i.i _ (Bytes 0) (omega arith) (c.join_slot.ensures.slot ∙ ap₂ slot_join (get_or_default c.loop-i.facts.slots c.loop-i.i _ (Bytes 0) (omega arith) ∙ c.loop-i.invariant.rest c.loop-i.i (omega arith)) (get_or_default c.args.edge.now.slots c.loop-i.i _ (Bytes 0) (omega arith))) c.loop-i.invariant.done;
       rest = rest_more c.loop-i.facts.slots c.args.facts.now.slots c.loop-i.i _ (Bytes 0) c.loop-i.invariant.rest;
       same = λ none.
-          let both = both_false c.loop-i.changes c.join_slot-changes.result none in
-          ap (set c.loop-i.facts.slots c.loop-i.i) (c.join_slot-changes.ensures.stays both.1)
-          ∙ set-get_or c.loop-i.facts.slots c.loop-i.i _
-          ∙ c.loop-i.invariant.same both.0;
+          elim c.if-join_slot.branch [
+            | then-join_slot w ↦ absurd (false≢true (sym none ∙ w.changes-is))
+            | else-join_slot w ↦
+                ap (set c.loop-i.facts.slots c.loop-i.i) (c.join_slot.ensures.stays w.if-join_slot.false)
+                ∙ set-get_or c.loop-i.facts.slots c.loop-i.i c.index-facts-i.result
+                ∙ c.loop-i.invariant.same (sym w.changes-is ∙ none)
+          ];
     }
 
 pub returns-clause-facts : goal.returns-clause-facts

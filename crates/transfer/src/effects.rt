@@ -11,7 +11,7 @@ ghost use Rattle.transfer.specs.Branches.{ends, falls};
 ghost use Rattle.transfer.specs.Effects.{source_kind, first_kind, context_read, load_kind, store_facts, number_or, stack_changed, is_known_multiple, changed_facts, map_of, value_of, exit_edges, operator_edges, effect};
 ghost use Rattle.reg_kinds.specs.declared.reason.Reason.TheVariants.{OutsideStack, PointerStored};
 ghost use Rattle.tagged_model.specs.Named.{shapes_named};
-ghost use Rattle.transfer.specs.Flows.{edges_of};
+ghost use Rattle.transfer.specs.Flows.{edges_of, KeepsStack};
 ghost use Rattle.reg_kinds.specs.Kinds.{is_pointer, kind_at, with_kind};
 ghost use Rattle.reg_kinds.specs.declared.kind.Kind.TheVariants.{Scalar};
 ghost use Rattle.transfer.specs.declared.branches.Flow.TheVariants.{Falls};
@@ -302,6 +302,7 @@ fn operate_on_any(
     src: Operand,
 ) -> Result<(), Reason>
     ensures ok { OnOk result (operator_edges wide op dst src facts.old ≡ falls facts.new) }
+    ensures stack { OnOk result (facts.new.slots ≡ facts.old.slots) }
     ensures refused { IfErr result (λ reason. operator_edges wide op dst src facts.old
         ≡ Err reason) }
     ensures stays { OnErr result (facts.new ≡ facts.old) }
@@ -317,6 +318,7 @@ fn operate_on_any(
 #[inline(always)]
 fn operate(facts: &mut Facts, wide: bool, op: AluOp, dst: Reg, src: Operand) -> Result<(), Reason>
     ensures ok { OnOk result (operator_edges wide op dst src facts.old ≡ falls facts.new) }
+    ensures stack { OnOk result (facts.new.slots ≡ facts.old.slots) }
     ensures refused { IfErr result (λ reason. operator_edges wide op dst src facts.old
         ≡ Err reason) }
     ensures stays { OnErr result (facts.new ≡ facts.old) }
@@ -347,26 +349,20 @@ fn exit(facts: &Facts) -> Result<(), Reason>
     }
 }
 
-/// Applies the transfer function of the instruction at `slot`, and returns the edges out of it (see `Flow`). `named` lists the
-/// objects that descriptors name. The facts on the falling edge, or on the edge of a jump that is always taken, replace `facts`. If
-/// a conditional jump can be taken, the facts on its edge overwrite `taken`; else the contents of `taken` mean nothing afterwards.
+/// Applies the transfer function of the instruction at `slot` to the facts before it, and returns the edges out of it (see `Flow`).
+/// `named` lists the objects that descriptors name. What a conditional jump tells on each edge is in the `Flow` alone.
 ///
 /// # Errors
 ///
 /// Why the instruction may not be run: the first of its conditions that fails, in the order of the definition of `effect`. Then
-/// `facts` and `taken` are unchanged.
-pub fn apply(
-    facts: &mut Facts,
-    taken: &mut Facts,
-    named: &[Named],
-    slot: usize,
-    insn: &Insn,
-) -> Result<Flow, Reason>
+/// `facts` are unchanged.
+pub fn apply(facts: &mut Facts, named: &[Named], slot: usize, insn: &Insn) -> Result<Flow, Reason>
     ensures ok { IfOk result (λ flow. effect (shapes_named named.now) slot insn.now facts.old
-        ≡ Ok (edges_of flow facts.new taken.new)) }
+        ≡ Ok (edges_of flow facts.new)) }
     ensures refused { IfErr result (λ reason. effect (shapes_named named.now) slot insn.now
         facts.old ≡ Err reason) }
-    ensures stays { OnErr result ((facts.new ≡ facts.old) × (taken.new ≡ taken.old)) }
+    ensures stack { IfOk result (λ flow. KeepsStack flow facts.old facts.new) }
+    ensures stays { OnErr result (facts.new ≡ facts.old) }
 {
     match *insn {
         Insn::Alu { wide, op, dst, src } => {
@@ -405,12 +401,12 @@ pub fn apply(
         } => {
             let a = check_readable(facts.kind(usize::from(dst.number())))?;
             let b = check_readable(source(facts, wide, &src))?;
-            branch(facts, taken, wide, cond, dst, src, a, b)
+            branch(wide, cond, dst, src, a, b)
         }
         Insn::Call { id } => {
             let helper = known_helper(id).ok_or(Reason::UnknownHelper)?;
             call(facts, named, slot, helper)?;
-            Ok(Flow::Falls)
+            Ok(Flow::Writes)
         }
         Insn::Exit => {
             exit(facts)?;
@@ -438,7 +434,7 @@ pub fn apply(
             let base = check_readable(facts.kind(usize::from(dst.number())))?;
             let value = check_readable(source(facts, true, &src))?;
             store(facts, named, size, off, base, value)?;
-            Ok(Flow::Falls)
+            Ok(Flow::Writes)
         }
         Insn::Atomic {
             size,
@@ -450,7 +446,7 @@ pub fn apply(
             let base = check_readable(facts.kind(usize::from(dst.number())))?;
             let value = check_readable(facts.kind(usize::from(src.number())))?;
             change(facts, named, size, off, base, value)?;
-            Ok(Flow::Falls)
+            Ok(Flow::Writes)
         }
         Insn::Const { dst, value } => Ok(assign(facts, dst, Kind::Scalar(Range::constant(value)))),
         Insn::MapFd { dst, fd } => {

@@ -22,5 +22,5 @@ mod calls;
 mod effects;
 pub mod laws;
 
-pub use branches::Flow;
+pub use branches::{Flow, set_ranges};
 pub use effects::apply;

@@ -1,5 +1,7 @@
 pub mod EntryLists
 pub mod Inflow
+pub mod Numbers
+pub mod NumberedSteps
 pub mod Telling
 pub mod OneVerdict
 pub mod Judgements

@@ -75,6 +75,7 @@ mod judging;
 mod known_answers;
 pub mod laws;
 mod maps;
+mod numbered_facts;
 mod pass;
 mod refusal;
 mod shape;

@@ -28,6 +28,7 @@
 
 mod arguments;
 mod control;
+mod edges;
 mod graph;
 mod kinds;
 mod known;

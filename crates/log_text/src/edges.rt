@@ -36,7 +36,7 @@ impl Edges {
         self.jumping = self.falling;
         (self.falls, self.jumps) = match flow {
             Err(_) | Ok(Flow::Ends) => (false, false),
-            Ok(Flow::Falls | Flow::Writes) => (true, false),
+            Ok(Flow::Falls | Flow::WritesSlot(_) | Flow::Writes) => (true, false),
             Ok(Flow::Jumps) => (false, true),
             Ok(Flow::Either) => (true, true),
             Ok(

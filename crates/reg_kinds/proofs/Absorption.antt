@@ -1,7 +1,6 @@
 -- A second join with the same kind or slot changes nothing.
 use Rattle.std.proofs.Common.{◌≡◌, ℕ, ◌≤◌, ◌==◌, ◌&&◌, bit_and, refl, ap, ap₂, subst, ◌∙◌, arith}
 use Rattle.std.proofs.Props.{props}
-use Rattle.std.specs.Prelude.{slice_index_or}
 use Rattle.std.proofs.lemmas.Bool.{cond-true}
 use Rattle.std.proofs.lemmas.Int.{ints, clamps}
 use Rattle.std.proofs.lemmas.Nat.{and_assoc}
@@ -12,14 +11,10 @@ use Rattle.interval.specs.Ranges.{hull}
 use Rattle.reg_kinds.specs.declared.kind.ValuePointer.{ValuePointer}
 use Rattle.reg_kinds.specs.declared.kind.Kind.{Kind}
 use Rattle.reg_kinds.specs.declared.kind.Kind.TheVariants.{Unreadable, Scalar, MapRef, Stack, Ctx, Value, MaybeValue}
-use Rattle.reg_kinds.specs.declared.kind.Slot.{Slot}
 use Rattle.reg_kinds.specs.declared.kind.Slot.TheVariants.{Bytes, Spill}
 use Rattle.reg_kinds.specs.Pointers.{offsets_hull}
-use Rattle.reg_kinds.specs.Join.{kind_join, spilled, slot_join}
-use Rattle.reg_kinds.specs.Laws.{KindsAssociate, StacksAbsorb}
-use Rattle.reg_kinds.specs.TableLaws.{tabulate-at}
-use Rattle.words.specs.Stack.{stack_slots}
-use Rattle.reg_kinds.proofs.Tables.{same_table}
+use Rattle.reg_kinds.specs.Join.{kind_join, spilled}
+use Rattle.reg_kinds.specs.Laws.{KindsAssociate, SlotsAbsorb}
 use Rattle.reg_kinds.proofs.FactLaws.{first_spilled}
 use Rattle.reg_kinds.proofs.JoinedByTest.{number_test, offset_test}
 use Rattle.reg_kinds.proofs.PointerLemmas.{same_pointer}
@@ -38,6 +33,10 @@ same_range lo hi lo' hi' p q e f =
     let moved : (h : lo' ≤ hi) → made lo hi p ≡ made lo' hi h = subst (λ (x : ℕ). (h : x ≤ hi) → made lo hi p ≡ made x hi h) e same in
     subst (λ (y : ℕ). (h : lo' ≤ y) → made lo hi p ≡ made lo' y h) f moved q
 
+-- the hull of a range and one that it holds
+pub hull_holds : (a b : Range) → a.lo ≤ b.lo → b.hi ≤ a.hi → hull a b ≡ a
+hull_holds a b low high = same_range (hull a b).lo (hull a b).hi a.lo a.hi (hull a b).ordered a.ordered (omega (arith, low)) (omega (arith, high))
+
 hull_itself : (a : Range) → hull a a ≡ a
 hull_itself a = same_range (hull a a).lo (hull a a).hi a.lo a.hi (hull a a).ordered a.ordered (omega arith) (omega arith)
 
@@ -53,19 +52,12 @@ kinds_itself Ctx = refl
 kinds_itself (Value p) = cond-true (p.map == p.map) (Value (offsets_hull p p)) Unreadable (number_test.laws.refl p.map) ∙ ap Value (offsets_itself p)
 kinds_itself (MaybeValue m s) = cond-true ((m == m) && (s == s)) (MaybeValue m s) Unreadable (ap₂ (◌&&◌) (number_test.laws.refl m) (number_test.laws.refl s))
 
--- ---- slots and stacks
+-- ---- slots
 
-slots_absorb : KindsAssociate → (s t : Slot) → slot_join (slot_join s t) t ≡ slot_join s t
+pub slots_absorb : KindsAssociate → SlotsAbsorb
 slots_absorb h (Bytes x) (Bytes y) = ap Bytes (and_assoc y x y ∙ ap (bit_and x) (and_self y))
 slots_absorb h (Bytes x) (Spill k) = refl
 slots_absorb h (Spill j) (Bytes y) = ap Bytes (and_zero_l y)
 slots_absorb h (Spill j) (Spill k) =
     first_spilled (kind_join j k) k
     ∙ ap spilled (h j k k ∙ ap (kind_join j) (kinds_itself k))
-
-pub stacks_absorb : KindsAssociate → StacksAbsorb
-stacks_absorb h s t =
-    same_table _ _ stack_slots (Bytes 0)
-    (λ i lt.
-    ap (λ (x : Slot). slot_join x (slice_index_or t i (Bytes 0))) (tabulate-at (λ n. slot_join (slice_index_or s n (Bytes 0)) (slice_index_or t n (Bytes 0))) stack_slots i (Bytes 0) lt)
-    ∙ slots_absorb h (slice_index_or s i (Bytes 0)) (slice_index_or t i (Bytes 0)))

@@ -1,5 +1,5 @@
 -- The joins of kinds, stack slots and facts, for edges that merge. This project's own.
-use Rattle.std.specs.Prelude.{◌==◌, ◌&&◌, bit_and, if◌then◌else◌, List, slice_index_or}
+use Rattle.std.specs.Prelude.{ℕ, ◌/◌, ◌==◌, ◌&&◌, bit_and, if◌then◌else◌}
 use Rattle.std.specs.Ordering.{int_eq}
 use Rattle.interval.specs.Ranges.{hull}
 use Rattle.reg_kinds.specs.declared.kind.Kind.{Kind}
@@ -8,8 +8,7 @@ use Rattle.reg_kinds.specs.declared.kind.Slot.{Slot}
 use Rattle.reg_kinds.specs.declared.kind.Slot.TheVariants.{Bytes, Spill}
 use Rattle.reg_kinds.specs.declared.facts.Facts.{Facts}
 use Rattle.reg_kinds.specs.Pointers.{offsets_hull}
-use Rattle.words.specs.Stack.{stack_slots}
-use Rattle.reg_kinds.specs.Kinds.{kind_at, slot_at, facts_of, tabulate}
+use Rattle.reg_kinds.specs.Kinds.{kind_at, slot_at, facts_of}
 
 abbrev pub kind_join : Kind → Kind → Kind
 kind_join (Scalar a) (Scalar b) = Scalar (hull a b)
@@ -30,10 +29,17 @@ slot_join (Bytes x) (Bytes y) = Bytes (bit_and x y)
 slot_join (Spill j) (Spill k) = spilled (kind_join j k)
 slot_join _ _ = Bytes 0
 
--- the join of two stacks, slot by slot
-abbrev pub stack_join : List Slot → List Slot → List Slot
-stack_join s t = tabulate stack_slots (λ i. slot_join (slice_index_or s i (Bytes 0)) (slice_index_or t i (Bytes 0)))
-
 abbrev pub facts_join : Facts → Facts → Facts
 facts_join a b =
     facts_of (λ r. kind_join (kind_at a r) (kind_at b r)) (λ i. slot_join (slot_at a i) (slot_at b i))
+
+-- the stack has eight parts, of eight slots each
+abbrev pub stack_parts : ℕ
+stack_parts = 8
+
+abbrev pub part_of : ℕ → ℕ
+part_of i = i / 8
+
+-- the slots of facts a, those of one part joined with facts b
+abbrev pub part_joined : ℕ → Facts → Facts → ℕ → Slot
+part_joined part a b i = if part_of i == part then slot_join (slot_at a i) (slot_at b i) else slot_at a i

@@ -1,9 +1,9 @@
 -- Laws of the joins, for all kinds, slots and facts. This project's own.
-use Rattle.std.specs.Prelude.{◌≡◌, List}
+use Rattle.std.specs.Prelude.{◌≡◌}
 use Rattle.reg_kinds.specs.declared.kind.Kind.{Kind}
 use Rattle.reg_kinds.specs.declared.kind.Slot.{Slot}
 use Rattle.reg_kinds.specs.declared.facts.Facts.{Facts}
-use Rattle.reg_kinds.specs.Join.{kind_join, slot_join, stack_join, facts_join}
+use Rattle.reg_kinds.specs.Join.{kind_join, slot_join, facts_join}
 
 abbrev pub KindsCommute : Type 0
 KindsCommute = (j k : Kind) → kind_join j k ≡ kind_join k j
@@ -23,6 +23,6 @@ FactsCommute = (a b : Facts) → facts_join a b ≡ facts_join b a
 abbrev pub FactsAssociate : Type 0
 FactsAssociate = (a b c : Facts) → facts_join (facts_join a b) c ≡ facts_join a (facts_join b c)
 
--- a second join with the same stack changes nothing
-abbrev pub StacksAbsorb : Type 0
-StacksAbsorb = (s t : List Slot) → stack_join (stack_join s t) t ≡ stack_join s t
+-- a second join with the same slot changes nothing
+abbrev pub SlotsAbsorb : Type 0
+SlotsAbsorb = (s t : Slot) → slot_join (slot_join s t) t ≡ slot_join s t

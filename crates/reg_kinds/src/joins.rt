@@ -1,15 +1,22 @@
 //! The joins of kinds, stack slots and facts, for edges that merge.
 
-ghost use Rattle.std.specs.Prelude.{◌≡◌, true, false, bit_and};
+ghost use Rattle.std.specs.Prelude.{◌≡◌, ◌<◌, true, false, bit_and};
 ghost use Rattle.reg_kinds.specs.Kinds.{kind_at, slot_at, with_registers, with_slots};
 ghost use Rattle.reg_kinds.specs.Pointers.{offsets_hull};
 ghost use Rattle.reg_kinds.specs.declared.kind.Slot.TheVariants.{Spill};
-ghost use Rattle.reg_kinds.specs.Join.{kind_join, spilled, slot_join, facts_join};
+ghost use Rattle.interval.specs.Ranges.{hull};
+ghost use Rattle.reg_kinds.specs.Join.{kind_join, spilled, slot_join, facts_join, stack_parts, part_joined};
 
 use crate::facts::Facts;
 use crate::kind::{Kind, Slot, ValuePointer};
-use interval::hull;
+use interval::{Range, hull};
 use words::{REGISTERS, STACK_SLOTS};
+
+/// The number of slots in a part of the stack.
+pub const PART_SLOTS: usize = 8;
+
+/// The number of parts of the stack.
+pub const STACK_PARTS: usize = STACK_SLOTS / PART_SLOTS;
 
 impl Kind {
     /// The join of two kinds: the hull of two ranges, or of two ranges of offsets into values of one map; else, if both are
@@ -75,7 +82,16 @@ pub fn join_into(facts: &mut Facts, edge: &Facts)
     ensures { facts.new ≡ facts_join facts.old edge.now }
 {
     join_registers(facts, edge);
-    let _ = join_stack(facts, edge);
+    join_stack(facts, edge);
+}
+
+/// Whether the range `a` holds `b`.
+#[tactic(auto, using(crate::proofs::Absorption::hull_holds))]
+#[inline(always)]
+fn holds_range(a: &Range, b: &Range) -> bool
+    ensures { result ≡ true → hull a.now b.now ≡ a.now }
+{
+    a.lo <= b.lo && b.hi <= a.hi
 }
 
 /// Joins kinds that differ.
@@ -93,8 +109,9 @@ fn join_kind(known: &mut Kind, edge: &Kind)
     ensures { known.new ≡ kind_join known.old edge.now }
 {
     match (&mut *known, edge) {
-        (Kind::Unreadable, _) | (Kind::Ctx, Kind::Ctx) => {}
+        (Kind::Scalar(range), Kind::Scalar(other)) if holds_range(range, other) => {}
         (Kind::Scalar(range), Kind::Scalar(other)) => *range = hull(*range, *other),
+        (Kind::Unreadable, _) | (Kind::Ctx, Kind::Ctx) => {}
         (Kind::Stack(x), Kind::Stack(y)) if *x == *y => {}
         (Kind::MapRef(m), Kind::MapRef(n)) if *m == *n => {}
         (Kind::Value(p), Kind::Value(q)) if p.map == q.map => *p = offsets_hull(*p, *q),
@@ -180,17 +197,29 @@ fn join_other_slots(known: &mut Slot, edge: &Slot)
     *known = known.join(*edge);
 }
 
-/// Joins the stack of a further edge into that of `facts`. Returns whether it may have changed.
-pub fn join_stack(facts: &mut Facts, edge: &Facts) -> bool
-    ensures facts { facts.new ≡ with_slots facts.old
-        (λ i. slot_join (slot_at facts.old i) (slot_at edge.now i)) }
+/// Joins a part of the stack of a further edge into that of `facts`: the slots from `PART_SLOTS * part` on. Returns whether it may
+/// have changed.
+pub fn join_part(facts: &mut Facts, edge: &Facts, part: usize) -> bool
+    requires { part < stack_parts }
+    ensures facts { facts.new ≡ with_slots facts.old (part_joined part facts.old edge.now) }
     ensures stack { result ≡ false → facts.new.slots ≡ facts.old.slots }
 {
     let mut changes = false;
-    for i in 0..STACK_SLOTS {
+    let first = PART_SLOTS * part;
+    for i in first..first + PART_SLOTS {
         if join_slot(&mut facts.slots[i], &edge.slots[i]) {
             changes = true;
         }
     }
     changes
+}
+
+/// Joins the stack of a further edge into that of `facts`.
+fn join_stack(facts: &mut Facts, edge: &Facts)
+    ensures { facts.new ≡ with_slots facts.old
+        (λ i. slot_join (slot_at facts.old i) (slot_at edge.now i)) }
+{
+    for i in 0..STACK_SLOTS {
+        let _ = join_slot(&mut facts.slots[i], &edge.slots[i]);
+    }
 }

@@ -32,7 +32,7 @@ mod reason;
 mod stack;
 
 pub use facts::Facts;
-pub use joins::{join, join_into, join_registers, join_stack};
+pub use joins::{PART_SLOTS, STACK_PARTS, join, join_into, join_part, join_registers};
 pub use kind::{Kind, Slot, ValuePointer};
 pub use many::{facts_after_call, fill_stack, read_many};
 pub use null_tests::settle;

@@ -19,7 +19,9 @@ pub enum Flow {
     Ends,
     /// The falling edge, with the facts after the instruction.
     Falls,
-    /// The same after an instruction that may write to the stack.
+    /// The same after an instruction that may change this slot of the stack.
+    WritesSlot(usize),
+    /// The same after an instruction that may change each slot of the stack.
     Writes,
     /// The jumping edge, with the same facts.
     Jumps,

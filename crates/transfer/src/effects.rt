@@ -12,6 +12,8 @@ ghost use Rattle.transfer.specs.Effects.{source_kind, first_kind, context_read, 
 ghost use Rattle.reg_kinds.specs.declared.reason.Reason.TheVariants.{OutsideStack, PointerStored};
 ghost use Rattle.tagged_model.specs.Named.{shapes_named};
 ghost use Rattle.transfer.specs.Flows.{edges_of, KeepsStack};
+ghost use Rattle.reg_kinds.specs.Stack.{ChangesAtMost};
+ghost use Rattle.reg_kinds.specs.declared.facts.Facts.{Facts as AnyFacts};
 ghost use Rattle.reg_kinds.specs.Kinds.{is_pointer, kind_at, with_kind};
 ghost use Rattle.reg_kinds.specs.declared.kind.Kind.TheVariants.{Scalar};
 ghost use Rattle.transfer.specs.declared.branches.Flow.TheVariants.{Falls};
@@ -125,7 +127,7 @@ fn store_outside(value: Kind) -> Result<(), Reason>
     }
 }
 
-/// Updates the facts for a store.
+/// Updates the facts for a store. Returns the slot of the stack that it may change, if any.
 fn store(
     facts: &mut Facts,
     named: &[Named],
@@ -133,9 +135,10 @@ fn store(
     offset: i16,
     base: Kind,
     value: Kind,
-) -> Result<(), Reason>
+) -> Result<Option<usize>, Reason>
     ensures ok { OnOk result (store_facts (shapes_named named.now) facts.old size offset
         base value ≡ Ok facts.new) }
+    ensures stack { IfOk result (λ slot. ChangesAtMost slot facts.old facts.new) }
     ensures refused { IfErr result (λ reason. store_facts (shapes_named named.now) facts.old
         size offset base value ≡ Err reason) }
     ensures stays { OnErr result (facts.new ≡ facts.old) }
@@ -146,12 +149,13 @@ fn store(
                 return Err(Reason::UnreadableRegister);
             }
             let at = stack_offset(from, offset)?;
-            write_stack(facts, at, size, value)
+            Ok(Some(write_stack(facts, at, size, value)?))
         }
         Kind::Ctx => Err(Reason::ContextAccess),
         Kind::Value(pointer) => {
             room_of(named, pointer, offset, u32::from(size.bytes()))?;
-            store_outside(value)
+            store_outside(value)?;
+            Ok(None)
         }
         Kind::MaybeValue { .. } => Err(Reason::MaybeNull),
         _ => Err(Reason::NotPointer),
@@ -168,9 +172,10 @@ fn number_or(reason: Reason, value: Kind) -> Result<(), Reason>
     }
 }
 
-/// Updates the facts for an atomic operation in the stack.
-fn change_stack(facts: &mut Facts, offset: i32, size: AccessSize) -> Result<(), Reason>
+/// Updates the facts for an atomic operation in the stack. Returns the slot.
+fn change_stack(facts: &mut Facts, offset: i32, size: AccessSize) -> Result<usize, Reason>
     ensures ok { OnOk result (stack_changed facts.old offset size ≡ Ok facts.new) }
+    ensures stack { IfOk result (λ slot. ChangesAtMost (Some slot) facts.old facts.new) }
     ensures refused { IfErr result (λ reason. stack_changed facts.old offset size ≡ Err reason) }
     ensures stays { OnErr result (facts.new ≡ facts.old) }
 {
@@ -193,7 +198,7 @@ fn is_known_multiple(pointer: ValuePointer, offset: i16, size: AccessSize) -> bo
     pointer.lo == pointer.hi && is_multiple(behind(pointer.lo, offset), size)
 }
 
-/// Updates the facts for an atomic operation.
+/// Updates the facts for an atomic operation. Returns the slot of the stack that it may change, if any.
 fn change(
     facts: &mut Facts,
     named: &[Named],
@@ -201,9 +206,10 @@ fn change(
     offset: i16,
     base: Kind,
     value: Kind,
-) -> Result<(), Reason>
+) -> Result<Option<usize>, Reason>
     ensures ok { OnOk result (changed_facts (shapes_named named.now) facts.old (access_size size)
         offset base value ≡ Ok facts.new) }
+    ensures stack { IfOk result (λ slot. ChangesAtMost slot facts.old facts.new) }
     ensures refused { IfErr result (λ reason. changed_facts (shapes_named named.now) facts.old
         (access_size size) offset base value ≡ Err reason) }
     ensures stays { OnErr result (facts.new ≡ facts.old) }
@@ -213,14 +219,14 @@ fn change(
         Kind::Stack(from) => {
             number_or(Reason::PointerArithmetic, value)?;
             let at = stack_offset(from, offset)?;
-            change_stack(facts, at, access)
+            Ok(Some(change_stack(facts, at, access)?))
         }
         Kind::Ctx => Err(Reason::ContextAccess),
         Kind::Value(pointer) => {
             number_or(Reason::PointerArithmetic, value)?;
             room_of(named, pointer, offset, u32::from(access.bytes()))?;
             if is_known_multiple(pointer, offset, access) {
-                Ok(())
+                Ok(None)
             } else {
                 Err(Reason::UnalignedAtomic)
             }
@@ -272,6 +278,18 @@ fn assign(facts: &mut Facts, dst: Reg, kind: Kind) -> Flow
 {
     facts.set_kind(usize::from(dst.number()), kind);
     Flow::Falls
+}
+
+/// The falling edge, after an instruction that may change this slot of the stack, if any.
+#[inline(always)]
+fn written(slot: Option<usize>) -> Flow
+    ensures edges { (f : AnyFacts) → edges_of result f ≡ edges_of Falls f }
+    ensures stack { (f g : AnyFacts) → ChangesAtMost slot f g → KeepsStack result f g }
+{
+    match slot {
+        Some(slot) => Flow::WritesSlot(slot),
+        None => Flow::Falls,
+    }
 }
 
 /// The ranges of both operands, if both are numbers.
@@ -433,8 +451,7 @@ pub fn apply(facts: &mut Facts, named: &[Named], slot: usize, insn: &Insn) -> Re
         } => {
             let base = check_readable(facts.kind(usize::from(dst.number())))?;
             let value = check_readable(source(facts, true, &src))?;
-            store(facts, named, size, off, base, value)?;
-            Ok(Flow::Writes)
+            Ok(written(store(facts, named, size, off, base, value)?))
         }
         Insn::Atomic {
             size,
@@ -445,8 +462,7 @@ pub fn apply(facts: &mut Facts, named: &[Named], slot: usize, insn: &Insn) -> Re
         } => {
             let base = check_readable(facts.kind(usize::from(dst.number())))?;
             let value = check_readable(facts.kind(usize::from(src.number())))?;
-            change(facts, named, size, off, base, value)?;
-            Ok(Flow::Writes)
+            Ok(written(change(facts, named, size, off, base, value)?))
         }
         Insn::Const { dst, value } => Ok(assign(facts, dst, Kind::Scalar(Range::constant(value)))),
         Insn::MapFd { dst, fd } => {

@@ -17,7 +17,7 @@ use Rattle.reg_kinds.specs.declared.kind.Kind.TheVariants.{Scalar}
 use Rattle.reg_kinds.specs.declared.reason.Reason.{Reason}
 use Rattle.reg_kinds.specs.Reason.{and_then_ok}
 use Rattle.reg_kinds.specs.Join.{facts_join}
-use Rattle.reg_kinds.specs.Kinds.{entry, kind_at}
+use Rattle.reg_kinds.specs.Kinds.{entry, kind_at, slot_at}
 use Rattle.reg_kinds.specs.Laws.{FactsCommute, FactsAssociate}
 use Rattle.tagged_model.specs.Cells.{and_then}
 use Rattle.tagged_model.specs.Named.{Shapes}
@@ -28,7 +28,7 @@ use Rattle.insn_set.specs.Flow.{falls_to, jumps_to, falls, jumps, jump_target}
 use Rattle.verifier.specs.declared.pass.Pass.{Pass}
 use Rattle.verifier.specs.declared.numbered_facts.NumberedFacts.{NumberedFacts}
 use Rattle.verifier.specs.inside.Numbers.{facts_on, entry_of, at_entry, IsNumbered, IsNumberedIf, AreNumbered}
-use Rattle.verifier.proofs.Numbers.{joined_none, on_none, raised}
+use Rattle.verifier.proofs.Numbers.{joined_none, on_none, raised, entry_numbered}
 use Rattle.verifier.specs.Shape.{is_slot, falls_into, jumps_into}
 use Rattle.verifier.specs.Before.{joined, only_if, edges_into, facts_sent, facts_from_below, facts_before}
 use Rattle.verifier.specs.inside.Arriving.{brought_to, Brings, arriving_at}
@@ -111,8 +111,8 @@ module _ (shapes : Shapes) where
   pub at_start : (code : List Insn) (pass : Pass) → 1 ≤ slot_count code → pass.falling ≡ Some at_entry → pass.entries ≡ [] → IsBefore code 0 pass
   at_start code pass some first empty =
       let known : facts_on pass.falling ≡ Some entry = ap facts_on first in
-      let stacks : ℕ → List Slot = λ _. entry.slots in
-      let numbered : IsNumbered stacks 2 at_entry = record { is = refl; below = omega arith; includes = λ none. absurd (omega (arith, none)) } in
+      let stacks : ℕ → ℕ → Slot = λ i _. slot_at entry i in
+      let numbered : IsNumbered stacks 2 at_entry = entry_numbered in
       record {
         due = 0;
         ahead = omega arith;

@@ -1,6 +1,7 @@
 pub mod EntryLists
 pub mod Inflow
 pub mod Numbers
+pub mod PartJoins
 pub mod NumberedSteps
 pub mod Telling
 pub mod OneVerdict

@@ -1,6 +1,6 @@
 -- A step of the pass on facts whose stacks have numbers is the step of the definition.
-use Rattle.std.proofs.Common.{◌≡◌, ℕ, ◌+◌, ◌*◌, ◌<◌, ◌≤◌, Bool, true, false, not, List, Option, Some, None, refl, sym, ap, subst, ◌∙◌, inl, inr, arith, set, set-set}
-use Rattle.std.proofs.lemmas.List.{set_comm}
+use Rattle.std.proofs.Common.{◌≡◌, ℕ, zero, suc, ◌+◌, ◌*◌, ◌<◌, ◌≤◌, Bool, true, false, not, List, [], ◌∷◌, length, get_or, Option, Some, None, refl, sym, ap, subst, ◌∙◌, inl, inr, arith, set, set-set, length-set, get_or-set_same, get_or-set_other}
+use Rattle.std.proofs.lemmas.List.{set_comm, get_or_past}
 use Rattle.std.specs.Option.{option_map}
 use Rattle.std.proofs.lemmas.Bool.{cases_eq, eq-eqb, ne_eqb}
 use Rattle.interval.specs.Refine.{RangePair}
@@ -11,10 +11,15 @@ use Rattle.insn_set.specs.Flow.{jump_target}
 use Rattle.reg_kinds.specs.declared.kind.Kind.{Kind}
 use Rattle.reg_kinds.specs.declared.kind.Kind.TheVariants.{Scalar}
 use Rattle.reg_kinds.specs.declared.facts.Facts.{Facts}
-use Rattle.reg_kinds.specs.Laws.{StacksAbsorb}
+use Rattle.words.specs.Stack.{stack_slots}
+use Rattle.reg_kinds.specs.Join.{part_of}
+use Rattle.reg_kinds.specs.Kinds.{slot_at}
+use Rattle.reg_kinds.specs.Settle.{facts_settled}
+use Rattle.reg_kinds.specs.Stack.{ChangesAtMost}
+use Rattle.reg_kinds.specs.Laws.{SlotsAbsorb}
 use Rattle.tagged_model.specs.Named.{Shapes}
 use Rattle.transfer.specs.declared.branches.Flow.{Flow}
-use Rattle.transfer.specs.declared.branches.Flow.TheVariants.{Ends, Falls, Writes, Jumps, Either, Compares, Settles}
+use Rattle.transfer.specs.declared.branches.Flow.TheVariants.{Ends, Falls, WritesSlot, Writes, Jumps, Either, Compares, Settles}
 use Rattle.transfer.specs.Branches.{with_pair}
 use Rattle.transfer.specs.Flows.{edges_of, KeepsStack}
 use Rattle.verifier.specs.Before.{joined, only_if}
@@ -22,8 +27,8 @@ use Rattle.verifier.specs.Shape.{is_slot}
 use Rattle.verifier.specs.declared.numbered_facts.NumberedFacts.{NumberedFacts}
 use Rattle.verifier.specs.inside.Arriving.{Brings, brought_to}
 use Rattle.verifier.specs.inside.Edges.{falling_of, jumping_of, falling_from, jumping_from}
-use Rattle.verifier.specs.inside.Numbers.{facts_on, entry_of, IsJoinedBy, IsJoinedIf, IsTaken, IsSentIf, with_ranges, settled, on_falling_edge, on_jumping_edge, noted, IsPast, IsPastIf, IsNumbered, IsNumberedIf, AreNumbered}
-use Rattle.verifier.proofs.Numbers.{joined_none, on_none, raised_if, Stacks, with_stack, stack_on, numbered_more, numbered_more_if, numbered_same, numbered_fresh, right_join}
+use Rattle.verifier.specs.inside.Numbers.{facts_on, entry_of, number_of, included_in, part_renumbered, IsInStack, IsNumberedSlot, IsJoinedBy, IsJoinedIf, IsTaken, IsSentIf, with_ranges, on_falling_edge, on_jumping_edge, noted, IsPast, IsPastIf, IsNumbered, IsNumberedIf, AreNumbered}
+use Rattle.verifier.proofs.Numbers.{joined_none, on_none, raised_if, with_held, slot_more, slot_same, slot_fresh, Stacks, with_stack, stack_on, numbered_more, numbered_more_if, numbered_same, numbered_fresh, right_join}
 
 -- ---- the facts on the edges
 
@@ -46,10 +51,10 @@ kinds_twice r d s a b x y =
 -- ranges that are set again
 pub ranged_twice : (x : NumberedFacts) (dst : ℕ) (src : Operand) (p q : RangePair) → with_ranges (with_ranges x dst src p) dst src q ≡ with_ranges x dst src q
 ranged_twice x dst (Imm z) p q =
-    ap (λ (r : List Kind). let y : NumberedFacts = record { facts = record { registers = r; slots = x.facts.slots }; stack = x.stack; includes = x.includes } in y)
+    ap (λ (r : List Kind). let y : NumberedFacts = record { facts = record { registers = r; slots = x.facts.slots }; numbers = x.numbers; includes = x.includes } in y)
     (set-set x.facts.registers dst (Scalar p.0) (Scalar q.0))
 ranged_twice x dst (Reg s) p q =
-    ap (λ (r : List Kind). let y : NumberedFacts = record { facts = record { registers = r; slots = x.facts.slots }; stack = x.stack; includes = x.includes } in y)
+    ap (λ (r : List Kind). let y : NumberedFacts = record { facts = record { registers = r; slots = x.facts.slots }; numbers = x.numbers; includes = x.includes } in y)
     (kinds_twice x.facts.registers dst s (Scalar p.0) (Scalar p.1) (Scalar q.0) (Scalar q.1))
 
 ranged_facts : (x : NumberedFacts) (dst : ℕ) (src : Operand) (told : Option RangePair) → facts_on (option_map (with_ranges x dst src) told) ≡ option_map (with_pair x.facts dst src) told
@@ -59,6 +64,7 @@ ranged_facts x dst src (Some pair) = refl
 falling_facts : (flow : Flow) (fresh : ℕ) (x : NumberedFacts) → facts_on (on_falling_edge flow fresh x) ≡ (edges_of flow x.facts).falling
 falling_facts Ends fresh x = refl
 falling_facts Falls fresh x = refl
+falling_facts (WritesSlot i) fresh x = refl
 falling_facts Writes fresh x = refl
 falling_facts Jumps fresh x = refl
 falling_facts Either fresh x = refl
@@ -69,6 +75,7 @@ falling_facts (Settles site false) fresh x = refl
 jumping_facts : (flow : Flow) (fresh : ℕ) (x : NumberedFacts) → facts_on (on_jumping_edge flow fresh x) ≡ (edges_of flow x.facts).jumping
 jumping_facts Ends fresh x = refl
 jumping_facts Falls fresh x = refl
+jumping_facts (WritesSlot i) fresh x = refl
 jumping_facts Writes fresh x = refl
 jumping_facts Jumps fresh x = refl
 jumping_facts Either fresh x = refl
@@ -79,27 +86,68 @@ jumping_facts (Settles site false) fresh x = refl
 noted_facts : (flow : Flow) (fresh : ℕ) (x : NumberedFacts) → (noted flow fresh x).facts ≡ x.facts
 noted_facts Ends fresh x = refl
 noted_facts Falls fresh x = refl
+noted_facts (WritesSlot i) fresh x = refl
 noted_facts Writes fresh x = refl
 noted_facts Jumps fresh x = refl
 noted_facts Either fresh x = refl
 noted_facts (Compares dst src falls jumps) fresh x = refl
 noted_facts (Settles site null) fresh x = refl
 
+pub in_stack : (flow : Flow) (f g : Facts) → KeepsStack flow f g → IsInStack flow
+in_stack (WritesSlot i) f g keeps = keeps.0
+in_stack Ends f g keeps = tt
+in_stack Falls f g keeps = tt
+in_stack Writes f g keeps = tt
+in_stack Jumps f g keeps = tt
+in_stack Either f g keeps = tt
+in_stack (Compares dst src falls jumps) f g keeps = tt
+in_stack (Settles site null) f g keeps = tt
+
 -- ---- their numbers
+
+set_none : (xs : List ℕ) (i : ℕ) → get_or (set xs i 0) i 0 ≡ 0
+set_none [] i = get_or_past [] i 0 (omega arith)
+set_none (x ∷ xs) zero = refl
+set_none (x ∷ xs) (suc i) = set_none xs i
 
 -- other facts with the same numbers
 abbrev pub left_with : NumberedFacts → Facts → NumberedFacts
-left_with x g = record { facts = g; stack = x.stack; includes = x.includes }
+left_with x g = record { facts = g; numbers = x.numbers; includes = x.includes }
 
-module _ (stacks : Stacks) (n m : ℕ) (lt : n < m) where
-  more : (x : NumberedFacts) → IsNumbered stacks n x → IsNumbered (with_stack stacks n x.facts.slots) m x
-  more x h = numbered_more stacks n m x.facts.slots x h lt
+module _ (stacks : Stacks) (n m : ℕ) (lt : n < m) (some : 0 < n) where
+  more : (x : NumberedFacts) → IsNumbered stacks n x → IsNumbered (with_stack stacks n (slot_at x.facts)) m x
+  more x h = numbered_more stacks n m (slot_at x.facts) x h lt
 
-  kept : (x : NumberedFacts) (g : Facts) → IsNumbered stacks n x → g.slots ≡ x.facts.slots → IsNumbered (with_stack stacks n g.slots) m (left_with x g)
+  kept : (x : NumberedFacts) (g : Facts) → IsNumbered stacks n x → g.slots ≡ x.facts.slots → IsNumbered (with_stack stacks n (slot_at g)) m (left_with x g)
   kept x g h same = more (left_with x g) (numbered_same stacks n x (left_with x g) h same refl refl)
 
-  noted_numbered : (flow : Flow) (x : NumberedFacts) (g : Facts) → IsNumbered stacks n x → KeepsStack flow x.facts g → IsNumbered (with_stack stacks n g.slots) m (noted flow n (left_with x g))
-  noted_numbered Writes x g h keeps = numbered_fresh stacks n m (noted Writes n (left_with x g)) lt refl refl
+  -- one slot was written: its part has a new number, and other slots are unchanged
+  slot_noted : (x : NumberedFacts) (g : Facts) (at : ℕ) → IsNumbered stacks n x → ChangesAtMost (Some at) x.facts g → (i : ℕ) → i < stack_slots
+      → IsNumberedSlot (with_held (stacks i) n (slot_at g i)) m (slot_at g i) (number_of (part_renumbered (left_with x g) at n) i) (included_in (part_renumbered (left_with x g) at n) i)
+  slot_noted x g at h keeps i within =
+      let part : part_of i < length x.numbers = let long = h.parts in omega (arith, long, within) in
+      elim (cases_eq (part_of i) (part_of at)) [
+        | inl same ↦
+            slot_fresh (stacks i) n m (slot_at g i) (number_of (part_renumbered (left_with x g) at n) i) (included_in (part_renumbered (left_with x g) at n) i) some lt
+            (subst (λ (p : ℕ). get_or (set x.numbers p n) (part_of i) 0 ≡ n) same (get_or-set_same x.numbers (part_of i) n 0 part))
+            (subst (λ (p : ℕ). get_or (set x.includes p 0) (part_of i) 0 ≡ 0) same (set_none x.includes (part_of i)))
+        | inr other ↦
+            slot_more (stacks i) n m (slot_at g i) (slot_at g i) (number_of (part_renumbered (left_with x g) at n) i) (included_in (part_renumbered (left_with x g) at n) i)
+            (slot_same (stacks i) n (slot_at x.facts i) (slot_at g i) (number_of x i) (included_in x i) (number_of (part_renumbered (left_with x g) at n) i) (included_in (part_renumbered (left_with x g) at n) i)
+            (h.slots i within)
+            (keeps.1 i (λ e. other (ap part_of e)))
+            (get_or-set_other x.numbers (part_of at) (part_of i) n 0 other)
+            (get_or-set_other x.includes (part_of at) (part_of i) 0 0 other))
+            lt
+      ]
+
+  noted_numbered : (flow : Flow) (x : NumberedFacts) (g : Facts) → IsNumbered stacks n x → KeepsStack flow x.facts g → IsNumbered (with_stack stacks n (slot_at g)) m (noted flow n (left_with x g))
+  noted_numbered (WritesSlot at) x g h keeps =
+      record {
+        parts = length-set x.numbers (part_of at) n ∙ h.parts;
+        slots = slot_noted x g at h keeps;
+      }
+  noted_numbered Writes x g h keeps = numbered_fresh stacks n m g some lt
   noted_numbered Falls x g h keeps = kept x g h keeps
   noted_numbered Ends x g h keeps = kept x g h keeps
   noted_numbered Jumps x g h keeps = kept x g h keeps
@@ -118,20 +166,22 @@ module _ (stacks : Stacks) (n m : ℕ) (lt : n < m) where
   jumping_numbered : (flow : Flow) (x : NumberedFacts) → IsNumbered stacks n x → IsNumberedIf (with_stack stacks n (stack_on (on_jumping_edge flow n x))) m (on_jumping_edge flow n x)
   jumping_numbered Ends x h = tt
   jumping_numbered Falls x h = tt
+  jumping_numbered (WritesSlot i) x h = tt
   jumping_numbered Writes x h = tt
   jumping_numbered Jumps x h = more x h
   jumping_numbered Either x h = more x h
   jumping_numbered (Compares dst src falls jumps) x h = ranged_numbered x dst src jumps h
-  jumping_numbered (Settles site null) x h = numbered_fresh stacks n m (settled site null n x) lt refl refl
+  jumping_numbered (Settles site null) x h = numbered_fresh stacks n m (facts_settled site null x.facts) some lt
 
   falling_numbered : (flow : Flow) (x : NumberedFacts) → IsNumbered stacks n x → IsNumberedIf (with_stack stacks n (stack_on (on_falling_edge flow n x))) m (on_falling_edge flow n x)
   falling_numbered Ends x h = tt
   falling_numbered Falls x h = more x h
+  falling_numbered (WritesSlot i) x h = more x h
   falling_numbered Writes x h = more x h
   falling_numbered Jumps x h = tt
   falling_numbered Either x h = more x h
   falling_numbered (Compares dst src falls jumps) x h = ranged_numbered x dst src falls h
-  falling_numbered (Settles site null) x h = numbered_fresh stacks n m (settled site (not null) n x) lt refl refl
+  falling_numbered (Settles site null) x h = numbered_fresh stacks n m (facts_settled site (not null) x.facts) some lt
 
 -- ---- facts that are sent
 
@@ -139,7 +189,7 @@ abbrev entry_at : Option ℕ → List (Option NumberedFacts) → Option Numbered
 entry_at None entries = None
 entry_at (Some to) entries = entry_of to entries
 
-module _ (absorb : StacksAbsorb) (stacks : Stacks) (n m slot : ℕ) (lt : n < m) (old new : List (Option NumberedFacts)) (ahead : (i : ℕ) → slot ≤ i → IsNumberedIf stacks n (entry_of i old)) where
+module _ (absorb : SlotsAbsorb) (stacks : Stacks) (n m slot : ℕ) (lt : n < m) (some : 0 < n) (old new : List (Option NumberedFacts)) (ahead : (i : ℕ) → slot ≤ i → IsNumberedIf stacks n (entry_of i old)) where
   pub record IsRightEntry (target : Option ℕ) (facts : Option Facts) (i : ℕ) : Type 0 where
     pub brings : Brings target facts old new i
     pub numbered : IsNumberedIf (with_stack stacks n (stack_on (entry_at target new))) m (entry_of i new)
@@ -155,7 +205,7 @@ module _ (absorb : StacksAbsorb) (stacks : Stacks) (n m slot : ℕ) (lt : n < m)
   -- the entry of the target itself
   target_entry : (to i : ℕ) (y : NumberedFacts) → slot ≤ i → i ≡ to → IsNumbered stacks n y → IsJoinedBy n (entry_of to old) y (entry_of to new) → IsRightEntry (Some to) (Some y.facts) i
   target_entry to i y above same numbered joins =
-      let right = right_join absorb stacks n m lt (entry_of i old) y (entry_of i new) (ahead i above) numbered (subst (λ (k : ℕ). IsJoinedBy n (entry_of k old) y (entry_of k new)) (sym same) joins) in
+      let right = right_join absorb stacks n m lt some (entry_of i old) y (entry_of i new) (ahead i above) numbered (subst (λ (k : ℕ). IsJoinedBy n (entry_of k old) y (entry_of k new)) (sym same) joins) in
       record {
         brings = right.facts ∙ sym (ap (λ (b : Bool). joined (brought_to i old) (only_if b (Some y.facts))) (eq-eqb to i (sym same)));
         numbered = subst (λ (k : ℕ). IsNumberedIf (with_stack stacks n (stack_on (entry_of k new))) m (entry_of i new)) same right.numbered;
@@ -173,7 +223,7 @@ module _ (absorb : StacksAbsorb) (stacks : Stacks) (n m slot : ℕ) (lt : n < m)
 
 -- ---- a step
 
-module _ (absorb : StacksAbsorb) (shapes : Shapes) (slot : ℕ) (insn : Insn) where
+module _ (absorb : SlotsAbsorb) (shapes : Shapes) (slot : ℕ) (insn : Insn) where
   pub record IsRightStep (here : Option Facts) (old : List (Option NumberedFacts)) (falling : Option NumberedFacts) (new : List (Option NumberedFacts)) : Type 0 where
     pub falls : facts_on falling ≡ falling_from shapes slot insn here
     pub sent : (i : ℕ) → slot < i → Brings (jump_target insn slot) (jumping_from shapes slot insn here) old new i
@@ -193,7 +243,7 @@ module _ (absorb : StacksAbsorb) (shapes : Shapes) (slot : ℕ) (insn : Insn) wh
   )
   meets stacks falling (Some y) here h k is =
       let lt : 8 * slot + 2 < 8 * slot + 3 = omega arith in
-      let right = right_join absorb stacks (8 * slot + 2) (8 * slot + 3) lt falling y here h k is in
+      let right = right_join absorb stacks (8 * slot + 2) (8 * slot + 3) lt (omega arith) falling y here h k is in
       (right.facts, right.numbered)
 
   -- past an instruction
@@ -212,23 +262,23 @@ module _ (absorb : StacksAbsorb) (shapes : Shapes) (slot : ℕ) (insn : Insn) wh
       let l5 : n5 < n9 = omega arith in
       let target = jump_target insn slot in
       let y : NumberedFacts = noted p.flow n2 (left_with x p.facts) in
-      let s1 : Stacks = with_stack stacks n2 p.facts.slots in
+      let s1 : Stacks = with_stack stacks n2 (slot_at p.facts) in
       let jumping : Option NumberedFacts = on_jumping_edge p.flow n3 y in
       let s2 : Stacks = with_stack s1 n3 (stack_on jumping) in
       let fallen : Option NumberedFacts = on_falling_edge p.flow n4 y in
       let s3 : Stacks = with_stack s2 n4 (stack_on fallen) in
       let s4 : Stacks = with_stack s3 n5 (stack_on (entry_at target new)) in
-      let in_hand : IsNumbered s1 n3 y = noted_numbered stacks n2 n3 l2 p.flow x p.facts numbered p.stack in
-      let sends : IsNumberedIf s2 n4 jumping = jumping_numbered s1 n3 n4 l3 p.flow y in_hand in
-      let keeps : IsNumberedIf s3 n5 fallen = falling_numbered s2 n4 n5 l4 p.flow y (numbered_more s1 n3 n4 (stack_on jumping) y in_hand l3) in
+      let in_hand : IsNumbered s1 n3 y = noted_numbered stacks n2 n3 l2 (omega arith) p.flow x p.facts numbered p.stack in
+      let sends : IsNumberedIf s2 n4 jumping = jumping_numbered s1 n3 n4 l3 (omega arith) p.flow y in_hand in
+      let keeps : IsNumberedIf s3 n5 fallen = falling_numbered s2 n4 n5 l4 (omega arith) p.flow y (numbered_more s1 n3 n4 (stack_on jumping) y in_hand l3) in
       let left : (i : ℕ) → slot + 1 ≤ i → IsNumberedIf s3 n5 (entry_of i old) =
       λ i above.
       numbered_more_if s2 n4 n5 (stack_on fallen) (entry_of i old)
       (numbered_more_if s1 n3 n4 (stack_on jumping) (entry_of i old)
-      (numbered_more_if stacks n2 n3 p.facts.slots (entry_of i old) (ahead i above) l2) l3) l4 in
+      (numbered_more_if stacks n2 n3 (slot_at p.facts) (entry_of i old) (ahead i above) l2) l3) l4 in
       let sent : IsNumberedIf s3 n5 jumping = numbered_more_if s2 n4 n5 (stack_on fallen) jumping sends l4 in
-      let entry : (i : ℕ) → slot + 1 ≤ i → IsRightEntry absorb s3 n5 n9 (slot + 1) l5 old new left target (facts_on jumping) i =
-      sent_right absorb s3 n5 n9 (slot + 1) l5 old new left target jumping sent p.sent in
+      let entry : (i : ℕ) → slot + 1 ≤ i → IsRightEntry absorb s3 n5 n9 (slot + 1) l5 (omega arith) old new left target (facts_on jumping) i =
+      sent_right absorb s3 n5 n9 (slot + 1) l5 (omega arith) old new left target jumping sent p.sent in
       let facts : y.facts ≡ p.facts = noted_facts p.flow n2 (left_with x p.facts) in
       let falls : facts_on falling ≡ falling_from shapes slot insn (Some x.facts) =
       ap facts_on p.falls

@@ -3,7 +3,7 @@
 ghost use Rattle.std.specs.Prelude.{◌≡◌, ◌⊎◌, ◌+◌, ◌*◌, ◌<◌, ℕ, not, option_map, if◌then◌else◌, Some, None, IfSome, IfOk, IfErr, OnOk};
 ghost use Rattle.tagged_model.specs.Named.{shapes_named};
 ghost use Rattle.interval.specs.Refine.{RangePair};
-ghost use Rattle.reg_kinds.specs.Laws.{StacksAbsorb};
+ghost use Rattle.reg_kinds.specs.Laws.{SlotsAbsorb};
 ghost use Rattle.verifier.specs.inside.Edges.{falling_from, jumping_from, MayRun};
 ghost use Rattle.verifier.specs.inside.Arriving.{Brings, arriving_at};
 ghost use Rattle.verifier.specs.inside.Jumps.{JumpsLand};
@@ -135,6 +135,7 @@ fn leave_by(
     match *flow {
         Flow::Ends => Ok(false),
         Flow::Falls => Ok(true),
+        Flow::WritesSlot(_) => Ok(true),
         Flow::Writes => Ok(true),
         Flow::Jumps => {
             entries.send(target, hand, 8 * slot + 6)?;
@@ -180,6 +181,7 @@ fn leave(
 {
     match flow {
         Flow::Falls => Ok(true),
+        Flow::WritesSlot(_) => Ok(true),
         Flow::Writes => Ok(true),
         _ => leave_by(
             hand,
@@ -273,7 +275,7 @@ impl Pass {
     ) -> Result<(), VerifyFault>
         requires room { slot < MAX_SLOTS }
         requires lands { IfSome (jump_target insn.now slot) (λ to. to < MAX_SLOTS) }
-        requires absorb { StacksAbsorb }
+        requires absorb { SlotsAbsorb }
         requires numbered { AreNumbered slot (8 * slot + 2) self.old.falling self.old.entries }
         ensures ok { OnOk result
             (MayRun (shapes_named named.now) slot insn.now (arriving_at slot self.old)) }
@@ -313,7 +315,7 @@ pub(crate) fn check_safety<W: Watcher>(
 {
     laws::joins_commute();
     laws::joins_associate();
-    laws::stacks_absorb();
+    laws::slots_absorb();
     let slots = program.slots();
     let mut pass = Pass {
         falling: EdgeFacts {

@@ -1,4 +1,4 @@
-use Rattle.std.proofs.Common.{◌≡◌, ℕ, ◌<◌, ◌≤◌, false, length, get_or}
+use Rattle.std.proofs.Common.{◌≡◌, ℕ, ◌<◌, ◌≤◌, length, get_or}
 use Rattle.reg_kinds.specs.declared.kind.Slot.TheVariants.{Bytes}
 use Rattle.reg_kinds.specs.Kinds.{slot_at}
 use Rattle.reg_kinds.specs.Join.{slot_join}
@@ -11,5 +11,4 @@ invariant-loop-i l =
       kept : l.facts.registers ≡ l.fn.facts.registers;
       done : (k : ℕ) → k < l.i → get_or l.facts.slots k (Bytes 0) ≡ slot_join (slot_at l.fn.facts k) (slot_at l.edge k);
       rest : (k : ℕ) → l.i ≤ k → get_or l.facts.slots k (Bytes 0) ≡ slot_at l.fn.facts k;
-      same : l.changes ≡ false → l.facts.slots ≡ l.fn.facts.slots;
     }

@@ -38,7 +38,7 @@ step-requires-clause-lands g c =
     within (jump_target c.in-Some.insn.now c.loop-slot.slot) (slot_count c.args.program.now) most (c.requires c.loop-slot.slot c.in-Some.insn.now begins)
 
 pub step-requires-clause-absorb : goal.step-requires-clause-absorb
-step-requires-clause-absorb g c = c.stacks_absorb.ensures
+step-requires-clause-absorb g c = c.slots_absorb.ensures
 
 pub step-requires-clause-numbered : goal.step-requires-clause-numbered
 step-requires-clause-numbered g c = c.loop-slot.invariant.known.numbered

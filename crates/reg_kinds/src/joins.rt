@@ -94,28 +94,28 @@ fn holds_range(a: &Range, b: &Range) -> bool
     a.lo <= b.lo && b.hi <= a.hi
 }
 
-/// Joins kinds that differ.
-#[cold]
-fn join_other_kinds(known: &mut Kind, edge: &Kind)
+/// Joins the kind `edge` into `known` in place.
+#[inline(never)]
+fn join_other_kind(known: &mut Kind, edge: &Kind)
     ensures { known.new ≡ kind_join known.old edge.now }
 {
-    *known = known.join(*edge);
+    match (&mut *known, edge) {
+        (Kind::Unreadable, _) | (Kind::Ctx, Kind::Ctx) => {}
+        (Kind::Stack(x), Kind::Stack(y)) if *x == *y => {}
+        (Kind::MapRef(m), Kind::MapRef(n)) if *m == *n => {}
+        (Kind::Value(p), Kind::Value(q)) if p.map == q.map => *p = offsets_hull(*p, *q),
+        _ => *known = known.join(*edge),
+    }
 }
 
-/// Joins the kind `edge` into `known` in place: if both are the context, the same stack offset or the same map, nothing
-/// is written.
+/// Joins the kind `edge` into `known` in place. Nothing is written if they are ranges, and the first holds the second.
 #[inline(always)]
 fn join_kind(known: &mut Kind, edge: &Kind)
     ensures { known.new ≡ kind_join known.old edge.now }
 {
     match (&mut *known, edge) {
         (Kind::Scalar(range), Kind::Scalar(other)) if holds_range(range, other) => {}
-        (Kind::Scalar(range), Kind::Scalar(other)) => *range = hull(*range, *other),
-        (Kind::Unreadable, _) | (Kind::Ctx, Kind::Ctx) => {}
-        (Kind::Stack(x), Kind::Stack(y)) if *x == *y => {}
-        (Kind::MapRef(m), Kind::MapRef(n)) if *m == *n => {}
-        (Kind::Value(p), Kind::Value(q)) if p.map == q.map => *p = offsets_hull(*p, *q),
-        _ => join_other_kinds(known, edge),
+        _ => join_other_kind(known, edge),
     }
 }
 

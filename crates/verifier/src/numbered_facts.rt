@@ -68,19 +68,26 @@ impl NumberedFacts {
         }
     }
 
-    /// Joins a part of the stack on another edge into that of these facts. If it changes, it gets the number `fresh`. Nothing is done
-    /// if it is known to include the other.
+    /// Joins a part of the stack on another edge into that of these facts. If it changes, it gets the number `fresh`.
+    #[inline(never)]
+    fn join_other_part(&mut self, edge: &NumberedFacts, fresh: usize, part: usize)
+        requires { part < stack_parts }
+        ensures { IsPartJoin fresh part self.old edge.now self.new }
+    {
+        if join_part(&mut self.facts, &edge.facts, part) {
+            self.numbers[part] = fresh;
+        }
+        self.includes[part] = edge.numbers[part];
+    }
+
+    /// The same. Nothing is done if the part is known to include the other.
     #[inline(always)]
     fn join_stack_part(&mut self, edge: &NumberedFacts, fresh: usize, part: usize)
         requires { part < stack_parts }
         ensures { IsPartJoin fresh part self.old edge.now self.new }
     {
-        let number = edge.numbers[part];
-        if self.includes[part] != number {
-            if join_part(&mut self.facts, &edge.facts, part) {
-                self.numbers[part] = fresh;
-            }
-            self.includes[part] = number;
+        if self.includes[part] != edge.numbers[part] {
+            self.join_other_part(edge, fresh, part);
         }
     }
 

@@ -1,11 +1,11 @@
 use Rattle.std.proofs.Common.{rules, ℕ, get_or, set, ap, ◌∙◌}
 use Rattle.verifier.specs.declared.numbered_facts.NumberedFacts.{NumberedFacts}
 use Rattle.verifier.proofs.PartJoins.{part_changed, part_unchanged}
-use Rattle.verifier.proofs.numbered_facts.NumberedFacts.join_stack_part.Goals.{then-join_part, else-join_part}
-use Rattle.verifier.proofs.numbered_facts.NumberedFacts.join_stack_part.Goals as goal
+use Rattle.verifier.proofs.numbered_facts.NumberedFacts.join_other_part.Goals.{then-join_part, else-join_part}
+use Rattle.verifier.proofs.numbered_facts.NumberedFacts.join_other_part.Goals as goal
 
-pub returns-after-join_part : goal.returns-after-join_part
-returns-after-join_part c =
+pub returns : goal.returns
+returns c =
     let x : NumberedFacts = c.args.self.now in
     let y : NumberedFacts = c.args.edge.now in
     let part : ℕ = c.args.part in

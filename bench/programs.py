@@ -10,7 +10,7 @@ from dataclasses import dataclass, field
 ADD64_K, ADD64_X, XOR64_X, AND64_K, LSH64_K, RSH64_K, MUL32_K = 0x07, 0x0F, 0xAF, 0x57, 0x67, 0x77, 0x24
 MOV64_K, MOV64_X, BIG_ENDIAN, WIDE = 0xB7, 0xBF, 0xDC, 0x18
 LOAD_BYTE, LOAD_HALF, LOAD_WORD, LOAD_DOUBLE = 0x71, 0x69, 0x61, 0x79
-STORE_WORD_K, STORE_DOUBLE_K, STORE_WORD, STORE_DOUBLE = 0x62, 0x7A, 0x63, 0x7B
+STORE_BYTE_K, STORE_WORD_K, STORE_DOUBLE_K, STORE_WORD, STORE_DOUBLE = 0x72, 0x62, 0x7A, 0x63, 0x7B
 ATOMIC_DOUBLE, ATOMIC_ADD = 0xDB, 0x00
 JA, JEQ_K, JGT_K, JGE_X, JSET_K, JNE_K, CALL, EXIT = 0x05, 0x15, 0x25, 0x3D, 0x45, 0x55, 0x85, 0x95
 LOOK_UP, UPDATE, DELETE, LOAD_BYTES = 1, 2, 3, 26
@@ -380,12 +380,49 @@ def one_target_full() -> Program:
     return jumps_to_one_target(full_facts())
 
 
-def crossing() -> Program:
-    """Each jump skips the next ninety slots, so that ninety jumps are open at each slot."""
-    end, open_jumps, slots = returns(0), 90, full_facts()
-    while len(slots) + open_jumps + 1 < SLOTS - len(end):
-        slots.append(slot(JEQ_K, 2, off=open_jumps, imm=len(slots)))
+def full_of_values() -> Slots:
+    """Each stack slot holds a pointer into a value, each at another offset."""
+    slots = [slot(LOAD_WORD, 2, 1), *loads_value(3, 3, 0)]
+    for number in range(64):
+        slots += [slot(STORE_DOUBLE, 10, 3, off=-8 * (number + 1)), slot(ADD64_K, 3, imm=1)]
+    return slots
+
+
+def crossing_jumps(slots: Slots, stores: Sequence[bytes] = (), jumps: int = 1) -> Program:
+    """Each jump skips the next ninety slots. Before each `jumps` of them is one of these stores, in turn."""
+    end, open_jumps, slots, number = returns(0), 90, list(slots), 0
+    while len(slots) + open_jumps + jumps + 1 < SLOTS - len(end):
+        if stores:
+            slots.append(stores[number % len(stores)])
+        slots += [slot(JEQ_K, 2, off=open_jumps, imm=len(slots) + at) for at in range(jumps)]
+        number += 1
     return filled(slots, end)
+
+
+def crossing() -> Program:
+    """Ninety jumps are open at each slot."""
+    return crossing_jumps(full_facts())
+
+
+def crossing_values() -> Program:
+    """The same with a pointer into a value in each stack slot."""
+    program = crossing_jumps(full_of_values())
+    program.maps = [(ARRAY, 4, 512, 1)]
+    return program
+
+
+# Stores of one byte to each stack slot.
+BYTES = [slot(STORE_BYTE_K, 10, off=-1 - 8 * number, imm=number) for number in range(64)]
+
+
+def crossing_bytes() -> Program:
+    """A store of a byte before each jump, to another stack slot each time."""
+    return crossing_jumps(full_facts(), BYTES)
+
+
+def crossing_few_bytes() -> Program:
+    """A store of a byte before each four jumps."""
+    return crossing_jumps(full_facts(), BYTES, 4)
 
 
 def diamonds() -> Program:
@@ -407,5 +444,8 @@ LOADED: dict[str, Callable[[], Program]] = {
     "one target": one_target,
     "one target, full": one_target_full,
     "crossing jumps": crossing,
+    "crossing, values": crossing_values,
+    "crossing, bytes": crossing_bytes,
+    "crossing, 4 jumps": crossing_few_bytes,
     "diamonds": diamonds,
 }

@@ -2,7 +2,7 @@
 """Streams of command frames for the benchmark programs (docs/PROTOCOL.md).
 
 usage: streams.py run PROGRAM RUNS     loads a program with its maps, and test-runs it so many times
-       streams.py load PROGRAM LOADS   loads and closes a program so many times
+       streams.py load PROGRAM LOADS   loads and closes a program with its maps so many times
 """
 
 from __future__ import annotations
@@ -24,15 +24,21 @@ def load(program: Program) -> bytes:
     return frame(PROG_LOAD, struct.pack("<I", SOCKET_FILTER) + b"".join(program.slots))
 
 
+def creates(program: Program) -> list[bytes]:
+    """Creates the program's maps."""
+    return [frame(MAP_CREATE, struct.pack("<5I", *shape, 0)) for shape in program.maps]
+
+
 def runs_of(program: Program, runs: int) -> bytes:
-    maps = [frame(MAP_CREATE, struct.pack("<5I", *shape, 0)) for shape in program.maps]
+    maps = creates(program)
     descriptor = FIRST + len(maps)
     run = frame(PROG_TEST_RUN, struct.pack("<11I", descriptor, *program.context) + program.packet)
     return b"".join(maps) + load(program) + run * runs
 
 
 def loads_of(program: Program, loads: int) -> bytes:
-    return (load(program) + frame(CLOSE, struct.pack("<I", FIRST))) * loads
+    maps = creates(program)
+    return b"".join(maps) + (load(program) + frame(CLOSE, struct.pack("<I", FIRST + len(maps)))) * loads
 
 
 def main() -> None:

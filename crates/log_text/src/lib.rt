@@ -20,7 +20,7 @@
 //!   5 ms to provide them, next to 7 ms for the log; machine instructions are within 2% of those before this form.
 //! - A line shows what differs from the line above, also after a jump: so a line needs only the facts of the line before it,
 //!   and all that is known at a line follows from those above it. What a comparison refines on its edges is computed again from
-//!   the facts before it (`apply`), as the pass only reports facts before instructions.
+//!   the facts before it (`Edges`, by `apply`), as the pass only reports facts before instructions.
 //! - The time of a log grows with its slots: the jumps are sorted once by target.
 //! - The path on which something is missing is found by a second pass over the stored facts, only if a register or stack bytes
 //!   may not be read: it carries along each edge whether the thing is present, and if not, why.
@@ -28,6 +28,7 @@
 
 mod arguments;
 mod control;
+mod edges;
 mod graph;
 mod kinds;
 mod known;

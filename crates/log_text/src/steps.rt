@@ -1,12 +1,12 @@
 //! What is new before each instruction and on its edges, as text.
 
+use crate::edges::Edges;
 use crate::known::{nothing_known, write_known};
 use crate::recorder::KnownFacts;
 use insn_codec::{Insn, Program, Successors};
 use reg_kinds::Facts;
 use std::alloc::{AllocError, Global};
 use tagged_model::Named;
-use transfer::{Flow, apply};
 
 /// An instruction that a run may reach.
 #[derive(Drop)]
@@ -26,9 +26,8 @@ struct StepMaker<'a> {
     alloc: Global,
     program: &'a Program,
     named: &'a [Named],
-    /// Buffers for the facts on the edges of an instruction.
-    falling: Facts,
-    jumping: Facts,
+    /// A buffer for the facts on the edges of an instruction.
+    edges: Edges,
 }
 
 impl StepMaker<'_> {
@@ -40,35 +39,25 @@ impl StepMaker<'_> {
     }
 
     /// What is new in the facts on an edge, if a run may take it.
-    fn edge(&self, old: &Facts, new: Option<&Facts>) -> Result<Option<String>, AllocError> {
-        match new {
-            Some(new) => Ok(Some(self.news(old, new)?)),
-            None => Ok(None),
+    fn edge(&self, old: &Facts, taken: bool, new: &Facts) -> Result<Option<String>, AllocError> {
+        if taken {
+            Ok(Some(self.news(old, new)?))
+        } else {
+            Ok(None)
         }
     }
 
     /// Adds the edges of a conditional jump.
     fn branch(&mut self, step: &mut Step, insn: &Insn, facts: &Facts) -> Result<(), AllocError> {
-        self.falling = *facts;
-        let flow = apply(
-            &mut self.falling,
-            &mut self.jumping,
-            self.named,
-            step.slot,
-            insn,
-        );
-        let (falling, jumping) = match flow {
-            Ok(Flow::Falls) => (Some(&self.falling), None),
-            // The facts in hand are those of the one edge that can be taken.
-            Ok(Flow::Jumps) => (None, Some(&self.falling)),
-            Ok(Flow::Branches { falls, jumps }) => (
-                falls.then_some(&self.falling),
-                jumps.then_some(&self.jumping),
-            ),
-            Ok(Flow::Ends) | Err(_) => (None, None),
-        };
-        step.falling = self.edge(facts, falling)?;
-        step.jumping = self.edge(facts, jumping)?;
+        self.edges.leave(facts, self.named, step.slot, insn);
+        let Edges {
+            falls,
+            ref falling,
+            jumps,
+            ref jumping,
+        } = self.edges;
+        step.falling = self.edge(facts, falls, falling)?;
+        step.jumping = self.edge(facts, jumps, jumping)?;
         Ok(())
     }
 
@@ -113,8 +102,7 @@ pub(crate) fn steps_of(
         alloc,
         program,
         named,
-        falling: nothing,
-        jumping: nothing,
+        edges: Edges::none(&nothing),
     };
     let mut steps = Vec::new(alloc);
     let mut shown = &nothing;

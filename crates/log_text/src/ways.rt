@@ -1,5 +1,6 @@
 //! The path on which something is missing that an instruction needs.
 
+use crate::edges::Edges;
 use crate::needs::RefusedProgram;
 use crate::needs::registers::kind_of;
 use insn_codec::{Insn, MAX_SLOTS, Program};
@@ -7,7 +8,6 @@ use reg_kinds::{Facts, Kind, Slot};
 use std::alloc::{AllocError, Global};
 use std::fmt::Write;
 use tagged_model::Named;
-use transfer::{Flow, apply};
 use words::STACK_SLOTS;
 
 /// What an instruction needs: a readable value.
@@ -121,27 +121,16 @@ impl Finder<'_> {
 
     /// Notes whether it is present on the edges out of an instruction.
     fn leave(&mut self, slot: usize, insn: &Insn, facts: &Facts) {
-        let (mut falling, mut taken) = (*facts, *facts);
-        let Ok(flow) = apply(&mut falling, &mut taken, self.named, slot, insn) else {
-            return;
-        };
-        let (falls, jumping) = match flow {
-            Flow::Ends => (false, None),
-            Flow::Falls => (true, None),
-            Flow::Jumps => (false, Some(falling)),
-            Flow::Branches { falls, jumps: true } => (falls, Some(taken)),
-            Flow::Branches {
-                falls,
-                jumps: false,
-            } => (falls, None),
-        };
-        if falls {
-            self.arrive(slot, slot.saturating_add(insn.slots()), &falling);
+        let mut edges = Edges::none(facts);
+        edges.leave(facts, self.named, slot, insn);
+        if edges.falls {
+            self.arrive(slot, slot.saturating_add(insn.slots()), &edges.falling);
         }
         if slot <= MAX_SLOTS
-            && let (Some(facts), Some(to)) = (jumping, insn.profile().successors.target(slot))
+            && edges.jumps
+            && let Some(to) = insn.profile().successors.target(slot)
         {
-            self.arrive(slot, to, &facts);
+            self.arrive(slot, to, &edges.jumping);
         }
     }
 

@@ -25,7 +25,7 @@ nothing_first : (k : Kind) → kind_join Unreadable k ≡ Unreadable
 nothing_first k = refl
 
 -- a spilled join, joined again
-first_spilled : (j k : Kind) → slot_join (spilled j) (Spill k) ≡ spilled (kind_join j k)
+pub first_spilled : (j k : Kind) → slot_join (spilled j) (Spill k) ≡ spilled (kind_join j k)
 first_spilled Unreadable k = ap spilled (sym (nothing_first k))
 first_spilled _ k = refl
 

@@ -1,3 +1,4 @@
+pub mod Absorption
 pub mod ByteBits
 pub mod FactLaws
 pub mod JoinedByTest

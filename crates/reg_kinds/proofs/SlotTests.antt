@@ -1,9 +1,13 @@
 -- Tests of each slot, and bits that stand for bytes.
-use Rattle.std.proofs.Common.{◌≡◌, ℕ, zero, suc, ◌+◌, ◌-◌, ◌*◌, ◌%◌, ◌^◌, ◌<◌, ◌≤◌, Bool, true, false, refl, sym, ap, subst, ◌∙◌, ⊎_elim, arith}
-use Rattle.std.specs.Prelude.{if◌then◌else◌, not, ℤ, Result, Ok, Err, Some, None}
-use Rattle.std.proofs.lemmas.Bool.{cases_lt, or_from, or_left, or_right}
+use Rattle.std.proofs.Common.{◌≡◌, ℕ, zero, suc, ◌+◌, ◌-◌, ◌*◌, ◌%◌, ◌^◌, ◌<◌, ◌≤◌, Bool, true, false, refl, sym, ap, subst, ◌∙◌, ⊎_elim, inl, inr, arith}
+use Rattle.std.specs.Prelude.{if◌then◌else◌, not, nat_lt, min, ◌&&◌, ◌==◌, ◌⊎◌, ℤ, Result, Ok, Err, Some, None}
+use Rattle.std.proofs.lemmas.Bool.{cases_lt, le-ltb, or_from, or_left, or_right}
+use Rattle.std.proofs.Math.Bool.{and-false}
+use Rattle.std.specs.Int.Bits.{and_zero_r}
 use Rattle.std.proofs.Math.Nat.{mod-eq_of_lt, pow-le-pow_right}
 use Rattle.std.proofs.lemmas.Option.{cond_some}
+use Rattle.reg_kinds.specs.declared.kind.Slot.{Slot}
+use Rattle.reg_kinds.specs.declared.kind.Slot.TheVariants.{Bytes, Spill}
 use Rattle.reg_kinds.specs.declared.facts.Facts.{Facts}
 use Rattle.reg_kinds.specs.declared.reason.Reason.{Reason}
 use Rattle.reg_kinds.specs.declared.reason.Reason.TheVariants.{OutsideStack, UnwrittenStack, PartOfSpill}
@@ -30,6 +34,39 @@ one_below (suc n) i test lt e =
     (λ below. or_right (test n) (any_below n test) (one_below n i test below e))
     (λ le. let same : i ≡ n = omega arith in or_left (test n) (any_below n test) (subst (λ k. test k ≡ true) same e))
     (cases_lt i n)
+
+pub none_below : (n : ℕ) (test : ℕ → Bool) → ((i : ℕ) → i < n → test i ≡ false) → any_below n test ≡ false
+unfolding any_below
+none_below zero test none = refl
+none_below (suc n) test none = or_from (test n) (any_below n test) (none n (omega arith)) (none_below n test (λ i lt. none i (omega (arith, lt))))
+
+-- ---- slots that are not touched
+
+apart : (p n i : ℕ) → (8 * i + 8 ≤ p) ⊎ (p + n ≤ 8 * i) → touches p n i ≡ false
+apart p n i (inl le) = ap (λ b. b && nat_lt (8 * i) (p + n)) (le-ltb p (8 * i + 8) le)
+apart p n i (inr le) = ap (λ b. nat_lt p (8 * i + 8) && b) (le-ltb (8 * i) (p + n) le) ∙ and-false (nat_lt p (8 * i + 8))
+
+no_bits : (p n i : ℕ) → (8 * i + 8 ≤ p) ⊎ (p + n ≤ 8 * i) → bits_in p n i ≡ 0
+no_bits p n i (inl le) =
+    let none : min 8 (p + n - 8 * i) - (p - 8 * i) ≡ 0 = omega (arith, le) in
+    subst (λ (k : ℕ). (2 ^ k - 1) * 2 ^ (p - 8 * i) ≡ 0) (sym none) (omega arith)
+no_bits p n i (inr le) =
+    let none : min 8 (p + n - 8 * i) - (p - 8 * i) ≡ 0 = omega (arith, le) in
+    subst (λ (k : ℕ). (2 ^ k - 1) * 2 ^ (p - 8 * i) ≡ 0) (sym none) (omega arith)
+
+unspilled : (s : Slot) (touched : Bool) → touched ≡ false → is_touched_spill s touched ≡ false
+unspilled (Bytes mask) touched none = refl
+unspilled (Spill k) touched none = none
+
+lacks_none : (s : Slot) → lacks s 0 ≡ false
+lacks_none (Bytes mask) = ap (λ (x : ℕ). not (x == 0)) (and_zero_r mask)
+lacks_none (Spill k) = refl
+
+pub spill_apart : (f : Facts) (p n i : ℕ) → (8 * i + 8 ≤ p) ⊎ (p + n ≤ 8 * i) → is_touched_spill (slot_at f i) (touches p n i) ≡ false
+spill_apart f p n i h = unspilled (slot_at f i) (touches p n i) (apart p n i h)
+
+pub lacks_apart : (f : Facts) (p n i : ℕ) → (8 * i + 8 ≤ p) ⊎ (p + n ≤ 8 * i) → lacks (slot_at f i) (bits_in p n i) ≡ false
+lacks_apart f p n i h = ap (lacks (slot_at f i)) (no_bits p n i h) ∙ lacks_none (slot_at f i)
 
 -- ---- what may be read
 

@@ -1,5 +1,5 @@
 -- The joins of kinds, stack slots and facts, for edges that merge. This project's own.
-use Rattle.std.specs.Prelude.{◌==◌, ◌&&◌, bit_and, if◌then◌else◌}
+use Rattle.std.specs.Prelude.{ℕ, ◌/◌, ◌==◌, ◌&&◌, bit_and, if◌then◌else◌}
 use Rattle.std.specs.Ordering.{int_eq}
 use Rattle.interval.specs.Ranges.{hull}
 use Rattle.reg_kinds.specs.declared.kind.Kind.{Kind}
@@ -32,3 +32,14 @@ slot_join _ _ = Bytes 0
 abbrev pub facts_join : Facts → Facts → Facts
 facts_join a b =
     facts_of (λ r. kind_join (kind_at a r) (kind_at b r)) (λ i. slot_join (slot_at a i) (slot_at b i))
+
+-- the stack has eight parts, of eight slots each
+abbrev pub stack_parts : ℕ
+stack_parts = 8
+
+abbrev pub part_of : ℕ → ℕ
+part_of i = i / 8
+
+-- the slots of facts a, those of one part joined with facts b
+abbrev pub part_joined : ℕ → Facts → Facts → ℕ → Slot
+part_joined part a b i = if part_of i == part then slot_join (slot_at a i) (slot_at b i) else slot_at a i

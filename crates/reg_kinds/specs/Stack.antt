@@ -1,7 +1,7 @@
 -- Loads from the stack, and stores to it. Offsets count from its upper end. The rules are this project's own.
-use Rattle.std.specs.Prelude.{ℕ, ◌-◌, ◌*◌, ◌/◌, ◌%◌, ◌^◌, ◌==◌, ℤ, bit_and, bit_or, Bool, true, false, not, if◌then◌else◌, Result, Ok, Err}
+use Rattle.std.specs.Prelude.{◌≡◌, ◌≢◌, ◌<◌, ℕ, ◌-◌, ◌*◌, ◌/◌, ◌%◌, ◌^◌, ◌==◌, ℤ, bit_and, bit_or, Bool, true, false, not, if◌then◌else◌, Result, Ok, Err, Option, Some, None}
 use Rattle.words.specs.declared.stack.AccessSize.{AccessSize}
-use Rattle.words.specs.Stack.{bytes_of, is_double, is_in_stack, place, is_aligned}
+use Rattle.words.specs.Stack.{stack_slots, bytes_of, is_double, is_in_stack, place, is_aligned}
 use Rattle.interval.specs.Ranges.{full}
 use Rattle.reg_kinds.specs.declared.kind.Kind.{Kind}
 use Rattle.reg_kinds.specs.declared.kind.Kind.TheVariants.{Unreadable, Scalar}
@@ -57,3 +57,8 @@ facts_written f size k t = and_then_ok (slot_written (slot_at f t.0) t.1 size k)
 abbrev pub stack_write : Facts → ℤ → AccessSize → Kind → Result Facts Reason
 stack_write f offset size Unreadable = Err UnreadableRegister
 stack_write f offset size k = and_then_ok (touched offset size) (facts_written f size k)
+
+-- the stack of facts g is that of facts f, except for one slot at most
+abbrev pub ChangesAtMost : Option ℕ → Facts → Facts → Type 0
+ChangesAtMost None f g = g.slots ≡ f.slots
+ChangesAtMost (Some i) f g = (i < stack_slots) × ((k : ℕ) → k ≢ i → slot_at g k ≡ slot_at f k)

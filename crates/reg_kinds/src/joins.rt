@@ -1,14 +1,22 @@
 //! The joins of kinds, stack slots and facts, for edges that merge.
 
-ghost use Rattle.std.specs.Prelude.{◌≡◌};
+ghost use Rattle.std.specs.Prelude.{◌≡◌, ◌<◌, true, false, bit_and};
 ghost use Rattle.reg_kinds.specs.Kinds.{kind_at, slot_at, with_registers, with_slots};
 ghost use Rattle.reg_kinds.specs.Pointers.{offsets_hull};
-ghost use Rattle.reg_kinds.specs.Join.{kind_join, spilled, slot_join, facts_join};
+ghost use Rattle.reg_kinds.specs.declared.kind.Slot.TheVariants.{Spill};
+ghost use Rattle.interval.specs.Ranges.{hull};
+ghost use Rattle.reg_kinds.specs.Join.{kind_join, spilled, slot_join, facts_join, stack_parts, part_joined};
 
 use crate::facts::Facts;
 use crate::kind::{Kind, Slot, ValuePointer};
-use interval::hull;
+use interval::{Range, hull};
 use words::{REGISTERS, STACK_SLOTS};
+
+/// The number of slots in a part of the stack.
+pub const PART_SLOTS: usize = 8;
+
+/// The number of parts of the stack.
+pub const STACK_PARTS: usize = STACK_SLOTS / PART_SLOTS;
 
 impl Kind {
     /// The join of two kinds: the hull of two ranges, or of two ranges of offsets into values of one map; else, if both are
@@ -77,30 +85,42 @@ pub fn join_into(facts: &mut Facts, edge: &Facts)
     join_stack(facts, edge);
 }
 
-/// Joins kinds that differ, and pointers into values of maps.
-#[cold]
-fn join_other_kinds(known: &mut Kind, edge: &Kind)
-    ensures { known.new ≡ kind_join known.old edge.now }
+/// Whether the range `a` holds `b`.
+#[tactic(auto, using(crate::proofs::Absorption::hull_holds))]
+#[inline(always)]
+fn holds_range(a: &Range, b: &Range) -> bool
+    ensures { result ≡ true → hull a.now b.now ≡ a.now }
 {
-    *known = known.join(*edge);
+    a.lo <= b.lo && b.hi <= a.hi
 }
 
-/// Joins the kind `edge` into `known` in place: if both are the context, the same stack offset or the same map, nothing
-/// is written.
+/// Joins the kind `edge` into `known` in place.
+#[inline(never)]
+fn join_other_kind(known: &mut Kind, edge: &Kind)
+    ensures { known.new ≡ kind_join known.old edge.now }
+{
+    match (&mut *known, edge) {
+        (Kind::Unreadable, _) | (Kind::Ctx, Kind::Ctx) => {}
+        (Kind::Stack(x), Kind::Stack(y)) if *x == *y => {}
+        (Kind::MapRef(m), Kind::MapRef(n)) if *m == *n => {}
+        (Kind::Value(p), Kind::Value(q)) if p.map == q.map => *p = offsets_hull(*p, *q),
+        _ => *known = known.join(*edge),
+    }
+}
+
+/// Joins the kind `edge` into `known` in place. Nothing is written if they are ranges, and the first holds the second.
 #[inline(always)]
 fn join_kind(known: &mut Kind, edge: &Kind)
     ensures { known.new ≡ kind_join known.old edge.now }
 {
     match (&mut *known, edge) {
-        (Kind::Unreadable, _) | (Kind::Ctx, Kind::Ctx) => {}
-        (Kind::Scalar(range), Kind::Scalar(other)) => *range = hull(*range, *other),
-        (Kind::Stack(x), Kind::Stack(y)) if *x == *y => {}
-        (Kind::MapRef(m), Kind::MapRef(n)) if *m == *n => {}
-        _ => join_other_kinds(known, edge),
+        (Kind::Scalar(range), Kind::Scalar(other)) if holds_range(range, other) => {}
+        _ => join_other_kind(known, edge),
     }
 }
 
-fn join_registers(facts: &mut Facts, edge: &Facts)
+/// Joins the registers of a further edge into those of `facts`.
+pub fn join_registers(facts: &mut Facts, edge: &Facts)
     ensures { facts.new ≡ with_registers facts.old
         (λ r. kind_join (kind_at facts.old r) (kind_at edge.now r)) }
 {
@@ -109,28 +129,97 @@ fn join_registers(facts: &mut Facts, edge: &Facts)
     }
 }
 
-/// Joins the stack slot `edge` into `known`, in place if both are written bytes, or both are spills whose join is not
-/// `Unreadable`.
-fn join_slot(known: &mut Slot, edge: &Slot)
-    ensures { known.new ≡ slot_join known.old edge.now }
+/// Whether the range of offsets of `p` holds that of `q`.
+#[inline(always)]
+fn holds_offsets(p: &ValuePointer, q: &ValuePointer) -> bool
+    ensures { result ≡ true → offsets_hull p.now q.now ≡ p.now }
 {
-    match (&mut *known, edge) {
-        (Slot::Bytes(mask), Slot::Bytes(other)) => *mask &= *other,
-        (Slot::Spill(kind), Slot::Spill(other)) => {
-            join_kind(kind, other);
-            if matches!(*kind, Kind::Unreadable) {
-                *known = Slot::Bytes(0);
-            }
-        }
-        _ => *known = Slot::Bytes(0),
+    p.lo <= q.lo && q.hi <= p.hi
+}
+
+/// Whether both kinds are the context, the same stack offset, the same map, or the result of the same look-up.
+#[inline(always)]
+fn are_same(known: &Kind, edge: &Kind) -> bool
+    ensures { result ≡ true → slot_join (Spill known.now) (Spill edge.now) ≡ Spill known.now }
+{
+    match (known, edge) {
+        (Kind::Ctx, Kind::Ctx) => true,
+        (Kind::Stack(x), Kind::Stack(y)) => *x == *y,
+        (Kind::MapRef(m), Kind::MapRef(n)) => *m == *n,
+        (Kind::MaybeValue { map: m, site: s }, Kind::MaybeValue { map: n, site: t }) => *m == *n
+            && *s == *t,
+        _ => false,
     }
 }
 
+/// Counts no byte as written that is not in the mask `other`. Returns whether that changes the mask.
+#[inline(always)]
+fn keep_common(mask: &mut u8, other: u8) -> bool
+    ensures mask { mask.new ≡ bit_and mask.old other }
+    ensures stays { result ≡ false → mask.new ≡ mask.old }
+{
+    let common = *mask & other;
+    if common == *mask {
+        return false;
+    }
+    *mask = common;
+    true
+}
+
+/// Joins the stack slot `edge` into `known`, and returns whether it may have changed.
+#[inline(always)]
+fn join_slot(known: &mut Slot, edge: &Slot) -> bool
+    ensures slot { known.new ≡ slot_join known.old edge.now }
+    ensures stays { result ≡ false → known.new ≡ known.old }
+{
+    match (&mut *known, edge) {
+        (Slot::Bytes(mask), Slot::Bytes(other)) => keep_common(mask, *other),
+        (Slot::Spill(Kind::Value(p)), Slot::Spill(Kind::Value(q)))
+            if p.map == q.map && holds_offsets(p, q) => false,
+        (Slot::Spill(kind), Slot::Spill(other)) if are_same(kind, other) => false,
+        (Slot::Bytes(mask), Slot::Spill(_)) => {
+            let changes = *mask != 0;
+            *mask = 0;
+            changes
+        }
+        _ => {
+            join_other_slots(known, edge);
+            true
+        }
+    }
+}
+
+/// Joins stack slots whose join is not the first.
+#[inline(never)]
+fn join_other_slots(known: &mut Slot, edge: &Slot)
+    ensures { known.new ≡ slot_join known.old edge.now }
+{
+    *known = known.join(*edge);
+}
+
+/// Joins a part of the stack of a further edge into that of `facts`: the slots from `PART_SLOTS * part` on. Returns whether it may
+/// have changed.
+pub fn join_part(facts: &mut Facts, edge: &Facts, part: usize) -> bool
+    requires { part < stack_parts }
+    ensures facts { facts.new ≡ with_slots facts.old (part_joined part facts.old edge.now) }
+    ensures stack { result ≡ false → facts.new.slots ≡ facts.old.slots }
+{
+    let mut changes = false;
+    let first = PART_SLOTS * part;
+    for i in first..first + PART_SLOTS {
+        if join_slot(&mut facts.slots[i], &edge.slots[i]) {
+            changes = true;
+        }
+    }
+    changes
+}
+
+/// Joins the stack of a further edge into that of `facts`.
 fn join_stack(facts: &mut Facts, edge: &Facts)
     ensures { facts.new ≡ with_slots facts.old
         (λ i. slot_join (slot_at facts.old i) (slot_at edge.now i)) }
 {
     for i in 0..STACK_SLOTS {
-        join_slot(&mut facts.slots[i], &edge.slots[i]);
+        let _ = join_slot(&mut facts.slots[i], &edge.slots[i]);
     }
 }

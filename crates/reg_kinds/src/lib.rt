@@ -3,9 +3,11 @@
 //! # What is proved
 //!
 //! - Joins of kinds, slots and facts are those of the definition: `Kind::join`, `Slot::join`, `join`, `join_into`. They are
-//!   commutative and associative: `joins_commute`, `joins_associate`.
+//!   commutative and associative: `joins_commute`, `joins_associate`. Registers, and a part of the stack, can be joined alone:
+//!   `join_registers`, `join_part`. A second join with the same slot changes nothing: `slots_absorb`.
 //! - A load from the stack gives the kind of the definition, a store the facts, or each the first reason against it:
-//!   `read_stack`, `write_stack`. The same holds for what a helper reads and writes over many slots: `read_many`, `fill_stack`.
+//!   `read_stack`, `write_stack`. A store changes only the slot that it returns. The same holds for what a helper reads and
+//!   writes over many slots: `read_many`, `fill_stack`.
 //! - The facts after a call are those of the definition: `facts_after_call`.
 //! - A null test settles each copy of the result of one look-up and no other: `settle`.
 //!
@@ -32,7 +34,7 @@ mod reason;
 mod stack;
 
 pub use facts::Facts;
-pub use joins::{join, join_into};
+pub use joins::{PART_SLOTS, STACK_PARTS, join, join_into, join_part, join_registers};
 pub use kind::{Kind, Slot, ValuePointer};
 pub use many::{facts_after_call, fill_stack, read_many};
 pub use null_tests::settle;

@@ -75,13 +75,22 @@ fn lacks(slot: Slot, bits: u8) -> bool
     }
 }
 
+/// The slot after the last one that `count` bytes at `place` touch.
+fn past_touched(place: usize, count: usize) -> usize
+    requires { place + count ≤ stack_size }
+    ensures bytes { place + count ≤ 8 * result }
+    ensures slots { result ≤ stack_slots }
+{
+    (place + count).div_ceil(8)
+}
+
 /// Whether `count` bytes at `place` touch a spill.
 fn touch_a_spill(facts: &Facts, place: usize, count: usize) -> bool
     requires { place + count ≤ stack_size }
     ensures { result ≡ any_below stack_slots
         (λ i. is_touched_spill (slot_at facts.now i) (touches place count i)) }
 {
-    for index in 0..STACK_SLOTS {
+    for index in place / 8..past_touched(place, count) {
         if is_touched_spill(facts.slot(index), touches(place, count, index)) {
             return true;
         }
@@ -95,7 +104,7 @@ fn are_missing(facts: &Facts, place: usize, count: usize) -> bool
     ensures { result ≡ any_below stack_slots
         (λ i. lacks (slot_at facts.now i) (bits_in place count i)) }
 {
-    for index in 0..STACK_SLOTS {
+    for index in place / 8..past_touched(place, count) {
         if lacks(facts.slot(index), bits_in(place, count, index)) {
             return true;
         }

@@ -23,7 +23,7 @@ fn settle_registers(facts: &mut Facts, site: usize, null: bool)
         (λ r. kind_settled site null (kind_at facts.old r)) }
 {
     for r in 0..REGISTERS {
-        facts.registers[r] = settled_kind(facts.kind(r), site, null);
+        settle_kind(&mut facts.registers[r], site, null);
     }
 }
 
@@ -31,38 +31,40 @@ fn settle_stack(facts: &mut Facts, site: usize, null: bool)
     ensures { facts.new ≡ with_slots facts.old (λ i. slot_settled site null (slot_at facts.old i)) }
 {
     for i in 0..STACK_SLOTS {
-        facts.slots[i] = settled_slot(facts.slot(i), site, null);
+        settle_slot(&mut facts.slots[i], site, null);
     }
 }
 
-/// The kind of a register after the test.
-fn settled_kind(kind: Kind, site: usize, null: bool) -> Kind
-    ensures { result ≡ kind_settled site null kind }
+/// Settles the kind of a register.
+#[inline(always)]
+fn settle_kind(kind: &mut Kind, site: usize, null: bool)
+    ensures { kind.new ≡ kind_settled site null kind.old }
 {
-    match kind {
+    match *kind {
         Kind::MaybeValue { map, site: carried } if carried == site => {
-            if null {
+            *kind = if null {
                 Kind::Scalar(Range::constant(0))
             } else {
                 Kind::Value(ValuePointer::new(map, 0, 0))
-            }
+            };
         }
-        other => other,
+        _ => {}
     }
 }
 
-/// A stack slot after the test.
-fn settled_slot(slot: Slot, site: usize, null: bool) -> Slot
-    ensures { result ≡ slot_settled site null slot }
+/// Settles a stack slot.
+#[inline(always)]
+fn settle_slot(slot: &mut Slot, site: usize, null: bool)
+    ensures { slot.new ≡ slot_settled site null slot.old }
 {
-    match slot {
+    match *slot {
         Slot::Spill(Kind::MaybeValue { map, site: carried }) if carried == site => {
-            if null {
+            *slot = if null {
                 Slot::Bytes(0xff)
             } else {
                 Slot::Spill(Kind::Value(ValuePointer::new(map, 0, 0)))
-            }
+            };
         }
-        other => other,
+        _ => {}
     }
 }

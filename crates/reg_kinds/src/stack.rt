@@ -1,9 +1,9 @@
 //! Loads from the stack, and stores to it.
 
-ghost use Rattle.std.specs.Prelude.{◌≡◌, ◌<◌, ◌*◌, ◌%◌, MatchResult, IfOk};
+ghost use Rattle.std.specs.Prelude.{◌≡◌, ◌<◌, ◌*◌, ◌%◌, MatchResult, IfOk, IsOk, Some};
 ghost use Rattle.interval.specs.Ranges.{full};
 ghost use Rattle.words.specs.Stack.{stack_slots, bytes_of};
-ghost use Rattle.reg_kinds.specs.Stack.{byte_bits, touched, loaded, read_slot, stack_read, bytes_over, slot_written, stack_write};
+ghost use Rattle.reg_kinds.specs.Stack.{byte_bits, touched, loaded, read_slot, stack_read, bytes_over, slot_written, stack_write, ChangesAtMost};
 
 use crate::facts::Facts;
 use crate::kind::{Kind, Slot};
@@ -41,18 +41,20 @@ fn read_slot(slot: Slot, bits: u8, size: AccessSize, signed: bool) -> Result<Kin
     }
 }
 
-/// The facts after a store of a value of this kind at `offset` from the stack's upper end. The error is the first that
-/// applies, and then nothing changes: the value is unreadable (`UnreadableRegister`), the store is not in the stack
-/// (`OutsideStack`), it is not aligned to its size (`UnalignedStack`), it stores a part of a pointer (`PartOfSpill`).
+/// The facts after a store of a value of this kind at `offset` from the stack's upper end. Returns the slot of the store; no other
+/// slot changes. The error is the first that applies, and then nothing changes: the value is unreadable (`UnreadableRegister`), the
+/// store is not in the stack (`OutsideStack`), it is not aligned to its size (`UnalignedStack`), it stores a part of a pointer
+/// (`PartOfSpill`).
 pub fn write_stack(
     facts: &mut Facts,
     offset: i32,
     size: AccessSize,
     value: Kind,
-) -> Result<(), Reason>
-    ensures { MatchResult (stack_write facts.old offset size value)
-        (λ after. (result ≡ Ok tt) × (facts.new ≡ after))
+) -> Result<usize, Reason>
+    ensures facts { MatchResult (stack_write facts.old offset size value)
+        (λ after. IsOk result × (facts.new ≡ after))
         (λ reason. (result ≡ Err reason) × (facts.new ≡ facts.old)) }
+    ensures slot { IfOk result (λ i. ChangesAtMost (Some i) facts.old facts.new) }
 {
     if let Kind::Unreadable = value {
         return Err(Reason::UnreadableRegister);
@@ -60,7 +62,7 @@ pub fn write_stack(
     let (index, bits) = touched(offset, size)?;
     let slot = slot_written(facts.slot(index), bits, size, value)?;
     facts.set_slot(index, slot);
-    Ok(())
+    Ok(index)
 }
 
 /// The slot of an access, and the mask of its bytes there.

@@ -1,14 +1,25 @@
 -- The edges out of an instruction, with their facts, from the result of the code. This project's own.
-use Rattle.std.specs.Prelude.{if◌then◌else◌, Some, None}
+use Rattle.std.specs.Prelude.{Some, None, option_map}
 use Rattle.reg_kinds.specs.declared.facts.Facts.{Facts}
 use Rattle.transfer.specs.declared.branches.Flow.{Flow}
-use Rattle.transfer.specs.declared.branches.Flow.TheVariants.{Ends, Falls, Jumps, Branches}
-use Rattle.transfer.specs.Branches.{Edges}
+use Rattle.transfer.specs.declared.branches.Flow.TheVariants.{Ends, Falls, WritesSlot, Writes, Jumps, Either, Compares, Settles}
+use Rattle.reg_kinds.specs.Stack.{ChangesAtMost}
+use Rattle.transfer.specs.Branches.{Edges, with_pair, settled_edges}
 
--- the edges, if the code leaves facts f, and facts `taken` on the jumping edge
-abbrev pub edges_of : Flow → Facts → Facts → Edges
-edges_of Ends f taken = record { falling = None; jumping = None }
-edges_of Falls f taken = record { falling = Some f; jumping = None }
-edges_of Jumps f taken = record { falling = None; jumping = Some f }
-edges_of (Branches falls jumps) f taken =
-    record { falling = if falls then Some f else None; jumping = if jumps then Some taken else None }
+-- the edges, if the code leaves facts f
+abbrev pub edges_of : Flow → Facts → Edges
+edges_of Ends f = record { falling = None; jumping = None }
+edges_of Falls f = record { falling = Some f; jumping = None }
+edges_of (WritesSlot i) f = record { falling = Some f; jumping = None }
+edges_of Writes f = record { falling = Some f; jumping = None }
+edges_of Jumps f = record { falling = None; jumping = Some f }
+edges_of Either f = record { falling = Some f; jumping = Some f }
+edges_of (Compares dst src falls jumps) f =
+    record { falling = option_map (with_pair f dst src) falls; jumping = option_map (with_pair f dst src) jumps }
+edges_of (Settles site jumps_on_null) f = settled_edges jumps_on_null site f
+
+-- the stack of facts g is that of facts f, but for what the flow tells that may have been written
+abbrev pub KeepsStack : Flow → Facts → Facts → Type 0
+KeepsStack (WritesSlot i) f g = ChangesAtMost (Some i) f g
+KeepsStack Writes f g = Unit {0}
+KeepsStack flow f g = ChangesAtMost None f g

@@ -1,56 +1,54 @@
 //! The facts on the two edges of a conditional jump.
 
-ghost use Rattle.std.specs.Prelude.{◌≡◌, ◌<◌, if◌then◌else◌, option_map, Some, None, IfOk, IfErr, OnErr, Ok, Err};
-ghost use Rattle.transfer.specs.Branches.{with_pair, is_same, number_edges, pointer_edges, settled_edges, branch_edges};
+ghost use Rattle.std.specs.Prelude.{◌≡◌, IfOk, IfErr, Ok, Err};
+ghost use Rattle.reg_kinds.specs.declared.facts.Facts.{Facts as AnyFacts};
+ghost use Rattle.transfer.specs.Branches.{with_pair, is_same, number_edges, pointer_edges, branch_edges};
 ghost use Rattle.tagged_model.specs.Values.{is_null_test};
-ghost use Rattle.transfer.specs.Flows.{edges_of};
+ghost use Rattle.transfer.specs.Flows.{edges_of, KeepsStack};
+ghost use Rattle.transfer.specs.declared.branches.Flow.TheVariants.{Compares};
 
 use insn_set::{Operand, Reg};
 use interval::{Range, refine};
-use reg_kinds::{Facts, Kind, Reason, settle};
+use reg_kinds::{Facts, Kind, Reason};
 use words::Condition;
 
-/// The edges that control may take after an instruction.
+/// The edges that control may take after an instruction, with what is known on each.
 #[derive(Clone, Copy, Debug, PartialEq, Eq)]
 pub enum Flow {
     /// None: the run ends.
     Ends,
-    /// The falling edge, with the facts in `facts`.
+    /// The falling edge, with the facts after the instruction.
     Falls,
-    /// The jumping edge, with the facts in `facts`.
+    /// The same after an instruction that may change this slot of the stack.
+    WritesSlot(usize),
+    /// The same after an instruction that may change each slot of the stack.
+    Writes,
+    /// The jumping edge, with the same facts.
     Jumps,
-    /// The falling edge with the facts in `facts`, and the jumping edge with those in `taken`: each if it can be taken.
-    Branches { falls: bool, jumps: bool },
+    /// Both edges, with the same facts.
+    Either,
+    /// After a comparison of two numbers, each edge that can be taken, where both operands have these ranges.
+    Compares {
+        dst: Reg,
+        src: Operand,
+        falls: Option<(Range, Range)>,
+        jumps: Option<(Range, Range)>,
+    },
+    /// Both edges after a null test of the result of the look-up at slot `site`.
+    Settles {
+        site: usize,
+        jumps_on_null: bool,
+    },
 }
 
-/// Copies the facts for the jumping edge.
-fn copy_facts(facts: &Facts, taken: &mut Facts)
-    ensures { taken.new ≡ facts.now }
-{
-    *taken = *facts;
-}
-
-/// Sets the ranges of both operands in the facts of an edge.
-fn put_pair(facts: &mut Facts, dst: Reg, src: &Operand, pair: (Range, Range))
+/// Sets the ranges of both operands of a comparison.
+#[inline(always)]
+pub fn set_ranges(facts: &mut Facts, dst: Reg, src: &Operand, pair: (Range, Range))
     ensures { facts.new ≡ with_pair facts.old dst src.now pair }
 {
     facts.set_kind(usize::from(dst.number()), Kind::Scalar(pair.0));
     if let Operand::Reg(source) = *src {
         facts.set_kind(usize::from(source.number()), Kind::Scalar(pair.1));
-    }
-}
-
-/// Refines the facts of an edge by the ranges of both operands there. Returns whether the edge can be taken.
-fn learn(facts: &mut Facts, dst: Reg, src: &Operand, told: Option<(Range, Range)>) -> bool
-    ensures { (if result then Some facts.new else None)
-        ≡ option_map (with_pair facts.old dst src.now) told }
-{
-    match told {
-        Some(pair) => {
-            put_pair(facts, dst, src, pair);
-            true
-        }
-        None => false,
     }
 }
 
@@ -64,10 +62,25 @@ fn is_same(dst: Reg, src: Operand) -> bool
     }
 }
 
+/// The edges with these ranges of both operands.
+fn compared(
+    dst: Reg,
+    src: &Operand,
+    falls: Option<(Range, Range)>,
+    jumps: Option<(Range, Range)>,
+) -> Flow
+    ensures { result ≡ Compares dst src.now falls jumps }
+{
+    Flow::Compares {
+        dst,
+        src: *src,
+        falls,
+        jumps,
+    }
+}
+
 /// The edges of a comparison of two numbers.
 fn compare_numbers(
-    facts: &mut Facts,
-    taken: &mut Facts,
     wide: bool,
     condition: Condition,
     dst: Reg,
@@ -75,43 +88,27 @@ fn compare_numbers(
     a: Range,
     b: Range,
 ) -> Flow
-    ensures { edges_of result facts.new taken.new ≡ number_edges wide condition facts.old dst src a
-        b }
+    ensures edges { (f : AnyFacts) → edges_of result f ≡ number_edges wide condition f dst src a b }
+    ensures stack { (f : AnyFacts) → KeepsStack result f f }
 {
-    copy_facts(facts, taken);
     if is_same(dst, src) {
-        return Flow::Branches {
-            falls: true,
-            jumps: true,
-        };
+        return Flow::Either;
     }
     let (where_taken, where_not) = refine(condition, wide, a, b);
-    Flow::Branches {
-        jumps: learn(taken, dst, &src, where_taken),
-        falls: learn(facts, dst, &src, where_not),
-    }
-}
-
-/// The edges of a null test of the look-up at `site`.
-fn settle_edges(facts: &mut Facts, taken: &mut Facts, site: usize, jumps_on_null: bool) -> Flow
-    ensures { edges_of result facts.new taken.new ≡ settled_edges jumps_on_null site facts.old }
-{
-    copy_facts(facts, taken);
-    settle(taken, site, jumps_on_null);
-    settle(facts, site, !jumps_on_null);
-    Flow::Branches {
-        falls: true,
-        jumps: true,
-    }
+    compared(dst, &src, where_not, where_taken)
 }
 
 /// The edges of a null test of a pointer: a look-up is settled on both, any other pointer is not null.
-fn test_pointer(facts: &mut Facts, taken: &mut Facts, condition: Condition, pointer: Kind) -> Flow
-    ensures { edges_of result facts.new taken.new ≡ pointer_edges condition facts.old pointer }
+fn test_pointer(condition: Condition, pointer: Kind) -> Flow
+    ensures edges { (f : AnyFacts) → edges_of result f ≡ pointer_edges condition f pointer }
+    ensures stack { (f : AnyFacts) → KeepsStack result f f }
 {
     let jumps_on_null = condition != Condition::NotEqual;
     if let Kind::MaybeValue { site, .. } = pointer {
-        settle_edges(facts, taken, site, jumps_on_null)
+        Flow::Settles {
+            site,
+            jumps_on_null,
+        }
     } else if jumps_on_null {
         Flow::Falls
     } else {
@@ -129,8 +126,6 @@ fn is_null_test(wide: bool, condition: Condition, src: Operand) -> bool
 
 /// The edges of a conditional jump. `PointerComparison` if the operands are not both numbers, and it is not a null test.
 pub(crate) fn branch(
-    facts: &mut Facts,
-    taken: &mut Facts,
     wide: bool,
     condition: Condition,
     dst: Reg,
@@ -138,19 +133,19 @@ pub(crate) fn branch(
     a: Kind,
     b: Kind,
 ) -> Result<Flow, Reason>
-    ensures ok { IfOk result (λ flow. branch_edges wide condition facts.old dst src a b
-        ≡ Ok (edges_of flow facts.new taken.new)) }
-    ensures refused { IfErr result (λ reason. branch_edges wide condition facts.old dst src a b
-        ≡ Err reason) }
-    ensures stays { OnErr result ((facts.new ≡ facts.old) × (taken.new ≡ taken.old)) }
+    ensures ok { IfOk result (λ flow. (f : AnyFacts) → branch_edges wide condition f dst src a b
+        ≡ Ok (edges_of flow f)) }
+    ensures refused { IfErr result (λ reason. (f : AnyFacts)
+        → branch_edges wide condition f dst src a b ≡ Err reason) }
+    ensures stack { IfOk result (λ flow. (f : AnyFacts) → KeepsStack flow f f) }
 {
     match (a, b) {
         (Kind::Scalar(a), Kind::Scalar(b)) => {
-            Ok(compare_numbers(facts, taken, wide, condition, dst, src, a, b))
+            Ok(compare_numbers(wide, condition, dst, src, a, b))
         }
         (Kind::Scalar(_), _) => Err(Reason::PointerComparison),
         (pointer, _) if is_null_test(wide, condition, src) => {
-            Ok(test_pointer(facts, taken, condition, pointer))
+            Ok(test_pointer(condition, pointer))
         }
         _ => Err(Reason::PointerComparison),
     }

@@ -11,7 +11,9 @@ ghost use Rattle.transfer.specs.Branches.{ends, falls};
 ghost use Rattle.transfer.specs.Effects.{source_kind, first_kind, context_read, load_kind, store_facts, number_or, stack_changed, is_known_multiple, changed_facts, map_of, value_of, exit_edges, operator_edges, effect};
 ghost use Rattle.reg_kinds.specs.declared.reason.Reason.TheVariants.{OutsideStack, PointerStored};
 ghost use Rattle.tagged_model.specs.Named.{shapes_named};
-ghost use Rattle.transfer.specs.Flows.{edges_of};
+ghost use Rattle.transfer.specs.Flows.{edges_of, KeepsStack};
+ghost use Rattle.reg_kinds.specs.Stack.{ChangesAtMost};
+ghost use Rattle.reg_kinds.specs.declared.facts.Facts.{Facts as AnyFacts};
 ghost use Rattle.reg_kinds.specs.Kinds.{is_pointer, kind_at, with_kind};
 ghost use Rattle.reg_kinds.specs.declared.kind.Kind.TheVariants.{Scalar};
 ghost use Rattle.transfer.specs.declared.branches.Flow.TheVariants.{Falls};
@@ -125,7 +127,7 @@ fn store_outside(value: Kind) -> Result<(), Reason>
     }
 }
 
-/// Updates the facts for a store.
+/// Updates the facts for a store. Returns the slot of the stack that it may change, if any.
 fn store(
     facts: &mut Facts,
     named: &[Named],
@@ -133,9 +135,10 @@ fn store(
     offset: i16,
     base: Kind,
     value: Kind,
-) -> Result<(), Reason>
+) -> Result<Option<usize>, Reason>
     ensures ok { OnOk result (store_facts (shapes_named named.now) facts.old size offset
         base value ≡ Ok facts.new) }
+    ensures stack { IfOk result (λ slot. ChangesAtMost slot facts.old facts.new) }
     ensures refused { IfErr result (λ reason. store_facts (shapes_named named.now) facts.old
         size offset base value ≡ Err reason) }
     ensures stays { OnErr result (facts.new ≡ facts.old) }
@@ -146,12 +149,13 @@ fn store(
                 return Err(Reason::UnreadableRegister);
             }
             let at = stack_offset(from, offset)?;
-            write_stack(facts, at, size, value)
+            Ok(Some(write_stack(facts, at, size, value)?))
         }
         Kind::Ctx => Err(Reason::ContextAccess),
         Kind::Value(pointer) => {
             room_of(named, pointer, offset, u32::from(size.bytes()))?;
-            store_outside(value)
+            store_outside(value)?;
+            Ok(None)
         }
         Kind::MaybeValue { .. } => Err(Reason::MaybeNull),
         _ => Err(Reason::NotPointer),
@@ -168,9 +172,10 @@ fn number_or(reason: Reason, value: Kind) -> Result<(), Reason>
     }
 }
 
-/// Updates the facts for an atomic operation in the stack.
-fn change_stack(facts: &mut Facts, offset: i32, size: AccessSize) -> Result<(), Reason>
+/// Updates the facts for an atomic operation in the stack. Returns the slot.
+fn change_stack(facts: &mut Facts, offset: i32, size: AccessSize) -> Result<usize, Reason>
     ensures ok { OnOk result (stack_changed facts.old offset size ≡ Ok facts.new) }
+    ensures stack { IfOk result (λ slot. ChangesAtMost (Some slot) facts.old facts.new) }
     ensures refused { IfErr result (λ reason. stack_changed facts.old offset size ≡ Err reason) }
     ensures stays { OnErr result (facts.new ≡ facts.old) }
 {
@@ -193,7 +198,7 @@ fn is_known_multiple(pointer: ValuePointer, offset: i16, size: AccessSize) -> bo
     pointer.lo == pointer.hi && is_multiple(behind(pointer.lo, offset), size)
 }
 
-/// Updates the facts for an atomic operation.
+/// Updates the facts for an atomic operation. Returns the slot of the stack that it may change, if any.
 fn change(
     facts: &mut Facts,
     named: &[Named],
@@ -201,9 +206,10 @@ fn change(
     offset: i16,
     base: Kind,
     value: Kind,
-) -> Result<(), Reason>
+) -> Result<Option<usize>, Reason>
     ensures ok { OnOk result (changed_facts (shapes_named named.now) facts.old (access_size size)
         offset base value ≡ Ok facts.new) }
+    ensures stack { IfOk result (λ slot. ChangesAtMost slot facts.old facts.new) }
     ensures refused { IfErr result (λ reason. changed_facts (shapes_named named.now) facts.old
         (access_size size) offset base value ≡ Err reason) }
     ensures stays { OnErr result (facts.new ≡ facts.old) }
@@ -213,14 +219,14 @@ fn change(
         Kind::Stack(from) => {
             number_or(Reason::PointerArithmetic, value)?;
             let at = stack_offset(from, offset)?;
-            change_stack(facts, at, access)
+            Ok(Some(change_stack(facts, at, access)?))
         }
         Kind::Ctx => Err(Reason::ContextAccess),
         Kind::Value(pointer) => {
             number_or(Reason::PointerArithmetic, value)?;
             room_of(named, pointer, offset, u32::from(access.bytes()))?;
             if is_known_multiple(pointer, offset, access) {
-                Ok(())
+                Ok(None)
             } else {
                 Err(Reason::UnalignedAtomic)
             }
@@ -274,6 +280,18 @@ fn assign(facts: &mut Facts, dst: Reg, kind: Kind) -> Flow
     Flow::Falls
 }
 
+/// The falling edge, after an instruction that may change this slot of the stack, if any.
+#[inline(always)]
+fn written(slot: Option<usize>) -> Flow
+    ensures edges { (f : AnyFacts) → edges_of result f ≡ edges_of Falls f }
+    ensures stack { (f g : AnyFacts) → ChangesAtMost slot f g → KeepsStack result f g }
+{
+    match slot {
+        Some(slot) => Flow::WritesSlot(slot),
+        None => Flow::Falls,
+    }
+}
+
 /// The ranges of both operands, if both are numbers.
 #[inline(always)]
 fn numbers(facts: &Facts, wide: bool, dst: Reg, src: &Operand) -> Option<(Range, Range)>
@@ -302,6 +320,7 @@ fn operate_on_any(
     src: Operand,
 ) -> Result<(), Reason>
     ensures ok { OnOk result (operator_edges wide op dst src facts.old ≡ falls facts.new) }
+    ensures stack { OnOk result (facts.new.slots ≡ facts.old.slots) }
     ensures refused { IfErr result (λ reason. operator_edges wide op dst src facts.old
         ≡ Err reason) }
     ensures stays { OnErr result (facts.new ≡ facts.old) }
@@ -317,6 +336,7 @@ fn operate_on_any(
 #[inline(always)]
 fn operate(facts: &mut Facts, wide: bool, op: AluOp, dst: Reg, src: Operand) -> Result<(), Reason>
     ensures ok { OnOk result (operator_edges wide op dst src facts.old ≡ falls facts.new) }
+    ensures stack { OnOk result (facts.new.slots ≡ facts.old.slots) }
     ensures refused { IfErr result (λ reason. operator_edges wide op dst src facts.old
         ≡ Err reason) }
     ensures stays { OnErr result (facts.new ≡ facts.old) }
@@ -347,26 +367,20 @@ fn exit(facts: &Facts) -> Result<(), Reason>
     }
 }
 
-/// Applies the transfer function of the instruction at `slot`, and returns the edges out of it (see `Flow`). `named` lists the
-/// objects that descriptors name. The facts on the falling edge, or on the edge of a jump that is always taken, replace `facts`. If
-/// a conditional jump can be taken, the facts on its edge overwrite `taken`; else the contents of `taken` mean nothing afterwards.
+/// Applies the transfer function of the instruction at `slot` to the facts before it, and returns the edges out of it (see `Flow`).
+/// `named` lists the objects that descriptors name. What a conditional jump tells on each edge is in the `Flow` alone.
 ///
 /// # Errors
 ///
 /// Why the instruction may not be run: the first of its conditions that fails, in the order of the definition of `effect`. Then
-/// `facts` and `taken` are unchanged.
-pub fn apply(
-    facts: &mut Facts,
-    taken: &mut Facts,
-    named: &[Named],
-    slot: usize,
-    insn: &Insn,
-) -> Result<Flow, Reason>
+/// `facts` are unchanged.
+pub fn apply(facts: &mut Facts, named: &[Named], slot: usize, insn: &Insn) -> Result<Flow, Reason>
     ensures ok { IfOk result (λ flow. effect (shapes_named named.now) slot insn.now facts.old
-        ≡ Ok (edges_of flow facts.new taken.new)) }
+        ≡ Ok (edges_of flow facts.new)) }
     ensures refused { IfErr result (λ reason. effect (shapes_named named.now) slot insn.now
         facts.old ≡ Err reason) }
-    ensures stays { OnErr result ((facts.new ≡ facts.old) × (taken.new ≡ taken.old)) }
+    ensures stack { IfOk result (λ flow. KeepsStack flow facts.old facts.new) }
+    ensures stays { OnErr result (facts.new ≡ facts.old) }
 {
     match *insn {
         Insn::Alu { wide, op, dst, src } => {
@@ -405,12 +419,12 @@ pub fn apply(
         } => {
             let a = check_readable(facts.kind(usize::from(dst.number())))?;
             let b = check_readable(source(facts, wide, &src))?;
-            branch(facts, taken, wide, cond, dst, src, a, b)
+            branch(wide, cond, dst, src, a, b)
         }
         Insn::Call { id } => {
             let helper = known_helper(id).ok_or(Reason::UnknownHelper)?;
             call(facts, named, slot, helper)?;
-            Ok(Flow::Falls)
+            Ok(Flow::Writes)
         }
         Insn::Exit => {
             exit(facts)?;
@@ -437,8 +451,7 @@ pub fn apply(
         } => {
             let base = check_readable(facts.kind(usize::from(dst.number())))?;
             let value = check_readable(source(facts, true, &src))?;
-            store(facts, named, size, off, base, value)?;
-            Ok(Flow::Falls)
+            Ok(written(store(facts, named, size, off, base, value)?))
         }
         Insn::Atomic {
             size,
@@ -449,8 +462,7 @@ pub fn apply(
         } => {
             let base = check_readable(facts.kind(usize::from(dst.number())))?;
             let value = check_readable(facts.kind(usize::from(src.number())))?;
-            change(facts, named, size, off, base, value)?;
-            Ok(Flow::Falls)
+            Ok(written(change(facts, named, size, off, base, value)?))
         }
         Insn::Const { dst, value } => Ok(assign(facts, dst, Kind::Scalar(Range::constant(value)))),
         Insn::MapFd { dst, fd } => {

@@ -4,7 +4,8 @@
 //! # What is proved
 //!
 //! - The facts on the edges out of an instruction at a slot, or the first of its conditions that fails, are those of the
-//!   definition; a rejection leaves both places of facts unchanged: `ok`, `refused`, `stays` of `apply`.
+//!   definition; a rejection leaves the facts unchanged: `ok`, `refused`, `stays` of `apply`. No stack slot changes but those
+//!   that the flow names: `stack`.
 //! - The transfer function is sound. Take facts that are well formed (ranges of words, look-ups at slots below) and allow an
 //!   instruction that does not jump below slot 0, and a state that they admit and that has a map of each shape. Then the step
 //!   on tagged values is no fault, the next state is at the end of the edge that the step takes, and the facts on that edge
@@ -22,5 +23,5 @@ mod calls;
 mod effects;
 pub mod laws;
 
-pub use branches::Flow;
+pub use branches::{Flow, set_ranges};
 pub use effects::apply;

@@ -1,9 +1,9 @@
 -- The pass over what is known, against the definition that asks the slots below.
-use Rattle.std.proofs.Common.{◌≡◌, ℕ, ◌+◌, ◌<◌, ◌≤◌, inl, inr, Bool, true, false, ◌&&◌, List, length, replicate, Option, Some, None, Result, Ok, Err, refl, sym, ap, subst, ◌∙◌, add-one, arith}
+use Rattle.std.proofs.Common.{◌≡◌, ℕ, ◌+◌, ◌<◌, ◌≤◌, inl, inr, Bool, true, false, ◌&&◌, ◌*◌, List, [], length, Option, Some, None, Result, Ok, Err, refl, sym, ap, subst, ◌∙◌, add-one, arith}
 use Rattle.std.specs.Prelude.{◌==◌, nat_lt, is_some, if◌then◌else◌}
 use Rattle.std.proofs.Math.Bool.{and-true}
 use Rattle.std.proofs.lemmas.Bool.{false≢true, cases_order, cases_eq, eq-eqb, ne_eqb, lt-ltb}
-use Rattle.std.proofs.lemmas.List.{get_or-replicate, length-replicate}
+use Rattle.std.proofs.lemmas.List.{get_or_past}
 use Rattle.std.proofs.lemmas.Option.{none-some}
 use Rattle.insn_set.specs.declared.insn.Insn.{Insn}
 use Rattle.insn_set.specs.declared.insn.Insn.TheVariants.{Ja, Jal, Exit}
@@ -12,11 +12,12 @@ use Rattle.insn_set.specs.Program.{begins_at, slot_count, Adjoins}
 use Rattle.insn_set.specs.BeginLaws.{some_slots, adjoins_after, none_begins_inside, first_begins}
 use Rattle.reg_kinds.specs.declared.facts.Facts.{Facts}
 use Rattle.reg_kinds.specs.declared.kind.Kind.{Kind}
+use Rattle.reg_kinds.specs.declared.kind.Slot.{Slot}
 use Rattle.reg_kinds.specs.declared.kind.Kind.TheVariants.{Scalar}
 use Rattle.reg_kinds.specs.declared.reason.Reason.{Reason}
 use Rattle.reg_kinds.specs.Reason.{and_then_ok}
 use Rattle.reg_kinds.specs.Join.{facts_join}
-use Rattle.reg_kinds.specs.Kinds.{entry, kind_at}
+use Rattle.reg_kinds.specs.Kinds.{entry, kind_at, slot_at}
 use Rattle.reg_kinds.specs.Laws.{FactsCommute, FactsAssociate}
 use Rattle.tagged_model.specs.Cells.{and_then}
 use Rattle.tagged_model.specs.Named.{Shapes}
@@ -25,6 +26,9 @@ use Rattle.transfer.specs.Branches.{Edges}
 use Rattle.transfer.specs.Effects.{effect, exits_with}
 use Rattle.insn_set.specs.Flow.{falls_to, jumps_to, falls, jumps, jump_target}
 use Rattle.verifier.specs.declared.pass.Pass.{Pass}
+use Rattle.verifier.specs.declared.numbered_facts.NumberedFacts.{NumberedFacts}
+use Rattle.verifier.specs.inside.Numbers.{facts_on, entry_of, at_entry, IsNumbered, IsNumberedIf, AreNumbered}
+use Rattle.verifier.proofs.Numbers.{joined_none, on_none, raised, entry_numbered}
 use Rattle.verifier.specs.Shape.{is_slot, falls_into, jumps_into}
 use Rattle.verifier.specs.Before.{joined, only_if, edges_into, facts_sent, facts_from_below, facts_before}
 use Rattle.verifier.specs.inside.Arriving.{brought_to, Brings, arriving_at}
@@ -33,20 +37,12 @@ use Rattle.verifier.specs.Verdict.{reason_of, safety_fault, IsFirstFault}
 
 -- ---- joins in another order
 
-joined_none : (a : Option Facts) → joined a None ≡ a
-joined_none None = refl
-joined_none (Some f) = refl
-
 joined_swap : FactsCommute → FactsAssociate → (a b c : Option Facts) → joined a (joined b c) ≡ joined b (joined a c)
 joined_swap comm assoc None b c = refl
 joined_swap comm assoc (Some f) None c = refl
 joined_swap comm assoc (Some f) (Some g) None = ap Some (comm f g)
 joined_swap comm assoc (Some f) (Some g) (Some h) =
     ap Some (sym (assoc f g h) ∙ ap (λ (x : Facts). facts_join x h) (comm f g) ∙ assoc g f h)
-
-on_none : (b : Bool) → only_if b None ≡ None
-on_none true = refl
-on_none false = refl
 
 -- by the shapes of the maps
 module _ (shapes : Shapes) where
@@ -98,8 +94,8 @@ module _ (shapes : Shapes) where
     pub ahead : slot ≤ due
     pub adjoins : Adjoins code due
     pub between : (k : ℕ) → slot ≤ k → k < due → begins_at code k ≡ None
-    pub long : length pass.entries ≡ slot_count code
-    pub each : (i : ℕ) → slot ≤ i → i < slot_count code → joined (only_if (due == i) pass.falling) (brought_to i pass.entries) ≡ facts_from_below shapes code i slot
+    pub numbered : AreNumbered slot (8 * slot + 2) pass.falling pass.entries
+    pub each : (i : ℕ) → slot ≤ i → i < slot_count code → joined (only_if (due == i) (facts_on pass.falling)) (brought_to i pass.entries) ≡ facts_from_below shapes code i slot
 
   inflow_first : (code : List Insn) (i : ℕ) → facts_from_below shapes code i 0 ≡ (if i == 0 then Some entry else None)
   unfolding facts_from_below
@@ -109,18 +105,27 @@ module _ (shapes : Shapes) where
   unfolding facts_from_below
   inflow_next code i n = ap (λ (k : ℕ). facts_from_below shapes code i k) (add-one n)
 
-  pub at_start : (code : List Insn) (pass : Pass) → 1 ≤ slot_count code → pass.falling ≡ Some entry → pass.entries ≡ replicate (slot_count code) None → IsBefore code 0 pass
+  nothing_at : (i : ℕ) (entries : List (Option NumberedFacts)) → entries ≡ [] → entry_of i entries ≡ None
+  nothing_at i entries empty = ap (entry_of i) empty ∙ get_or_past [] i None (omega arith)
+
+  pub at_start : (code : List Insn) (pass : Pass) → 1 ≤ slot_count code → pass.falling ≡ Some at_entry → pass.entries ≡ [] → IsBefore code 0 pass
   at_start code pass some first empty =
+      let known : facts_on pass.falling ≡ Some entry = ap facts_on first in
+      let stacks : ℕ → ℕ → Slot = λ i _. slot_at entry i in
+      let numbered : IsNumbered stacks 2 at_entry = entry_numbered in
       record {
         due = 0;
         ahead = omega arith;
         adjoins = inr (omega arith, first_begins code some);
         between = λ k above lt. absurd (omega arith);
-        long = ap length empty ∙ length-replicate (slot_count code) None;
+        numbered = record {
+          stacks = stacks;
+          in_hand = subst (λ (o : Option NumberedFacts). IsNumberedIf stacks 2 o) (sym first) numbered;
+          ahead = λ i above. subst (λ (o : Option NumberedFacts). IsNumberedIf stacks 2 o) (sym (nothing_at i pass.entries empty)) tt;
+        };
         each = λ i above lt.
-            ap (λ (f : Option Facts). joined (only_if (0 == i) f) (brought_to i pass.entries)) first
-            ∙ ap (λ (es : List (Option Facts)). joined (only_if (0 == i) (Some entry)) (brought_to i es)) empty
-            ∙ ap (joined (only_if (0 == i) (Some entry))) (get_or-replicate (slot_count code) i None None lt)
+            ap (λ (f : Option Facts). joined (only_if (0 == i) f) (brought_to i pass.entries)) known
+            ∙ ap (λ (o : Option NumberedFacts). joined (only_if (0 == i) (Some entry)) (facts_on o)) (nothing_at i pass.entries empty)
             ∙ joined_none (only_if (0 == i) (Some entry))
             ∙ elim (cases_eq i 0) [
               | inl same ↦
@@ -143,12 +148,12 @@ module _ (shapes : Shapes) where
   -- what is known before the instruction
   pub here_is : {code : List Insn} {slot : ℕ} {pass : Pass} {insn : Insn} → IsBefore code slot pass → begins_at code slot ≡ Some insn → slot < slot_count code → arriving_at slot pass ≡ facts_before shapes code slot
   here_is {slot = slot} {pass = pass} b begins lt =
-      sym (ap (λ (t : Bool). joined (only_if t pass.falling) (brought_to slot pass.entries)) (eq-eqb b.due slot (due_here b begins)))
+      sym (ap (λ (t : Bool). joined (only_if t (facts_on pass.falling)) (brought_to slot pass.entries)) (eq-eqb b.due slot (due_here b begins)))
       ∙ b.each slot (omega arith) lt
 
   entry_is : {code : List Insn} {slot : ℕ} {pass : Pass} (b : IsBefore code slot pass) (i : ℕ) → slot ≤ i → i < slot_count code → (b.due ≡ i → ⊥) → brought_to i pass.entries ≡ facts_from_below shapes code i slot
   entry_is {pass = pass} b i above lt other =
-      sym (ap (λ (t : Bool). joined (only_if t pass.falling) (brought_to i pass.entries)) (ne_eqb b.due i other)) ∙ b.each i above lt
+      sym (ap (λ (t : Bool). joined (only_if t (facts_on pass.falling)) (brought_to i pass.entries)) (ne_eqb b.due i other)) ∙ b.each i above lt
 
   sent_is : (code : List Insn) (n i : ℕ) (insn : Insn) (here : Option Facts) → begins_at code n ≡ Some insn → facts_sent shapes code n i here ≡ and_then here (λ f. edges_into insn n i (effect shapes n insn f))
   sent_is code n i insn None begins = refl
@@ -156,10 +161,10 @@ module _ (shapes : Shapes) where
 
   -- past an instruction that may be run
   pub after_insn : {code : List Insn} {slot : ℕ} {old : Pass} {insn : Insn} → FactsCommute → FactsAssociate → (new : Pass) → IsBefore code slot old → begins_at code slot ≡ Some insn → slot < slot_count code
-      → new.falling ≡ falling_from shapes slot insn (arriving_at slot old)
+      → facts_on new.falling ≡ falling_from shapes slot insn (arriving_at slot old)
       → ((i : ℕ) → slot < i → Brings (jump_target insn slot) (jumping_from shapes slot insn (arriving_at slot old)) old.entries new.entries i)
-      → length new.entries ≡ length old.entries → IsBefore code (slot + 1) new
-  after_insn {code = code} {slot = slot} {old = old} {insn = insn} comm assoc new b begins lt fall jump long =
+      → AreNumbered (slot + 1) (8 * slot + 10) new.falling new.entries → IsBefore code (slot + 1) new
+  after_insn {code = code} {slot = slot} {old = old} {insn = insn} comm assoc new b begins lt fall jump numbered =
       let here : Option Facts = arriving_at slot old in
       let falling_edge : Option Facts = falling_from shapes slot insn here in
       let jumping_edge : Option Facts = jumping_from shapes slot insn here in
@@ -169,7 +174,7 @@ module _ (shapes : Shapes) where
         ahead = omega (arith, some_slots insn);
         adjoins = adjoins_after code slot insn begins;
         between = λ k above below. none_begins_inside code slot insn begins k (omega arith) below;
-        long = long ∙ b.long;
+        numbered = raised (slot + 1) (slot + 1) (8 * slot + 10) (8 * (slot + 1) + 2) new.falling new.entries (omega arith) (omega arith) numbered;
         each = λ i above within.
             let was : brought_to i old.entries ≡ facts_from_below shapes code i slot = entry_is b i (omega arith) within (λ e. omega arith) in
             let known = here_is b begins lt in
@@ -195,14 +200,14 @@ module _ (shapes : Shapes) where
 
   -- past a slot where no instruction begins
   pub after_none : {code : List Insn} {slot : ℕ} {pass : Pass} → IsBefore code slot pass → begins_at code slot ≡ None → slot < slot_count code → IsBefore code (slot + 1) pass
-  after_none {code = code} {slot = slot} b none lt =
+  after_none {code = code} {slot = slot} {pass = pass} b none lt =
       let later : b.due ≡ slot → ⊥ = λ e. not_first code slot (subst (λ (n : ℕ). Adjoins code n) e b.adjoins) lt none in
       record {
         due = b.due;
         ahead = omega (arith, b.ahead, later);
         adjoins = b.adjoins;
         between = λ k above below. b.between k (omega arith) below;
-        long = b.long;
+        numbered = raised slot (slot + 1) (8 * slot + 2) (8 * (slot + 1) + 2) pass.falling pass.entries (omega arith) (omega arith) b.numbered;
         each = λ i above within.
             b.each i (omega arith) within
             ∙ sym (joined_none (facts_from_below shapes code i slot))

@@ -1,5 +1,8 @@
 pub mod EntryLists
 pub mod Inflow
+pub mod Numbers
+pub mod PartJoins
+pub mod NumberedSteps
 pub mod Telling
 pub mod OneVerdict
 pub mod Judgements

@@ -5,3 +5,4 @@ pub mod Jumps
 pub mod Arriving
 pub mod Telling
 pub mod Kept
+pub mod Numbers

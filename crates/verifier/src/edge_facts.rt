@@ -1,9 +1,8 @@
 //! The facts on an edge.
 
-ghost use Rattle.std.specs.Prelude.{◌≡◌, Some, None};
-ghost use Rattle.verifier.specs.Before.{joined};
+ghost use Rattle.verifier.specs.inside.Numbers.{IsJoinedBy};
 
-use reg_kinds::{Facts, join_into};
+use crate::numbered_facts::NumberedFacts;
 use std::marker::Model;
 
 /// The facts on an edge, if there are any. Facts are large, so they are stored in one place, and a
@@ -13,27 +12,27 @@ use std::marker::Model;
 #[derive(Drop)]
 pub(crate) struct EdgeFacts {
     pub(crate) is_known: bool,
-    pub(crate) facts: Facts,
+    pub(crate) known: NumberedFacts,
 }
 
 impl Model for EdgeFacts {
     ghost use Rattle.std.specs.Prelude.{Option, Some, None, if◌then◌else◌};
-    ghost use Rattle.reg_kinds.specs.declared.facts.Facts.{Facts as AnyFacts};
+    ghost use Rattle.verifier.specs.declared.numbered_facts.NumberedFacts.{NumberedFacts as AnyFacts};
 
     ghost Value = { Option AnyFacts };
 
-    ghost view = { λ e. if e.is_known then Some e.facts else None };
+    ghost view = { λ e. if e.is_known then Some e.known else None };
 }
 
 impl EdgeFacts {
     /// Joins the facts on another edge into these.
-    pub(crate) fn join(&mut self, edge: &Facts)
-        ensures { self.new ≡ joined self.old (Some edge.now) }
+    pub(crate) fn join(&mut self, edge: &NumberedFacts, fresh: usize)
+        ensures { IsJoinedBy fresh self.old edge.now self.new }
     {
         if self.is_known {
-            join_into(&mut self.facts, edge);
+            self.known.join(edge, fresh);
         } else {
-            self.facts = *edge;
+            self.known = *edge;
             self.is_known = true;
         }
     }

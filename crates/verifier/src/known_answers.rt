@@ -1,28 +1,33 @@
 //! Known answers of the watched verdict and of the private types, proved only from their contracts. Nothing calls these functions.
 
-ghost use Rattle.std.specs.Prelude.{◌≡◌, ◌≢◌, ◌<◌, ℕ, length, slice_index_or, None, IfOk, OnOk};
+ghost use Rattle.std.specs.Prelude.{◌≡◌, ◌≢◌, ◌<◌, ℕ, slice_index_or, None, IfOk, OnOk};
 ghost use Rattle.insn_set.specs.Program.{slot_count};
 ghost use Rattle.verifier.specs.Maps.{shapes_of};
 ghost use Rattle.verifier.specs.Told.{reached};
 
 use crate::fault::VerifyFault;
+use crate::numbered_facts::NumberedFacts;
 use crate::target_facts::TargetFacts;
 use crate::verified::verify_watched;
 use crate::watcher::Watcher;
-use insn_codec::Program;
+use insn_codec::{MAX_SLOTS, Program};
 use reg_kinds::Facts;
 use std::alloc::{AllocError, Global};
 use tagged_model::Named;
 
 /// If only one slot has an entry, a jump to this slot adds no entry for another: a target has one entry,
 /// however many jumps lead to it.
-fn one_entry(entries: &mut TargetFacts, slot: usize, facts: &Facts) -> Result<(), AllocError>
-    requires within { slot < length entries.old }
+fn one_entry(
+    entries: &mut TargetFacts,
+    slot: usize,
+    facts: &NumberedFacts,
+    fresh: usize,
+) -> Result<(), AllocError>
+    requires within { slot < MAX_SLOTS }
     requires alone { (i : ℕ) → i ≢ slot → slice_index_or entries.old i None ≡ None }
-    ensures alone { OnOk result ((i : ℕ) → i ≢ slot → slice_index_or entries.new i None ≡ None) }
-    ensures long { OnOk result (length entries.new ≡ length entries.old) }
+    ensures { OnOk result ((i : ℕ) → i ≢ slot → slice_index_or entries.new i None ≡ None) }
 {
-    entries.send(Some(slot), Some(facts))
+    entries.put(slot, facts, fresh)
 }
 
 /// A watcher that keeps all that it receives, in order.

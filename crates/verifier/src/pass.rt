@@ -1,10 +1,13 @@
 //! Whether each instruction may be run with the facts before it.
 
-ghost use Rattle.std.specs.Prelude.{◌≡◌, ◌⊎◌, ◌<◌, ℕ, length, IsSome, IfSome, IfErr, OnOk};
+ghost use Rattle.std.specs.Prelude.{◌≡◌, ◌⊎◌, ◌+◌, ◌*◌, ◌<◌, ℕ, not, option_map, if◌then◌else◌, Some, None, IfSome, IfOk, IfErr, OnOk};
 ghost use Rattle.tagged_model.specs.Named.{shapes_named};
+ghost use Rattle.interval.specs.Refine.{RangePair};
+ghost use Rattle.reg_kinds.specs.Laws.{SlotsAbsorb};
 ghost use Rattle.verifier.specs.inside.Edges.{falling_from, jumping_from, MayRun};
-ghost use Rattle.verifier.specs.inside.Arriving.{Brings, arriving_at, on_falling_edge, on_jumping_edge};
+ghost use Rattle.verifier.specs.inside.Arriving.{Brings, arriving_at};
 ghost use Rattle.verifier.specs.inside.Jumps.{JumpsLand};
+ghost use Rattle.verifier.specs.inside.Numbers.{facts_on, with_ranges, settled, on_falling_edge, on_jumping_edge, IsSent, IsSentIf, IsPast, IsPastIf, AreNumbered};
 ghost use Rattle.verifier.specs.inside.Telling.{IsFaultTold, IsFirstTold, StopsTelling};
 ghost use Rattle.insn_set.specs.Flow.{jump_target};
 ghost use Rattle.insn_set.specs.Program.{slot_count};
@@ -13,13 +16,15 @@ ghost use Rattle.verifier.specs.Verdict.{HasNoFault, safety_fault};
 
 use crate::edge_facts::EdgeFacts;
 use crate::fault::VerifyFault;
+use crate::numbered_facts::NumberedFacts;
 use crate::target_facts::TargetFacts;
 use crate::watcher::Watcher;
-use insn_codec::{Insn, MAX_SLOTS, Program};
-use reg_kinds::{Facts, laws};
+use insn_codec::{Insn, MAX_SLOTS, Operand, Program, Reg};
+use interval::Range;
+use reg_kinds::{laws, settle};
 use std::alloc::{AllocError, Global};
 use tagged_model::Named;
-use transfer::{Flow, apply};
+use transfer::{Flow, apply, set_ranges};
 
 /// The facts during the pass over a program.
 #[derive(Drop)]
@@ -28,42 +33,203 @@ struct Pass {
     falling: EdgeFacts,
     /// On the jumps to later slots.
     entries: TargetFacts,
-    /// Space for the facts on the jumping edge of the current instruction.
-    taken: Facts,
+    /// Space for the facts on the jumping edge of a null test.
+    taken: NumberedFacts,
+}
+
+/// Sends the facts on the jumping edge of a comparison to the jump's target, if it can be taken. Of the facts in hand only the ranges
+/// of both operands change.
+#[inline(always)]
+fn send_compared(
+    hand: &mut NumberedFacts,
+    entries: &mut TargetFacts,
+    target: Option<usize>,
+    fresh: usize,
+    dst: Reg,
+    src: Operand,
+    jumps: Option<(Range, Range)>,
+) -> Result<(), AllocError>
+    requires lands { IfSome target (λ to. to < MAX_SLOTS) }
+    ensures hand { OnOk result ((q : RangePair)
+        → with_ranges hand.new dst src q ≡ with_ranges hand.old dst src q) }
+    ensures sent { OnOk result (IsSentIf target fresh
+        (option_map (with_ranges hand.old dst src) jumps) entries.old entries.new) }
+{
+    match jumps {
+        Some(ranges) => {
+            set_ranges(&mut hand.facts, dst, &src, ranges);
+            entries.send(target, hand, fresh)
+        }
+        None => Ok(()),
+    }
+}
+
+/// Sends the facts on the jumping edge of a comparison, and leaves those on the falling edge. Returns whether that can be taken.
+#[inline(always)]
+fn leave_comparison(
+    hand: &mut NumberedFacts,
+    entries: &mut TargetFacts,
+    target: Option<usize>,
+    fresh: usize,
+    dst: Reg,
+    src: Operand,
+    falls: Option<(Range, Range)>,
+    jumps: Option<(Range, Range)>,
+) -> Result<bool, AllocError>
+    requires lands { IfSome target (λ to. to < MAX_SLOTS) }
+    ensures falls { IfOk result (λ falling. (if falling then Some hand.new else None)
+        ≡ option_map (with_ranges hand.old dst src) falls) }
+    ensures sent { OnOk result (IsSentIf target fresh
+        (option_map (with_ranges hand.old dst src) jumps) entries.old entries.new) }
+{
+    send_compared(hand, entries, target, fresh, dst, src, jumps)?;
+    match falls {
+        Some(ranges) => {
+            set_ranges(&mut hand.facts, dst, &src, ranges);
+            Ok(true)
+        }
+        None => Ok(false),
+    }
+}
+
+/// Settles a null test on both edges. `taken` is space for the facts on the jumping edge.
+fn leave_null_test(
+    hand: &mut NumberedFacts,
+    entries: &mut TargetFacts,
+    taken: &mut NumberedFacts,
+    target: Option<usize>,
+    slot: usize,
+    site: usize,
+    jumps_on_null: bool,
+) -> Result<(), AllocError>
+    requires room { slot < MAX_SLOTS }
+    requires lands { IfSome target (λ to. to < MAX_SLOTS) }
+    ensures falls { OnOk result (hand.new ≡ settled site (not jumps_on_null) (8 * slot + 5) hand.old) }
+    ensures sent { OnOk result (IsSent target (8 * slot + 6)
+        (settled site jumps_on_null (8 * slot + 4) hand.old) entries.old entries.new) }
+{
+    *taken = *hand;
+    settle(&mut taken.facts, site, jumps_on_null);
+    taken.renumber(8 * slot + 4);
+    settle(&mut hand.facts, site, !jumps_on_null);
+    hand.renumber(8 * slot + 5);
+    entries.send(target, taken, 8 * slot + 6)
+}
+
+/// Sends the facts after an instruction along the edges of this flow, of which the jumping one leads to `target`.
+fn leave_by(
+    hand: &mut NumberedFacts,
+    entries: &mut TargetFacts,
+    taken: &mut NumberedFacts,
+    flow: &Flow,
+    target: Option<usize>,
+    slot: usize,
+) -> Result<bool, AllocError>
+    requires room { slot < MAX_SLOTS }
+    requires lands { IfSome target (λ to. to < MAX_SLOTS) }
+    ensures falls { IfOk result (λ falling. (if falling then Some hand.new else None)
+        ≡ on_falling_edge flow.now (8 * slot + 5) hand.old) }
+    ensures sent { OnOk result (IsSentIf target (8 * slot + 6)
+        (on_jumping_edge flow.now (8 * slot + 4) hand.old) entries.old entries.new) }
+{
+    match *flow {
+        Flow::Ends => Ok(false),
+        Flow::Falls => Ok(true),
+        Flow::WritesSlot(_) => Ok(true),
+        Flow::Writes => Ok(true),
+        Flow::Jumps => {
+            entries.send(target, hand, 8 * slot + 6)?;
+            Ok(false)
+        }
+        Flow::Either => {
+            entries.send(target, hand, 8 * slot + 6)?;
+            Ok(true)
+        }
+        Flow::Compares {
+            dst,
+            src,
+            falls,
+            jumps,
+        } => leave_comparison(hand, entries, target, 8 * slot + 6, dst, src, falls, jumps),
+        Flow::Settles {
+            site,
+            jumps_on_null,
+        } => {
+            leave_null_test(hand, entries, taken, target, slot, site, jumps_on_null)?;
+            Ok(true)
+        }
+    }
+}
+
+/// Sends the facts after the instruction at `slot` along its edges: those on the falling edge stay in hand. Returns whether the
+/// falling edge can be taken.
+#[inline(always)]
+fn leave(
+    hand: &mut NumberedFacts,
+    entries: &mut TargetFacts,
+    taken: &mut NumberedFacts,
+    flow: &Flow,
+    insn: &Insn,
+    slot: usize,
+) -> Result<bool, AllocError>
+    requires room { slot < MAX_SLOTS }
+    requires lands { IfSome (jump_target insn.now slot) (λ to. to < MAX_SLOTS) }
+    ensures falls { IfOk result (λ falling. (if falling then Some hand.new else None)
+        ≡ on_falling_edge flow.now (8 * slot + 5) hand.old) }
+    ensures sent { OnOk result (IsSentIf (jump_target insn.now slot) (8 * slot + 6)
+        (on_jumping_edge flow.now (8 * slot + 4) hand.old) entries.old entries.new) }
+{
+    match flow {
+        Flow::Falls => Ok(true),
+        Flow::WritesSlot(_) => Ok(true),
+        Flow::Writes => Ok(true),
+        _ => leave_by(
+            hand,
+            entries,
+            taken,
+            flow,
+            insn.profile().successors.target(slot),
+            slot,
+        ),
+    }
+}
+
+/// Passes the facts in hand to the watcher, and moves past the instruction at `slot`, if it may be run with them. Returns whether
+/// the falling edge can be taken.
+#[inline(always)]
+fn run_past<W: Watcher>(
+    hand: &mut NumberedFacts,
+    entries: &mut TargetFacts,
+    taken: &mut NumberedFacts,
+    named: &[Named],
+    insn: &Insn,
+    slot: usize,
+    watcher: &mut W,
+) -> Result<bool, VerifyFault>
+    requires room { slot < MAX_SLOTS }
+    requires lands { IfSome (jump_target insn.now slot) (λ to. to < MAX_SLOTS) }
+    ensures ok { OnOk result (MayRun (shapes_named named.now) slot insn.now (Some hand.old.facts)) }
+    ensures past { IfOk result (λ falling. IsPast (shapes_named named.now) slot insn.now hand.old
+        entries.old (if falling then Some hand.new else None) entries.new) }
+    ensures told { OnOk result (W.told watcher.new
+        ≡ with_more (W.told watcher.old) (known_at slot (Some hand.old.facts))) }
+    ensures refused { IfErr result (λ e. StopsTelling (W.told watcher.old) (W.told watcher.new)
+        slot (Some hand.old.facts) e
+        ⊎ IsFaultTold (shapes_named named.now) slot insn.now (Some hand.old.facts)
+        (W.told watcher.old) (W.told watcher.new) e) }
+{
+    watcher.before(slot, &hand.facts)?;
+    match apply(&mut hand.facts, named, slot, insn) {
+        Ok(flow) => {
+            hand.note(&flow, 8 * slot + 3);
+            Ok(leave(hand, entries, taken, &flow, insn, slot)?)
+        }
+        Err(reason) => Err(VerifyFault { slot, reason }),
+    }
 }
 
 impl Pass {
-    /// Sends the current facts along the edges of an instruction.
-    fn leave(&mut self, flow: Flow, insn: &Insn, slot: usize) -> Result<(), AllocError>
-        requires room { slot < MAX_SLOTS }
-        requires known { IsSome self.old.falling }
-        requires lands { IfSome (jump_target insn.now slot) (λ to. to < length self.old.entries) }
-        ensures falling { OnOk result (self.new.falling ≡ on_falling_edge flow self.old) }
-        ensures sent { OnOk result ((i : ℕ) → Brings (jump_target insn.now slot)
-            (on_jumping_edge flow self.old) self.old.entries self.new.entries i) }
-        ensures long { OnOk result (length self.new.entries ≡ length self.old.entries) }
-    {
-        match flow {
-            Flow::Ends => self.falling.is_known = false,
-            Flow::Falls => {}
-            Flow::Jumps => {
-                let target = insn.profile().successors.target(slot);
-                self.entries.send(target, Some(&self.falling.facts))?;
-                self.falling.is_known = false;
-            }
-            Flow::Branches { falls, jumps } => {
-                if jumps {
-                    let target = insn.profile().successors.target(slot);
-                    self.entries.send(target, Some(&self.taken))?;
-                }
-                self.falling.is_known = falls;
-            }
-        }
-        Ok(())
-    }
-
-    /// Passes the current facts to the watcher, and moves past the instruction at `slot`, if it may be run with them. If there
-    /// are no facts, no run reaches it.
+    /// Moves past the instruction at `slot`, if it may be run with the current facts. If there are none, no run reaches it.
     #[inline(always)]
     fn go_past<W: Watcher>(
         &mut self,
@@ -73,28 +239,28 @@ impl Pass {
         watcher: &mut W,
     ) -> Result<(), VerifyFault>
         requires room { slot < MAX_SLOTS }
-        requires lands { IfSome (jump_target insn.now slot) (λ to. to < length self.old.entries) }
+        requires lands { IfSome (jump_target insn.now slot) (λ to. to < MAX_SLOTS) }
         ensures ok { OnOk result
-            (MayRun (shapes_named named.now) slot insn.now self.old.falling) }
-        ensures falling { OnOk result (self.new.falling
-            ≡ falling_from (shapes_named named.now) slot insn.now self.old.falling) }
-        ensures sent { OnOk result ((i : ℕ) → Brings (jump_target insn.now slot)
-            (jumping_from (shapes_named named.now) slot insn.now self.old.falling)
-            self.old.entries self.new.entries i) }
-        ensures long { OnOk result (length self.new.entries ≡ length self.old.entries) }
+            (MayRun (shapes_named named.now) slot insn.now (facts_on self.old.falling)) }
+        ensures past { OnOk result (IsPastIf (shapes_named named.now) slot insn.now
+            self.old.falling self.old.entries self.new.falling self.new.entries) }
         ensures told { OnOk result (W.told watcher.new
-            ≡ with_more (W.told watcher.old) (known_at slot self.old.falling)) }
+            ≡ with_more (W.told watcher.old) (known_at slot (facts_on self.old.falling))) }
         ensures refused { IfErr result (λ e. StopsTelling (W.told watcher.old) (W.told watcher.new)
-            slot self.old.falling e
-            ⊎ IsFaultTold (shapes_named named.now) slot insn.now self.old.falling
+            slot (facts_on self.old.falling) e
+            ⊎ IsFaultTold (shapes_named named.now) slot insn.now (facts_on self.old.falling)
             (W.told watcher.old) (W.told watcher.new) e) }
     {
         if self.falling.is_known {
-            watcher.before(slot, &self.falling.facts)?;
-            match apply(&mut self.falling.facts, &mut self.taken, named, slot, insn) {
-                Ok(flow) => self.leave(flow, insn, slot)?,
-                Err(reason) => return Err(VerifyFault { slot, reason }),
-            }
+            self.falling.is_known = run_past(
+                &mut self.falling.known,
+                &mut self.entries,
+                &mut self.taken,
+                named,
+                insn,
+                slot,
+                watcher,
+            )?;
         }
         Ok(())
     }
@@ -108,16 +274,18 @@ impl Pass {
         watcher: &mut W,
     ) -> Result<(), VerifyFault>
         requires room { slot < MAX_SLOTS }
-        requires within { slot < length self.old.entries }
-        requires lands { IfSome (jump_target insn.now slot) (λ to. to < length self.old.entries) }
+        requires lands { IfSome (jump_target insn.now slot) (λ to. to < MAX_SLOTS) }
+        requires absorb { SlotsAbsorb }
+        requires numbered { AreNumbered slot (8 * slot + 2) self.old.falling self.old.entries }
         ensures ok { OnOk result
             (MayRun (shapes_named named.now) slot insn.now (arriving_at slot self.old)) }
-        ensures falling { OnOk result (self.new.falling
+        ensures falling { OnOk result (facts_on self.new.falling
             ≡ falling_from (shapes_named named.now) slot insn.now (arriving_at slot self.old)) }
         ensures sent { OnOk result ((i : ℕ) → slot < i → Brings (jump_target insn.now slot)
             (jumping_from (shapes_named named.now) slot insn.now (arriving_at slot self.old))
             self.old.entries self.new.entries i) }
-        ensures long { OnOk result (length self.new.entries ≡ length self.old.entries) }
+        ensures numbered { OnOk result
+            (AreNumbered (slot + 1) (8 * slot + 10) self.new.falling self.new.entries) }
         ensures told { OnOk result (W.told watcher.new
             ≡ with_more (W.told watcher.old) (known_at slot (arriving_at slot self.old))) }
         ensures refused { IfErr result (λ e. StopsTelling (W.told watcher.old) (W.told watcher.new)
@@ -125,7 +293,7 @@ impl Pass {
             ⊎ IsFaultTold (shapes_named named.now) slot insn.now (arriving_at slot self.old)
             (W.told watcher.old) (W.told watcher.new) e) }
     {
-        self.entries.join_at(slot, &mut self.falling)?;
+        self.entries.join_at(slot, &mut self.falling, 8 * slot + 2)?;
         self.go_past(named, insn, slot, watcher)
     }
 }
@@ -147,14 +315,15 @@ pub(crate) fn check_safety<W: Watcher>(
 {
     laws::joins_commute();
     laws::joins_associate();
+    laws::slots_absorb();
     let slots = program.slots();
     let mut pass = Pass {
         falling: EdgeFacts {
             is_known: true,
-            facts: Facts::at_entry(),
+            known: NumberedFacts::at_entry(),
         },
-        entries: TargetFacts::new(alloc, slots)?,
-        taken: Facts::at_entry(),
+        entries: TargetFacts::new(alloc),
+        taken: NumberedFacts::at_entry(),
     };
     for slot in 0..slots {
         if let Some(insn) = program.get(slot) {

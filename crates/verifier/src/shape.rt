@@ -2,13 +2,14 @@
 
 ghost use Rattle.std.specs.Prelude.{◌≡◌, ◌⊎◌, ◌+◌, ◌<◌, ◌≤◌, ◌&&◌, ◌||◌, ℕ, nat_le, not, false, [], ◌∷◌, length, slice_index_or, IsTrue, IfSome, IfErr, OnOk, Some};
 ghost use Rattle.reg_kinds.specs.declared.reason.Reason.TheVariants.{JumpOutside, JumpBackward, FallsOff, Unreachable, FramePointerWritten, DescriptorNotOpen, DescriptorNotMap, NoDirectValue};
+ghost use Rattle.insn_set.specs.Profile.{profile};
 ghost use Rattle.insn_set.specs.Flow.{falls_to, jumps_to, falls, jumps, jump_target, descriptor, descriptor_by};
 ghost use Rattle.verifier.specs.Shape.{leads_into, is_reachable, is_slot, is_unknown_helper, is_not_open, is_not_map, is_no_value, leads_outside, leads_backward, first_reason, shape_reason, structure_fault};
 ghost use Rattle.verifier.specs.inside.Jumps.{JumpsLand};
 ghost use Rattle.verifier.specs.Verdict.{IsFirstFault, HasNoFault, memory_fault};
 
 use crate::fault::VerifyFault;
-use insn_codec::{Insn, MAX_SLOTS, Program, Reference, Reg, Successors};
+use insn_codec::{Insn, MAX_SLOTS, Profile, Program, Reference, Reg, Successors};
 use reg_kinds::Reason;
 use std::alloc::Global;
 use tagged_model::{Named, Target, known_helper, shape_of, target_of};
@@ -111,14 +112,15 @@ fn shape_reason(
     program: &Program,
     named: &[Named],
     insn: &Insn,
+    row: &Profile,
     slot: usize,
     is_reached: bool,
 ) -> Option<Reason>
     requires room { slot ≤ MAX_SLOTS }
+    requires row { row.now ≡ profile insn.now }
     requires reached { is_reached ≡ is_reachable program.now slot }
     ensures { result ≡ shape_reason program.now named.now insn.now slot }
 {
-    let row = insn.profile();
     match (row.successors, row.reference) {
         (Successors::Next, Reference::Nothing) => plain_reason(
             row.written,
@@ -159,18 +161,18 @@ fn other_reason(
 }
 
 /// Marks the slots to which an instruction's edges lead.
-fn mark_edges(reached: &mut [bool], insn: &Insn, slot: usize)
+fn mark_edges(reached: &mut [bool], insn: &Insn, row: &Profile, slot: usize)
     requires room { slot ≤ MAX_SLOTS }
+    requires row { row.now ≡ profile insn.now }
     requires falls { IsTrue (falls insn.now) → falls_to insn.now slot < length reached.old }
     requires jumps { IfSome (jump_target insn.now slot) (λ to. to < length reached.old) }
     ensures { (i : ℕ) → slot < i → slice_index_or reached.new i false
         ≡ (slice_index_or reached.old i false || leads_into (Some insn.now) slot i) }
 {
-    let successors = insn.profile().successors;
-    if successors.falls() {
-        reached[slot + insn.slots()] = true;
+    if row.successors.falls() {
+        reached[slot + row.slots] = true;
     }
-    if let Some(to) = successors.target(slot) {
+    if let Some(to) = row.successors.target(slot) {
         reached[to] = true;
     }
 }
@@ -191,10 +193,11 @@ pub(crate) fn check_shape(
     reached[0] = true;
     for slot in 0..slots {
         if let Some(insn) = program.get(slot) {
-            if let Some(reason) = shape_reason(program, named, insn, slot, reached[slot]) {
+            let row = insn.profile();
+            if let Some(reason) = shape_reason(program, named, insn, &row, slot, reached[slot]) {
                 return Err(VerifyFault { slot, reason });
             }
-            mark_edges(&mut reached, insn, slot);
+            mark_edges(&mut reached, insn, &row, slot);
         }
     }
     Ok(())

@@ -1,28 +1,27 @@
 //! The facts on jumps to later slots.
 
-ghost use Rattle.std.specs.Prelude.{◌≡◌, ◌<◌, ◌++◌, ◌∷◌, [], length, slice_set, replicate, option_map, box_value, None, Some, IfOk, IfSome, OnOk, ℕ};
-ghost use Rattle.std.specs.Option.{option_copied};
-ghost use Rattle.verifier.specs.Before.{joined};
-ghost use Rattle.verifier.specs.inside.Arriving.{Brings, brought_to};
+ghost use Rattle.std.specs.Prelude.{◌≡◌, ◌<◌, ◌≤◌, ◌++◌, ◌∷◌, [], length, map, option_map, box_value, IfSome, IfOk, OnOk, ℕ};
+ghost use Rattle.verifier.specs.inside.Numbers.{IsJoinedBy, IsPut, IsSent, IsTaken, entry_of};
 
 use crate::edge_facts::EdgeFacts;
-use reg_kinds::{Facts, join_into};
+use crate::numbered_facts::NumberedFacts;
+use insn_codec::MAX_SLOTS;
 use std::alloc::{AllocError, Global};
 use std::marker::Model;
 
 /// For each slot, the join of the facts on the jumps to it, so far.
 ///
-/// Contracts see the list of these facts by slot.
+/// Contracts see the list of these facts by slot, up to the last slot that a jump has led to.
 #[derive(Drop)]
 pub(crate) struct TargetFacts {
-    facts: Vec<Option<Box<Facts>>>,
+    facts: Vec<Option<Box<NumberedFacts>>>,
     /// Boxes of entries that are over, for reuse.
-    spare: Vec<Box<Facts>>,
+    spare: Vec<Box<NumberedFacts>>,
 }
 
 impl Model for TargetFacts {
     ghost use Rattle.std.specs.Prelude.{List, Option, map, option_map, box_value};
-    ghost use Rattle.reg_kinds.specs.declared.facts.Facts.{Facts as AnyFacts};
+    ghost use Rattle.verifier.specs.declared.numbered_facts.NumberedFacts.{NumberedFacts as AnyFacts};
 
     ghost Value = { List (Option AnyFacts) };
 
@@ -31,10 +30,10 @@ impl Model for TargetFacts {
 
 /// A box with these facts: a spare one, or a new one.
 fn boxed(
-    spare: &mut Vec<Box<Facts>>,
+    spare: &mut Vec<Box<NumberedFacts>>,
     alloc: Global,
-    facts: &Facts,
-) -> Result<Box<Facts>, AllocError>
+    facts: &NumberedFacts,
+) -> Result<Box<NumberedFacts>, AllocError>
     ensures { IfOk result (λ entry. entry.value ≡ facts.now) }
 {
     match spare.pop() {
@@ -47,7 +46,7 @@ fn boxed(
 }
 
 /// Keeps a box for reuse.
-fn keep(spare: &mut Vec<Box<Facts>>, entry: Box<Facts>) -> Result<(), AllocError>
+fn keep(spare: &mut Vec<Box<NumberedFacts>>, entry: Box<NumberedFacts>) -> Result<(), AllocError>
     ensures { OnOk result (spare.new.items ≡ spare.old.items ++ entry ∷ []) }
 {
     spare.push(entry)?;
@@ -56,74 +55,114 @@ fn keep(spare: &mut Vec<Box<Facts>>, entry: Box<Facts>) -> Result<(), AllocError
 
 /// Joins the facts of a jump into an entry, in place. The first jump's facts get a box of their own.
 fn join_entry(
-    entry: &mut Option<Box<Facts>>,
-    facts: &Facts,
-    spare: &mut Vec<Box<Facts>>,
+    entry: &mut Option<Box<NumberedFacts>>,
+    facts: &NumberedFacts,
+    fresh: usize,
+    spare: &mut Vec<Box<NumberedFacts>>,
     alloc: Global,
 ) -> Result<(), AllocError>
-    ensures { OnOk result (option_map box_value entry.new
-        ≡ joined (option_map box_value entry.old) (Some facts.now)) }
+    ensures { OnOk result (IsJoinedBy fresh (option_map box_value entry.old) facts.now
+        (option_map box_value entry.new)) }
 {
     match entry {
-        Some(known) => join_into(known, facts),
+        Some(known) => known.join(facts, fresh),
         None => *entry = Some(boxed(spare, alloc, facts)?),
     }
     Ok(())
 }
 
+/// Appends empty entries, until there are `slots` or more.
+fn append_empty(facts: &mut Vec<Option<Box<NumberedFacts>>>, slots: usize) -> Result<(), AllocError>
+    ensures within { OnOk result (slots ≤ length (map (option_map box_value) facts.new.items)) }
+    ensures entries { OnOk result ((i : ℕ) → entry_of i (map (option_map box_value) facts.new.items)
+        ≡ entry_of i (map (option_map box_value) facts.old.items)) }
+{
+    for at in facts.len()..slots {
+        facts.push(None)?;
+    }
+    Ok(())
+}
+
 impl TargetFacts {
-    /// Empty entries for `slots` slots. `AllocError`: out of memory.
-    pub(crate) fn new(alloc: Global, slots: usize) -> Result<TargetFacts, AllocError>
-        ensures { IfOk result (λ entries. entries ≡ replicate slots None) }
+    /// No entries.
+    pub(crate) fn new(alloc: Global) -> TargetFacts
+        ensures { result ≡ [] }
     {
-        let mut facts = Vec::with_capacity(alloc, slots)?;
-        for _ in 0..slots {
-            facts.push(None)?;
+        TargetFacts {
+            facts: Vec::new(alloc),
+            spare: Vec::new(alloc),
         }
-        let spare = Vec::new(alloc);
-        Ok(TargetFacts { facts, spare })
     }
 
     /// Joins the facts of the jumps to `slot` into those that are known there otherwise, and empties the entry.
-    pub(crate) fn join_at(&mut self, slot: usize, known: &mut EdgeFacts) -> Result<(), AllocError>
-        requires { slot < length self.old }
-        ensures known { OnOk result (known.new ≡ joined known.old (brought_to slot self.old)) }
-        ensures taken { OnOk result (self.new ≡ slice_set self.old slot None) }
+    pub(crate) fn join_at(
+        &mut self,
+        slot: usize,
+        known: &mut EdgeFacts,
+        fresh: usize,
+    ) -> Result<(), AllocError>
+        ensures { OnOk result (IsTaken slot fresh self.old self.new known.old known.new) }
     {
-        if self.facts[slot].is_none() {
+        if slot >= self.facts.len() || self.facts[slot].is_none() {
             return Ok(());
         }
         if let Some(entry) = self.facts[slot].take() {
-            known.join(&entry);
+            known.join(&entry, fresh);
             keep(&mut self.spare, entry)?;
         }
         Ok(())
     }
 
-    /// Joins the facts of a jump to `slot` into the entry.
-    fn put(&mut self, slot: usize, facts: &Facts) -> Result<(), AllocError>
-        requires { slot < length self.old }
-        ensures { OnOk result (self.new ≡ slice_set self.old slot
-            (joined (brought_to slot self.old) (Some facts.now))) }
+    /// Appends empty entries as far as `slot`.
+    fn reach(&mut self, slot: usize) -> Result<(), AllocError>
+        requires { slot < MAX_SLOTS }
+        ensures within { OnOk result (slot < length self.new) }
+        ensures entries { OnOk result ((i : ℕ) → entry_of i self.new ≡ entry_of i self.old) }
     {
-        let alloc = *self.facts.allocator();
-        join_entry(&mut self.facts[slot], facts, &mut self.spare, alloc)
+        append_empty(&mut self.facts, slot + 1)
     }
 
-    /// Joins the facts on a jump's edge into the entry of its target, if there are both.
+    /// Joins the facts of a jump into the entry of its target, if it has one.
     pub(crate) fn send(
         &mut self,
         target: Option<usize>,
-        facts: Option<&Facts>,
+        facts: &NumberedFacts,
+        fresh: usize,
     ) -> Result<(), AllocError>
-        requires { IfSome target (λ slot. slot < length self.old) }
-        ensures sent { OnOk result ((i : ℕ)
-            → Brings target (option_copied facts.entry) self.old self.new i) }
-        ensures long { OnOk result (length self.new ≡ length self.old) }
+        requires { IfSome target (λ slot. slot < MAX_SLOTS) }
+        ensures { OnOk result (IsSent target fresh facts.now self.old self.new) }
     {
-        if let (Some(slot), Some(facts)) = (target, facts) {
-            self.put(slot, facts)?;
+        if let Some(slot) = target {
+            self.put(slot, facts, fresh)?;
         }
         Ok(())
+    }
+
+    /// Joins the facts of a jump to `slot` into the entry.
+    pub(crate) fn put(
+        &mut self,
+        slot: usize,
+        facts: &NumberedFacts,
+        fresh: usize,
+    ) -> Result<(), AllocError>
+        requires { slot < MAX_SLOTS }
+        ensures { OnOk result (IsPut slot fresh facts.now self.old self.new) }
+    {
+        self.reach(slot)?;
+        self.put_within(slot, facts, fresh)
+    }
+
+    /// Joins the facts of a jump to `slot` into the entry, which is in the list.
+    fn put_within(
+        &mut self,
+        slot: usize,
+        facts: &NumberedFacts,
+        fresh: usize,
+    ) -> Result<(), AllocError>
+        requires { slot < length self.old }
+        ensures { OnOk result (IsPut slot fresh facts.now self.old self.new) }
+    {
+        let alloc = *self.facts.allocator();
+        join_entry(&mut self.facts[slot], facts, fresh, &mut self.spare, alloc)
     }
 }

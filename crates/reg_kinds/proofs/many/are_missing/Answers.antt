@@ -1,12 +1,21 @@
-use Rattle.std.proofs.Common.{sym, arith}
-use Rattle.reg_kinds.proofs.SlotTests.{none_first, none_more, one_below}
+use Rattle.std.proofs.Common.{sym, inl, inr, ⊎_elim, arith, below_more}
+use Rattle.std.proofs.lemmas.Bool.{cases_lt}
+use Rattle.reg_kinds.proofs.SlotTests.{none_below, one_below, lacks_apart}
 use Rattle.reg_kinds.proofs.many.are_missing.Goals as goal
 
 pub loop-index-init : goal.loop-index-init
-loop-index-init c = none_first _
+loop-index-init c = λ i lt. lacks_apart c.args.facts.now c.args.place c.args.count i (inl (omega (arith, lt)))
 
 pub loop-index-preserved : goal.loop-index-preserved
-loop-index-preserved c = none_more _ _ c.loop-index.invariant (cc)
+loop-index-preserved c = below_more _ _ c.loop-index.invariant (cc)
 
 pub returns-then-lacks : goal.returns-then-lacks
 returns-then-lacks c = sym (one_below _ c.loop-index.index _ (omega arith) (cc))
+
+pub returns : goal.returns
+returns c =
+    sym (none_below 64 _ (λ i lt.
+    ⊎_elim
+    (λ below. c.loop-index.invariant i below)
+    (λ past. lacks_apart c.args.facts.now c.args.place c.args.count i (inr (omega (arith, past, c.past_touched-index-end.ensures.bytes))))
+    (cases_lt i c.loop-index.index)))

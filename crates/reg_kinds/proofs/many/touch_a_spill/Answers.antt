@@ -1,12 +1,21 @@
-use Rattle.std.proofs.Common.{sym, arith}
-use Rattle.reg_kinds.proofs.SlotTests.{none_first, none_more, one_below}
+use Rattle.std.proofs.Common.{sym, inl, inr, ⊎_elim, arith, below_more}
+use Rattle.std.proofs.lemmas.Bool.{cases_lt}
+use Rattle.reg_kinds.proofs.SlotTests.{none_below, one_below, spill_apart}
 use Rattle.reg_kinds.proofs.many.touch_a_spill.Goals as goal
 
 pub loop-index-init : goal.loop-index-init
-loop-index-init c = none_first _
+loop-index-init c = λ i lt. spill_apart c.args.facts.now c.args.place c.args.count i (inl (omega (arith, lt)))
 
 pub loop-index-preserved : goal.loop-index-preserved
-loop-index-preserved c = none_more _ _ c.loop-index.invariant (cc)
+loop-index-preserved c = below_more _ _ c.loop-index.invariant (cc)
 
 pub returns-then-is_touched_spill : goal.returns-then-is_touched_spill
 returns-then-is_touched_spill c = sym (one_below _ c.loop-index.index _ (omega arith) (cc))
+
+pub returns : goal.returns
+returns c =
+    sym (none_below 64 _ (λ i lt.
+    ⊎_elim
+    (λ below. c.loop-index.invariant i below)
+    (λ past. spill_apart c.args.facts.now c.args.place c.args.count i (inr (omega (arith, past, c.past_touched-index-end.ensures.bytes))))
+    (cases_lt i c.loop-index.index)))

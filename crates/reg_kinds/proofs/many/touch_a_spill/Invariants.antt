@@ -1,8 +1,8 @@
-use Rattle.std.proofs.Common.{◌≡◌, false}
+use Rattle.std.proofs.Common.{◌≡◌, ℕ, ◌<◌, false}
 use Rattle.reg_kinds.specs.Kinds.{slot_at}
 use Rattle.words.specs.Stack.{touches}
-use Rattle.reg_kinds.specs.Many.{any_below, is_touched_spill}
+use Rattle.reg_kinds.specs.Many.{is_touched_spill}
 use Rattle.reg_kinds.proofs.many.touch_a_spill.Given as goal
 
 abbrev pub invariant-loop-index : goal.invariant-loop-index
-invariant-loop-index l = any_below l.index (λ i. is_touched_spill (slot_at l.facts i) (touches l.place l.count i)) ≡ false
+invariant-loop-index l = (i : ℕ) → i < l.index → is_touched_spill (slot_at l.facts i) (touches l.place l.count i) ≡ false

@@ -1,4 +1,5 @@
 use Rattle.std.proofs.Common.{◌≡◌, arith, length-set, ap, ◌∙◌}
+use Rattle.std.proofs.lemmas.List.{get_or_default}
 use Rattle.reg_kinds.specs.declared.kind.Kind.TheVariants.{Unreadable}
 use Rattle.reg_kinds.specs.declared.facts.Facts.{Facts}
 use Rattle.reg_kinds.specs.Kinds.{kind_at, with_registers}
@@ -11,7 +12,7 @@ loop-r-preserved c =
     record {
       long = length-set _ _ _ ∙ c.loop-r.invariant.long;
       kept = c.loop-r.invariant.kept;
-      done = fill_more (λ k. kind_settled c.args.site c.args.null (kind_at c.args.facts.now k)) c.loop-r.facts.registers c.loop-r.r _ Unreadable (omega arith) (c.settled_kind.ensures ∙ ap (kind_settled c.args.site c.args.null) (c.kind.ensures ∙ c.loop-r.invariant.rest c.loop-r.r (omega arith))) c.loop-r.invariant.done;
+      done = fill_more (λ k. kind_settled c.args.site c.args.null (kind_at c.args.facts.now k)) c.loop-r.facts.registers c.loop-r.r _ Unreadable (omega arith) (c.settle_kind.ensures ∙ ap (kind_settled c.args.site c.args.null) (get_or_default c.loop-r.facts.registers c.loop-r.r _ Unreadable (omega arith) ∙ c.loop-r.invariant.rest c.loop-r.r (omega arith))) c.loop-r.invariant.done;
       rest = rest_more c.loop-r.facts.registers c.args.facts.now.registers c.loop-r.r _ Unreadable c.loop-r.invariant.rest;
     }
 

@@ -1,4 +1,5 @@
 use Rattle.std.proofs.Common.{◌≡◌, arith, length-set, ap, ◌∙◌}
+use Rattle.std.proofs.lemmas.List.{get_or_default}
 use Rattle.reg_kinds.specs.declared.kind.Slot.TheVariants.{Bytes}
 use Rattle.reg_kinds.specs.declared.facts.Facts.{Facts}
 use Rattle.reg_kinds.specs.Kinds.{slot_at, with_slots}
@@ -11,7 +12,7 @@ loop-i-preserved c =
     record {
       long = length-set _ _ _ ∙ c.loop-i.invariant.long;
       kept = c.loop-i.invariant.kept;
-      done = fill_more (λ k. slot_settled c.args.site c.args.null (slot_at c.args.facts.now k)) c.loop-i.facts.slots c.loop-i.i _ (Bytes 0) (omega arith) (c.settled_slot.ensures ∙ ap (slot_settled c.args.site c.args.null) (c.slot.ensures ∙ c.loop-i.invariant.rest c.loop-i.i (omega arith))) c.loop-i.invariant.done;
+      done = fill_more (λ k. slot_settled c.args.site c.args.null (slot_at c.args.facts.now k)) c.loop-i.facts.slots c.loop-i.i _ (Bytes 0) (omega arith) (c.settle_slot.ensures ∙ ap (slot_settled c.args.site c.args.null) (get_or_default c.loop-i.facts.slots c.loop-i.i _ (Bytes 0) (omega arith) ∙ c.loop-i.invariant.rest c.loop-i.i (omega arith))) c.loop-i.invariant.done;
       rest = rest_more c.loop-i.facts.slots c.args.facts.now.slots c.loop-i.i _ (Bytes 0) c.loop-i.invariant.rest;
     }
 

@@ -1,5 +1,7 @@
-use Rattle.std.proofs.Common.{rules, ◌≡◌, Result, Ok, Err, sym, ap, subst, ◌∙◌}
-use Rattle.std.specs.Prelude.{OnOk, IfErr, OnErr, MatchResult}
+use Rattle.std.proofs.Common.{rules, ◌≡◌, ℕ, Result, Ok, Err, sym, ap, subst}
+use Rattle.std.specs.Prelude.{IsOk, MatchResult}
+use Rattle.std.proofs.lemmas.Bool.{false≢true}
+use Rattle.std.proofs.lemmas.Result.{err_from_is_err_and}
 use Rattle.reg_kinds.specs.declared.facts.Facts.{Facts}
 use Rattle.reg_kinds.specs.declared.reason.Reason.{Reason}
 use Rattle.tagged_model.specs.Named.{shapes_named}
@@ -7,22 +9,31 @@ use Rattle.transfer.specs.Effects.{store_facts}
 use Rattle.transfer.proofs.effects.store.Goals as goal
 
 -- what a write of the stack tells is what the store tells
-told : (done wanted : Result Facts Reason) (result : Result (Unit {0}) Reason) (old new : Facts) → wanted ≡ done
-    → MatchResult done (λ after. (result ≡ Ok tt) × (new ≡ after)) (λ reason. (result ≡ Err reason) × (new ≡ old))
-    → OnOk result (wanted ≡ Ok new) × (IfErr result (λ reason. wanted ≡ Err reason) × OnErr result (new ≡ old))
-told (Ok after) wanted result old new same h =
-    let kept : wanted ≡ Ok new = same ∙ ap (λ (f : Facts). Ok f) (sym h.1) in (
-      subst (λ r. OnOk r (wanted ≡ Ok new)) (sym h.0) kept,
-      (subst (λ r. IfErr r (λ reason. wanted ≡ Err reason)) (sym h.0) tt, subst (λ r. OnErr r (new ≡ old)) (sym h.0) tt),
-    )
-told (Err reason) wanted result old new same h = (
-  subst (λ r. OnOk r (wanted ≡ Ok new)) (sym h.0) tt,
-  (subst (λ r. IfErr r (λ reason. wanted ≡ Err reason)) (sym h.0) same, subst (λ r. OnErr r (new ≡ old)) (sym h.0) h.1),
-)
+abbrev Tells : Result Facts Reason → Result ℕ Reason → Facts → Facts → Type 0
+Tells done result old new = MatchResult done (λ after. IsOk result × (new ≡ after)) (λ reason. (result ≡ Err reason) × (new ≡ old))
 
-pub returns-in_ok-at-in-Stack : goal.returns-in_ok-at-in-Stack
-returns-in_ok-at-in-Stack c =
-    let facts = c.args.facts.now in
-    let wanted = store_facts (shapes_named c.args.named.now) facts c.args.size c.args.offset c.args.base c.args.value in
-    let all = told _ wanted c.write_stack.result facts c.write_stack.new.facts (search rules) c.write_stack.ensures in
-    record { ok = all.0; refused = all.1.0; stays = all.1.1 }
+told_ok : (done : Result Facts Reason) (result : Result ℕ Reason) (i : ℕ) (old new : Facts) → Tells done result old new → result ≡ Ok i → done ≡ Ok new
+told_ok (Ok after) result i old new h is = ap (λ (f : Facts). Ok f) (sym h.1)
+told_ok (Err reason) result i old new h is = let e = h.0 in cc
+
+told_err : (done : Result Facts Reason) (result : Result ℕ Reason) (reason : Reason) (old new : Facts) → Tells done result old new → result ≡ Err reason → (done ≡ Err reason) × (new ≡ old)
+told_err (Ok after) result reason old new h is = absurd (false≢true (subst (λ (r : Result ℕ Reason). IsOk r) is h.0))
+told_err (Err other) result reason old new h is = (let e = h.0 in cc, h.1)
+
+pub returns-in_ok-write_stack-in-Stack-clause-ok : goal.returns-in_ok-write_stack-in-Stack-clause-ok
+returns-in_ok-write_stack-in-Stack-clause-ok c =
+    let wanted = store_facts (shapes_named c.args.named.now) c.args.facts.now c.args.size c.args.offset c.args.base c.args.value in
+    let told = told_ok _ c.write_stack.result _ c.args.facts.now c.write_stack.new.facts c.write_stack.ensures.facts c.in_ok-write_stack-in-Stack.was in
+    search (rules, told)
+
+pub returns-in_err-write_stack-in-Stack-clause-refused : goal.returns-in_err-write_stack-in-Stack-clause-refused
+returns-in_err-write_stack-in-Stack-clause-refused c =
+    let p = err_from_is_err_and c.from_residual-in_err-write_stack-in-Stack.result c.from_residual-in_err-write_stack-in-Stack.ensures.1 in
+    let told = told_err _ c.write_stack.result _ c.args.facts.now c.write_stack.new.facts c.write_stack.ensures.facts c.in_err-write_stack-in-Stack.was in
+    rw (p.1, p.2) (search (rules, told.0))
+
+pub returns-in_err-write_stack-in-Stack-clause-stays : goal.returns-in_err-write_stack-in-Stack-clause-stays
+returns-in_err-write_stack-in-Stack-clause-stays c =
+    let p = err_from_is_err_and c.from_residual-in_err-write_stack-in-Stack.result c.from_residual-in_err-write_stack-in-Stack.ensures.1 in
+    let told = told_err _ c.write_stack.result _ c.args.facts.now c.write_stack.new.facts c.write_stack.ensures.facts c.in_err-write_stack-in-Stack.was in
+    rw p.1 told.1

@@ -1,4 +1,4 @@
-use Rattle.std.proofs.Common.{◌≡◌, ℕ, ◌+◌, ◌<◌, ◌≤◌, replicate, Some, None, refl, sym, subst, ap, ◌∙◌, inl, inr, arith, below_more}
+use Rattle.std.proofs.Common.{◌≡◌, ℕ, ◌+◌, ◌<◌, ◌≤◌, Option, Some, None, sym, subst, ap, ◌∙◌, inl, inr, arith, below_more}
 use Rattle.std.specs.Option.{option_copied}
 use Rattle.std.specs.Prelude.{IfSome}
 use Rattle.std.proofs.lemmas.Bool.{cases_lt}
@@ -19,28 +19,33 @@ pub loop-slot-init : goal.loop-slot-init
 loop-slot-init g c =
     let code = c.args.program.now in
     let count = c.slots-slots.ensures.count in
-    let filled : c.in_ok-new.field-0 ≡ replicate (slot_count code) None = c.in_ok-new.ensures ∙ ap (λ (n : ℕ). replicate n None) count in
     let some : 1 ≤ slot_count code = subst (λ (n : ℕ). 1 ≤ n) count c.slots-slots.ensures.some in
     record {
-      known = at_start (shapes_named c.args.named.now) code _ some (ap Some c.at_entry.ensures) filled;
+      known = at_start (shapes_named c.args.named.now) code _ some (ap Some c.at_entry.ensures) c.new.ensures;
       none_below = λ n lt. absurd (omega arith);
       told = told_first (shapes_named c.args.named.now) code _;
     }
 
-pub returns-in_err-new-clause-refused : goal.returns-in_err-new-clause-refused
-returns-in_err-new-clause-refused g c =
-    let p = err_from_is_err_and c.from_residual.result c.from_residual.ensures.1 in
-    rw (p.1, p.2) (inl (refl, 0, told_first (shapes_named c.args.named.now) c.args.program.now (g.W.Watcher.told c.args.watcher.now)))
+-- a target within the program is within all programs
+within : (target : Option ℕ) (n : ℕ) → n ≤ 4096 → IfSome target (λ to. to < n) → IfSome target (λ to. to < 4096)
+within None n most h = tt
+within (Some to) n most h = omega (arith, most, h)
 
 pub step-requires-clause-lands : goal.step-requires-clause-lands
 step-requires-clause-lands g c =
     let begins : begins_at c.args.program.now c.loop-slot.slot ≡ Some c.in-Some.insn.now = sym c.get.ensures ∙ ap option_copied c.in-Some.is in
-    subst (λ (n : ℕ). IfSome (jump_target c.in-Some.insn.now c.loop-slot.slot) (λ to. to < n)) (sym c.loop-slot.invariant.known.long)
-    (c.requires c.loop-slot.slot c.in-Some.insn.now begins)
+    let most : slot_count c.args.program.now ≤ 4096 = omega (arith, c.slots-slots.ensures.count, c.slots-slots.ensures.room) in
+    within (jump_target c.in-Some.insn.now c.loop-slot.slot) (slot_count c.args.program.now) most (c.requires c.loop-slot.slot c.in-Some.insn.now begins)
+
+pub step-requires-clause-absorb : goal.step-requires-clause-absorb
+step-requires-clause-absorb g c = c.slots_absorb.ensures
+
+pub step-requires-clause-numbered : goal.step-requires-clause-numbered
+step-requires-clause-numbered g c = c.loop-slot.invariant.known.numbered
 
 pub returns-in_err-step-clause-refused : goal.returns-in_err-step-clause-refused
 returns-in_err-step-clause-refused g c =
-    let p = err_from_is_err_and c.from_residual-in_err-step.result c.from_residual-in_err-step.ensures.1 in
+    let p = err_from_is_err_and c.from_residual.result c.from_residual.ensures.1 in
     let code = c.args.program.now in
     let slot = c.loop-slot.slot in
     let begins : begins_at code slot ≡ Some c.in-Some.insn.now = sym c.get.ensures ∙ ap option_copied c.in-Some.is in
@@ -79,7 +84,7 @@ loop-slot-preserved g c =
           record {
             known =
                 subst (λ (p : Pass). IsBefore (shapes_named c.args.named.now) code (slot + 1) p) (sym w.pass-is)
-                (after_insn _ c.joins_commute.ensures.facts c.joins_associate.ensures.facts _ known begins lt told.falling told.sent told.long);
+                (after_insn _ c.joins_commute.ensures.facts c.joins_associate.ensures.facts _ known begins lt told.falling told.sent told.numbered);
             none_below = below_more _ _ c.loop-slot.invariant.none_below (safety_is _ code slot here begins told.ok);
             told = told_next (shapes_named c.args.named.now) code slot w.in-Some.insn.now _ _ _ _ begins here c.loop-slot.invariant.told (ap g.W.Watcher.told w.watcher-is ∙ told.told);
           }

@@ -1,13 +1,12 @@
-use Rattle.std.proofs.Common.{not, ap, ◌∙◌}
-use Rattle.verifier.proofs.EntryLists.{seen_without, seen_none}
+use Rattle.std.proofs.Common.{Some, refl, sym, ap, ◌∙◌, arith}
+use Rattle.verifier.specs.declared.numbered_facts.NumberedFacts.{NumberedFacts}
+use Rattle.std.specs.Prelude.{option_map, box_value}
+use Rattle.verifier.proofs.EntryLists.{taken_some}
 use Rattle.verifier.proofs.target_facts.TargetFacts.join_at.Goals as goal
 
-pub returns-in_ok-keep-clause-taken : goal.returns-in_ok-keep-clause-taken
-returns-in_ok-keep-clause-taken c = seen_without c.self.inside.facts.items c.args.self.now c.args.slot c.take.new.self c.self.view_is c.take.ensures.after
-
-pub returns-in_default-clause-taken : goal.returns-in_default-clause-taken
-returns-in_default-clause-taken c = seen_without c.self.inside.facts.items c.args.self.now c.args.slot c.take.new.self c.self.view_is c.take.ensures.after
-
-pub returns-then-is_none-clause-taken : goal.returns-then-is_none-clause-taken
-returns-then-is_none-clause-taken c =
-    seen_none c.self.inside.facts.items c.args.self.now c.args.slot c.index.result.now c.self.view_is c.requires c.index.ensures (c.is_none.ensures ∙ ap not c.if-is_none.true)
+pub returns-in_ok-keep : goal.returns-in_ok-keep
+returns-in_ok-keep c =
+    taken_some c.args.slot c.args.fresh c.self.inside.facts.items c.args.self.now _ c.index_mut.result.now c.take.new.self c.deref.result.now c.args.known.now c.join.new.self
+    c.self.view_is (omega (arith, c.len.ensures)) c.index_mut.ensures.value
+    (ap (option_map box_value) (sym c.take.ensures.value ∙ c.in-Some.is) ∙ ap (λ (z : NumberedFacts). Some z) (sym c.deref.ensures))
+    refl c.join.ensures

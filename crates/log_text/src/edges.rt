@@ -1,0 +1,70 @@
+//! The facts on the edges out of an instruction.
+
+use insn_codec::Insn;
+use reg_kinds::{Facts, settle};
+use tagged_model::Named;
+use transfer::{Flow, apply, set_ranges};
+
+/// The facts on the edges out of an instruction. Facts are large, so they are stored in place, and flags say whether they are valid.
+#[derive(Drop)]
+pub(crate) struct Edges {
+    /// Whether a run may take the falling edge.
+    pub falls: bool,
+    /// The facts on it.
+    pub falling: Facts,
+    /// Whether a run may take the jumping edge.
+    pub jumps: bool,
+    /// The facts on it.
+    pub jumping: Facts,
+}
+
+impl Edges {
+    /// No edge; the facts are a filler.
+    pub fn none(filler: &Facts) -> Edges {
+        Edges {
+            falls: false,
+            falling: *filler,
+            jumps: false,
+            jumping: *filler,
+        }
+    }
+
+    /// Computes the edges out of the instruction at `slot` from the facts before it: none if it is rejected.
+    pub fn leave(&mut self, facts: &Facts, named: &[Named], slot: usize, insn: &Insn) {
+        self.falling = *facts;
+        let flow = apply(&mut self.falling, named, slot, insn);
+        self.jumping = self.falling;
+        (self.falls, self.jumps) = match flow {
+            Err(_) | Ok(Flow::Ends) => (false, false),
+            Ok(Flow::Falls | Flow::WritesSlot(_) | Flow::Writes) => (true, false),
+            Ok(Flow::Jumps) => (false, true),
+            Ok(Flow::Either) => (true, true),
+            Ok(
+                Flow::Compares {
+                    dst,
+                    src,
+                    falls,
+                    jumps,
+                },
+            ) => {
+                if let Some(ranges) = falls {
+                    set_ranges(&mut self.falling, dst, &src, ranges);
+                }
+                if let Some(ranges) = jumps {
+                    set_ranges(&mut self.jumping, dst, &src, ranges);
+                }
+                (falls.is_some(), jumps.is_some())
+            }
+            Ok(
+                Flow::Settles {
+                    site,
+                    jumps_on_null,
+                },
+            ) => {
+                settle(&mut self.falling, site, !jumps_on_null);
+                settle(&mut self.jumping, site, jumps_on_null);
+                (true, true)
+            }
+        };
+    }
+}

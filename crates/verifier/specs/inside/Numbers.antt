@@ -1,0 +1,202 @@
+-- Numbers of the parts of stacks: what is known of a part in facts, so that a part which is known to be joined already is not
+-- joined again. This project's own.
+use Rattle.std.specs.Prelude.{◌≡◌, ◌≢◌, ◌⊎◌, ℕ, ◌+◌, ◌*◌, ◌<◌, ◌≤◌, Bool, not, List, length, replicate, slice_index_or, slice_set, Option, Some, None, Ok}
+use Rattle.std.specs.Option.{option_map}
+use Rattle.words.specs.Stack.{stack_slots}
+use Rattle.reg_kinds.specs.declared.kind.Slot.{Slot}
+use Rattle.reg_kinds.specs.declared.facts.Facts.{Facts}
+use Rattle.reg_kinds.specs.Join.{kind_join, slot_join, stack_parts, part_of}
+use Rattle.reg_kinds.specs.Kinds.{entry, kind_at, slot_at, tabulate}
+use Rattle.reg_kinds.specs.Settle.{facts_settled}
+use Rattle.interval.specs.Refine.{RangePair}
+use Rattle.insn_set.specs.declared.insn.Insn.{Insn}
+use Rattle.insn_set.specs.declared.insn.Operand.{Operand}
+use Rattle.insn_set.specs.Flow.{jump_target}
+use Rattle.tagged_model.specs.Named.{Shapes}
+use Rattle.transfer.specs.declared.branches.Flow.{Flow}
+use Rattle.transfer.specs.declared.branches.Flow.TheVariants.{Ends, Falls, WritesSlot, Writes, Jumps, Either, Compares, Settles}
+use Rattle.transfer.specs.Branches.{with_pair}
+use Rattle.transfer.specs.Effects.{effect}
+use Rattle.transfer.specs.Flows.{edges_of, KeepsStack}
+use Rattle.verifier.specs.declared.numbered_facts.NumberedFacts.{NumberedFacts}
+
+-- the facts, without the numbers
+abbrev pub facts_on : Option NumberedFacts → Option Facts
+facts_on o = option_map (λ x. x.facts) o
+
+-- the entry of a slot
+abbrev pub entry_of : ℕ → List (Option NumberedFacts) → Option NumberedFacts
+entry_of i entries = slice_index_or entries i None
+
+-- of a slot of the stack, the number of its part, and the number of what its part includes
+abbrev pub number_of : NumberedFacts → ℕ → ℕ
+number_of x i = slice_index_or x.numbers (part_of i) 0
+
+abbrev pub included_in : NumberedFacts → ℕ → ℕ
+included_in x i = slice_index_or x.includes (part_of i) 0
+
+-- all parts have one number
+abbrev pub numbered_by : ℕ → Facts → NumberedFacts
+numbered_by n f = record { facts = f; numbers = replicate stack_parts n; includes = replicate stack_parts 0 }
+
+abbrev pub at_entry : NumberedFacts
+at_entry = numbered_by 1 entry
+
+abbrev pub renumbered : NumberedFacts → ℕ → NumberedFacts
+renumbered x fresh = numbered_by fresh x.facts
+
+-- the part of slot i has a new number
+abbrev pub part_renumbered : NumberedFacts → ℕ → ℕ → NumberedFacts
+part_renumbered x i fresh =
+    record { facts = x.facts; numbers = slice_set x.numbers (part_of i) fresh; includes = slice_set x.includes (part_of i) 0 }
+
+-- the join of slot s with slot t, of parts with the numbers n and k: unchanged if the part of s includes that of t; else a part
+-- that changes has the number `fresh`
+abbrev pub IsJoinedSlot : ℕ → Slot → ℕ → ℕ → Slot → ℕ → Slot → ℕ → ℕ → Type 0
+IsJoinedSlot fresh s n m t k s' n' m' =
+    ((m ≡ k) × (s' ≡ s) × (n' ≡ n) × (m' ≡ m))
+    ⊎ ((s' ≡ slot_join s t) × (m' ≡ k) × ((n' ≡ fresh) ⊎ ((n' ≡ n) × (s' ≡ s))))
+
+-- z is the join of x and y in slot i
+abbrev pub IsJoinedAt : ℕ → NumberedFacts → NumberedFacts → NumberedFacts → ℕ → Type 0
+IsJoinedAt fresh x y z i =
+    IsJoinedSlot fresh (slot_at x.facts i) (number_of x i) (included_in x i) (slot_at y.facts i) (number_of y i)
+    (slot_at z.facts i) (number_of z i) (included_in z i)
+
+-- slot i of z is that of x, with the numbers of its part
+abbrev pub IsSameAt : NumberedFacts → NumberedFacts → ℕ → Type 0
+IsSameAt x z i =
+    (slot_at z.facts i ≡ slot_at x.facts i) × (number_of z i ≡ number_of x i) × (included_in z i ≡ included_in x i)
+
+-- one part of the stack of y is joined into x
+pub record IsPartJoin (fresh part : ℕ) (x y z : NumberedFacts) : Type 0 where
+  pub registers : z.facts.registers ≡ x.facts.registers
+  pub parts : length z.numbers ≡ stack_parts
+  pub here : (i : ℕ) → i < stack_slots → part_of i ≡ part → IsJoinedAt fresh x y z i
+  pub others : (i : ℕ) → i < stack_slots → part_of i ≢ part → IsSameAt x z i
+
+-- the join of x and y: of the registers, and of each part of the stack
+pub record IsJoin (fresh : ℕ) (x y z : NumberedFacts) : Type 0 where
+  pub registers : z.facts.registers ≡ tabulate 11 (λ r. kind_join (kind_at x.facts r) (kind_at y.facts r))
+  pub long : length z.facts.slots ≡ stack_slots
+  pub parts : length z.numbers ≡ stack_parts
+  pub slots : (i : ℕ) → i < stack_slots → IsJoinedAt fresh x y z i
+
+-- the join of y into an edge or an entry, which may have no facts
+abbrev pub IsJoinedBy : ℕ → Option NumberedFacts → NumberedFacts → Option NumberedFacts → Type 0
+IsJoinedBy fresh None y new = new ≡ Some y
+IsJoinedBy fresh (Some x) y None = ⊥
+IsJoinedBy fresh (Some x) y (Some z) = IsJoin fresh x y z
+
+-- the join of an entry, if there is one
+abbrev pub IsJoinedIf : ℕ → Option NumberedFacts → Option NumberedFacts → Option NumberedFacts → Type 0
+IsJoinedIf fresh old None new = new ≡ old
+IsJoinedIf fresh old (Some y) new = IsJoinedBy fresh old y new
+
+-- the entry of a slot is joined into the facts there; those ahead are unchanged
+abbrev pub IsTaken : ℕ → ℕ → List (Option NumberedFacts) → List (Option NumberedFacts) → Option NumberedFacts → Option NumberedFacts → Type 0
+IsTaken slot fresh entries_old entries_new old new =
+    IsJoinedIf fresh old (entry_of slot entries_old) new × ((i : ℕ) → slot < i → entry_of i entries_new ≡ entry_of i entries_old)
+
+-- facts are joined into the entry of a slot; the others are unchanged
+abbrev pub IsPut : ℕ → ℕ → NumberedFacts → List (Option NumberedFacts) → List (Option NumberedFacts) → Type 0
+IsPut slot fresh y old new =
+    IsJoinedBy fresh (entry_of slot old) y (entry_of slot new) × ((i : ℕ) → i ≢ slot → entry_of i new ≡ entry_of i old)
+
+-- facts are sent to a jump's target, if there is one
+abbrev pub IsSent : Option ℕ → ℕ → NumberedFacts → List (Option NumberedFacts) → List (Option NumberedFacts) → Type 0
+IsSent None fresh y old new = new ≡ old
+IsSent (Some slot) fresh y old new = IsPut slot fresh y old new
+
+abbrev pub IsSentIf : Option ℕ → ℕ → Option NumberedFacts → List (Option NumberedFacts) → List (Option NumberedFacts) → Type 0
+IsSentIf target fresh None old new = new ≡ old
+IsSentIf target fresh (Some y) old new = IsSent target fresh y old new
+
+-- ---- the facts on the edges of an instruction
+
+abbrev pub with_ranges : NumberedFacts → ℕ → Operand → RangePair → NumberedFacts
+with_ranges x dst src ranges = record { facts = with_pair x.facts dst src ranges; numbers = x.numbers; includes = x.includes }
+
+-- a look-up is settled, and all parts of the stack have a new number
+abbrev pub settled : ℕ → Bool → ℕ → NumberedFacts → NumberedFacts
+settled site null fresh x = numbered_by fresh (facts_settled site null x.facts)
+
+-- from the facts that the code leaves
+abbrev pub on_falling_edge : Flow → ℕ → NumberedFacts → Option NumberedFacts
+on_falling_edge Ends fresh x = None
+on_falling_edge Falls fresh x = Some x
+on_falling_edge (WritesSlot i) fresh x = Some x
+on_falling_edge Writes fresh x = Some x
+on_falling_edge Jumps fresh x = None
+on_falling_edge Either fresh x = Some x
+on_falling_edge (Compares dst src falls jumps) fresh x = option_map (with_ranges x dst src) falls
+on_falling_edge (Settles site jumps_on_null) fresh x = Some (settled site (not jumps_on_null) fresh x)
+
+abbrev pub on_jumping_edge : Flow → ℕ → NumberedFacts → Option NumberedFacts
+on_jumping_edge Ends fresh x = None
+on_jumping_edge Falls fresh x = None
+on_jumping_edge (WritesSlot i) fresh x = None
+on_jumping_edge Writes fresh x = None
+on_jumping_edge Jumps fresh x = Some x
+on_jumping_edge Either fresh x = Some x
+on_jumping_edge (Compares dst src falls jumps) fresh x = option_map (with_ranges x dst src) jumps
+on_jumping_edge (Settles site jumps_on_null) fresh x = Some (settled site jumps_on_null fresh x)
+
+-- a slot that the flow names is one of the stack
+abbrev pub IsInStack : Flow → Type 0
+IsInStack (WritesSlot i) = i < stack_slots
+IsInStack flow = Unit {0}
+
+-- the facts in hand after the instruction: each part of the stack that may have changed has a new number
+abbrev pub noted : Flow → ℕ → NumberedFacts → NumberedFacts
+noted (WritesSlot i) fresh x = part_renumbered x i fresh
+noted Writes fresh x = renumbered x fresh
+noted flow fresh x = x
+
+-- the instruction at slot n has this flow and leaves these facts, and they are sent along its edges
+pub record IsPast (shapes : Shapes) (n : ℕ) (insn : Insn) (old : NumberedFacts) (entries_old : List (Option NumberedFacts)) (new : Option NumberedFacts) (entries_new : List (Option NumberedFacts)) : Type 0 where
+  pub flow : Flow
+  pub facts : Facts
+  pub edges : effect shapes n insn old.facts ≡ Ok (edges_of flow facts)
+  pub stack : KeepsStack flow old.facts facts
+  pub falls : new ≡ on_falling_edge flow (8 * n + 5) (noted flow (8 * n + 3) (record { facts = facts; numbers = old.numbers; includes = old.includes }))
+  pub sent : IsSentIf (jump_target insn n) (8 * n + 6) (on_jumping_edge flow (8 * n + 4) (noted flow (8 * n + 3) (record { facts = facts; numbers = old.numbers; includes = old.includes }))) entries_old entries_new
+
+-- the same, if there are facts before it
+abbrev pub IsPastIf : Shapes → ℕ → Insn → Option NumberedFacts → List (Option NumberedFacts) → Option NumberedFacts → List (Option NumberedFacts) → Type 0
+IsPastIf shapes n insn None entries_old new entries_new = (new ≡ None) × (entries_new ≡ entries_old)
+IsPastIf shapes n insn (Some x) entries_old new entries_new = IsPast shapes n insn x entries_old new entries_new
+
+-- ---- what each number stands for, for numbers below a bound
+
+-- slot s is what the number n of its part stands for, and a join with what number m stands for, which its part includes, changes
+-- nothing
+pub record IsNumberedSlot (held : ℕ → Slot) (bound : ℕ) (s : Slot) (n m : ℕ) : Type 0 where
+  pub is : s ≡ held n
+  pub some : 0 < n
+  pub below : n < bound
+  pub includes : 0 < m → (m < bound) × (slot_join s (held m) ≡ s)
+
+-- the same of each slot; `stacks` tells what a number stands for in a slot
+pub record IsNumbered (stacks : ℕ → ℕ → Slot) (bound : ℕ) (x : NumberedFacts) : Type 0 where
+  pub parts : length x.numbers ≡ stack_parts
+  pub slots : (i : ℕ) → i < stack_slots → IsNumberedSlot (stacks i) bound (slot_at x.facts i) (number_of x i) (included_in x i)
+
+abbrev pub IsNumberedIf : (ℕ → ℕ → Slot) → ℕ → Option NumberedFacts → Type 0
+IsNumberedIf stacks bound None = Unit {0}
+IsNumberedIf stacks bound (Some x) = IsNumbered stacks bound x
+
+-- the facts on the falling edge, and those of the entries from a slot on
+pub record AreNumbered (slot bound : ℕ) (falling : Option NumberedFacts) (entries : List (Option NumberedFacts)) : Type 0 where
+  pub stacks : ℕ → ℕ → Slot
+  pub in_hand : IsNumberedIf stacks bound falling
+  pub ahead : (i : ℕ) → slot ≤ i → IsNumberedIf stacks bound (entry_of i entries)
+
+-- ---- a join, part by part
+
+-- the registers of x and y and the parts below this one are joined in z
+pub record IsJoinedBelow (fresh part : ℕ) (x y z : NumberedFacts) : Type 0 where
+  pub registers : z.facts.registers ≡ tabulate 11 (λ r. kind_join (kind_at x.facts r) (kind_at y.facts r))
+  pub parts : length z.numbers ≡ stack_parts
+  pub done : (i : ℕ) → i < stack_slots → part_of i < part → IsJoinedAt fresh x y z i
+  pub rest : (i : ℕ) → i < stack_slots → part ≤ part_of i → IsSameAt x z i

@@ -15,18 +15,18 @@ from collections.abc import Iterable, Iterator
 from pathlib import Path
 
 import bpfhost
+from bpfhost.alike import BEFORE_PACKET, packed, size_of_packet
 from bpfhost.errors import HostError
 from bpfhost.host import LONGEST_REPLY
 from bpfhost.numbers import REPLY_HEAD, Command
 from bpfhost.program import Program
 from bpfhost.replies import Reply
+from bpfhost.shards.calls import Call
 from bpfhost.shards.shared_object import soname_of
 
 SONAME = f"libbpfhost.so.{bpfhost.__version__.rpartition('.')[0]}"
 _UNPROVED = "UNPROVED"
 _DONE = 0
-# In the frame of a test run, the length, tenant, command, descriptor and context come before the packet.
-_BEFORE_PACKET = 52
 # The size of the buffer for replies in bytes.
 _ROOM = 1 << 16
 _FUNCTIONS = {
@@ -142,16 +142,11 @@ class LibraryHost:
         for frame in frames:
             yield self._answered(bytearray(frame), None)
 
-    def answer(self, stream: bytes, tenant: int, alike: int) -> bytes:
-        """The replies to whole frames for a tenant: its number replaces the one in each frame, and the replies name tenant 0.
-
-        `alike` is the length of each frame if they are alike.
-        """
-        if alike > _BEFORE_PACKET and int.from_bytes(stream[6:8], "little") == Command.PROG_TEST_RUN:
-            replies = self._runs(stream, tenant, alike)
-            if replies is not None:
-                return replies
-        return self._answered(bytearray(stream), tenant)
+    def answer(self, call: Call) -> bytes:
+        """The replies to a call. The tenant's number replaces the one in each frame, and the replies name tenant 0."""
+        runs = call.stored if call.is_packed else packed(call.stored, call.alike)
+        replies = self._runs(runs, call.tenant) if runs else b""
+        return replies or self._answered(bytearray(call.stream), call.tenant)
 
     def _answered(self, stream: bytearray, tenant: int | None) -> bytes:
         """The replies to frames, each handled in place."""
@@ -174,21 +169,19 @@ class LibraryHost:
         answers.append(bytes(room[:out]))
         return b"".join(answers)
 
-    def _runs(self, stream: bytes, tenant: int, size: int) -> bytes | None:
-        """The replies to test runs that differ only in their packets; None if they differ otherwise, or the first of them is refused."""
+    def _runs(self, runs: bytes, tenant: int) -> bytes:
+        """The replies to packed test runs; empty if the first of them is refused."""
         self._demand_open()
-        heads, packets = zip(*struct.iter_unpack(f"{_BEFORE_PACKET}s{size - _BEFORE_PACKET}s", stream))
-        head, many = heads[0], len(heads)
-        if heads.count(head) != many:
-            return None
+        size, packets = size_of_packet(runs), runs[BEFORE_PACKET:]
+        many = len(packets) // size
         results = array("I", bytes(4 * many))
         code = self._library.run_packets(
-            *(self._at, tenant, int.from_bytes(head[8:12], "little"), head[12:], b"".join(packets), many * (size - _BEFORE_PACKET)),
-            *(self._ends_of(size - _BEFORE_PACKET, many).buffer_info()[0], many, results.buffer_info()[0], many),
+            *(self._at, tenant, int.from_bytes(runs[8:12], "little"), runs[12:BEFORE_PACKET], packets, len(packets)),
+            *(self._ends_of(size, many).buffer_info()[0], many, results.buffer_info()[0], many),
             ctypes.addressof(self._status),
         )
         self._demand(code)
-        return None if self._status.value else _results(results.tobytes(), many)
+        return b"" if self._status.value else _results(results.tobytes(), many)
 
     def _ends_of(self, size: int, many: int) -> array[int]:
         """The offsets at which packets of one size end."""

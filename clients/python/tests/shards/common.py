@@ -9,7 +9,7 @@ import warnings
 from collections.abc import Callable, Sequence
 
 from bpfhost import MapType, frames
-from bpfhost.alike import size_of_alike
+from bpfhost.alike import packed, size_of_alike
 from bpfhost.shards import Client, Settings, ShardKeys, Worker
 from bpfhost.shards.calls import Call
 from bpfhost.shards.connection import Redis, connect
@@ -31,10 +31,12 @@ def put(value: int) -> bytes:
     return frames.map_update_elem(0, 3, b"key1", value.to_bytes(8, "little"))
 
 
-def call_of(entry: bytes, tenant: int, frames: Sequence[bytes]) -> Call:
-    """A call of frames, whatever their number is."""
+def call_of(entry: bytes, tenant: int, frames: Sequence[bytes], packs: bool = False) -> Call:
+    """A call of frames, whatever their number is; packed, if asked for and possible."""
     stream = b"".join(frames)
-    return Call(entry, tenant, stream, len(frames), size_of_alike(stream))
+    size = size_of_alike(stream)
+    runs = packed(stream, size) if packs else b""
+    return Call(entry, tenant, runs or stream, len(frames), size, bool(runs))
 
 
 class WorkerThread:

@@ -94,14 +94,14 @@ class Answers(HostTest):
 
     def test_runs_are_one_call(self) -> None:
         library = loaded()
-        library.run_packets = mock.Mock(wraps=library.run_packets)
-        library.handle = mock.Mock(wraps=library.handle)
+        called = library.functions
+        called.run_packets, called.handle = mock.Mock(wraps=called.run_packets), mock.Mock(wraps=called.handle)
         with contextlib.closing(Closing(library.host(3))) as closing:
             for frame in (CREATE, frames.prog_load(0, slots_of(PROGRAM, "add")), ZERO):
                 closing.host.answer(call_of(b"1-0", 2, [frame]))
             stream = frames.prog_test_run(0, 4, bytes(64)) * 300
             replies = closing.host.answer(call_of(b"1-0", 2, split(stream)))
-        self.assertEqual((library.run_packets.call_count, library.handle.call_count), (1, 3))
+        self.assertEqual((called.run_packets.call_count, called.handle.call_count), (1, 3))
         self.assertEqual([reply[12:] for reply in split(replies)], [number.to_bytes(4, "little") for number in range(1, 301)])
 
     def test_states(self) -> None:

@@ -1,6 +1,6 @@
 """The frames that build a tenant's state again, on a host on which the tenant is new.
 
-docs/SCALING.md explains why they do. All of them name tenant 0; the caller replaces the number.
+clients/python/SHARDS.md explains why they do. All of them name tenant 0; the caller replaces the number.
 """
 
 from __future__ import annotations

@@ -15,8 +15,8 @@ from bpfhost.tenancy import BODY
 # An entry has at most so many frames and bytes; each of the replies may have 4,108 bytes. There may be more frames if they are alike and
 # each reply has only a header and a few bytes.
 MOST_FRAMES, MOST_ALIKE, LONGEST_CALL = 512, 1024, 262_144
-# Tenant 0 and the command.
-_HEAD_OF_RUN = bytes(2) + Command.PROG_TEST_RUN.to_bytes(2, "little")
+_TENANT = bytes(2)
+_HEAD_OF_RUN = _TENANT + Command.PROG_TEST_RUN.to_bytes(2, "little")
 
 
 @dataclass(frozen=True)
@@ -108,13 +108,13 @@ def size_of(fields: Mapping[bytes, bytes]) -> int:
 def count_of(stream: bytes) -> tuple[int, int]:
     """The number of frames of a call, and the length of each if they are alike; raises ValueError if the bytes are no call."""
     alike = size_of_alike(stream)
-    frames = [stream[:BODY]] if alike else split(stream)
+    frames = [] if alike else split(stream)
     count = len(stream) // alike if alike else len(frames)
-    most = MOST_ALIKE if alike and is_short(stream) else MOST_FRAMES
+    most = MOST_ALIKE if count > MOST_FRAMES and alike and is_short(stream) else MOST_FRAMES
     if not count or count > most or len(stream) > LONGEST_CALL:
         limits = f"1 to {most} frames of {LONGEST_CALL} bytes together"
         raise ValueError(f"a call has {limits}, and not {count} of {len(stream)}")
-    if any(len(frame) < BODY or frame[4] or frame[5] for frame in frames):
+    if stream[4:6] != _TENANT or any(len(frame) < BODY or frame[4:6] != _TENANT for frame in frames):
         raise ValueError("a frame of a call has a head, and names tenant 0")
     return count, alike
 

@@ -182,6 +182,10 @@ class Customer:
         _, alike = count_of(stream)
         if self._gathered.count:
             self.flush()
+        return self._post(stream, alike, seconds, by)
+
+    def _post(self, stream: bytes, alike: int, seconds: float | None = None, by: int = 1) -> Ticket:
+        """Does what `post` does, with the length of each frame if they are known to be alike, and 0 otherwise."""
         self.settle(seconds)
         runs = packed(stream, alike)
         self._open = ticket = Ticket(runs or stream, self.session, self._number + by, self._given_up, bool(runs))
@@ -204,7 +208,7 @@ class Customer:
         """Sends the gathered calls. An error is passed to each caller that waits for one of them."""
         call, self._gathered = self._gathered, Gathered()
         try:
-            call.ticket = self.post(bytes(call.stream)) if call.count else None
+            call.ticket = self._post(bytes(call.stream), call.alike) if call.count else None
         except CallError as error:
             call.error, call.ticket = error, error.ticket
         except ShardError:

@@ -81,20 +81,17 @@ def _told() -> Iterator[None]:
 
 def packed(words: Sequence[Word]) -> bytes:
     """A command as the server reads it. A worker's command names many streams, for which the library's own encoder takes four times as long."""
-    return b"".join([b"*%d\r\n" % len(words), *[_packed(word) for word in words]])
+    parts = [_name(word) if type(word) in (str, int) or type(word) is bytes and len(word) <= _LONGEST_NAME else _bulk(word) for word in words]
+    return b"".join([b"*%d\r\n" % len(words), *parts])
 
 
-def _packed(word: Word) -> bytes:
-    """A word. Names, ids and numbers are sent again and again, and bytes that are longer are not."""
-    if isinstance(word, bytes):
-        return _bulk(word) if len(word) <= _LONGEST_NAME else b"$%d\r\n%b\r\n" % (len(word), word)
-    return _bulk(word if type(word) is str or type(word) is int else str(word))
-
-
-@functools.lru_cache(4096)
-def _bulk(word: bytes | str | int) -> bytes:
+def _bulk(word: Word) -> bytes:
     data = word if isinstance(word, bytes) else str(word).encode()
     return b"$%d\r\n%b\r\n" % (len(data), data)
+
+
+# Names, ids and numbers are sent again and again; longer bytes are not.
+_name = functools.lru_cache(4096)(_bulk)
 
 
 class SocketPending:

@@ -59,6 +59,11 @@ class Gathered:
     # The header of all frames, while they are alike and have short replies.
     head: bytes = b""
 
+    @property
+    def alike(self) -> int:
+        """The length of each frame if there are several, they are alike and have short replies; 0 otherwise."""
+        return 4 + int.from_bytes(self.head[:4], "little") if self.head and self.count > 1 else 0
+
     def add(self, stream: bytes, count: int, alike: int) -> Part | None:
         """Adds frames to these, if there is room for them."""
         head = stream[:BODY] if (alike or count == 1) and is_short(stream) else b""

@@ -34,9 +34,9 @@ def put(value: int) -> bytes:
 def call_of(entry: bytes, tenant: int, frames: Sequence[bytes], packs: bool = False) -> Call:
     """A call of frames, whatever their number is; packed, if asked for and possible."""
     stream = b"".join(frames)
-    size = size_of_alike(stream)
-    runs = packed(stream, size) if packs else b""
-    return Call(entry, tenant, runs or stream, len(frames), size, bool(runs))
+    if packs and len({frame[:8] for frame in frames}) == 1 and (runs := packed(stream, len(frames[0]))):
+        return Call(entry, tenant, runs, len(frames), len(frames[0]), True)
+    return Call(entry, tenant, stream, len(frames), size_of_alike(stream))
 
 
 class WorkerThread:

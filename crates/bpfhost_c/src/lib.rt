@@ -75,17 +75,19 @@ mod handle;
 mod raw_box;
 mod session;
 
-ghost use Rattle.std.specs.Prelude.{◌≡◌, ◌≢◌, ◌≤◌, ℕ, List, ◌++◌, length, drop, replicate, slice_get, true, false, None};
+ghost use Rattle.std.specs.Prelude.{◌≡◌, ◌≢◌, ◌≤◌, ℕ, List, ◌++◌, length, drop, replicate, slice_get, true, false, Some, None};
 ghost use Rattle.host_core.specs.Frame.{longest_reply};
 ghost use Rattle.host_core.specs.Handled.{Handles};
+ghost use Rattle.host_core.specs.Saving.{saved_part};
 ghost use Rattle.host_core.specs.Served.{IsUnrefused};
 ghost use Rattle.host_core.specs.State.{new_tenant};
-ghost use Rattle.bpfhost_c.specs.Calls.{states, StandsAt, new_code, host_code, room_code};
+ghost use Rattle.bpfhost_c.specs.Calls.{states, host_of, StandsAt, SavedAt, new_code, host_code, room_code, save_code};
 ghost use Rattle.bpfhost_c.specs.Packets.{RunsPackets};
 ghost use Rattle.bpfhost_c.specs.declared.codes.TheConstants.{DONE, ERR_NO_MEMORY};
 
 use codes::{
-    DONE, ERR_BUFFER_TOO_SMALL, ERR_HAS_HOST, ERR_NO_HOST, ERR_NO_MEMORY, ERR_TENANT_COUNT,
+    DONE, ERR_BUFFER_TOO_SMALL, ERR_HAS_HOST, ERR_NO_HOST, ERR_NO_MEMORY, ERR_NO_PART,
+    ERR_TENANT_COUNT,
 };
 use handle::Handle;
 use host_core::{GIVEN_WORDS, HashSeed, LONGEST_REPLY, MOST_TENANTS};
@@ -236,6 +238,48 @@ pub extern "C" fn bpfhost_c_run_packets(
     *status = session.run_packets(usize::from(tenant), fd, words, bytes, ends, results);
     handle.put(session);
     DONE
+}
+
+/// Saves a part of a tenant: writes the address and the length of its frames, each of which has its length before it, to `lent`. They
+/// are valid until the next call with this handle. A new tenant of this number that is given the frames of all parts from 0 on, on
+/// this host or another one, then replies as this one does. Between two parts the tenant must not change.
+///
+/// Returns `DONE`; else `ERR_NO_PART` after the last part and for a tenant that is not served, `ERR_NO_MEMORY` or `ERR_NO_HOST`, and `lent` is
+/// unchanged.
+#[unsafe(no_mangle)]
+pub extern "C" fn bpfhost_c_save(
+    alloc: Global,
+    handle: &mut Handle,
+    tenant: u16,
+    part: usize,
+    lent: &mut Lent,
+) -> i32
+    ensures done { result ≡ DONE → (frames : List ℕ)
+        × (saved_part (host_of handle.old.session) tenant part ≡ Some frames)
+        × SavedAt handle.new.session frames lent.new.at lent.new.length }
+    ensures code { result ≢ ERR_NO_MEMORY → result ≡ save_code handle.old.session tenant part }
+    ensures host { host_of handle.new.session ≡ host_of handle.old.session }
+    ensures lent { result ≢ DONE → lent.new ≡ lent.old }
+{
+    let Some(mut session) = handle.take(alloc) else {
+        return ERR_NO_HOST;
+    };
+    match session.save(usize::from(tenant), part) {
+        Ok(true) => {
+            lent.at = session.saved.as_ptr();
+            lent.length = session.saved.len();
+            handle.put(session);
+            DONE
+        }
+        Ok(false) => {
+            handle.put(session);
+            ERR_NO_PART
+        }
+        Err(_) => {
+            handle.put(session);
+            ERR_NO_MEMORY
+        }
+    }
 }
 
 /// Sets `refused` to whether memory was ever refused to `tenant`; noninterference is promised to tenants to which it was not.

@@ -24,4 +24,12 @@
 //!   memory is refused: `histories_are_restored`.
 #![tactic(auto)]
 
+mod birth;
+mod command_bytes;
+mod frame_writer;
+mod handling;
 pub mod laws;
+mod savable;
+
+pub use birth::Birth;
+pub use savable::SavableTenant;

@@ -50,16 +50,20 @@ set_at f g n x within here others =
     by i lt (inl same) = at-within f i lt ∙ ap f same ∙ here ∙ sym (get_or-set_same (at_places g) n x None room) ∙ ap (λ (j : ℕ). get_or (set (at_places g) n x) j None) (sym same)
     by i lt (inr other) = at-within f i lt ∙ others i other ∙ sym (at-within g i lt) ∙ sym (get_or-set_other (at_places g) n i x None other)
 
+-- a map is at each place where there is one in a list with as many places
+pub some_at : (f : ℕ → Option Map) (xs : List (Option LiveMap)) → length xs ≡ most_maps → ((i : ℕ) → is_some (f i) ≡ is_some (get_or xs i None)) → (i : ℕ) → is_some (get_or (at_places f) i None) ≡ is_some (get_or xs i None)
+some_at f xs long same i = by (cases_lt i most_maps)
+  where
+    none : most_maps ≤ i → get_or xs i None ≡ None
+    none past = let all = long in get_or_past xs i None (omega arith)
+
+    by : (i < most_maps) ⊎ (most_maps ≤ i) → is_some (get_or (at_places f) i None) ≡ is_some (get_or xs i None)
+    by (inl lt) = ap (λ (o : Option Map). is_some o) (at-within f i lt) ∙ same i
+    by (inr past) = ap (λ (o : Option Map). is_some o) (at-past f i past) ∙ sym (ap (λ (o : Option LiveMap). is_some o) (none past))
+
 -- the same place is free in a list with as many places where the same are free
 pub free_at : (f : ℕ → Option Map) (xs : List (Option LiveMap)) → length xs ≡ most_maps → ((i : ℕ) → is_some (f i) ≡ is_some (get_or xs i None)) → position is_none (at_places f) ≡ position is_none xs
-free_at f xs long same = same_lowest (at_places f) xs (length-at f ∙ sym long) (λ i. by i (cases_lt i most_maps))
-  where
-    none : (i : ℕ) → most_maps ≤ i → get_or xs i None ≡ None
-    none i past = let all = long in get_or_past xs i None (omega arith)
-
-    by : (i : ℕ) → (i < most_maps) ⊎ (most_maps ≤ i) → is_some (get_or (at_places f) i None) ≡ is_some (get_or xs i None)
-    by i (inl lt) = ap (λ (o : Option Map). is_some o) (at-within f i lt) ∙ same i
-    by i (inr past) = ap (λ (o : Option Map). is_some o) (at-past f i past) ∙ sym (ap (λ (o : Option LiveMap). is_some o) (none i past))
+free_at f xs long same = same_lowest (at_places f) xs (length-at f ∙ sym long) (some_at f xs long same)
 
 -- ---- the live map at a place
 
@@ -110,3 +114,19 @@ other_at part later old new place same pairs = by (live_or_not (live_at new plac
     by : IsSome (live_at new place) ⊎ (live_at new place ≡ None) → map_at later new place ≡ map_at part old place
     by (inl now) = same_map_at part later old new place (sym (ap (λ (o : Option LiveMap). is_some o) same) ∙ now) now (pairs now)
     by (inr none) = none_there later new place none ∙ sym (none_there part old place (sym same ∙ none))
+
+mapped : (part : List ℕ) (o : Option LiveMap) → is_some (map_if part o) ≡ is_some o
+mapped part None = refl
+mapped part (Some l) = refl
+
+-- the map at a place is live just where the list has one
+pub live_is : (part : List ℕ) (t : LiveMaps) → length t.maps ≡ most_maps → (place : ℕ) → is_some (get_or (at_places (map_at part t)) place None) ≡ is_some (live_at t place)
+live_is part t long place = some_at (map_at part t) t.maps long (λ i. mapped part (live_at t i)) place
+
+-- whether there is one does not depend on the bytes of its values
+pub some_at_each : (p q : List ℕ) (t : LiveMaps) (place : ℕ) → is_some (get_or (at_places (map_at p t)) place None) ≡ is_some (get_or (at_places (map_at q t)) place None)
+some_at_each p q t place = by (cases_lt place most_maps)
+  where
+    by : (place < most_maps) ⊎ (most_maps ≤ place) → is_some (get_or (at_places (map_at p t)) place None) ≡ is_some (get_or (at_places (map_at q t)) place None)
+    by (inl lt) = ap is_some (at-within (map_at p t) place lt) ∙ mapped p (live_at t place) ∙ sym (mapped q (live_at t place)) ∙ sym (ap is_some (at-within (map_at q t) place lt))
+    by (inr past) = ap is_some (at-past (map_at p t) place past) ∙ sym (ap is_some (at-past (map_at q t) place past))

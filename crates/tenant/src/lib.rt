@@ -46,10 +46,10 @@
 
 mod batch;
 mod errno;
-mod frames;
 pub mod laws;
 mod loading;
 mod object;
+mod readers;
 mod reply;
 mod shape;
 mod tenant;
@@ -57,5 +57,6 @@ mod test_run;
 
 pub use errno::Errno;
 pub use object::{LoadedProgram, OpenObject};
-pub use reply::Reply;
+pub use readers::MapEntry;
+pub use reply::{Reply, write_answer};
 pub use tenant::Tenant;

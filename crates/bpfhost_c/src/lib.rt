@@ -75,12 +75,11 @@ mod handle;
 mod raw_box;
 mod session;
 
-ghost use Rattle.std.specs.Prelude.{◌≡◌, ◌≢◌, ◌≤◌, ℕ, List, ◌++◌, length, drop, replicate, slice_get, true, false, Some, None};
+ghost use Rattle.std.specs.Prelude.{◌≡◌, ◌≢◌, ◌≤◌, ℕ, List, ◌++◌, length, drop, slice_get, true, false, Some, None};
 ghost use Rattle.host_core.specs.Frame.{longest_reply};
 ghost use Rattle.host_core.specs.Handled.{Handles};
-ghost use Rattle.host_core.specs.Saving.{saved_part};
+ghost use Rattle.host_core.specs.Saving.{Call, new_host, saved_part};
 ghost use Rattle.host_core.specs.Served.{IsUnrefused};
-ghost use Rattle.host_core.specs.State.{new_tenant};
 ghost use Rattle.bpfhost_c.specs.Calls.{states, host_of, StandsAt, SavedAt, new_code, host_code, room_code, save_code};
 ghost use Rattle.bpfhost_c.specs.Packets.{RunsPackets};
 ghost use Rattle.bpfhost_c.specs.declared.codes.TheConstants.{DONE, ERR_NO_MEMORY};
@@ -114,7 +113,7 @@ pub extern "C" fn bpfhost_c_new(
     first: u64,
     second: u64,
 ) -> i32
-    ensures made { result ≡ DONE → states handle.new.session ≡ replicate tenants new_tenant }
+    ensures made { result ≡ DONE → host_of handle.new.session ≡ new_host tenants }
     ensures otherwise { result ≢ DONE → handle.new.session ≡ handle.old.session }
     ensures code { result ≢ ERR_NO_MEMORY → result ≡ new_code handle.old.session tenants }
     ensures memory { result ≡ ERR_NO_MEMORY → new_code handle.old.session tenants ≡ DONE }
@@ -163,6 +162,7 @@ pub extern "C" fn bpfhost_c_handle(
         × (written.new ≡ length reply) × (room.new ≡ reply ++ drop (length reply) room.old) }
     ensures bound { result ≡ DONE → written.new ≤ longest_reply }
     ensures code { result ≡ room_code handle.old.session (length room.old) }
+    ensures call { Call (host_of handle.old.session) (host_of handle.new.session) }
     ensures otherwise { result ≢ DONE → handle.new.session ≡ handle.old.session }
     ensures room { result ≢ DONE → room.new ≡ room.old }
     ensures written { result ≢ DONE → written.new ≡ written.old }
@@ -195,6 +195,7 @@ pub extern "C" fn bpfhost_c_handle_lent(
         × StandsAt handle.new.session reply lent.new.at lent.new.length }
     ensures bound { result ≡ DONE → lent.new.length ≤ longest_reply }
     ensures code { result ≡ host_code handle.old.session }
+    ensures call { Call (host_of handle.old.session) (host_of handle.new.session) }
     ensures otherwise { result ≢ DONE → handle.new.session ≡ handle.old.session }
     ensures lent { result ≢ DONE → lent.new ≡ lent.old }
 {
@@ -228,6 +229,7 @@ pub extern "C" fn bpfhost_c_run_packets(
     ensures done { result ≡ DONE → RunsPackets tenant fd words.now bytes.now ends.now results.old
         results.new status.new (states handle.old.session) (states handle.new.session) }
     ensures code { result ≡ host_code handle.old.session }
+    ensures call { Call (host_of handle.old.session) (host_of handle.new.session) }
     ensures otherwise { result ≢ DONE → handle.new.session ≡ handle.old.session }
     ensures results { result ≢ DONE → results.new ≡ results.old }
     ensures status { result ≢ DONE → status.new ≡ status.old }

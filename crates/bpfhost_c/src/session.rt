@@ -1,10 +1,9 @@
 //! A host with its last reply.
 
-ghost use Rattle.std.specs.Prelude.{◌≡◌, ◌≤◌, length, replicate, vec_capacity, IfOk, Some, None, if◌then◌else◌};
+ghost use Rattle.std.specs.Prelude.{◌≡◌, ◌≤◌, length, vec_capacity, IfOk, Some, None, if◌then◌else◌};
 ghost use Rattle.host_core.specs.Frame.{longest_reply};
 ghost use Rattle.host_core.specs.Handled.{Handles};
-ghost use Rattle.host_core.specs.Saving.{saved_part};
-ghost use Rattle.host_core.specs.State.{new_tenant};
+ghost use Rattle.host_core.specs.Saving.{Records, new_host, saved_part};
 ghost use Rattle.host_core.specs.Limits.{most_tenants};
 ghost use Rattle.bpfhost_c.specs.Packets.{RunsPackets};
 
@@ -32,7 +31,7 @@ impl Session {
     ) -> Result<Box<Session>, AllocError>
         requires some { 1 ≤ tenants }
         requires few { tenants ≤ most_tenants }
-        ensures { IfOk result (λ session. session.value.host.states ≡ replicate tenants new_tenant) }
+        ensures { IfOk result (λ session. session.value.host ≡ new_host tenants) }
     {
         let host = Host::new(alloc, tenants, seed)?;
         let reply = Vec::with_capacity(alloc, LONGEST_REPLY)?;
@@ -50,6 +49,7 @@ impl Session {
     pub(crate) fn handle(&mut self, frame: &[u8])
         ensures handled { Handles self.old.host.states frame.now self.new.reply.items
             self.new.host.states }
+        ensures recorded { Records frame.now self.new.reply.items self.old.host self.new.host }
         ensures bound { length self.new.reply.items ≤ longest_reply }
     {
         let room = replace(&mut self.reply, Vec::new(self.alloc));
@@ -86,8 +86,9 @@ impl Session {
         ends: &[usize],
         results: &mut [u32],
     ) -> i32
-        ensures { RunsPackets tenant fd words.now bytes.now ends.now results.old results.new
+        ensures runs { RunsPackets tenant fd words.now bytes.now ends.now results.old results.new
             result self.old.host.states self.new.host.states }
+        ensures births { self.new.host.births ≡ self.old.host.births }
     {
         match self
             .host

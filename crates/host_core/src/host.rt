@@ -146,10 +146,10 @@ impl Host {
         ensures { IfOk result (λ saved. option_map (λ frames. frames.items) saved
             ≡ saved_part self.now tenant part) }
     {
-        match self.tenants.get(tenant) {
-            Some(kept) => kept.save_part(self.alloc, tenant as u16, part, self.arena.part(tenant)),
-            None => Ok(None),
-        }
+        let Some(kept) = self.tenants.get(tenant) else {
+            return Ok(None);
+        };
+        kept.save_part(self.alloc, tenant as u16, part, self.arena.part(tenant))
     }
 
     /// Runs the program at a descriptor of `tenant` on many packets, one after another, on the same ten words of context. The

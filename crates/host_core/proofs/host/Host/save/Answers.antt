@@ -12,8 +12,8 @@ part-requires c =
     let found = c.in-Some.ensures.lookup in
     omega (arith, ltb-true c.args.tenant (length c.deref.result.now) (sym found.0), ap length c.deref.ensures.value, c.self.invariant)
 
-pub returns-in-Some : goal.returns-in-Some
-returns-in-Some c =
+pub returns : goal.returns
+returns c =
     let t = c.args.tenant in
     let ks = c.self.inside.tenants.items in
     let k = c.in-Some.kept.now in
@@ -26,9 +26,9 @@ returns-in-Some c =
     ∙ saved_there c.self.inside.arena ks c.args.self.now t c.args.part k c.self.view_is found in
     subst (λ (x : Option (List ℕ)). IfOk c.save_part.result (λ saved. option_map (λ frames. frames.items) saved ≡ x)) is c.save_part.ensures
 
-pub returns-in-None : goal.returns-in-None
-returns-in-None c =
-    let few = ltb-false c.args.tenant (length c.deref.result.now) (sym c.in-None.ensures.lookup.0) in
+pub returns-in_default : goal.returns-in_default
+returns-in_default c =
+    let few = ltb-false c.args.tenant (length c.deref.result.now) (sym c.in_default.ensures.lookup.0) in
     let many = states_length c.self.inside.arena 0 c.self.inside.tenants.items in
     sym (saved_nowhere c.args.self.now c.args.tenant c.args.part
     (no_state c.args.self.now.states c.args.tenant (omega (arith, few, many, ap length (states_are c.self.inside.arena c.self.inside.tenants.items c.args.self.now c.self.view_is), ap length c.deref.ensures.value))))

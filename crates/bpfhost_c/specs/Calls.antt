@@ -3,8 +3,8 @@ use denote.RawPtr.{Ptr}
 use Rattle.std.specs.Prelude.{◌≡◌, ℕ, ℤ, nat_lt, ◌||◌, if◌then◌else◌, is_none, List, [], vec_len, Option, Some, None}
 use Rattle.std.specs.Vec.{vec_ptr}
 use Rattle.host_core.specs.Frame.{longest_reply}
-use Rattle.host_core.specs.Saving.{new_host, saved_part}
-use Rattle.host_core.specs.States.{HostState}
+use Rattle.host_core.specs.Saving.{saved_part}
+use Rattle.host_core.specs.States.{HostState, new_host}
 use Rattle.host_core.specs.State.{TenantState}
 use Rattle.host_core.specs.Limits.{most_tenants}
 use Rattle.bpfhost_c.specs.declared.codes.TheConstants.{DONE, ERR_NO_HOST, ERR_HAS_HOST}

@@ -1,6 +1,6 @@
-//! The host as a library for C: six functions, and a handle that is one pointer. The header is `clients/c/include/bpfhost.h`.
+//! The host as a library for C: seven functions, and a handle that is one pointer. The header is `clients/c/include/bpfhost.h`.
 //!
-//! A session (`Session`) is a host with its last reply; a `Handle` owns one or is empty, and contracts see which. The header
+//! A session (`Session`) is a host with its last reply and the last part of a save; a `Handle` owns one or is empty, and contracts see which. The header
 //! declares these functions and adds others in C, which are tested and not proved; so is the crate for Rust, `clients/rust`.
 //!
 //! # What is proved
@@ -22,11 +22,17 @@
 //!   `status` of `bpfhost_c_run_packets`.
 //! - The result of asking whether memory was refused to a tenant is that of the headline (`IsUnrefused`), and nothing changes:
 //!   `refused`, `unrefused`, `code`, `host`, `otherwise` of `bpfhost_c_memory_refused`.
+//! - The frames of a part of a tenant are those of `Host::save`, and are at the returned address, with the returned length; the
+//!   code says whether there is such a part (`save_code`), unless out of memory. No tenant changes: `done`, `code`, `host`,
+//!   `lent` of `bpfhost_c_save`.
+//! - Each call does to the host what `Host::handle` or `Host::run_packets` does to states and births, or nothing: `made` of
+//!   `bpfhost_c_new`, `call` of both functions for frames and of `bpfhost_c_run_packets`, `host` of the others.
 //! - A host that is freed leaves an empty handle: `bpfhost_c_free`.
 //! - A handle may be sent from thread to thread: `Send` for `Handle`.
 //!
 //! From `Handles` of each call and `calls_are_told_alone` of `host_core` follows what the headline says of a stream;
-//! `batch_is_its_calls` replaces a call with many packets by its frames.
+//! `batch_is_its_calls` replaces a call with many packets by its frames. From `call` of each call and `tenants_are_restored`
+//! follows that the parts of a tenant restore it.
 //!
 //! An empty handle owns nothing, any other what a box of a session owns (`handle_owns`). So the library frees what it
 //! allocated, and an empty handle keeps no memory. For a lent reply a contract only gives the address: the vector of the
@@ -50,6 +56,8 @@
 //!   contract gives the address of the bytes, that of the session's vector; that they stay there until the next call follows
 //!   from the caller's ownership of the handle. For this the session keeps a vector, and lends its capacity to a `ReplyBuf`
 //!   while it handles a frame.
+//! - The frames of a part are lent like a reply, since only the library knows their number of bytes. A handle keeps the last
+//!   part until the next save frees it.
 //! - The library uses `host_core`, tenants and streams without the command line, so it contains nothing of `clap` or of the
 //!   text of programs.
 //! - The caller passes the seed of the hash maps: so the archive needs nothing of the system except memory, and an embedder may
@@ -78,8 +86,9 @@ mod session;
 ghost use Rattle.std.specs.Prelude.{◌≡◌, ◌≢◌, ◌≤◌, ℕ, List, ◌++◌, length, drop, slice_get, true, false, Some, None};
 ghost use Rattle.host_core.specs.Frame.{longest_reply};
 ghost use Rattle.host_core.specs.Handled.{Handles};
-ghost use Rattle.host_core.specs.Saving.{Call, new_host, saved_part};
+ghost use Rattle.host_core.specs.Saving.{Call, saved_part};
 ghost use Rattle.host_core.specs.Served.{IsUnrefused};
+ghost use Rattle.host_core.specs.States.{new_host};
 ghost use Rattle.bpfhost_c.specs.Calls.{states, host_of, StandsAt, SavedAt, new_code, host_code, room_code, save_code};
 ghost use Rattle.bpfhost_c.specs.Packets.{RunsPackets};
 ghost use Rattle.bpfhost_c.specs.declared.codes.TheConstants.{DONE, ERR_NO_MEMORY};

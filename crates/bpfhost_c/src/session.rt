@@ -3,7 +3,8 @@
 ghost use Rattle.std.specs.Prelude.{◌≡◌, ◌≤◌, length, vec_capacity, IfOk, Some, None, if◌then◌else◌};
 ghost use Rattle.host_core.specs.Frame.{longest_reply};
 ghost use Rattle.host_core.specs.Handled.{Handles};
-ghost use Rattle.host_core.specs.Saving.{Records, new_host, saved_part};
+ghost use Rattle.host_core.specs.Saving.{Records, saved_part};
+ghost use Rattle.host_core.specs.States.{new_host};
 ghost use Rattle.host_core.specs.Limits.{most_tenants};
 ghost use Rattle.bpfhost_c.specs.Packets.{RunsPackets};
 

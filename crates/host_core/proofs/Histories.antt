@@ -1,23 +1,31 @@
 -- Each tenant of a host has a history, so it is restored.
-use Rattle.std.proofs.Common.{◌≡◌, ◌≢◌, ◌⊎◌, inl, inr, ℕ, zero, suc, Bool, true, false, List, [], ◌∷◌, ◌++◌, length, Option, Some, None, Result, Ok, Err, refl, sym, ap, subst, ◌∙◌, nat_eq, true≢false, arith, eqb-true, eq-eqb}
+use Rattle.std.proofs.Common.{◌≡◌, ◌≢◌, ◌⊎◌, inl, inr, ℕ, zero, suc, Bool, true, false, List, [], ◌∷◌, ◌++◌, length, Option, Some, None, Result, Ok, Err, refl, sym, ap, ap₂, subst, ◌∙◌, nat_eq, true≢false, arith, eqb-true, eq-eqb, ◌<◌, ◌^◌, map}
 use Rattle.std.specs.Prelude.{replicate, slice_get}
-use Rattle.std.proofs.lemmas.Option.{none-some, same_Some}
+use Rattle.std.specs.List.{AllByRecursion, flat_map}
+use Rattle.std.proofs.lemmas.Grind.{flat_map-append}
+use Rattle.std.proofs.lemmas.List.{map-append}
+use Rattle.std.proofs.lemmas.List.Folds.{flat_map-map}
+use Rattle.std.proofs.lemmas.Option.{none-some, same_Some, slice_get-map}
 use Rattle.byteorder.specs.Endian.{little_bytes}
 use Rattle.command_frames.specs.declared.command.BadFrame.{BadFrame}
 use Rattle.command_frames.specs.Command.{Command, parsed, prog_test_run}
-use Rattle.command_frames.specs.Frame.{owner}
+use Rattle.command_frames.specs.Frame.{framed, owner}
 use Rattle.tenant.specs.Alone.{AnswersFrame, MayReply}
 use Rattle.tenant.specs.Batch.{RunsInOrder}
 use Rattle.tenant.specs.Machine.{Answer, Answers, gives}
 use Rattle.tenant.specs.State.{TenantState, new_tenant}
 use Rattle.saving.specs.declared.birth.Birth.{Birth}
 use Rattle.saving.specs.Births.{births_after}
-use Rattle.saving.specs.Laws.{IsHistory, HistoriesAreRestored}
+use Rattle.saving.specs.Frames.{frame_of}
+use Rattle.saving.specs.Laws.{IsHistory, HistoriesAreRestored, FramesHaveOwners}
+use Rattle.saving.specs.Restored.{restored}
+use Rattle.saving.specs.SaveParts.{PartsAreWhole, parts, frames_of}
 use Rattle.saving.specs.Recorded.{RecordsFrame, births_after_frame}
 use Rattle.host_core.specs.Batch.{RunsFor, ChangesTenant}
 use Rattle.host_core.specs.Handled.{Handles}
-use Rattle.host_core.specs.Saving.{Records, HandlesFrame, RunsPackets, Call, Calls, new_host, TenantsAreRestored}
-use Rattle.host_core.specs.States.{HostState}
+use Rattle.host_core.specs.Saving.{Records, HandlesFrame, RunsPackets, Call, Calls, AreParts, TenantsAreRestored}
+use Rattle.host_core.specs.States.{HostState, new_host}
+use Rattle.host_core.proofs.Tenants.{saved_of}
 
 -- ---- one tenant
 
@@ -137,7 +145,34 @@ new_reached count = record {
   each = λ t s births there born. ([], (get_replicated count new_tenant s t there, get_replicated count (let none : List Birth = [] in none) births t born));
 }
 
-pub tenants_are_restored : HistoriesAreRestored → TenantsAreRestored
-tenants_are_restored law count tenant calls host s births made there born =
-    let (commands, history) = (by_calls calls (new_host count) host (new_reached count) made).each tenant s births there born in
-    law tenant commands s births history
+-- ---- what is saved
+
+-- the bytes of parts are the frames of their commands
+together : (tenant : ℕ) (ps : List (List Command)) → flat_map (λ (bytes : List ℕ). bytes) (map (frames_of tenant) ps) ≡ flat_map framed (map (frame_of tenant) (flat_map (λ (part : List Command). part) ps))
+together tenant [] = refl
+together tenant (p ∷ ps) =
+    ap₂ (λ (xs ys : List ℕ). xs ++ ys) (sym (flat_map-map framed (frame_of tenant) p)) (together tenant ps)
+    ∙ sym (flat_map-append framed (map (frame_of tenant) p) (map (frame_of tenant) (flat_map (λ (part : List Command). part) ps)))
+    ∙ ap (flat_map framed) (sym (map-append (frame_of tenant) p (flat_map (λ (part : List Command). part) ps)))
+
+-- each is a frame of the tenant
+owned : FramesHaveOwners → (tenant : ℕ) → tenant < 2 ^ 16 → (cs : List Command) → AllByRecursion (λ (frame : List ℕ). owner frame ≡ tenant) (map (frame_of tenant) cs)
+owned law tenant few [] = tt
+owned law tenant few (c ∷ cs) = (law tenant c few, owned law tenant few cs)
+
+parts_of : (host : HostState) (tenant : ℕ) (s : TenantState) (births : List Birth) → slice_get host.states tenant ≡ Some s → slice_get host.births tenant ≡ Some births
+    → AreParts host tenant (map (frames_of tenant) (parts s births))
+parts_of host tenant s births there born = λ part. ap₂ (saved_of tenant part) there born ∙ sym (slice_get-map (frames_of tenant) (parts s births) part)
+
+pub tenants_are_restored : HistoriesAreRestored → FramesHaveOwners → PartsAreWhole → TenantsAreRestored
+tenants_are_restored law owners whole count tenant calls host s made few there =
+    let reached = by_calls calls (new_host count) host (new_reached count) made in
+    let (births, born) = get_too host.states host.births tenant s reached.many there in
+    let (commands, history) = reached.each tenant s births there born in (
+      map (frames_of tenant) (parts s births),
+      map (frame_of tenant) (restored s births),
+      parts_of host tenant s births there born,
+      together tenant (parts s births) ∙ ap (λ (cs : List Command). flat_map framed (map (frame_of tenant) cs)) (whole s births),
+      owned owners tenant few (restored s births),
+      law tenant commands s births history,
+    )

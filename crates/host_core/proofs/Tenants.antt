@@ -228,7 +228,7 @@ records_own m n ks h i k l frame reply is own lt found told =
 
 -- ---- what is saved
 
-abbrev saved_of : ℕ → ℕ → Option TenantState → Option (List Birth) → Option (List ℕ)
+abbrev pub saved_of : ℕ → ℕ → Option TenantState → Option (List Birth) → Option (List ℕ)
 saved_of tenant part s bs = option_and_then (λ (x : TenantState). option_and_then (λ (births : List Birth). option_map (frames_of tenant) (slice_get (parts x births) part)) bs) s
 
 -- a tenant that is served

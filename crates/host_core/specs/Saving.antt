@@ -1,14 +1,15 @@
 -- How a host keeps the births of its tenants' objects, and the frames that it saves of a tenant. This project's own.
-use Rattle.std.specs.Prelude.{◌≡◌, ◌≢◌, ◌⊎◌, ℕ, List, [], ◌∷◌, length, replicate, slice_get, Option, Some, None, option_and_then, option_map}
-use Rattle.command_frames.specs.Frame.{owner}
-use Rattle.tenant.specs.State.{TenantState, new_tenant}
+use Rattle.std.specs.Prelude.{◌≡◌, ◌≢◌, ◌⊎◌, ℕ, ◌<◌, ◌^◌, List, [], ◌∷◌, length, slice_get, Option, Some, None, option_and_then, option_map}
+use Rattle.std.specs.List.{AllByRecursion, flat_map}
+use Rattle.command_frames.specs.Frame.{framed, owner}
+use Rattle.tenant.specs.State.{TenantState}
 use Rattle.saving.specs.declared.birth.Birth.{Birth}
-use Rattle.saving.specs.Laws.{IsRestored}
+use Rattle.saving.specs.Laws.{IsRestoredBy}
 use Rattle.saving.specs.Recorded.{RecordsFrame}
 use Rattle.saving.specs.SaveParts.{parts, frames_of}
 use Rattle.host_core.specs.Batch.{RunsFor, ChangesTenant}
 use Rattle.host_core.specs.Handled.{Handles}
-use Rattle.host_core.specs.States.{HostState}
+use Rattle.host_core.specs.States.{HostState, new_host}
 
 -- a frame with its reply, and the births before and after it: those of its tenant change as its command says, and no others do
 pub record Records (frame reply : List ℕ) (before after : HostState) : Type 0 where
@@ -44,11 +45,15 @@ abbrev pub Calls : HostState → List HostState → HostState → Type 0
 Calls before [] after = after ≡ before
 Calls before (next ∷ later) after = Call before next × Calls next later after
 
-abbrev pub new_host : ℕ → HostState
-new_host count = record { states = replicate count new_tenant; births = replicate count [] }
+-- the bytes of all parts of a tenant, from part 0 on
+abbrev pub AreParts : HostState → ℕ → List (List ℕ) → Type 0
+AreParts host tenant saved = (part : ℕ) → saved_part host tenant part ≡ slice_get saved part
 
--- After any calls on a new host, each of its tenants is restored by its frames.
+-- After any calls on a new host, the parts of a tenant, one after another, are frames with their lengths, each the tenant's own, and
+-- they restore it.
 abbrev pub TenantsAreRestored : Type 0
 TenantsAreRestored =
-    (count tenant : ℕ) (calls : List HostState) (host : HostState) (s : TenantState) (births : List Birth) → Calls (new_host count) calls host
-    → slice_get host.states tenant ≡ Some s → slice_get host.births tenant ≡ Some births → IsRestored tenant s births
+    (count tenant : ℕ) (calls : List HostState) (host : HostState) (s : TenantState) → Calls (new_host count) calls host
+    → tenant < 2 ^ 16 → slice_get host.states tenant ≡ Some s
+    → (saved : List (List ℕ)) × (frames : List (List ℕ)) × AreParts host tenant saved
+    × (flat_map (λ bytes. bytes) saved ≡ flat_map framed frames) × AllByRecursion (λ frame. owner frame ≡ tenant) frames × IsRestoredBy s frames

@@ -1,9 +1,9 @@
 -- The states of all tenants. This project's own.
-use Rattle.std.specs.Prelude.{ℕ, ◌+◌, List, [], ◌∷◌, map}
+use Rattle.std.specs.Prelude.{ℕ, ◌+◌, List, [], ◌∷◌, map, replicate}
 use Rattle.arena.specs.Memory.{Memory, part_bytes}
 use Rattle.saving.specs.Recorded.{RecordedTenant, tenant_state}
 use Rattle.saving.specs.declared.birth.Birth.{Birth}
-use Rattle.tenant.specs.State.{TenantState}
+use Rattle.tenant.specs.State.{TenantState, new_tenant}
 
 -- the states of the tenants from number t on; the values of a tenant's maps lie in its part of the memory
 unfoldable pub states_from : Memory → ℕ → List RecordedTenant → List TenantState
@@ -23,3 +23,7 @@ births_in tenants = map (λ t. t.births) tenants
 
 abbrev pub host_state : Memory → List RecordedTenant → HostState
 host_state m tenants = record { states = states_in m tenants; births = births_in tenants }
+
+-- a host of new tenants
+abbrev pub new_host : ℕ → HostState
+new_host count = record { states = replicate count new_tenant; births = replicate count [] }

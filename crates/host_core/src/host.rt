@@ -10,7 +10,7 @@ ghost use Rattle.tenant.specs.State.{new_tenant};
 ghost use Rattle.host_core.specs.Batch.{RunsFor, refusal_for, ChangesTenant};
 ghost use Rattle.host_core.specs.Served.{IsUnrefused};
 ghost use Rattle.host_core.specs.Saving.{Records, saved_part};
-ghost use Rattle.host_core.specs.States.{births_in, states_from};
+ghost use Rattle.host_core.specs.States.{births_in, new_host, states_from};
 ghost use Rattle.host_core.specs.Limits.{most_tenants};
 
 use arena::Arena;
@@ -82,8 +82,7 @@ impl Host {
     pub fn new(alloc: Global, tenants: usize, seed: HashSeed) -> Result<Host, AllocError>
         requires some { 1 ≤ tenants }
         requires few { tenants ≤ most_tenants }
-        ensures states { IfOk result (λ host. host.states ≡ replicate tenants new_tenant) }
-        ensures births { IfOk result (λ host. host.births ≡ replicate tenants []) }
+        ensures { IfOk result (λ host. host ≡ new_host tenants) }
     {
         Ok(Host {
             tenants: new_tenants(alloc, tenants, seed)?,

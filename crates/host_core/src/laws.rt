@@ -58,9 +58,12 @@ pub fn batch_is_its_calls()
     ensures { BatchIsItsCalls }
 {}
 
-/// After any calls on a new host, the frames of a tenant's parts make a new tenant that replies as this one does.
+/// After any calls on a new host, the parts of a tenant are frames, and a new tenant to which no memory is refused succeeds at each of
+/// them and then replies as this one does.
 pub fn tenants_are_restored()
     ensures { TenantsAreRestored }
 {
     saving::laws::histories_are_restored();
+    saving::laws::frames_have_owners();
+    saving::laws::parts_are_whole();
 }

@@ -86,14 +86,19 @@ module _ (maps : MapsAreHeld) (law : BirthsAreKept) where
       runs_keep births fd words between t ps rs (maps.kept refusals s command a held answers) (law.kept refusals s command a births held are answers) rest
 
   -- packets are run, or nothing changes
-  pub recorded_runs : {U E : Type 0} (R : Type 0) (r : Result U E) (k l : KeptTenant) (births : List Birth) (p q : List ℕ) (fd : ℕ) (words : List ℕ) (packets : List (List ℕ)) (room written : List ℕ)
-      → IsRecorded (record { kept = k; births = births }) → OnOk r (RunsBatch fd words (state_in p k) packets room written (state_in q l)) → OnErr r ((l ≡ k) × R) → IsRecorded (record { kept = l; births = births })
-  recorded_runs R (Ok done) k l births p q fd words packets room written is runs same =
+  pub recorded_runs : {U E : Type 0} (r : Result U E) (k l : KeptTenant) (births : List Birth) (p q : List ℕ) (fd : ℕ) (words : List ℕ) (packets : List (List ℕ)) (room written : List ℕ)
+      → IsRecorded (record { kept = k; births = births }) → OnOk r (RunsBatch fd words (state_in p k) packets room written (state_in q l)) → OnErr r (l ≡ k) → IsRecorded (record { kept = l; births = births })
+  recorded_runs (Ok done) k l births p q fd words packets room written is runs same =
       let (held, are) = is p in
       let (t, after) = runs_keep births fd words (state_in p k) (state_in q l) packets runs.0 held are runs.1 in
       recorded_by l births q t after
-  recorded_runs R (Err e) k l births p q fd words packets room written is runs same =
-      subst (λ (x : KeptTenant). IsRecorded (record { kept = x; births = births })) (sym same.0) is
+  recorded_runs (Err e) k l births p q fd words packets room written is runs same =
+      subst (λ (x : KeptTenant). IsRecorded (record { kept = x; births = births })) (sym same) is
+
+-- a part of what an error brings with it
+pub with_err : {U E : Type 0} {P Q : Type 0} (r : Result U E) → (P → Q) → OnErr r P → OnErr r Q
+with_err (Ok x) f p = tt
+with_err (Err e) f p = f p
 
 -- ---- what the code notes of an answer
 

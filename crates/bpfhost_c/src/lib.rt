@@ -25,8 +25,9 @@
 //! - The frames of a part of a tenant are those of `Host::save`, and are at the returned address, with the returned length; the
 //!   code says whether there is such a part (`save_code`), unless out of memory. No tenant changes: `done`, `code`, `host`,
 //!   `lent` of `bpfhost_c_save`.
-//! - Each call does to the host what `Host::handle` or `Host::run_packets` does to states and births, or nothing: `made` of
-//!   `bpfhost_c_new`, `call` of both functions for frames and of `bpfhost_c_run_packets`, `host` of the others.
+//! - A new host has new tenants without births: `made` of `bpfhost_c_new`. The other calls do to states and births what calls of
+//!   a host do (`Call`), or nothing: `call` of `bpfhost_c_handle`, `call` of `bpfhost_c_handle_lent`, `call` of
+//!   `bpfhost_c_run_packets`.
 //! - A host that is freed leaves an empty handle: `bpfhost_c_free`.
 //! - A handle may be sent from thread to thread: `Send` for `Handle`.
 //!
@@ -255,8 +256,8 @@ pub extern "C" fn bpfhost_c_run_packets(
 /// are valid until the next call with this handle. A new tenant of this number that is given the frames of all parts from 0 on, on
 /// this host or another one, then replies as this one does. Between two parts the tenant must not change.
 ///
-/// Returns `DONE`; else `ERR_NO_PART` after the last part and for a tenant that is not served, `ERR_NO_MEMORY` or `ERR_NO_HOST`, and `lent` is
-/// unchanged.
+/// Returns `DONE`; else `ERR_NO_PART` after the last part and for a tenant that is not served, `ERR_NO_MEMORY` or `ERR_NO_HOST`,
+/// and `lent` is unchanged.
 #[unsafe(no_mangle)]
 pub extern "C" fn bpfhost_c_save(
     alloc: Global,

@@ -1,6 +1,8 @@
 -- A reply that may be written is not that to a run which faults.
 use Rattle.std.proofs.Common.{Result, Ok, Err, ◌≡◌, ◌≢◌, ℕ, ◌<◌, ◌%◌, List, [], refl, sym, ap, ◌∙◌, arith, get_or}
 use Rattle.std.specs.Prelude.{ℤ, pos}
+use Rattle.std.specs.Int.{w32, cast_unsigned}
+use Rattle.byteorder.specs.Endian.{little_bytes}
 use Rattle.command_frames.specs.declared.command.Head.{Head}
 use Rattle.command_frames.specs.Frame.{reply_bytes}
 use Rattle.tenant.specs.declared.errno.Errno.{Errno}
@@ -11,9 +13,12 @@ use Rattle.tenant.specs.Errno.{status_of}
 use Rattle.tenant.specs.Machine.{Answer}
 use Rattle.tenant.specs.Replies.{shown_answer, IsWritable, Writes}
 use Rattle.tenant.specs.State.{TenantState}
-use Rattle.tenant.proofs.Faults.{low}
 
--- the lowest byte of a fault's status is 242, and no other error has it
+-- the lowest byte of a status
+abbrev low : ℤ → ℕ
+low status = get_or (little_bytes 4 (cast_unsigned w32 status)) 0 0
+
+-- that of a fault is 242, and no other error has it
 abbrev IsOther : ℤ → Type 0
 IsOther status = low status ≢ 242
 

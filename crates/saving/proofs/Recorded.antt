@@ -19,7 +19,7 @@ use Rattle.tenant.specs.Machine.{Answer, Answers, cause_errno, gives}
 use Rattle.tenant.specs.Replies.{shown_answer}
 use Rattle.bpf_maps.specs.Limits.{most_maps}
 use Rattle.tenant.specs.State.{TenantState, new_tenant, live}
-use Rattle.tenant.proofs.AtPlaces.{length-at, some_at_each}
+use Rattle.tenant.specs.KeptLaws.{length-at, some_at_each}
 use Rattle.saving.specs.Alike.{HoldsItsMaps}
 use Rattle.saving.specs.Births.{Birth, AreBirths, with_opened, births_after}
 use Rattle.saving.specs.Laws.{MapsAreHeld, BirthsAreKept}

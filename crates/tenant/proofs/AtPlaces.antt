@@ -4,7 +4,6 @@ use Rattle.std.specs.Prelude.{◌⊎◌, is_none, position, option_map}
 use Rattle.std.proofs.Math.Path.{fun_ext}
 use Rattle.std.proofs.lemmas.Bool.{cases_eq, cases_lt}
 use Rattle.std.proofs.lemmas.List.{ext_get_or, get_or_past}
-use Rattle.std.proofs.lemmas.List.FromFn.{length-map-range_with_len, get_or-map-range_with_len}
 use Rattle.bpf_maps.specs.Live.{LiveMaps, LiveMap, live_or, live_at, holds_at, offset, map_in}
 use Rattle.bpf_maps.specs.LiveLaws.{same_lowest}
 use Rattle.bpf_maps.specs.Places.{table_of}
@@ -12,6 +11,8 @@ use Rattle.tagged_model.specs.Table.{with_values}
 use Rattle.bpf_maps.specs.Limits.{most_maps}
 use Rattle.tenant.specs.State.{Map}
 use Rattle.tenant.specs.Kept.{at_places, map_at}
+pub use Rattle.tenant.specs.KeptLaws.{length-at, at-within, at-past}
+use Rattle.tenant.specs.KeptLaws.{is_some-mapped}
 
 -- ---- places
 
@@ -22,17 +23,6 @@ at_each P m here others place = by (cases_eq place m)
     by : (place ≡ m) ⊎ (place ≡ m → ⊥) → P place
     by (inl same) = subst P (sym same) here
     by (inr other) = others place other
-
-pub length-at : (f : ℕ → Option Map) → length (at_places f) ≡ most_maps
-unfolding at_places
-length-at f = length-map-range_with_len f 0 most_maps
-
-pub at-within : (f : ℕ → Option Map) (i : ℕ) → i < most_maps → get_or (at_places f) i None ≡ f i
-unfolding at_places
-at-within f i lt = get_or-map-range_with_len f 0 most_maps i i None lt (omega arith)
-
-pub at-past : (f : ℕ → Option Map) (i : ℕ) → most_maps ≤ i → get_or (at_places f) i None ≡ None
-at-past f i past = let long = length-at f in get_or_past (at_places f) i None (omega arith)
 
 pub same_at : (f g : ℕ → Option Map) → ((i : ℕ) → f i ≡ g i) → at_places f ≡ at_places g
 same_at f g h = ap at_places (fun_ext h)
@@ -115,18 +105,6 @@ other_at part later old new place same pairs = by (live_or_not (live_at new plac
     by (inl now) = same_map_at part later old new place (sym (ap (λ (o : Option LiveMap). is_some o) same) ∙ now) now (pairs now)
     by (inr none) = none_there later new place none ∙ sym (none_there part old place (sym same ∙ none))
 
-mapped : (part : List ℕ) (o : Option LiveMap) → is_some (map_if part o) ≡ is_some o
-mapped part None = refl
-mapped part (Some l) = refl
-
 -- the map at a place is live just where the list has one
 pub live_is : (part : List ℕ) (t : LiveMaps) → length t.maps ≡ most_maps → (place : ℕ) → is_some (get_or (at_places (map_at part t)) place None) ≡ is_some (live_at t place)
-live_is part t long place = some_at (map_at part t) t.maps long (λ i. mapped part (live_at t i)) place
-
--- whether there is one does not depend on the bytes of its values
-pub some_at_each : (p q : List ℕ) (t : LiveMaps) (place : ℕ) → is_some (get_or (at_places (map_at p t)) place None) ≡ is_some (get_or (at_places (map_at q t)) place None)
-some_at_each p q t place = by (cases_lt place most_maps)
-  where
-    by : (place < most_maps) ⊎ (most_maps ≤ place) → is_some (get_or (at_places (map_at p t)) place None) ≡ is_some (get_or (at_places (map_at q t)) place None)
-    by (inl lt) = ap is_some (at-within (map_at p t) place lt) ∙ mapped p (live_at t place) ∙ sym (mapped q (live_at t place)) ∙ sym (ap is_some (at-within (map_at q t) place lt))
-    by (inr past) = ap is_some (at-past (map_at p t) place past) ∙ sym (ap is_some (at-past (map_at q t) place past))
+live_is part t long place = some_at (map_at part t) t.maps long (λ i. is_some-mapped (λ l. map_in part t i) (live_at t i)) place

@@ -1,7 +1,7 @@
 mod Sums
 mod OneAnswer
 mod Named
-pub mod AtPlaces
+mod AtPlaces
 mod New
 mod Shapes
 mod LookUps
@@ -18,7 +18,7 @@ mod Times
 mod Closes
 mod Targets
 mod Flag
-pub mod Faults
+mod Faults
 mod LoadingHolds
 mod LoadingPlaces
 mod LoadingShapes

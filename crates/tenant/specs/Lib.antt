@@ -6,6 +6,7 @@ pub mod Alone
 pub mod Batch
 pub mod Laws
 pub mod Kept
+pub mod KeptLaws
 pub mod Entry
 pub mod Replies
 pub mod inside

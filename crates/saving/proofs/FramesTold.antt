@@ -1,4 +1,4 @@
--- What the replies to commands tell.
+-- The replies to commands.
 use Rattle.std.proofs.Common.{Result, Ok, Err, ◌≡◌, Bool, List, ℕ, refl, sym, subst}
 use Rattle.command_frames.specs.declared.command.Head.{Head}
 use Rattle.command_frames.specs.declared.command.Command.{Command as CodeCommand}

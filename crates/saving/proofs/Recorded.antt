@@ -28,7 +28,7 @@ use Rattle.saving.specs.inside.Frames.{AnswersCommand}
 use Rattle.saving.specs.inside.Opened.{with_told}
 use Rattle.saving.proofs.Births.{same_births}
 
--- ---- where a map is live does not depend on the bytes of a part
+-- ---- whether a map is live does not depend on the bytes of a part
 
 live_in_each : (k : KeptTenant) (p q : List ℕ) (place : ℕ) → IsSome (live (state_in p k) place) → IsSome (live (state_in q k) place)
 live_in_each k p q place some = sym (some_at_each p q k.live place) ∙ some
@@ -100,7 +100,7 @@ pub with_err : {U E : Type 0} {P Q : Type 0} (r : Result U E) → (P → Q) → 
 with_err (Ok x) f p = tt
 with_err (Err e) f p = f p
 
--- ---- what the code notes of an answer
+-- ---- what the code records of a reply
 
 no_birth : (errno : Errno) (s : TenantState) (births : List Birth) → births ≡ with_opened (status_of errno) s births
 no_birth NotPermitted s births = refl

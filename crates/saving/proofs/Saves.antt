@@ -89,7 +89,7 @@ module _ (s : TenantState) (births : List Birth) where
 pub then_more : {A : Type 0} (old : List A) {mid new : List A} (frame rest : List A) → mid ≡ old ++ frame → new ≡ mid ++ rest → new ≡ old ++ (frame ++ rest)
 then_more {A} old frame rest one more = more ∙ ap (λ (xs : List A). xs ++ rest) one ∙ append_assoc old frame rest
 
--- where a frame is written, that much less is left
+-- if a frame is written, that much less is left
 pub one_less : {A : Type 0} (before : List A) {all after : List A} (frame rest : List A) → before ++ (frame ++ rest) ≡ all → after ≡ before ++ frame → after ++ rest ≡ all
 one_less {A} before frame rest left written = ap (λ (xs : List A). xs ++ rest) written ∙ append_assoc before frame rest ∙ left
 

@@ -83,7 +83,7 @@ impl Births {
         self.oldest_first.push_reserved(birth);
     }
 
-    /// Adds the birth of the object that a command opened, if its reply tells of one. There is room for it.
+    /// Adds the birth of the object that a command opened, if its reply has a descriptor. There is room for it.
     pub(crate) fn note(&mut self, tenant: &Tenant, answer: &Result<Reply<'_>, Errno>)
         requires { length (with_told answer.now tenant.now.objects self.old) ≤ MOST_BIRTHS }
         ensures { self.new ≡ with_told answer.now tenant.now.objects self.old }

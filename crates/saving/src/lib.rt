@@ -1,11 +1,10 @@
 //! A tenant that can be saved: its frames are handled, and it is saved as frames that make a new tenant reply as this one does.
 //!
-//! A state does not record in which order its objects were created, so a `SavableTenant` has a list of births (`Birth`) beside
-//! its tenant: a map was created, or a program loaded, at a descriptor. Contracts see the latest first. A state and its births
-//! give the commands that restore the state (`restored`). All 64 descriptors are kept open, by a program of two instructions
-//! where there is nothing else, so that the next object gets the descriptor that was closed last. Two states are alike
-//! (`IsAlike`) if they have the same open objects and the same live maps, possibly at other places; the flag of refused memory
-//! may differ.
+//! A state does not record in which order its objects were created, so a `SavableTenant` also has a list of births (`Birth`): a
+//! map was created, or a program loaded, at a descriptor. Contracts see the latest first. A state and its births give the
+//! commands that restore the state (`restored`). All 64 descriptors are kept open, by a program of two instructions if there is
+//! nothing else, so that the next object gets the descriptor that was closed last. Two states are alike (`IsAlike`) if they
+//! have the same open objects and the same live maps, possibly at other places; the flag of refused memory may differ.
 //!
 //! # What is proved
 //!

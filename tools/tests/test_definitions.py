@@ -74,7 +74,7 @@ class Tables(unittest.TestCase):
 
     def test_quotations(self) -> None:
         self.assertTrue(quotation("host_core/specs/Served.antt", "StopsAlone").endswith("ServesAlone old new count rest\n"))
-        self.assertTrue(quotation("host_core/src/server.rt", "serve").endswith("host.new reader.new writer.new) }\n"))
+        self.assertTrue(quotation("host_core/src/server.rt", "serve").endswith("host.new.states reader.new writer.new) }\n"))
         with self.assertRaises(ValueError):
             quotation("host_core/specs/Served.antt", "Gone")
 

@@ -8,7 +8,7 @@ use Rattle.words.specs.Bytes.{number_of}
 use Rattle.tagged_model.specs.Table.{is_key, found, first_key, key_behind, key_after, index_key, indexed}
 use Rattle.bpf_maps.specs.Places.{occurrences, IsSized}
 
-abbrev itself : ℕ → ℕ
+abbrev pub itself : ℕ → ℕ
 itself i = i
 
 -- ---- the key of an index

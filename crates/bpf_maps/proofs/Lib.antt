@@ -23,3 +23,4 @@ pub mod Values
 pub mod Stays
 pub mod InPart
 pub mod Called
+pub mod NextEntries

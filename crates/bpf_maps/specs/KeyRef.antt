@@ -7,3 +7,7 @@ use Rattle.bpf_maps.specs.declared.key_ref.KeyRef.TheVariants.{Short, Lent}
 abbrev pub key_bytes : KeyRef → List ℕ
 key_bytes (Short bytes) = bytes
 key_bytes (Lent bytes) = bytes.now
+
+-- a key and its place
+abbrev pub shown_entry : KeyRef × ℕ → List ℕ × ℕ
+shown_entry e = (key_bytes e.0, e.1)

@@ -1,11 +1,13 @@
 //! An array map.
 
-ghost use Rattle.std.specs.Prelude.{◌≡◌, ◌<◌, ◌⊎◌, false, [], IfOk, IfSome, Some, None, nat_lt, if◌then◌else◌, length, option_map};
+ghost use Rattle.std.specs.Prelude.{◌≡◌, ◌<◌, ◌⊎◌, ◌+◌, false, [], IfOk, IfSome, Some, None, nat_lt, if◌then◌else◌, length, option_map};
+ghost use Rattle.std.specs.Option.{option_map_or};
+ghost use Rattle.ordered_keys.specs.Orders.{next_entry};
 ghost use Rattle.tagged_model.specs.declared.shape.MapKind.TheVariants.{Array};
 ghost use Rattle.tagged_model.specs.Table.{look_up, verdict, next_of, index_key};
 ghost use Rattle.bpf_maps.specs.Places.{PlaceTable, table_of, IsSound, Claims, new_places};
 ghost use Rattle.bpf_maps.specs.Live.{is_memory};
-ghost use Rattle.bpf_maps.specs.KeyRef.{key_bytes};
+ghost use Rattle.bpf_maps.specs.KeyRef.{key_bytes, shown_entry};
 
 use crate::key_ref::{KeyRef, ShortKey};
 use crate::value_map::{EXIST, NOEXIST, ValueMap};
@@ -133,6 +135,30 @@ impl ArrayMap {
             Some(index) => index + 1,
             None => 0,
         }
+    }
+
+    /// The key that follows the one of a place, or the first key if no place is given, with its place. `None` if there is none,
+    /// and if no key has the place.
+    pub(crate) fn entry_after(&self, place: Option<u32>) -> Option<(KeyRef<'_>, u32)>
+        ensures { option_map shown_entry result ≡ next_entry place self.now.entries }
+    {
+        self.keys_are_its_indices();
+        let index = index_behind(place);
+        if index >= u64::from(self.shape.max_entries) {
+            return None;
+        }
+        let key = ShortKey::of_word(index, INDEX_SIZE);
+        Some((KeyRef::Short(key), index as u32))
+    }
+}
+
+/// The index that follows a place; 0 if no place is given.
+fn index_behind(place: Option<u32>) -> u64
+    ensures { result ≡ option_map_or (λ p. p + 1) place 0 }
+{
+    match place {
+        Some(place) => u64::from(place) + 1,
+        None => 0,
     }
 }
 

@@ -1,10 +1,11 @@
 //! The two kinds of map as one type.
 
 ghost use Rattle.std.specs.Prelude.{◌≡◌, ◌<◌, ◌⊎◌, length, [], option_map, IfOk, IfSome};
+ghost use Rattle.ordered_keys.specs.Orders.{next_entry};
 ghost use Rattle.tagged_model.specs.declared.shape.MapKind.TheVariants.{Array};
 ghost use Rattle.tagged_model.specs.Table.{look_up, verdict, removal, next_of};
 ghost use Rattle.bpf_maps.specs.Places.{PlaceTable, table_of, IsSound, Claims, Removes, new_places, after_run};
-ghost use Rattle.bpf_maps.specs.KeyRef.{key_bytes};
+ghost use Rattle.bpf_maps.specs.KeyRef.{key_bytes, shown_entry};
 ghost use Rattle.bpf_maps.specs.BpfMap.{places_of};
 
 use crate::array_map::ArrayMap;
@@ -52,6 +53,17 @@ impl BpfMap {
         match self {
             BpfMap::Array(map) => map.shape(),
             BpfMap::Hash(map) => map.shape(),
+        }
+    }
+
+    /// The key that follows the one of a place, or the first key if no place is given, with its place. `None` if there is none,
+    /// and if no key has the place.
+    pub(crate) fn entry_after(&self, place: Option<u32>) -> Option<(KeyRef<'_>, u32)>
+        ensures { option_map shown_entry result ≡ next_entry place (places_of self.now).entries }
+    {
+        match self {
+            BpfMap::Array(map) => map.entry_after(place),
+            BpfMap::Hash(map) => map.entry_after(place),
         }
     }
 }

@@ -2,6 +2,7 @@
 
 ghost use Rattle.std.specs.Prelude.{◌≡◌, ◌<◌, None, IfOk, OnOk, OnErr, [], length, option_map};
 ghost use Rattle.std.specs.Map.{values_of};
+ghost use Rattle.ordered_keys.specs.Orders.{lent_entry, next_entry};
 ghost use Rattle.tagged_model.specs.Table.{found, with_key, without, key_after};
 ghost use Rattle.bpf_maps.specs.Places.{occurrences};
 ghost use Rattle.bpf_maps.specs.inside.Keys.{lent_key};
@@ -54,6 +55,15 @@ impl BytesIndex {
     {
         let following = self.map.key_after(KeyBytes { bytes: key })?;
         Some(following.bytes())
+    }
+
+    /// The key that follows the one of a place, or the first key if no place is given, with its place. `None` if there is none,
+    /// and if no key has the place.
+    pub(crate) fn entry_after(&self, place: Option<u32>) -> Option<(&[u8], u32)>
+        ensures { option_map lent_entry result ≡ next_entry place self.now.entries }
+    {
+        let (key, place) = self.map.entry_after(place)?;
+        Some((key.bytes(), place))
     }
 
     /// Adds a new key at the end. `AllocError`: out of memory. Then nothing has changed.

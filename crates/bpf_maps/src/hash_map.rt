@@ -1,8 +1,10 @@
 //! A hash map.
 
-ghost use Rattle.std.specs.Prelude.{◌≡◌, ℕ, ◌<◌, ◌≤◌, None, IfOk, IfSome, nat_lt, if◌then◌else◌, vec_len, vec_capacity, length};
+ghost use Rattle.std.specs.Prelude.{◌≡◌, ℕ, ◌<◌, ◌≤◌, None, IfOk, IfSome, nat_lt, if◌then◌else◌, vec_len, vec_capacity, length, option_map};
+ghost use Rattle.ordered_keys.specs.Orders.{next_entry};
 ghost use Rattle.tagged_model.specs.declared.shape.MapKind.TheVariants.{Hash};
 ghost use Rattle.tagged_model.specs.Table.{look_up, of_absent, is_full, verdict, removal, next_of};
+ghost use Rattle.bpf_maps.specs.KeyRef.{shown_entry};
 ghost use Rattle.bpf_maps.specs.Places.{PlaceTable, table_of, IsSound, Claims, Removes, new_places, after_run, occurrences};
 
 use crate::key_index::KeyIndex;
@@ -78,6 +80,14 @@ impl HashMapIx {
         ensures within { IfSome result (λ place. place < self.now.shape.max_entries) }
     {
         self.index.get(key)
+    }
+
+    /// The key that follows the one of a place, or the first key if no place is given, with its place. `None` if there is none,
+    /// and if no key has the place.
+    pub(crate) fn entry_after(&self, place: Option<u32>) -> Option<(KeyRef<'_>, u32)>
+        ensures { option_map shown_entry result ≡ next_entry place self.now.entries }
+    {
+        self.index.entry_after(place)
     }
 
     /// Claims a free place for a new key, which goes to the end. `TooBig` if no place is free, else `Memory` if out of memory. Then

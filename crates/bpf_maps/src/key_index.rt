@@ -2,8 +2,9 @@
 
 ghost use Rattle.std.specs.Prelude.{◌≡◌, ◌<◌, None, IfOk, OnOk, OnErr, [], length, option_map};
 ghost use Rattle.std.specs.Map.{values_of};
+ghost use Rattle.ordered_keys.specs.Orders.{next_entry};
 ghost use Rattle.tagged_model.specs.Table.{found, with_key, without, key_after};
-ghost use Rattle.bpf_maps.specs.KeyRef.{key_bytes};
+ghost use Rattle.bpf_maps.specs.KeyRef.{key_bytes, shown_entry};
 ghost use Rattle.bpf_maps.specs.Places.{occurrences};
 ghost use Rattle.bpf_maps.specs.Index.{entries_of, bound_of, TakesKeys};
 
@@ -59,6 +60,23 @@ impl KeyIndex {
         match self {
             KeyIndex::Words(words) => Some(KeyRef::Short(words.key_after(key)?)),
             KeyIndex::Bytes(bytes) => Some(KeyRef::Lent(bytes.key_after(key)?)),
+        }
+    }
+
+    /// The key that follows the one of a place, or the first key if no place is given, with its place. `None` if there is none,
+    /// and if no key has the place.
+    pub(crate) fn entry_after(&self, place: Option<u32>) -> Option<(KeyRef<'_>, u32)>
+        ensures { option_map shown_entry result ≡ next_entry place (entries_of self.now) }
+    {
+        match self {
+            KeyIndex::Words(words) => {
+                let (key, place) = words.entry_after(place)?;
+                Some((KeyRef::Short(key), place))
+            }
+            KeyIndex::Bytes(bytes) => {
+                let (key, place) = bytes.entry_after(place)?;
+                Some((KeyRef::Lent(key), place))
+            }
         }
     }
 

@@ -1,12 +1,13 @@
 //! A tenant's live maps, each at a place.
 
-ghost use Rattle.std.specs.Prelude.{◌≡◌, ◌≢◌, ℕ, ◌+◌, ◌-◌, ◌<◌, ◌≤◌, ◌^◌, ◌⊎◌, ◌||◌, true, false, [], length, take, replicate, option_map, Some, None, IfSome, IfOk, OnErr, IsSome};
+ghost use Rattle.std.specs.Prelude.{◌≡◌, ◌≢◌, ℕ, ◌+◌, ◌-◌, ◌<◌, ◌≤◌, ◌^◌, ◌⊎◌, ◌||◌, true, false, [], length, take, replicate, option_map, Some, None, is_some, IfSome, IfOk, OnErr, IsSome};
+ghost use Rattle.ordered_keys.specs.Orders.{next_entry};
 ghost use Rattle.tagged_model.specs.declared.shape.MapKind.TheVariants.{Array};
 ghost use Rattle.tagged_model.specs.Table.{look_up, verdict, removal, next_of, new_table};
 ghost use Rattle.bpf_maps.specs.declared.part.TheConstants.{PART, STACK_AND_CONTEXT};
 ghost use Rattle.bpf_maps.specs.Limits.{most_maps, most_bytes};
 ghost use Rattle.bpf_maps.specs.Places.{table_of, IsSound, Claims, Removes, GivesKey, after_run, new_places};
-ghost use Rattle.bpf_maps.specs.KeyRef.{key_bytes};
+ghost use Rattle.bpf_maps.specs.KeyRef.{key_bytes, shown_entry};
 ghost use Rattle.bpf_maps.specs.Live.{live_at, places_at, shape_at, holds_at, held_at, offset_at, value_in, map_in, value_address, LiesInPart, IsLaid, IsPacked, ClosesUp, start_at, AreSound, SameAreas, SameValues, KeepsMap, KeepsMaps, KeepsOthers, area_by, areas, OnlyKeysChange, create_fault, Creates, one_more, one_less, is_memory};
 ghost use Rattle.bpf_maps.specs.InMaps.{live_of, layout_at};
 
@@ -258,6 +259,18 @@ impl Maps {
         self.refused
     }
 
+    /// Whether a map is live.
+    pub fn is_live(&self, map: MapKey) -> bool
+        ensures { result ≡ is_some (live_at self.now map) }
+    {
+        // A place with a key has an entry.
+        let _ = &self.entries;
+        match self.keys.get(map.place) {
+            Some(key) => key.is_some(),
+            None => false,
+        }
+    }
+
     /// The shape of a map.
     #[inline(always)]
     pub fn shape(&self, map: MapKey) -> MapShape
@@ -393,6 +406,18 @@ impl Maps {
             length (key_bytes given) ≡ (shape_at self.now map).key_size) }
     {
         self.entry(map).map.key_after(key)
+    }
+
+    /// The key that follows the one of a place, or the first key if no place is given, with its place. `None` if there is none,
+    /// and if no key has the place.
+    pub fn entry_after(&self, map: MapKey, place: Option<u32>) -> Option<(KeyRef<'_>, u32)>
+        requires { IsSome (live_at self.now map) }
+        ensures entry { option_map shown_entry result
+            ≡ next_entry place (places_at self.now map).entries }
+        ensures within { IfSome result (λ e. e.1 < (shape_at self.now map).max_entries) }
+    {
+        self.maps_are_laid();
+        self.entry(map).map.entry_after(place)
     }
 
     /// Writes the key that follows a key to the start of `next`. After an empty or absent key it is the first.

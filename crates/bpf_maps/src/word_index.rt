@@ -3,6 +3,7 @@
 ghost use Rattle.std.specs.Prelude.{◌≡◌, ◌<◌, ◌≤◌, None, IfOk, OnOk, OnErr, [], length};
 ghost use Rattle.std.specs.Map.{values_of};
 ghost use Rattle.words.specs.Bytes.{number_of};
+ghost use Rattle.ordered_keys.specs.Orders.{next_entry};
 ghost use Rattle.tagged_model.specs.Table.{found, with_key, without, key_after};
 ghost use Rattle.bpf_maps.specs.Places.{occurrences};
 
@@ -71,6 +72,15 @@ impl WordIndex {
         }
         let word = self.map.key_after(&word_of(key))?;
         Some(ShortKey::of_word(*word, self.size))
+    }
+
+    /// The key that follows the one of a place, or the first key if no place is given, with its place. `None` if there is none,
+    /// and if no key has the place.
+    pub(crate) fn entry_after(&self, place: Option<u32>) -> Option<(ShortKey, u32)>
+        ensures { result ≡ next_entry place self.now.entries }
+    {
+        let (word, place) = self.map.entry_after(place)?;
+        Some((ShortKey::of_word(*word, self.size), place))
     }
 
     /// Adds a new key at the end. `AllocError`: out of memory. Then nothing has changed.

@@ -3,22 +3,34 @@ use denote.RawPtr.{Ptr}
 use Rattle.std.specs.Prelude.{◌≡◌, ℕ, ℤ, nat_lt, ◌||◌, if◌then◌else◌, is_none, List, [], vec_len, Option, Some, None}
 use Rattle.std.specs.Vec.{vec_ptr}
 use Rattle.host_core.specs.Frame.{longest_reply}
+use Rattle.host_core.specs.Saving.{saved_part}
+use Rattle.host_core.specs.States.{HostState, new_host}
 use Rattle.host_core.specs.State.{TenantState}
 use Rattle.host_core.specs.Limits.{most_tenants}
 use Rattle.bpfhost_c.specs.declared.codes.TheConstants.{DONE, ERR_NO_HOST, ERR_HAS_HOST}
-use Rattle.bpfhost_c.specs.declared.codes.TheConstants.{ERR_TENANT_COUNT, ERR_BUFFER_TOO_SMALL}
+use Rattle.bpfhost_c.specs.declared.codes.TheConstants.{ERR_TENANT_COUNT, ERR_BUFFER_TOO_SMALL, ERR_NO_PART}
 use Rattle.bpfhost_c.specs.declared.session.Session.{Session}
+
+-- the host of a handle; an empty handle has no tenants
+abbrev pub host_of : Option Session → HostState
+host_of None = new_host 0
+host_of (Some s) = s.host
 
 -- the states of the tenants of a handle's host; an empty handle has none
 abbrev pub states : Option Session → List TenantState
 states None = []
-states (Some s) = s.host
+states (Some s) = s.host.states
 
 -- A reply lies at an address: it is the bytes of the vector of the session's last reply, which begin there. The session owns
 -- them, and the handle owns the session.
 abbrev pub StandsAt : Option Session → List ℕ → Ptr → ℕ → Type 0
 StandsAt None reply at length = ⊥
 StandsAt (Some s) reply at length = (s.reply.items ≡ reply) × (at ≡ vec_ptr s.reply) × (length ≡ vec_len s.reply)
+
+-- so do frames that were saved
+abbrev pub SavedAt : Option Session → List ℕ → Ptr → ℕ → Type 0
+SavedAt None frames at length = ⊥
+SavedAt (Some s) frames at length = (s.saved.items ≡ frames) × (at ≡ vec_ptr s.saved) × (length ≡ vec_len s.saved)
 
 -- ---- codes
 
@@ -35,3 +47,8 @@ host_code before = if is_none before then ERR_NO_HOST else DONE
 -- of a call that also takes room for the longest reply
 abbrev pub room_code : Option Session → ℕ → ℤ
 room_code before room = if nat_lt room longest_reply then ERR_BUFFER_TOO_SMALL else host_code before
+
+-- of a call that saves a part, unless it is out of memory
+abbrev pub save_code : Option Session → ℕ → ℕ → ℤ
+save_code before tenant part =
+    if is_none before then ERR_NO_HOST else (if is_none (saved_part (host_of before) tenant part) then ERR_NO_PART else DONE)

@@ -17,3 +17,6 @@ pub(crate) const ERR_NO_MEMORY: i32 = -4;
 
 /// The room has fewer than `LONGEST_REPLY` bytes.
 pub(crate) const ERR_BUFFER_TOO_SMALL: i32 = -5;
+
+/// The tenant has no such part, or is not served.
+pub(crate) const ERR_NO_PART: i32 = -6;

@@ -1,6 +1,6 @@
-//! The host as a library for C: six functions, and a handle that is one pointer. The header is `clients/c/include/bpfhost.h`.
+//! The host as a library for C: seven functions, and a handle that is one pointer. The header is `clients/c/include/bpfhost.h`.
 //!
-//! A session (`Session`) is a host with its last reply; a `Handle` owns one or is empty, and contracts see which. The header
+//! A session (`Session`) is a host with its last reply and the last part of a save; a `Handle` owns one or is empty, and contracts see which. The header
 //! declares these functions and adds others in C, which are tested and not proved; so is the crate for Rust, `clients/rust`.
 //!
 //! # What is proved
@@ -22,11 +22,18 @@
 //!   `status` of `bpfhost_c_run_packets`.
 //! - The result of asking whether memory was refused to a tenant is that of the headline (`IsUnrefused`), and nothing changes:
 //!   `refused`, `unrefused`, `code`, `host`, `otherwise` of `bpfhost_c_memory_refused`.
+//! - The frames of a part of a tenant are those of `Host::save`, and are at the returned address, with the returned length; the
+//!   code says whether there is such a part (`save_code`), unless out of memory. No tenant changes: `done`, `code`, `host`,
+//!   `lent` of `bpfhost_c_save`.
+//! - A new host has new tenants without births: `made` of `bpfhost_c_new`. The other calls do to states and births what calls of
+//!   a host do (`Call`), or nothing: `call` of `bpfhost_c_handle`, `call` of `bpfhost_c_handle_lent`, `call` of
+//!   `bpfhost_c_run_packets`.
 //! - A host that is freed leaves an empty handle: `bpfhost_c_free`.
 //! - A handle may be sent from thread to thread: `Send` for `Handle`.
 //!
 //! From `Handles` of each call and `calls_are_told_alone` of `host_core` follows what the headline says of a stream;
-//! `batch_is_its_calls` replaces a call with many packets by its frames.
+//! `batch_is_its_calls` replaces a call with many packets by its frames. From `call` of each call and `tenants_are_restored`
+//! follows that the parts of a tenant restore it.
 //!
 //! An empty handle owns nothing, any other what a box of a session owns (`handle_owns`). So the library frees what it
 //! allocated, and an empty handle keeps no memory. For a lent reply a contract only gives the address: the vector of the
@@ -50,6 +57,8 @@
 //!   contract gives the address of the bytes, that of the session's vector; that they stay there until the next call follows
 //!   from the caller's ownership of the handle. For this the session keeps a vector, and lends its capacity to a `ReplyBuf`
 //!   while it handles a frame.
+//! - The frames of a part are lent like a reply, since only the library knows their number of bytes. A handle keeps the last
+//!   part until the next save frees it.
 //! - The library uses `host_core`, tenants and streams without the command line, so it contains nothing of `clap` or of the
 //!   text of programs.
 //! - The caller passes the seed of the hash maps: so the archive needs nothing of the system except memory, and an embedder may
@@ -75,17 +84,19 @@ mod handle;
 mod raw_box;
 mod session;
 
-ghost use Rattle.std.specs.Prelude.{◌≡◌, ◌≢◌, ◌≤◌, ℕ, List, ◌++◌, length, drop, replicate, slice_get, true, false, None};
+ghost use Rattle.std.specs.Prelude.{◌≡◌, ◌≢◌, ◌≤◌, ℕ, List, ◌++◌, length, drop, slice_get, true, false, Some, None};
 ghost use Rattle.host_core.specs.Frame.{longest_reply};
 ghost use Rattle.host_core.specs.Handled.{Handles};
+ghost use Rattle.host_core.specs.Saving.{Call, saved_part};
 ghost use Rattle.host_core.specs.Served.{IsUnrefused};
-ghost use Rattle.host_core.specs.State.{new_tenant};
-ghost use Rattle.bpfhost_c.specs.Calls.{states, StandsAt, new_code, host_code, room_code};
+ghost use Rattle.host_core.specs.States.{new_host};
+ghost use Rattle.bpfhost_c.specs.Calls.{states, host_of, StandsAt, SavedAt, new_code, host_code, room_code, save_code};
 ghost use Rattle.bpfhost_c.specs.Packets.{RunsPackets};
 ghost use Rattle.bpfhost_c.specs.declared.codes.TheConstants.{DONE, ERR_NO_MEMORY};
 
 use codes::{
-    DONE, ERR_BUFFER_TOO_SMALL, ERR_HAS_HOST, ERR_NO_HOST, ERR_NO_MEMORY, ERR_TENANT_COUNT,
+    DONE, ERR_BUFFER_TOO_SMALL, ERR_HAS_HOST, ERR_NO_HOST, ERR_NO_MEMORY, ERR_NO_PART,
+    ERR_TENANT_COUNT,
 };
 use handle::Handle;
 use host_core::{GIVEN_WORDS, HashSeed, LONGEST_REPLY, MOST_TENANTS};
@@ -112,7 +123,7 @@ pub extern "C" fn bpfhost_c_new(
     first: u64,
     second: u64,
 ) -> i32
-    ensures made { result ≡ DONE → states handle.new.session ≡ replicate tenants new_tenant }
+    ensures made { result ≡ DONE → host_of handle.new.session ≡ new_host tenants }
     ensures otherwise { result ≢ DONE → handle.new.session ≡ handle.old.session }
     ensures code { result ≢ ERR_NO_MEMORY → result ≡ new_code handle.old.session tenants }
     ensures memory { result ≡ ERR_NO_MEMORY → new_code handle.old.session tenants ≡ DONE }
@@ -161,6 +172,7 @@ pub extern "C" fn bpfhost_c_handle(
         × (written.new ≡ length reply) × (room.new ≡ reply ++ drop (length reply) room.old) }
     ensures bound { result ≡ DONE → written.new ≤ longest_reply }
     ensures code { result ≡ room_code handle.old.session (length room.old) }
+    ensures call { Call (host_of handle.old.session) (host_of handle.new.session) }
     ensures otherwise { result ≢ DONE → handle.new.session ≡ handle.old.session }
     ensures room { result ≢ DONE → room.new ≡ room.old }
     ensures written { result ≢ DONE → written.new ≡ written.old }
@@ -193,6 +205,7 @@ pub extern "C" fn bpfhost_c_handle_lent(
         × StandsAt handle.new.session reply lent.new.at lent.new.length }
     ensures bound { result ≡ DONE → lent.new.length ≤ longest_reply }
     ensures code { result ≡ host_code handle.old.session }
+    ensures call { Call (host_of handle.old.session) (host_of handle.new.session) }
     ensures otherwise { result ≢ DONE → handle.new.session ≡ handle.old.session }
     ensures lent { result ≢ DONE → lent.new ≡ lent.old }
 {
@@ -226,6 +239,7 @@ pub extern "C" fn bpfhost_c_run_packets(
     ensures done { result ≡ DONE → RunsPackets tenant fd words.now bytes.now ends.now results.old
         results.new status.new (states handle.old.session) (states handle.new.session) }
     ensures code { result ≡ host_code handle.old.session }
+    ensures call { Call (host_of handle.old.session) (host_of handle.new.session) }
     ensures otherwise { result ≢ DONE → handle.new.session ≡ handle.old.session }
     ensures results { result ≢ DONE → results.new ≡ results.old }
     ensures status { result ≢ DONE → status.new ≡ status.old }
@@ -236,6 +250,48 @@ pub extern "C" fn bpfhost_c_run_packets(
     *status = session.run_packets(usize::from(tenant), fd, words, bytes, ends, results);
     handle.put(session);
     DONE
+}
+
+/// Saves a part of a tenant: writes the address and the length of its frames, each of which has its length before it, to `lent`. They
+/// are valid until the next call with this handle. A new tenant of this number that is given the frames of all parts from 0 on, on
+/// this host or another one, then replies as this one does. Between two parts the tenant must not change.
+///
+/// Returns `DONE`; else `ERR_NO_PART` after the last part and for a tenant that is not served, `ERR_NO_MEMORY` or `ERR_NO_HOST`,
+/// and `lent` is unchanged.
+#[unsafe(no_mangle)]
+pub extern "C" fn bpfhost_c_save(
+    alloc: Global,
+    handle: &mut Handle,
+    tenant: u16,
+    part: usize,
+    lent: &mut Lent,
+) -> i32
+    ensures done { result ≡ DONE → (frames : List ℕ)
+        × (saved_part (host_of handle.old.session) tenant part ≡ Some frames)
+        × SavedAt handle.new.session frames lent.new.at lent.new.length }
+    ensures code { result ≢ ERR_NO_MEMORY → result ≡ save_code handle.old.session tenant part }
+    ensures host { host_of handle.new.session ≡ host_of handle.old.session }
+    ensures lent { result ≢ DONE → lent.new ≡ lent.old }
+{
+    let Some(mut session) = handle.take(alloc) else {
+        return ERR_NO_HOST;
+    };
+    match session.save(usize::from(tenant), part) {
+        Ok(true) => {
+            lent.at = session.saved.as_ptr();
+            lent.length = session.saved.len();
+            handle.put(session);
+            DONE
+        }
+        Ok(false) => {
+            handle.put(session);
+            ERR_NO_PART
+        }
+        Err(_) => {
+            handle.put(session);
+            ERR_NO_MEMORY
+        }
+    }
 }
 
 /// Sets `refused` to whether memory was ever refused to `tenant`; noninterference is promised to tenants to which it was not.

@@ -1,9 +1,10 @@
 //! A host with its last reply.
 
-ghost use Rattle.std.specs.Prelude.{◌≡◌, ◌≤◌, length, replicate, vec_capacity, IfOk};
+ghost use Rattle.std.specs.Prelude.{◌≡◌, ◌≤◌, length, vec_capacity, IfOk, Some, None, if◌then◌else◌};
 ghost use Rattle.host_core.specs.Frame.{longest_reply};
 ghost use Rattle.host_core.specs.Handled.{Handles};
-ghost use Rattle.host_core.specs.State.{new_tenant};
+ghost use Rattle.host_core.specs.Saving.{Records, saved_part};
+ghost use Rattle.host_core.specs.States.{new_host};
 ghost use Rattle.host_core.specs.Limits.{most_tenants};
 ghost use Rattle.bpfhost_c.specs.Packets.{RunsPackets};
 
@@ -16,6 +17,8 @@ use std::mem::replace;
 pub struct Session {
     pub(crate) host: Host,
     pub(crate) reply: Vec<u8>,
+    /// The frames that were saved last.
+    pub(crate) saved: Vec<u8>,
     alloc: Global,
     ghost room: { longest_reply ≤ vec_capacity reply },
 }
@@ -29,22 +32,49 @@ impl Session {
     ) -> Result<Box<Session>, AllocError>
         requires some { 1 ≤ tenants }
         requires few { tenants ≤ most_tenants }
-        ensures { IfOk result (λ session. session.value.host ≡ replicate tenants new_tenant) }
+        ensures { IfOk result (λ session. session.value.host ≡ new_host tenants) }
     {
         let host = Host::new(alloc, tenants, seed)?;
         let reply = Vec::with_capacity(alloc, LONGEST_REPLY)?;
-        Ok(Box::new(alloc, Session { host, reply, alloc })?)
+        let saved = Vec::new(alloc);
+        let session = Session {
+            host,
+            reply,
+            saved,
+            alloc,
+        };
+        Ok(Box::new(alloc, session)?)
     }
 
     /// Handles a frame, whose reply becomes the last one.
     pub(crate) fn handle(&mut self, frame: &[u8])
-        ensures handled { Handles self.old.host frame.now self.new.reply.items self.new.host }
+        ensures handled { Handles self.old.host.states frame.now self.new.reply.items
+            self.new.host.states }
+        ensures recorded { Records frame.now self.new.reply.items self.old.host self.new.host }
         ensures bound { length self.new.reply.items ≤ longest_reply }
     {
         let room = replace(&mut self.reply, Vec::new(self.alloc));
         let mut reply = ReplyBuf::from_vec(room);
         self.host.handle(frame, &mut reply);
         self.reply = reply.into_vec();
+    }
+
+    /// Saves a part of a tenant, whose frames become those that were saved last; false if there is no such part. `AllocError`: out
+    /// of memory.
+    pub(crate) fn save(&mut self, tenant: usize, part: usize) -> Result<bool, AllocError>
+        ensures saved { IfOk result (λ found. saved_part self.old.host tenant part
+            ≡ (if found then Some self.new.saved.items else None)) }
+        ensures host { self.new.host ≡ self.old.host }
+    {
+        // Those that were saved before are freed first.
+        self.saved = Vec::new(self.alloc);
+        match self.host.save(tenant, part)? {
+            Some(frames) => {
+                self.saved = frames;
+                Ok(true)
+            }
+            None => Ok(false),
+        }
     }
 
     /// Runs a program of a tenant on many packets, and returns the status: 0, or that of the refusal.
@@ -57,8 +87,9 @@ impl Session {
         ends: &[usize],
         results: &mut [u32],
     ) -> i32
-        ensures { RunsPackets tenant fd words.now bytes.now ends.now results.old results.new
-            result self.old.host self.new.host }
+        ensures runs { RunsPackets tenant fd words.now bytes.now ends.now results.old results.new
+            result self.old.host.states self.new.host.states }
+        ensures births { self.new.host.births ≡ self.old.host.births }
     {
         match self
             .host

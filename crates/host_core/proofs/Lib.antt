@@ -10,3 +10,4 @@ pub mod ToldAlone
 mod BatchCalls
 mod Replays
 mod Ends
+mod Histories

@@ -3,6 +3,7 @@ pub mod Stream
 pub mod States
 pub mod Served
 pub mod Handled
+pub mod Saving
 pub mod Batch
 pub mod Laws
 pub mod inside
@@ -10,4 +11,5 @@ pub mod inside
 pub use Rattle.command_frames.specs.Frame
 pub use Rattle.tenant.specs.Alone
 pub use Rattle.tenant.specs.Batch as TenantBatch
+pub use Rattle.saving.specs.SaveParts
 pub use Rattle.tenant.specs.State

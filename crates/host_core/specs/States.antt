@@ -1,13 +1,29 @@
 -- The states of all tenants. This project's own.
-use Rattle.std.specs.Prelude.{ℕ, ◌+◌, List, [], ◌∷◌}
+use Rattle.std.specs.Prelude.{ℕ, ◌+◌, List, [], ◌∷◌, map, replicate}
 use Rattle.arena.specs.Memory.{Memory, part_bytes}
-use Rattle.tenant.specs.Kept.{KeptTenant, state_in}
-use Rattle.tenant.specs.State.{TenantState}
+use Rattle.saving.specs.Recorded.{RecordedTenant, tenant_state}
+use Rattle.saving.specs.declared.birth.Birth.{Birth}
+use Rattle.tenant.specs.State.{TenantState, new_tenant}
 
 -- the states of the tenants from number t on; the values of a tenant's maps lie in its part of the memory
-unfoldable pub states_from : Memory → ℕ → List KeptTenant → List TenantState
+unfoldable pub states_from : Memory → ℕ → List RecordedTenant → List TenantState
 states_from m t [] = []
-states_from m t (k ∷ ks) = state_in (part_bytes m t) k ∷ states_from m (t + 1) ks
+states_from m t (k ∷ ks) = tenant_state (part_bytes m t) k ∷ states_from m (t + 1) ks
 
-abbrev pub states_in : Memory → List KeptTenant → List TenantState
+abbrev pub states_in : Memory → List RecordedTenant → List TenantState
 states_in m tenants = states_from m 0 tenants
+
+-- what a host keeps: the state of each tenant and the births of its objects, by tenant number
+pub record HostState : Type 0 where
+  pub states : List TenantState
+  pub births : List (List Birth)
+
+abbrev pub births_in : List RecordedTenant → List (List Birth)
+births_in tenants = map (λ t. t.births) tenants
+
+abbrev pub host_state : Memory → List RecordedTenant → HostState
+host_state m tenants = record { states = states_in m tenants; births = births_in tenants }
+
+-- a host of new tenants
+abbrev pub new_host : ℕ → HostState
+new_host count = record { states = replicate count new_tenant; births = replicate count [] }

@@ -1,6 +1,6 @@
 //! The host of all tenants.
 
-ghost use Rattle.std.specs.Prelude.{◌≡◌, ◌≢◌, ℕ, ◌≤◌, length, replicate, slice_get, IfOk, OnOk, OnErr, true, false};
+ghost use Rattle.std.specs.Prelude.{◌≡◌, ◌≢◌, ℕ, ◌≤◌, [], length, option_map, replicate, slice_get, IfOk, OnOk, OnErr, true, false};
 ghost use Rattle.std.specs.Result.{result_err};
 ghost use Rattle.arena.specs.Memory.{Memory};
 ghost use Rattle.command_frames.specs.Frame.{owner};
@@ -9,16 +9,18 @@ ghost use Rattle.tenant.specs.Batch.{packets_in};
 ghost use Rattle.tenant.specs.State.{new_tenant};
 ghost use Rattle.host_core.specs.Batch.{RunsFor, refusal_for, ChangesTenant};
 ghost use Rattle.host_core.specs.Served.{IsUnrefused};
-ghost use Rattle.host_core.specs.States.{states_from};
+ghost use Rattle.host_core.specs.Saving.{Records, saved_part};
+ghost use Rattle.host_core.specs.States.{births_in, new_host, states_from};
 ghost use Rattle.host_core.specs.Limits.{most_tenants};
 
 use arena::Arena;
 use bpf_maps::PART;
 use command_frames::{GIVEN_WORDS, Head, ReplyBuf, head, write_reply};
+use saving::SavableTenant;
 use seeded_hash::HashSeed;
 use std::alloc::{AllocError, Global};
 use std::marker::Model;
-use tenant::{Errno, Tenant, laws};
+use tenant::{Errno, laws};
 
 /// The head of a reply to a frame that has none.
 const NO_HEAD: Head = Head {
@@ -29,39 +31,44 @@ const NO_HEAD: Head = Head {
 /// The most tenants of a host.
 pub const MOST_TENANTS: usize = 64;
 
-/// A host of 1 to `MOST_TENANTS` tenants. Contracts see the list of their states, by tenant number.
+/// A host of 1 to `MOST_TENANTS` tenants. Contracts see the list of their states, and that of the births of their objects, both
+/// by tenant number.
 #[derive(Drop)]
 pub struct Host {
-    tenants: Vec<Tenant>,
+    tenants: Vec<SavableTenant>,
     /// A part for each tenant: the values of its maps, and the stack and the context of its runs.
     arena: Arena,
     alloc: Global,
 }
 
 impl Model for Host {
-    ghost use Rattle.std.specs.Prelude.{◌≡◌, List, ◌≤◌, vec_len};
+    ghost use Rattle.std.specs.Prelude.{◌≡◌, ◌≤◌, vec_len};
     ghost use Rattle.bpf_maps.specs.declared.part.TheConstants.{PART};
     ghost use Rattle.host_core.specs.Limits.{most_tenants};
-    ghost use Rattle.host_core.specs.States.{states_in};
-    ghost use Rattle.tenant.specs.State.{TenantState};
+    ghost use Rattle.host_core.specs.States.{HostState, host_state};
 
-    ghost Value = { List TenantState };
+    ghost Value = { HostState };
 
-    ghost view = { λ h. states_in h.arena h.tenants.items };
+    ghost view = { λ h. host_state h.arena h.tenants.items };
 
     ghost invariant = { λ h. (vec_len h.tenants ≤ most_tenants)
         × (h.arena.parts ≡ vec_len h.tenants) × (h.arena.part ≡ PART) };
 }
 
 /// `count` new tenants.
-fn new_tenants(alloc: Global, count: usize, seed: HashSeed) -> Result<Vec<Tenant>, AllocError>
+fn new_tenants(
+    alloc: Global,
+    count: usize,
+    seed: HashSeed,
+) -> Result<Vec<SavableTenant>, AllocError>
     ensures new { IfOk result (λ tenants. (m : Memory) (first : ℕ)
         → states_from m first tenants.items ≡ replicate count new_tenant) }
+    ensures births { IfOk result (λ tenants. births_in tenants.items ≡ replicate count []) }
     ensures count { IfOk result (λ tenants. length tenants.items ≡ count) }
 {
     let mut tenants = Vec::with_capacity(alloc, count)?;
     for _ in 0..count {
-        tenants.push(Tenant::new(alloc, seed)?)?;
+        tenants.push(SavableTenant::new(alloc, seed)?)?;
     }
     Ok(tenants)
 }
@@ -75,7 +82,7 @@ impl Host {
     pub fn new(alloc: Global, tenants: usize, seed: HashSeed) -> Result<Host, AllocError>
         requires some { 1 ≤ tenants }
         requires few { tenants ≤ most_tenants }
-        ensures { IfOk result (λ host. host ≡ replicate tenants new_tenant) }
+        ensures { IfOk result (λ host. host ≡ new_host tenants) }
     {
         Ok(Host {
             tenants: new_tenants(alloc, tenants, seed)?,
@@ -87,8 +94,8 @@ impl Host {
     /// Whether memory was ever refused to `tenant`, so that its replies may differ from those of its own machine. False
     /// for a number that is not served.
     pub fn memory_was_refused(&self, tenant: usize) -> bool
-        ensures refused { result ≡ true → ¬ IsUnrefused (slice_get self.now tenant) }
-        ensures unrefused { result ≡ false → IsUnrefused (slice_get self.now tenant) }
+        ensures refused { result ≡ true → ¬ IsUnrefused (slice_get self.now.states tenant) }
+        ensures unrefused { result ≡ false → IsUnrefused (slice_get self.now.states tenant) }
     {
         match self.tenants.get(tenant) {
             Some(tenant) => tenant.memory_was_refused(),
@@ -101,10 +108,12 @@ impl Host {
     /// tenant is not served.
     pub fn handle(&mut self, frame: &[u8], reply: &mut ReplyBuf)
         ensures own { MayReply frame.now reply.new
-            (slice_get self.old (owner frame.now)) (slice_get self.new (owner frame.now)) }
+            (slice_get self.old.states (owner frame.now))
+            (slice_get self.new.states (owner frame.now)) }
         ensures others { (other : ℕ) → other ≢ owner frame.now
-            → slice_get self.new other ≡ slice_get self.old other }
-        ensures count { length self.new ≡ length self.old }
+            → slice_get self.new.states other ≡ slice_get self.old.states other }
+        ensures count { length self.new.states ≡ length self.old.states }
+        ensures recorded { Records frame.now reply.new self.old self.new }
         ensures no_fault { ¬ IsFault reply.new }
     {
         laws::faults_have_no_payload();
@@ -120,6 +129,26 @@ impl Host {
         }
         let arena = &mut self.arena;
         self.tenants[tenant].handle(self.alloc, head, frame, tenant, arena, reply);
+    }
+
+    /// The frames of one part of a save of `tenant`, each with its length before it; `None` after the last part, and for a tenant
+    /// that is not served.
+    ///
+    /// A new tenant of this number that is given the frames of all parts in their order, on this host or another one, then replies
+    /// as this one does. Between two parts the tenant must not change; others may be served. A part has the frames of one map or
+    /// program, or those that open or close descriptors, and is all that is held at once.
+    ///
+    /// # Errors
+    ///
+    /// `AllocError`: out of memory.
+    pub fn save(&self, tenant: usize, part: usize) -> Result<Option<Vec<u8>>, AllocError>
+        ensures { IfOk result (λ saved. option_map (λ frames. frames.items) saved
+            ≡ saved_part self.now tenant part) }
+    {
+        let Some(kept) = self.tenants.get(tenant) else {
+            return Ok(None);
+        };
+        kept.save_part(self.alloc, tenant as u16, part, self.arena.part(tenant))
     }
 
     /// Runs the program at a descriptor of `tenant` on many packets, one after another, on the same ten words of context. The
@@ -142,13 +171,14 @@ impl Host {
         ends: &[usize],
         results: &mut [u32],
     ) -> Result<(), Errno>
-        ensures runs { OnOk result (RunsFor fd words.now (slice_get self.old tenant)
+        ensures runs { OnOk result (RunsFor fd words.now (slice_get self.old.states tenant)
             (packets_in bytes.now ends.now) results.old results.new
-            (slice_get self.new tenant)) }
-        ensures refusal { result_err result ≡ refusal_for (slice_get self.old tenant) fd
+            (slice_get self.new.states tenant)) }
+        ensures refusal { result_err result ≡ refusal_for (slice_get self.old.states tenant) fd
             (length bytes.now) ends.now (length results.old) }
         ensures unchanged { OnErr result ((self.new ≡ self.old) × (results.new ≡ results.old)) }
-        ensures tenant { ChangesTenant tenant self.old self.new }
+        ensures tenant { ChangesTenant tenant self.old.states self.new.states }
+        ensures births { self.new.births ≡ self.old.births }
     {
         if tenant >= self.tenants.len() {
             return Err(Errno::NotPermitted);

@@ -2,6 +2,7 @@
 
 ghost use Rattle.host_core.specs.Batch.{BatchIsItsCalls};
 ghost use Rattle.host_core.specs.Handled.{CallsAreToldAlone};
+ghost use Rattle.host_core.specs.Saving.{TenantsAreRestored};
 ghost use Rattle.host_core.specs.Laws.{UnrefusedAreToldAlone, EachIsToldAloneUntilRefused, SameFramesSameReplies, SameFramesSameOutput, NoContentEndsAStream};
 
 /// Each tenant to which no memory was refused gets exactly the replies of its own machine, whatever was refused to others.
@@ -56,3 +57,13 @@ pub fn no_content_ends_a_stream()
 pub fn batch_is_its_calls()
     ensures { BatchIsItsCalls }
 {}
+
+/// After any calls on a new host, the parts of a tenant are frames, and a new tenant to which no memory is refused succeeds at each of
+/// them and then replies as this one does.
+pub fn tenants_are_restored()
+    ensures { TenantsAreRestored }
+{
+    saving::laws::histories_are_restored();
+    saving::laws::frames_have_owners();
+    saving::laws::parts_are_whole();
+}

@@ -2,8 +2,8 @@
 //!
 //! # What is proved
 //!
-//! Contracts see a `Host` as the list of its tenants' states (`states_in`). The clauses of `serve` are the fields of
-//! `ServesStream`.
+//! Contracts see a `Host` as the list of its tenants' states and the list of the births of their objects (`HostState`). The
+//! clauses of `serve` are the fields of `ServesStream`, and concern the states.
 //!
 //! Replies:
 //!
@@ -57,10 +57,23 @@
 //! - The runs of a batch are calls of `Host::handle` on the test-run frames of its packets. So what holds for a sequence of
 //!   calls holds if some of them are batches, and no run of a batch faults: `batch_is_its_calls`.
 //!
+//! Saves:
+//!
+//! - A new host has new tenants without births: `Host::new`.
+//! - The births of a frame's tenant change as its command says, and no others do: `recorded` of `Host::handle`. A batch changes
+//!   none: `births` of `Host::run_packets`.
+//! - The bytes of a part of a tenant are the frames of the commands of this part, each with its length before it. There are none
+//!   after the last part, and for a tenant that is not served. Nothing changes: `Host::save`.
+//! - After any calls on a new host, whatever memory was refused, the parts of a tenant one after another are frames of this tenant,
+//!   each with its length before it. A new tenant to which no memory is refused succeeds at each of these frames, and then gives
+//!   each list of frames exactly the replies of the saved one, while no memory is refused: `tenants_are_restored`.
+//!
 //! # Decisions
 //!
-//! - A host is seen as the list of its tenants' states. Each state is made of what is kept of the tenant and of the bytes of
-//!   its part, so no contract of the host names the arena.
+//! - A host is seen as the list of its tenants' states, with the births of their objects in a second list, so what concerns
+//!   replies cites the states only. Each state is made of what is kept of the tenant and of the bytes of its part, so no
+//!   contract of the host names the arena.
+//! - A save is no command of the protocol: whoever has the host asks for it, not a tenant.
 //! - Two relations define the replies to each tenant: one allows refused memory and holds whenever a call of `serve` ends; the
 //!   other has no refusals and holds for each tenant whose flag is clear. The second follows from the first by the law
 //!   `unrefused_are_told_alone`, and has clauses of its own in `serve`, so that it can be read without the first. If a write

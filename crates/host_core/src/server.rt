@@ -69,11 +69,11 @@ fn serve_frame<R: Source, W: Sink>(
     requires reader { R.failures reader.old < 2 ^ 64 - 1 }
     requires writer { W.failures writer.old < 2 ^ 64 - 1 }
     ensures done { IfOk result (ServesFrameOrEnds
-        (stream_state R.Source W.Sink host.old reader.old writer.old)
-        (stream_state R.Source W.Sink host.new reader.new writer.new)) }
+        (stream_state R.Source W.Sink host.old.states reader.old writer.old)
+        (stream_state R.Source W.Sink host.new.states reader.new writer.new)) }
     ensures fault { IfErr result (StopsInFrame
-        (stream_state R.Source W.Sink host.old reader.old writer.old)
-        (stream_state R.Source W.Sink host.new reader.new writer.new)) }
+        (stream_state R.Source W.Sink host.old.states reader.old writer.old)
+        (stream_state R.Source W.Sink host.new.states reader.new writer.new)) }
 {
     let Some(kept) = read_frame(reader, &mut buffers.frame)? else {
         return Ok(false);
@@ -120,8 +120,8 @@ pub fn serve<R: Source, W: Sink>(
     requires reader { R.failures reader.old < 2 ^ 64 - 1 }
     requires writer { W.failures writer.old < 2 ^ 64 - 1 }
     ensures { ServesStream limit result
-        (stream_state R.Source W.Sink host.old reader.old writer.old)
-        (stream_state R.Source W.Sink host.new reader.new writer.new) }
+        (stream_state R.Source W.Sink host.old.states reader.old writer.old)
+        (stream_state R.Source W.Sink host.new.states reader.new writer.new) }
 {
     let Ok(mut buffers) = Buffers::new(alloc) else {
         return Err(ServeFault {

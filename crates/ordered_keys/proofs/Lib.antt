@@ -2,3 +2,4 @@ pub mod Rings
 pub mod Links
 pub mod Ordered
 pub mod Tables
+pub mod Behind

@@ -1,5 +1,6 @@
 -- Places and keys in an order. This project's own.
 use Rattle.std.specs.Prelude.{◌≡◌, ℕ, ◌+◌, Bool, true, nat_eq, if◌then◌else◌, List, [], ◌∷◌, Option, Some, None, is_some, refl}
+use Rattle.std.specs.Borrow.{Bor}
 use Rattle.std.specs.Coded.{Coded, code_by, coded×, coded_list, coded_ℕ}
 use Rattle.std.specs.Map.{lookup}
 
@@ -60,3 +61,21 @@ module _ {K : Type 0} where
     -- if no key passes, it is the first
     abbrev pub key_following : List (K × ℕ) → Option K
     key_following es = if is_some (lookup test es) then key_behind_passing es else first_key_of es
+
+  -- a borrowed key, with its place
+  abbrev pub lent_entry : Bor K × ℕ → K × ℕ
+  lent_entry e = (e.0.now, e.1)
+
+  abbrev pub first_entry : List (K × ℕ) → Option (K × ℕ)
+  first_entry [] = None
+  first_entry (e ∷ es) = Some e
+
+  -- the entry that follows the one at place p; None if there is none, and if no entry is at p
+  abbrev pub entry_behind : ℕ → List (K × ℕ) → Option (K × ℕ)
+  entry_behind p [] = None
+  entry_behind p (e ∷ es) = if nat_eq p e.1 then first_entry es else entry_behind p es
+
+  -- without a place, it is the first
+  abbrev pub next_entry : Option ℕ → List (K × ℕ) → Option (K × ℕ)
+  next_entry None es = first_entry es
+  next_entry (Some p) es = entry_behind p es

@@ -3,8 +3,8 @@
 ghost use Rattle.std.specs.Prelude.{◌≡◌, ℕ, ◌<◌, true, [], ◌∷◌, ◌++◌, length, option_map, slice_get, None, IfSome, IfOk, OnOk, OnErr};
 ghost use Rattle.std.specs.Option.{option_map_or};
 ghost use Rattle.std.specs.Map.{lookup, remove_entry, values_of};
-ghost use Rattle.ordered_keys.specs.Orders.{occurrences, IsSole, first_key_of, key_following};
-ghost use Rattle.ordered_keys.specs.inside.Ordered.{key_of};
+ghost use Rattle.ordered_keys.specs.Orders.{occurrences, IsSole, first_key_of, key_following, lent_entry, next_entry};
+ghost use Rattle.ordered_keys.specs.inside.Ordered.{IsIndexed, entry_of, is_entry_of, key_of, next_of_places};
 
 use crate::place_order::PlaceOrder;
 use indexmap::{Equivalent, IndexMap};
@@ -93,6 +93,16 @@ impl<K: Eq + Hash, S: BuildHasher> OrderedMap<K, S> {
         key_at(&self.table, &self.indices, self.order.first())
     }
 
+    /// The key that follows the one of a place, or the first key if no place is given, with its place. `None` if there is none,
+    /// and if no key has the place.
+    pub fn entry_after(&self, place: Option<u32>) -> Option<(&K, u32)>
+        ensures { option_map lent_entry result ≡ next_entry place self.now.entries }
+    {
+        let next = next_place(&self.table, &self.indices, &self.order, place)?;
+        let key = key_at(&self.table, &self.indices, Some(next))?;
+        Some((key, next))
+    }
+
     /// Adds a new key at the end. `AllocError`: out of memory. Then nothing has changed.
     pub fn insert(&mut self, key: K, place: u32) -> Result<(), AllocError>
     where
@@ -129,6 +139,43 @@ impl<K: Eq + Hash, S: BuildHasher> OrderedMap<K, S> {
         self.indices[moved as usize] = index as u32;
         self.order.remove(place);
         Some(place)
+    }
+}
+
+/// Whether a key has this place.
+fn has_place<K: Eq + Hash, S: BuildHasher>(
+    table: &IndexMap<K, u32, S>,
+    indices: &[u32],
+    place: u32,
+) -> bool
+    ensures { result ≡ is_entry_of place (entry_of table.now.entries indices.now place) }
+{
+    let index = indices.get(place as usize).copied().unwrap_or(0);
+    match table.get_index(index as usize) {
+        Some((_, at)) => *at == place,
+        None => false,
+    }
+}
+
+/// The place that follows one, or the first if none is given. `None` if there is none, and if no key has the one given.
+fn next_place<K: Eq + Hash, S: BuildHasher>(
+    table: &IndexMap<K, u32, S>,
+    indices: &[u32],
+    order: &PlaceOrder,
+    place: Option<u32>,
+) -> Option<u32>
+    requires { IsIndexed table.now.entries indices.now order.now }
+    ensures { result ≡ next_of_places place order.now.places }
+{
+    match place {
+        None => order.first(),
+        Some(place) => {
+            if has_place(table, indices, place) {
+                order.after(place)
+            } else {
+                None
+            }
+        }
     }
 }
 

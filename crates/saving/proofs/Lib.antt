@@ -23,3 +23,12 @@ mod Verdicts
 mod Kept
 mod KeptCommands
 mod Histories
+mod FramesHeads
+mod FramesStatuses
+mod FramesTold
+mod FramesLengths
+mod FramesParts
+mod FramesReplies
+mod Recorded
+mod Saves
+mod SaveSteps

@@ -9,11 +9,8 @@ use Rattle.tenant.specs.declared.object.OpenObject.TheVariants as object
 use Rattle.tenant.specs.Loaded.{LoadedProgram}
 use Rattle.tenant.specs.State.{TenantState, live}
 use Rattle.tenant.specs.Machine.{Answer}
-
--- a map was created, or a program was loaded, and opened at a descriptor
-pub data Birth : Type 0 where
-  OfMap : (place fd : ℕ) → Birth
-  OfProgram : (fd : ℕ) → Birth
+pub use Rattle.saving.specs.declared.birth.Birth.{Birth}
+pub use Rattle.saving.specs.declared.birth.Birth.TheVariants.{OfMap, OfProgram}
 
 abbrev pub number : Birth → ℕ
 number (OfMap place fd) = fd

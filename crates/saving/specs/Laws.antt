@@ -66,12 +66,15 @@ abbrev pub IsHistory : TenantState → List Birth → List Command → TenantSta
 IsHistory s births [] t later = (t ≡ s) × (later ≡ births)
 IsHistory s births (c ∷ cs) t later = (refusals : List Bool) × (a : Answer) × Answers refusals s c a × IsHistory a.after (births_after c a births) cs t later
 
--- Whatever a tenant did, a new tenant succeeds at each of the frames that restore it, and from then on it gives each list of
--- frames the replies that the old one gives.
+-- A new tenant succeeds at each of these frames, and from then on it gives each list of frames the replies that this state gives.
+abbrev pub IsRestoredBy : TenantState → List (List ℕ) → Type 0
+IsRestoredBy s saved =
+    (t : TenantState) × (given : List (List ℕ)) × IsToldAlone (Some new_tenant) saved given (Some t) × AreGood saved given
+    × ((frames replies : List (List ℕ)) (after : Option TenantState) → IsToldAlone (Some s) frames replies after → (end : Option TenantState) × IsToldAlone (Some t) frames replies end)
+    × ((frames replies others : List (List ℕ)) (after end : Option TenantState) → IsToldAlone (Some s) frames replies after → IsToldAlone (Some t) frames others end → others ≡ replies)
+
+-- whatever a tenant did, it is restored
 abbrev pub HistoriesAreRestored : Type 0
 HistoriesAreRestored =
     (tenant : ℕ) (commands : List Command) (s : TenantState) (births : List Birth) → IsHistory new_tenant [] commands s births
-    → (t : TenantState) × (given : List (List ℕ)) × IsToldAlone (Some new_tenant) (map (frame_of tenant) (restored s births)) given (Some t)
-    × AreGood (map (frame_of tenant) (restored s births)) given
-    × ((frames replies : List (List ℕ)) (after : Option TenantState) → IsToldAlone (Some s) frames replies after → (end : Option TenantState) × IsToldAlone (Some t) frames replies end)
-    × ((frames replies others : List (List ℕ)) (after end : Option TenantState) → IsToldAlone (Some s) frames replies after → IsToldAlone (Some t) frames others end → others ≡ replies)
+    → IsRestoredBy s (map (frame_of tenant) (restored s births))

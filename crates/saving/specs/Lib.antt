@@ -5,3 +5,10 @@ pub mod Restored
 pub mod Restorable
 pub mod Frames
 pub mod Laws
+pub mod Recorded
+pub mod SaveParts
+pub mod inside
+-- what public contracts cite of crates below
+pub use Rattle.arena.specs.Memory
+pub use Rattle.bpf_helpers.specs.Parts
+pub use Rattle.command_frames.specs.Frame

@@ -1,6 +1,7 @@
 //! Laws of alike states, of the order of births, and of what restores a state. Each law is the contract of a function that does
 //! nothing.
 
+ghost use Rattle.saving.specs.SaveParts.{PartsAreWhole};
 ghost use Rattle.saving.specs.Laws.{MapsAreHeld, AlikeIsBisimulation, AlikeStatesReplyAlike, BirthsAreKept, RestorableIsKept, RestoredIsAlike, FramesHaveOwners, RestoredByFrames, HistoriesAreRestored};
 
 /// Just the maps that an open object names are live, at each time.
@@ -67,3 +68,8 @@ pub fn histories_are_restored()
     restored_by_frames();
     alike_states_reply_alike();
 }
+
+/// The parts of a save together are what restores a tenant.
+pub fn parts_are_whole()
+    ensures { PartsAreWhole }
+{}

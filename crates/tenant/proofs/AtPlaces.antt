@@ -4,7 +4,6 @@ use Rattle.std.specs.Prelude.{◌⊎◌, is_none, position, option_map}
 use Rattle.std.proofs.Math.Path.{fun_ext}
 use Rattle.std.proofs.lemmas.Bool.{cases_eq, cases_lt}
 use Rattle.std.proofs.lemmas.List.{ext_get_or, get_or_past}
-use Rattle.std.proofs.lemmas.List.FromFn.{length-map-range_with_len, get_or-map-range_with_len}
 use Rattle.bpf_maps.specs.Live.{LiveMaps, LiveMap, live_or, live_at, holds_at, offset, map_in}
 use Rattle.bpf_maps.specs.LiveLaws.{same_lowest}
 use Rattle.bpf_maps.specs.Places.{table_of}
@@ -12,6 +11,8 @@ use Rattle.tagged_model.specs.Table.{with_values}
 use Rattle.bpf_maps.specs.Limits.{most_maps}
 use Rattle.tenant.specs.State.{Map}
 use Rattle.tenant.specs.Kept.{at_places, map_at}
+pub use Rattle.tenant.specs.KeptLaws.{length-at, at-within, at-past}
+use Rattle.tenant.specs.KeptLaws.{is_some-mapped}
 
 -- ---- places
 
@@ -22,17 +23,6 @@ at_each P m here others place = by (cases_eq place m)
     by : (place ≡ m) ⊎ (place ≡ m → ⊥) → P place
     by (inl same) = subst P (sym same) here
     by (inr other) = others place other
-
-pub length-at : (f : ℕ → Option Map) → length (at_places f) ≡ most_maps
-unfolding at_places
-length-at f = length-map-range_with_len f 0 most_maps
-
-pub at-within : (f : ℕ → Option Map) (i : ℕ) → i < most_maps → get_or (at_places f) i None ≡ f i
-unfolding at_places
-at-within f i lt = get_or-map-range_with_len f 0 most_maps i i None lt (omega arith)
-
-pub at-past : (f : ℕ → Option Map) (i : ℕ) → most_maps ≤ i → get_or (at_places f) i None ≡ None
-at-past f i past = let long = length-at f in get_or_past (at_places f) i None (omega arith)
 
 pub same_at : (f g : ℕ → Option Map) → ((i : ℕ) → f i ≡ g i) → at_places f ≡ at_places g
 same_at f g h = ap at_places (fun_ext h)
@@ -50,16 +40,20 @@ set_at f g n x within here others =
     by i lt (inl same) = at-within f i lt ∙ ap f same ∙ here ∙ sym (get_or-set_same (at_places g) n x None room) ∙ ap (λ (j : ℕ). get_or (set (at_places g) n x) j None) (sym same)
     by i lt (inr other) = at-within f i lt ∙ others i other ∙ sym (at-within g i lt) ∙ sym (get_or-set_other (at_places g) n i x None other)
 
+-- a map is at each place where there is one in a list with as many places
+pub some_at : (f : ℕ → Option Map) (xs : List (Option LiveMap)) → length xs ≡ most_maps → ((i : ℕ) → is_some (f i) ≡ is_some (get_or xs i None)) → (i : ℕ) → is_some (get_or (at_places f) i None) ≡ is_some (get_or xs i None)
+some_at f xs long same i = by (cases_lt i most_maps)
+  where
+    none : most_maps ≤ i → get_or xs i None ≡ None
+    none past = let all = long in get_or_past xs i None (omega arith)
+
+    by : (i < most_maps) ⊎ (most_maps ≤ i) → is_some (get_or (at_places f) i None) ≡ is_some (get_or xs i None)
+    by (inl lt) = ap (λ (o : Option Map). is_some o) (at-within f i lt) ∙ same i
+    by (inr past) = ap (λ (o : Option Map). is_some o) (at-past f i past) ∙ sym (ap (λ (o : Option LiveMap). is_some o) (none past))
+
 -- the same place is free in a list with as many places where the same are free
 pub free_at : (f : ℕ → Option Map) (xs : List (Option LiveMap)) → length xs ≡ most_maps → ((i : ℕ) → is_some (f i) ≡ is_some (get_or xs i None)) → position is_none (at_places f) ≡ position is_none xs
-free_at f xs long same = same_lowest (at_places f) xs (length-at f ∙ sym long) (λ i. by i (cases_lt i most_maps))
-  where
-    none : (i : ℕ) → most_maps ≤ i → get_or xs i None ≡ None
-    none i past = let all = long in get_or_past xs i None (omega arith)
-
-    by : (i : ℕ) → (i < most_maps) ⊎ (most_maps ≤ i) → is_some (get_or (at_places f) i None) ≡ is_some (get_or xs i None)
-    by i (inl lt) = ap (λ (o : Option Map). is_some o) (at-within f i lt) ∙ same i
-    by i (inr past) = ap (λ (o : Option Map). is_some o) (at-past f i past) ∙ sym (ap (λ (o : Option LiveMap). is_some o) (none i past))
+free_at f xs long same = same_lowest (at_places f) xs (length-at f ∙ sym long) (some_at f xs long same)
 
 -- ---- the live map at a place
 
@@ -110,3 +104,7 @@ other_at part later old new place same pairs = by (live_or_not (live_at new plac
     by : IsSome (live_at new place) ⊎ (live_at new place ≡ None) → map_at later new place ≡ map_at part old place
     by (inl now) = same_map_at part later old new place (sym (ap (λ (o : Option LiveMap). is_some o) same) ∙ now) now (pairs now)
     by (inr none) = none_there later new place none ∙ sym (none_there part old place (sym same ∙ none))
+
+-- the map at a place is live just where the list has one
+pub live_is : (part : List ℕ) (t : LiveMaps) → length t.maps ≡ most_maps → (place : ℕ) → is_some (get_or (at_places (map_at part t)) place None) ≡ is_some (live_at t place)
+live_is part t long place = some_at (map_at part t) t.maps long (λ i. is_some-mapped (λ l. map_in part t i) (live_at t i)) place

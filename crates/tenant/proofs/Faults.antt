@@ -37,7 +37,7 @@ use Rattle.tenant.proofs.Updates.{has_sizes, key_of, value_of, put_of}
 use Rattle.tenant.specs.Laws.{FaultsHaveNoPayload}
 
 -- the lowest byte of a status
-abbrev pub low : ℤ → ℕ
+abbrev low : ℤ → ℕ
 low status = get_or (little_bytes 4 (cast_unsigned w32 status)) 0 0
 
 -- its own is 242

@@ -5,6 +5,7 @@ mod AtPlaces
 mod New
 mod Shapes
 mod LookUps
+mod MapEntries
 mod NextKeys
 mod StillKept
 mod OneMap
@@ -16,14 +17,8 @@ mod Releases
 mod Times
 mod Closes
 mod Targets
-mod Replies
 mod Flag
 mod Faults
-mod FramesStatuses
-mod FramesTold
-mod FramesLengths
-mod FramesParts
-mod FramesReplies
 mod LoadingHolds
 mod LoadingPlaces
 mod LoadingShapes

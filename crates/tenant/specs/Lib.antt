@@ -6,6 +6,8 @@ pub mod Alone
 pub mod Batch
 pub mod Laws
 pub mod Kept
+pub mod KeptLaws
+pub mod Entry
 pub mod Replies
 pub mod inside
 -- what public contracts cite of crates below

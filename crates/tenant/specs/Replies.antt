@@ -1,8 +1,9 @@
 -- The machine's answers that the code's replies represent. This project's own.
-use Rattle.std.specs.Prelude.{◌≢◌, ◌+◌, ◌<◌, ◌≤◌, ◌^◌, [], length, Result, Ok, Err}
+use Rattle.std.specs.Prelude.{◌≡◌, ◌≢◌, ℕ, ◌+◌, ◌<◌, ◌≤◌, ◌^◌, List, [], length, Result, Ok, Err}
 use Rattle.byteorder.specs.Endian.{little_bytes}
 use Rattle.bpf_maps.specs.KeyRef.{key_bytes}
-use Rattle.command_frames.specs.Frame.{longest_payload}
+use Rattle.command_frames.specs.declared.command.Head.{Head}
+use Rattle.command_frames.specs.Frame.{longest_payload, reply_bytes}
 use Rattle.fd_table.specs.Table.{first_descriptor, most}
 use Rattle.tenant.specs.declared.errno.Errno.{Errno}
 use Rattle.tenant.specs.declared.errno.Errno.TheVariants.{BadAddress}
@@ -30,3 +31,7 @@ IsWritable (Ok (reply.Key key)) = length (key_bytes key) ≤ longest_payload
 IsWritable (Ok (reply.Number number)) = Unit {0}
 IsWritable (Ok (reply.Refused refusal)) = refusal.slot < 2 ^ 32
 IsWritable (Err errno) = errno ≢ BadAddress
+
+-- the reply to a frame with this head is that of an answer
+abbrev pub Writes : Head → List ℕ → Answer → Type 0
+Writes head reply a = reply ≡ reply_bytes head.tenant head.command a.status a.payload

@@ -1,4 +1,3 @@
-pub mod Frames
 pub mod Leaves
 pub mod Loading
 pub mod Named

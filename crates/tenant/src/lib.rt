@@ -7,10 +7,14 @@
 //!
 //! # What is proved
 //!
-//! - A frame gets the reply of one step of the machine, from the state that the tenant and its part of the arena represent to
-//!   the next one; the result bytes of a test run are those of the tagged machine: `told` of `Tenant::handle`.
-//! - No test run faults: `no_fault` of `Tenant::handle`.
-//! - Every other part of the arena is unchanged: `others` of `Tenant::handle`.
+//! - Each command has the status, the payload and the next state of the machine, from the state that the tenant and its part of
+//!   the arena represent; the result bytes of a test run are those of the tagged machine: `answer` of `create`, `look_up`,
+//!   `update`, `delete`, `next_key`, `load`, `test_run` and `close` of `Tenant`. `saving` calls them for the frames.
+//! - No test run faults: `writable` of these (`IsWritable`).
+//! - A test run leaves every other part of the arena unchanged: `others` of `Tenant::test_run`. The other commands are lent the
+//!   tenant's part only.
+//! - The open objects, the live maps and their entries in their order can be read: `object`, `is_live`, `map_shape`,
+//!   `map_entry` of `Tenant`.
 //! - A new tenant has nothing open: `Tenant::new`.
 //! - With the same refusals a command has one result and a frame one reply; without refusals a tenant's frames have one list of
 //!   replies and lead to one state: `one_answer`, `one_reply`, `one_alone`.
@@ -46,10 +50,10 @@
 
 mod batch;
 mod errno;
-mod frames;
 pub mod laws;
 mod loading;
 mod object;
+mod readers;
 mod reply;
 mod shape;
 mod tenant;
@@ -57,5 +61,6 @@ mod test_run;
 
 pub use errno::Errno;
 pub use object::{LoadedProgram, OpenObject};
-pub use reply::Reply;
+pub use readers::MapEntry;
+pub use reply::{Reply, write_answer};
 pub use tenant::Tenant;

@@ -119,12 +119,7 @@ impl Tenant {
     ///
     /// The first that applies: `Invalid` if `kind` is not the type of socket filters; `TooManyOpen` if no descriptor is free;
     /// `NoMemory` if out of memory, which sets the tenant's flag.
-    pub(crate) fn load(
-        &mut self,
-        alloc: Global,
-        kind: u32,
-        slots: &[u8],
-    ) -> Result<Reply<'static>, Errno>
+    pub fn load(&mut self, alloc: Global, kind: u32, slots: &[u8]) -> Result<Reply<'static>, Errno>
         requires { length slots.now < 2 ^ 32 }
         ensures answer { (part : List ℕ) → (refused : Bool)
             × Loads refused (state_in part self.old) kind slots.now

@@ -60,7 +60,7 @@ impl LoadedProgram {
     }
 
     /// The accepted program.
-    pub(crate) fn program(&self) -> &Verified
+    pub fn program(&self) -> &Verified
         ensures code { result.now.code ≡ self.now.insns }
         ensures entries { result.now.entries ≡ self.now.named }
     {

@@ -1,8 +1,7 @@
 //! The replies to commands.
 
-ghost use Rattle.tenant.specs.Replies.{IsWritable, shown_answer};
+ghost use Rattle.tenant.specs.Replies.{IsWritable, Writes, shown_answer};
 ghost use Rattle.tenant.specs.State.{TenantState};
-ghost use Rattle.tenant.specs.inside.Frames.{Writes};
 
 use crate::errno::Errno;
 use bpf_maps::KeyRef;
@@ -28,7 +27,7 @@ pub enum Reply<'a> {
 
 /// Writes the reply to a command, or its error, to `reply`.
 #[inline(always)]
-pub(crate) fn write_answer(head: Head, answer: Result<Reply<'_>, Errno>, reply: &mut ReplyBuf)
+pub fn write_answer(head: Head, answer: Result<Reply<'_>, Errno>, reply: &mut ReplyBuf)
     requires { IsWritable answer }
     ensures { (s : TenantState) → Writes head reply.new (shown_answer answer.entry s) }
 {

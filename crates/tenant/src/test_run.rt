@@ -26,7 +26,7 @@ impl Tenant {
     ///
     /// `BadDescriptor` if the descriptor is not open, `Invalid` if it names a map, `TooBig` if the packet has more than
     /// `LONGEST_PACKET` bytes. Then nothing has changed.
-    pub(crate) fn test_run(
+    pub fn test_run(
         &mut self,
         fd: u32,
         words: &[u32; GIVEN_WORDS],

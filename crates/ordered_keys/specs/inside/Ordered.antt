@@ -1,12 +1,22 @@
 -- A table of keys in any order, and the order of their places. This project's own.
-use Rattle.std.specs.Prelude.{◌≡◌, ℕ, ◌<◌, ◌≤◌, ◌^◌, List, [], ◌∷◌, ◌++◌, length, Option, Some, None, option_map, slice_get, slice_index_or, option_to_list}
-use Rattle.ordered_keys.specs.Orders.{Order, occurrences}
+use Rattle.std.specs.Prelude.{◌≡◌, ℕ, ◌<◌, ◌≤◌, ◌^◌, Bool, false, nat_eq, List, [], ◌∷◌, ◌++◌, length, Option, Some, None, option_map, slice_get, slice_index_or, option_to_list}
+use Rattle.ordered_keys.specs.Orders.{Order, occurrences, first_place, following}
 use Rattle.ordered_keys.specs.inside.Links.{AreWithin}
+
+-- the place that follows one, if one is given, or the first
+abbrev pub next_of_places : Option ℕ → List ℕ → Option ℕ
+next_of_places None ps = first_place ps
+next_of_places (Some p) ps = following p ps
 
 module _ {K : Type 0} where
   -- the entry of a place
   abbrev pub entry_of : List (K × ℕ) → List ℕ → ℕ → Option (K × ℕ)
   entry_of es indices p = slice_get es (slice_index_or indices p 0)
+
+  -- whether it is the entry at that place
+  abbrev pub is_entry_of : ℕ → Option (K × ℕ) → Bool
+  is_entry_of p None = false
+  is_entry_of p (Some e) = nat_eq e.1 p
 
   -- the key of a place, if there is one
   abbrev pub key_of : List (K × ℕ) → List ℕ → Option ℕ → Option K

@@ -6,13 +6,13 @@ use Rattle.host_core.proofs.server.serve.Given as goal
 abbrev pub invariant-loop-frames : goal.invariant-loop-frames
 invariant-loop-frames g l = record {
   answered : AnswersFrames
-      (stream_state g.R.Source g.W.Sink l.initial.host l.initial.reader l.initial.writer)
-      (stream_state g.R.Source g.W.Sink l.host l.reader l.writer)
+      (stream_state g.R.Source g.W.Sink l.initial.host.states l.initial.reader l.initial.writer)
+      (stream_state g.R.Source g.W.Sink l.host.states l.reader l.writer)
       l.frames [];
   sound : NoCallFailed
-      (stream_state g.R.Source g.W.Sink l.initial.host l.initial.reader l.initial.writer)
-      (stream_state g.R.Source g.W.Sink l.host l.reader l.writer);
+      (stream_state g.R.Source g.W.Sink l.initial.host.states l.initial.reader l.initial.writer)
+      (stream_state g.R.Source g.W.Sink l.host.states l.reader l.writer);
   flushed : IsFlushedAgain
-      (stream_state g.R.Source g.W.Sink l.initial.host l.initial.reader l.initial.writer)
-      (stream_state g.R.Source g.W.Sink l.host l.reader l.writer);
+      (stream_state g.R.Source g.W.Sink l.initial.host.states l.initial.reader l.initial.writer)
+      (stream_state g.R.Source g.W.Sink l.host.states l.reader l.writer);
 }

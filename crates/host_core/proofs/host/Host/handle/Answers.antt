@@ -4,11 +4,11 @@ use Rattle.arena.specs.Memory.{part_bytes}
 use Rattle.command_frames.specs.Frame.{head_of, owner, reply_bytes, reply_to}
 use Rattle.tenant.specs.Alone.{unserved_errno}
 use Rattle.tenant.specs.Errno.{status_of}
-use Rattle.tenant.specs.Kept.{state_in}
+use Rattle.saving.specs.Recorded.{tenant_state}
 use Rattle.tenant.specs.State.{TenantState}
 use Rattle.host_core.proofs.Faults.{served_is_no_fault, refusal_is_no_fault}
 use Rattle.host_core.proofs.Heads.{owner_is, no_head, no_state, refused_headless, refused_headed}
-use Rattle.host_core.proofs.Tenants.{slice_get_in, states_length, others_stay, count_stays, tells_own, tells_none}
+use Rattle.host_core.proofs.Tenants.{slice_get_in, states_length, others_stay, count_stays, states_are, tells_own, tells_none, records_none, records_own}
 use Rattle.host_core.proofs.host.Host.handle.Goals as goal
 
 -- ---- a frame without a head
@@ -24,8 +24,15 @@ pub returns-in_default-clause-own : goal.returns-in_default-clause-own
 returns-in_default-clause-own c =
     let frame = c.args.frame.now in
     let many = states_length c.self.inside.arena 0 c.self.inside.tenants.items in
-    let unserved = no_state c.args.self.now (owner frame) (omega (arith, no_head frame (headless c), many, ap length c.self.view_is, c.self.invariant)) in
-    tells_none c.args.self.now (owner frame) frame c.write_reply.new.reply unserved (told_headless c)
+    let unserved = no_state c.args.self.now.states (owner frame) (omega (arith, no_head frame (headless c), many, ap length (states_are c.self.inside.arena c.self.inside.tenants.items c.args.self.now c.self.view_is), c.self.invariant)) in
+    tells_none c.args.self.now.states (owner frame) frame c.write_reply.new.reply unserved (told_headless c)
+
+pub returns-in_default-clause-recorded : goal.returns-in_default-clause-recorded
+returns-in_default-clause-recorded c =
+    let frame = c.args.frame.now in
+    let many = states_length c.self.inside.arena 0 c.self.inside.tenants.items in
+    records_none c.args.self.now frame c.write_reply.new.reply
+    (no_state c.args.self.now.states (owner frame) (omega (arith, no_head frame (headless c), many, ap length (states_are c.self.inside.arena c.self.inside.tenants.items c.args.self.now c.self.view_is), c.self.invariant)))
 
 pub returns-in_default-clause-no_fault : goal.returns-in_default-clause-no_fault
 returns-in_default-clause-no_fault c = refusal_is_no_fault c.args.frame.now c.write_reply.new.reply (told_headless c)
@@ -45,8 +52,15 @@ pub returns-then-tenant-served-clause-own : goal.returns-then-tenant-served-clau
 returns-then-tenant-served-clause-own c =
     let frame = c.args.frame.now in
     let many = states_length c.self.inside.arena 0 c.self.inside.tenants.items in
-    let unserved = no_state c.args.self.now (owner frame) (omega (arith, owner_is frame c.in-Some.head (found c), c.from-tenant.ensures, many, ap length c.self.view_is, c.len-served.ensures, c.if-tenant-served.true)) in
-    tells_none c.args.self.now (owner frame) frame c.write_reply-then-tenant-served.new.reply unserved (told_unserved c)
+    let unserved = no_state c.args.self.now.states (owner frame) (omega (arith, owner_is frame c.in-Some.head (found c), c.from-tenant.ensures, many, ap length (states_are c.self.inside.arena c.self.inside.tenants.items c.args.self.now c.self.view_is), c.len-served.ensures, c.if-tenant-served.true)) in
+    tells_none c.args.self.now.states (owner frame) frame c.write_reply-then-tenant-served.new.reply unserved (told_unserved c)
+
+pub returns-then-tenant-served-clause-recorded : goal.returns-then-tenant-served-clause-recorded
+returns-then-tenant-served-clause-recorded c =
+    let frame = c.args.frame.now in
+    let many = states_length c.self.inside.arena 0 c.self.inside.tenants.items in
+    records_none c.args.self.now frame c.write_reply-then-tenant-served.new.reply
+    (no_state c.args.self.now.states (owner frame) (omega (arith, owner_is frame c.in-Some.head (found c), c.from-tenant.ensures, many, ap length (states_are c.self.inside.arena c.self.inside.tenants.items c.args.self.now c.self.view_is), c.len-served.ensures, c.if-tenant-served.true)))
 
 pub returns-then-tenant-served-clause-no_fault : goal.returns-then-tenant-served-clause-no_fault
 returns-then-tenant-served-clause-no_fault c = refusal_is_no_fault c.args.frame.now c.write_reply-then-tenant-served.new.reply (told_unserved c)
@@ -69,7 +83,7 @@ returns-clause-own c =
     let own = c.from-tenant.ensures ∙ owner_is c.args.frame.now c.in-Some.head (sym c.head.ensures ∙ c.in-Some.is) in
     let room : t < length ks = omega (arith, c.if-tenant-served.false, c.len-served.ensures) in
     let found = slice_get_in ks t c.index_mut.result.now room c.index_mut.ensures.value in
-    tells_own c.self.inside.arena c.handle.new.arena ks c.args.self.now t (owner c.args.frame.now) c.index_mut.result.now c.handle.new.self c.args.frame.now c.handle.new.reply c.self.view_is own room found c.handle.ensures.told
+    tells_own c.self.inside.arena c.handle.new.arena ks c.args.self.now.states t (owner c.args.frame.now) c.index_mut.result.now c.handle.new.self c.args.frame.now c.handle.new.reply (states_are c.self.inside.arena c.self.inside.tenants.items c.args.self.now c.self.view_is) own room found c.handle.ensures.told
 
 pub returns-clause-others : goal.returns-clause-others
 returns-clause-others c = λ other ne.
@@ -77,12 +91,21 @@ returns-clause-others c = λ other ne.
     let own = c.from-tenant.ensures ∙ owner_is c.args.frame.now c.in-Some.head (sym c.head.ensures ∙ c.in-Some.is) in
     let apart = λ (e : other ≡ t). ne (e ∙ own) in
     others_stay c.self.inside.arena c.handle.new.arena c.self.inside.tenants.items t other c.handle.new.self apart (c.handle.ensures.others other apart)
-    ∙ ap (λ (s : List TenantState). slice_get s other) c.self.view_is
+    ∙ ap (λ (s : List TenantState). slice_get s other) (states_are c.self.inside.arena c.self.inside.tenants.items c.args.self.now c.self.view_is)
 
 pub returns-clause-count : goal.returns-clause-count
-returns-clause-count c = count_stays c.self.inside.arena c.handle.new.arena c.self.inside.tenants.items c.from-tenant.result c.handle.new.self ∙ ap length c.self.view_is
+returns-clause-count c = count_stays c.self.inside.arena c.handle.new.arena c.self.inside.tenants.items c.from-tenant.result c.handle.new.self ∙ ap length (states_are c.self.inside.arena c.self.inside.tenants.items c.args.self.now c.self.view_is)
+
+pub returns-clause-recorded : goal.returns-clause-recorded
+returns-clause-recorded c =
+    let ks = c.self.inside.tenants.items in
+    let t = c.from-tenant.result in
+    let own = c.from-tenant.ensures ∙ owner_is c.args.frame.now c.in-Some.head (sym c.head.ensures ∙ c.in-Some.is) in
+    let room : t < length ks = omega (arith, c.if-tenant-served.false, c.len-served.ensures) in
+    let found = slice_get_in ks t c.index_mut.result.now room c.index_mut.ensures.value in
+    records_own c.self.inside.arena c.handle.new.arena ks c.args.self.now t c.index_mut.result.now c.handle.new.self c.args.frame.now c.handle.new.reply c.self.view_is own room found c.handle.ensures.recorded
 
 pub returns-clause-no_fault : goal.returns-clause-no_fault
 returns-clause-no_fault c =
     let t = c.from-tenant.result in
-    served_is_no_fault c.faults_have_no_payload.ensures c.args.frame.now c.handle.new.reply (Some (state_in (part_bytes c.self.inside.arena t) c.index_mut.result.now)) (Some (state_in (part_bytes c.handle.new.arena t) c.handle.new.self)) c.handle.ensures.told c.handle.ensures.no_fault
+    served_is_no_fault c.faults_have_no_payload.ensures c.args.frame.now c.handle.new.reply (Some (tenant_state (part_bytes c.self.inside.arena t) c.index_mut.result.now)) (Some (tenant_state (part_bytes c.handle.new.arena t) c.handle.new.self)) c.handle.ensures.told c.handle.ensures.no_fault

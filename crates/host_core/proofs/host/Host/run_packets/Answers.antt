@@ -3,8 +3,9 @@ use Rattle.std.specs.Prelude.{slice_get}
 use Rattle.tenant.specs.Batch.{packets_in}
 use Rattle.tenant.specs.State.{TenantState}
 use Rattle.host_core.specs.Batch.{refusal_for}
+use Rattle.host_core.specs.States.{HostState}
 use Rattle.host_core.proofs.Heads.{no_state}
-use Rattle.host_core.proofs.Tenants.{slice_get_in, states_length, state_there, others_stay, count_stays, runs_own, put_back, with_ok, with_err}
+use Rattle.host_core.proofs.Tenants.{slice_get_in, states_length, state_there, others_stay, count_stays, states_are, births_stay, runs_own, put_back, with_ok, with_err}
 use Rattle.host_core.proofs.host.Host.run_packets.Goals as goal
 
 -- ---- a tenant that is not served
@@ -12,7 +13,7 @@ use Rattle.host_core.proofs.host.Host.run_packets.Goals as goal
 pub returns-then-tenant-len-clause-refusal : goal.returns-then-tenant-len-clause-refusal
 returns-then-tenant-len-clause-refusal c =
     let many = states_length c.self.inside.arena 0 c.self.inside.tenants.items in
-    let unserved : slice_get c.args.self.now c.args.tenant ≡ None = no_state c.args.self.now c.args.tenant (omega (arith, many, ap length c.self.view_is, c.len.ensures, c.if-tenant-len.true)) in
+    let unserved : slice_get c.args.self.now.states c.args.tenant ≡ None = no_state c.args.self.now.states c.args.tenant (omega (arith, many, ap length (states_are c.self.inside.arena c.self.inside.tenants.items c.args.self.now c.self.view_is), c.len.ensures, c.if-tenant-len.true)) in
     sym (ap (λ (s : Option TenantState). refusal_for s c.args.fd (length c.args.bytes.now) c.args.ends.now (length c.args.results.now)) unserved)
 
 -- ---- a tenant that is served
@@ -23,8 +24,8 @@ returns-clause-runs c =
     let t = c.args.tenant in
     let room : t < length ks = omega (arith, c.if-tenant-len.false, c.len.ensures) in
     let found = slice_get_in ks t c.index_mut.result.now room c.index_mut.ensures.value in
-    let own = runs_own c.self.inside.arena c.run_packets.new.arena ks c.args.self.now t c.args.fd c.index_mut.result.now c.run_packets.new.self c.args.words.now c.args.results.now c.run_packets.new.results
-    (packets_in c.args.bytes.now c.args.ends.now) c.self.view_is room found in
+    let own = runs_own c.self.inside.arena c.run_packets.new.arena ks c.args.self.now.states t c.args.fd c.index_mut.result.now c.run_packets.new.self c.args.words.now c.args.results.now c.run_packets.new.results
+    (packets_in c.args.bytes.now c.args.ends.now) (states_are c.self.inside.arena c.self.inside.tenants.items c.args.self.now c.self.view_is) room found in
     with_ok c.run_packets.result own c.run_packets.ensures.runs
 
 pub returns-clause-refusal : goal.returns-clause-refusal
@@ -33,7 +34,7 @@ returns-clause-refusal c =
     let t = c.args.tenant in
     let room : t < length ks = omega (arith, c.if-tenant-len.false, c.len.ensures) in
     let found = slice_get_in ks t c.index_mut.result.now room c.index_mut.ensures.value in
-    let there = state_there c.self.inside.arena ks c.args.self.now t c.index_mut.result.now c.self.view_is found in
+    let there = state_there c.self.inside.arena ks c.args.self.now.states t c.index_mut.result.now (states_are c.self.inside.arena c.self.inside.tenants.items c.args.self.now c.self.view_is) found in
     c.run_packets.ensures.refusal ∙ sym (ap (λ (s : Option TenantState). refusal_for s c.args.fd (length c.args.bytes.now) c.args.ends.now (length c.args.results.now)) there)
 
 pub returns-clause-unchanged : goal.returns-clause-unchanged
@@ -52,6 +53,14 @@ returns-clause-tenant c =
     let t = c.args.tenant in record {
       others = λ other ne.
           others_stay c.self.inside.arena c.run_packets.new.arena ks t other c.run_packets.new.self ne (c.run_packets.ensures.others other ne)
-          ∙ ap (λ (s : List TenantState). slice_get s other) c.self.view_is;
-      count = count_stays c.self.inside.arena c.run_packets.new.arena ks t c.run_packets.new.self ∙ ap length c.self.view_is;
+          ∙ ap (λ (s : List TenantState). slice_get s other) (states_are c.self.inside.arena c.self.inside.tenants.items c.args.self.now c.self.view_is);
+      count = count_stays c.self.inside.arena c.run_packets.new.arena ks t c.run_packets.new.self ∙ ap length (states_are c.self.inside.arena c.self.inside.tenants.items c.args.self.now c.self.view_is);
     }
+
+pub returns-clause-births : goal.returns-clause-births
+returns-clause-births c =
+    let ks = c.self.inside.tenants.items in
+    let t = c.args.tenant in
+    let room : t < length ks = omega (arith, c.if-tenant-len.false, c.len.ensures) in
+    let found = slice_get_in ks t c.index_mut.result.now room c.index_mut.ensures.value in
+    births_stay ks t c.index_mut.result.now c.run_packets.new.self found c.run_packets.ensures.births ∙ ap (λ (h : HostState). h.births) c.self.view_is

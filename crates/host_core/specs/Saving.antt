@@ -1,0 +1,59 @@
+-- How a host keeps the births of its tenants' objects, and the frames that it saves of a tenant. This project's own.
+use Rattle.std.specs.Prelude.{◌≡◌, ◌≢◌, ◌⊎◌, ℕ, ◌<◌, ◌^◌, List, [], ◌∷◌, length, slice_get, Option, Some, None, option_and_then, option_map}
+use Rattle.std.specs.List.{AllByRecursion, flat_map}
+use Rattle.command_frames.specs.Frame.{framed, owner}
+use Rattle.tenant.specs.State.{TenantState}
+use Rattle.saving.specs.declared.birth.Birth.{Birth}
+use Rattle.saving.specs.Laws.{IsRestoredBy}
+use Rattle.saving.specs.Recorded.{RecordsFrame}
+use Rattle.saving.specs.SaveParts.{parts, frames_of}
+use Rattle.host_core.specs.Batch.{RunsFor, ChangesTenant}
+use Rattle.host_core.specs.Handled.{Handles}
+use Rattle.host_core.specs.States.{HostState, new_host}
+
+-- a frame with its reply, and the births before and after it: those of its tenant change as its command says, and no others do
+pub record Records (frame reply : List ℕ) (before after : HostState) : Type 0 where
+  pub own : (s : TenantState) (births : List Birth) → slice_get before.states (owner frame) ≡ Some s → slice_get before.births (owner frame) ≡ Some births
+      → (t : TenantState) × (later : List Birth) × (slice_get after.states (owner frame) ≡ Some t) × (slice_get after.births (owner frame) ≡ Some later)
+      × RecordsFrame frame reply s t births later
+  pub others : (other : ℕ) → other ≢ owner frame → slice_get after.births other ≡ slice_get before.births other
+  pub count : length after.births ≡ length before.births
+
+-- the frames of a part of a tenant, if it is served and has so many parts
+abbrev pub saved_part : HostState → ℕ → ℕ → Option (List ℕ)
+saved_part host tenant part =
+    option_and_then (λ s. option_and_then (λ births. option_map (frames_of tenant) (slice_get (parts s births) part))
+    (slice_get host.births tenant)) (slice_get host.states tenant)
+
+-- ---- calls one after another
+
+abbrev pub HandlesFrame : HostState → HostState → Type 0
+HandlesFrame before after = (frame : List ℕ) × (reply : List ℕ) × Handles before.states frame reply after.states × Records frame reply before after
+
+abbrev pub RunsPackets : HostState → HostState → Type 0
+RunsPackets before after =
+    (tenant : ℕ) × (fd : ℕ) × (words : List ℕ) × (packets : List (List ℕ)) × (room : List ℕ) × (written : List ℕ)
+    × RunsFor fd words (slice_get before.states tenant) packets room written (slice_get after.states tenant)
+    × ChangesTenant tenant before.states after.states × (after.births ≡ before.births)
+
+-- what a call does to a host: it handles a frame, runs a program on packets, or changes nothing
+abbrev pub Call : HostState → HostState → Type 0
+Call before after = HandlesFrame before after ⊎ (RunsPackets before after ⊎ (after ≡ before))
+
+-- calls, each with the host after it
+abbrev pub Calls : HostState → List HostState → HostState → Type 0
+Calls before [] after = after ≡ before
+Calls before (next ∷ later) after = Call before next × Calls next later after
+
+-- the bytes of all parts of a tenant, from part 0 on
+abbrev pub AreParts : HostState → ℕ → List (List ℕ) → Type 0
+AreParts host tenant saved = (part : ℕ) → saved_part host tenant part ≡ slice_get saved part
+
+-- After any calls on a new host, the parts of a tenant, one after another, are frames with their lengths, each the tenant's own, and
+-- they restore it.
+abbrev pub TenantsAreRestored : Type 0
+TenantsAreRestored =
+    (count tenant : ℕ) (calls : List HostState) (host : HostState) (s : TenantState) → Calls (new_host count) calls host
+    → tenant < 2 ^ 16 → slice_get host.states tenant ≡ Some s
+    → (saved : List (List ℕ)) × (frames : List (List ℕ)) × AreParts host tenant saved
+    × (flat_map (λ bytes. bytes) saved ≡ flat_map framed frames) × AllByRecursion (λ frame. owner frame ≡ tenant) frames × IsRestoredBy s frames

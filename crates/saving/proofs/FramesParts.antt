@@ -1,0 +1,27 @@
+-- A part of the memory that a command changes.
+use Rattle.std.proofs.Common.{◌≡◌, ℕ, ◌*◌, ◌<◌, List, length, sym, subst, ◌∙◌}
+use Rattle.arena.specs.Memory.{Memory, size_of, part_bytes, with_part}
+use Rattle.arena.specs.Apart.{PartsAreApart}
+use Rattle.bpf_maps.specs.declared.part.TheConstants.{PART}
+use Rattle.command_frames.specs.declared.command.Head.{Head}
+use Rattle.command_frames.specs.Command.{Command}
+use Rattle.tenant.specs.Kept.{KeptTenant, state_in}
+use Rattle.saving.specs.Births.{Birth}
+use Rattle.saving.specs.inside.Frames.{AnswersCommand}
+
+-- the part of a tenant was lent, and came back with other bytes
+pub record IsLent (m : Memory) (t : ℕ) (old new : List ℕ) : Type 0 where
+  pub parts : size_of m ≡ m.parts * m.part
+  pub served : (t < m.parts) × (m.part ≡ PART)
+  pub bytes : old ≡ part_bytes m t
+  pub whole : length new ≡ PART
+
+-- what a reply is for the borrowed bytes, it is for the part
+pub lent_told : PartsAreApart → {m : Memory} {t : ℕ} {old new : List ℕ} {command : Command} {h : Head} {reply : List ℕ} {births later : List Birth} (k l : KeptTenant) → IsLent m t old new
+    → AnswersCommand command h reply (state_in old k) (state_in new l) births later
+    → AnswersCommand command h reply (state_in (part_bytes m t) k) (state_in (part_bytes (with_part m t new) t) l) births later
+lent_told law {m} {t} {old} {new} {command} {h} {reply} {births} {later} k l lent told =
+    let own : part_bytes (with_part m t new) t ≡ new = law.own m t new (lent.parts, lent.served.0) (lent.whole ∙ sym lent.served.1) in
+    let of_new : AnswersCommand command h reply (state_in old k) (state_in (part_bytes (with_part m t new) t) l) births later =
+    subst (λ (bytes : List ℕ). AnswersCommand command h reply (state_in old k) (state_in bytes l) births later) (sym own) told in
+    subst (λ (bytes : List ℕ). AnswersCommand command h reply (state_in bytes k) (state_in (part_bytes (with_part m t new) t) l) births later) lent.bytes of_new

@@ -1,0 +1,33 @@
+-- The replies to commands.
+use Rattle.std.proofs.Common.{Result, Ok, Err, ◌≡◌, Bool, List, ℕ, refl, sym, subst}
+use Rattle.command_frames.specs.declared.command.Head.{Head}
+use Rattle.command_frames.specs.declared.command.Command.{Command as CodeCommand}
+use Rattle.command_frames.specs.Shown.{shown_command}
+use Rattle.tenant.specs.declared.errno.Errno.{Errno}
+use Rattle.tenant.specs.declared.reply.Reply.{Reply}
+use Rattle.tenant.specs.declared.reply.Reply.TheVariants as reply
+use Rattle.saving.specs.inside.Frames.{AnswersCommand}
+use Rattle.tenant.specs.Machine.{Answers}
+use Rattle.tenant.specs.Replies.{shown_answer, IsWritable, Writes}
+use Rattle.tenant.specs.State.{TenantState}
+use Rattle.saving.specs.Births.{Birth, births_after}
+use Rattle.saving.proofs.FramesStatuses.{no_fault_written}
+
+pub shown_after : (r : Result Reply Errno) (s : TenantState) → s ≡ (shown_answer r s).after
+shown_after (Err errno) s = refl
+shown_after (Ok reply.Done) s = refl
+shown_after (Ok other) s = refl
+
+-- the reply is that to the command, which is known in the code as this one
+pub told : {command known : CodeCommand} {h : Head} {bytes : List ℕ} {before after : TenantState} {births later : List Birth} (refusals : List Bool) (r : Result Reply Errno) → command ≡ known
+    → Answers refusals before (shown_command known) (shown_answer r after) → IsWritable r → ((s : TenantState) → Writes h bytes (shown_answer r s)) → later ≡ births_after (shown_command known) (shown_answer r after) births
+    → AnswersCommand (shown_command command) h bytes before after births later
+told {command} {known} {h} {bytes} {before} {after} {births} {later} refusals r is answers writable written recorded = record {
+  refusals = refusals;
+  answer = shown_answer r after;
+  answers = subst (λ (x : CodeCommand). Answers refusals before (shown_command x) (shown_answer r after)) (sym is) answers;
+  written = written after;
+  left = shown_after r after;
+  recorded = subst (λ (x : CodeCommand). later ≡ births_after (shown_command x) (shown_answer r after) births) (sym is) recorded;
+  no_fault = no_fault_written h bytes r after writable (written after);
+}

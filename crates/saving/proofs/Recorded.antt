@@ -1,0 +1,145 @@
+-- What is kept of a tenant holds of each of its parts, and each command keeps it.
+use Rattle.std.proofs.Common.{◌≡◌, ℕ, ◌+◌, ◌≤◌, Bool, List, [], ◌∷◌, ◌++◌, true, false, length, reverse, filter, get_or, Option, Some, None, IsSome, is_some, Result, Ok, Err, OnOk, OnErr, refl, sym, ap, subst, ◌∙◌}
+use Rattle.byteorder.specs.Endian.{little_bytes}
+use Rattle.std.specs.Prelude.{if◌then◌else◌}
+use Rattle.std.proofs.lemmas.List.{reverse-append, append-nil}
+use Rattle.std.proofs.lemmas.List.Elements.{filter-append}
+use Rattle.bpf_maps.specs.Live.{LiveMaps, LiveMap, live_at}
+use Rattle.command_frames.specs.declared.command.Head.{Head}
+use Rattle.command_frames.specs.Command.{Command, prog_test_run}
+use Rattle.fd_table.specs.Table.{most}
+use Rattle.tenant.specs.declared.errno.Errno.{Errno}
+use Rattle.tenant.specs.declared.errno.Errno.TheVariants.{NotPermitted, NoEntry, TooBig, BadDescriptor, NoMemory, AccessDenied, BadAddress, Exists, Invalid, TooManyOpen, NoSpace}
+use Rattle.tenant.specs.declared.reply.Reply.{Reply}
+use Rattle.tenant.specs.declared.reply.Reply.TheVariants as reply
+use Rattle.tenant.specs.Errno.{status_of}
+use Rattle.tenant.specs.Kept.{KeptTenant, state_in, at_places, map_at}
+use Rattle.tenant.specs.Batch.{RunsInOrder, RunsBatch}
+use Rattle.tenant.specs.Machine.{Answer, Answers, cause_errno, gives}
+use Rattle.tenant.specs.Replies.{shown_answer}
+use Rattle.bpf_maps.specs.Limits.{most_maps}
+use Rattle.tenant.specs.State.{TenantState, new_tenant, live}
+use Rattle.tenant.specs.KeptLaws.{length-at, some_at_each}
+use Rattle.saving.specs.Alike.{HoldsItsMaps}
+use Rattle.saving.specs.Births.{Birth, AreBirths, with_opened, births_after}
+use Rattle.saving.specs.Laws.{MapsAreHeld, BirthsAreKept}
+use Rattle.saving.specs.Recorded.{RecordedTenant, IsRecorded}
+use Rattle.saving.specs.inside.Frames.{AnswersCommand}
+use Rattle.saving.specs.inside.Opened.{with_told}
+use Rattle.saving.proofs.Births.{same_births}
+
+-- ---- whether a map is live does not depend on the bytes of a part
+
+live_in_each : (k : KeptTenant) (p q : List ℕ) (place : ℕ) → IsSome (live (state_in p k) place) → IsSome (live (state_in q k) place)
+live_in_each k p q place some = sym (some_at_each p q k.live place) ∙ some
+
+held_in_each : (k : KeptTenant) (p q : List ℕ) → HoldsItsMaps (state_in p k) → HoldsItsMaps (state_in q k)
+held_in_each k p q h = record {
+  descriptors = h.descriptors;
+  places = length-at (map_at q k.live);
+  live_if_named = λ place named. live_in_each k p q place (h.live_if_named place named);
+  named_if_live = λ place some. h.named_if_live place (live_in_each k q p place some);
+}
+
+births_in_each : (k : KeptTenant) (p q : List ℕ) (births : List Birth) → AreBirths (state_in p k) births → AreBirths (state_in q k) births
+births_in_each k p q births are = same_births (state_in p k) (state_in q k) births refl (live_in_each k p q) are
+
+recorded_by : (k : KeptTenant) (births : List Birth) (p : List ℕ) → HoldsItsMaps (state_in p k) → AreBirths (state_in p k) births → IsRecorded (record { kept = k; births = births })
+recorded_by k births p held are = λ q. (held_in_each k p q held, births_in_each k p q births are)
+
+-- ---- a new tenant, and each command
+
+module _ (maps : MapsAreHeld) (law : BirthsAreKept) where
+  pub recorded_new : (k : KeptTenant) (births : List Birth) → ((part : List ℕ) → state_in part k ≡ new_tenant) → births ≡ [] → IsRecorded (record { kept = k; births = births })
+  recorded_new k births new none = λ part. (
+    subst HoldsItsMaps (sym (new part)) maps.new,
+    subst (λ (bs : List Birth). AreBirths (state_in part k) bs) (sym none) (subst (λ (s : TenantState). AreBirths s []) (sym (new part)) law.new),
+  )
+
+  module _ (k : KeptTenant) (births : List Birth) (is : IsRecorded (record { kept = k; births = births })) (p : List ℕ) where
+    -- after a command there are no more than there is room for
+    pub few_after : (refusals : List Bool) (command : Command) (a : Answer) → Answers refusals (state_in p k) command a → length (births_after command a births) ≤ most + most_maps
+    few_after refusals command a answers =
+        let (held, are) = is p in
+        law.few a.after (births_after command a births) (maps.kept refusals (state_in p k) command a held answers) (law.kept refusals (state_in p k) command a births held are answers)
+
+    pub recorded_after : {command : Command} {h : Head} {reply : List ℕ} (l : KeptTenant) (later : List Birth) (q : List ℕ) → AnswersCommand command h reply (state_in p k) (state_in q l) births later
+        → IsRecorded (record { kept = l; births = later })
+    recorded_after {command} l later q t =
+        let (held, are) = is p in
+        recorded_by l later q
+        (subst HoldsItsMaps (sym t.left) (maps.kept t.refusals (state_in p k) command t.answer held t.answers))
+        (subst (λ (bs : List Birth). AreBirths (state_in q l) bs) (sym t.recorded)
+        (subst (λ (s : TenantState). AreBirths s (births_after command t.answer births)) (sym t.left) (law.kept t.refusals (state_in p k) command t.answer births held are t.answers)))
+
+  -- ---- test runs one after another
+
+  runs_keep : (births : List Birth) (fd : ℕ) (words : List ℕ) (s t : TenantState) (packets : List (List ℕ)) (results : List ℕ) → HoldsItsMaps s → AreBirths s births → RunsInOrder fd words s packets results t
+      → HoldsItsMaps t × AreBirths t births
+  unfolding RunsInOrder
+  runs_keep births fd words s t [] [] held are same = (subst HoldsItsMaps (sym same) held, subst (λ (u : TenantState). AreBirths u births) (sym same) are)
+  runs_keep births fd words s t [] (r ∷ rs) held are wrong = absurd wrong
+  runs_keep births fd words s t (p ∷ ps) [] held are wrong = absurd wrong
+  runs_keep births fd words s t (p ∷ ps) (r ∷ rs) held are (refusals, between, answers, rest) =
+      let command = prog_test_run fd words p in
+      let a = gives (little_bytes 4 r) between in
+      runs_keep births fd words between t ps rs (maps.kept refusals s command a held answers) (law.kept refusals s command a births held are answers) rest
+
+  -- packets are run, or nothing changes
+  pub recorded_runs : {U E : Type 0} (r : Result U E) (k l : KeptTenant) (births : List Birth) (p q : List ℕ) (fd : ℕ) (words : List ℕ) (packets : List (List ℕ)) (room written : List ℕ)
+      → IsRecorded (record { kept = k; births = births }) → OnOk r (RunsBatch fd words (state_in p k) packets room written (state_in q l)) → OnErr r (l ≡ k) → IsRecorded (record { kept = l; births = births })
+  recorded_runs (Ok done) k l births p q fd words packets room written is runs same =
+      let (held, are) = is p in
+      let (t, after) = runs_keep births fd words (state_in p k) (state_in q l) packets runs.0 held are runs.1 in
+      recorded_by l births q t after
+  recorded_runs (Err e) k l births p q fd words packets room written is runs same =
+      subst (λ (x : KeptTenant). IsRecorded (record { kept = x; births = births })) (sym same) is
+
+-- a part of what an error brings with it
+pub with_err : {U E : Type 0} {P Q : Type 0} (r : Result U E) → (P → Q) → OnErr r P → OnErr r Q
+with_err (Ok x) f p = tt
+with_err (Err e) f p = f p
+
+-- ---- what the code records of a reply
+
+no_birth : (errno : Errno) (s : TenantState) (births : List Birth) → births ≡ with_opened (status_of errno) s births
+no_birth NotPermitted s births = refl
+no_birth NoEntry s births = refl
+no_birth TooBig s births = refl
+no_birth BadDescriptor s births = refl
+no_birth NoMemory s births = refl
+no_birth AccessDenied s births = refl
+no_birth BadAddress s births = refl
+no_birth Exists s births = refl
+no_birth Invalid s births = refl
+no_birth TooManyOpen s births = refl
+no_birth NoSpace s births = refl
+
+pub told_is_opened : (r : Result Reply Errno) (s : TenantState) (births : List Birth) → with_told r s.objects births ≡ with_opened (shown_answer r s).status (shown_answer r s).after births
+told_is_opened (Ok reply.Done) s births = refl
+told_is_opened (Ok (reply.Opened fd)) s births = refl
+told_is_opened (Ok (reply.Value value)) s births = refl
+told_is_opened (Ok (reply.Key key)) s births = refl
+told_is_opened (Ok (reply.Number number)) s births = refl
+told_is_opened (Ok (reply.Refused refusal)) s births = no_birth (cause_errno refusal.cause) s births
+told_is_opened (Err errno) s births = no_birth errno s births
+
+-- ---- the latest first
+
+pub filter-reverse : {A : Type 0} (test : A → Bool) (xs : List A) → reverse (filter test xs) ≡ filter test (reverse xs)
+filter-reverse test [] = refl
+filter-reverse {A} test (x ∷ xs) =
+    by (test x) refl
+    ∙ ap (λ (ys : List A). ys ++ filter test (x ∷ [])) (filter-reverse test xs)
+    ∙ sym (filter-append test (reverse xs) (x ∷ []))
+    ∙ ap (filter test) (sym (reverse-append (x ∷ []) xs))
+  where
+    by : (b : Bool) → test x ≡ b → reverse (filter test (x ∷ xs)) ≡ reverse (filter test xs) ++ filter test (x ∷ [])
+    by true e =
+        ap (λ (b : Bool). reverse (if b then x ∷ filter test xs else filter test xs)) e
+        ∙ reverse-append (x ∷ []) (filter test xs)
+        ∙ ap (λ (b : Bool). reverse (filter test xs) ++ (if b then x ∷ [] else [])) (sym e)
+    by false e =
+        ap (λ (b : Bool). reverse (if b then x ∷ filter test xs else filter test xs)) e
+        ∙ sym (append-nil (reverse (filter test xs)))
+        ∙ ap (λ (b : Bool). reverse (filter test xs) ++ (if b then x ∷ [] else [])) (sym e)

@@ -1,0 +1,67 @@
+-- The loops that write a part of a save: what is written, and what is left.
+use Rattle.std.proofs.Common.{◌≡◌, ℕ, ◌+◌, ◌-◌, ◌<◌, ◌≤◌, List, [], ◌∷◌, ◌++◌, map, length, Option, Some, None, Result, Ok, Err, OnOk, refl, sym, ap, ◌∙◌, arith}
+use Rattle.std.specs.Map.{values_of}
+use Rattle.std.proofs.lemmas.Grind.{flat_map-append}
+use Rattle.command_frames.specs.Command.{Command}
+use Rattle.command_frames.specs.Frame.{framed}
+use Rattle.fd_table.specs.Table.{first_descriptor, most, named}
+use Rattle.ordered_keys.specs.Orders.{occurrences, next_entry}
+use Rattle.tenant.specs.declared.object.OpenObject.{OpenObject}
+use Rattle.bpf_maps.specs.Live.{LiveMaps, places_at, value_in, map_in}
+use Rattle.tenant.specs.Entry.{PlacedEntry, placed_entries}
+use Rattle.saving.specs.Filler.{filler}
+use Rattle.saving.specs.Frames.{frame_of}
+use Rattle.saving.specs.Restored.{load_of, put_of, filled, closings}
+use Rattle.saving.specs.SaveParts.{frames_of}
+use Rattle.saving.specs.inside.Puts.{closing, puts, rest_after}
+use Rattle.saving.proofs.Saves.{then_more, one_less, nothing_left, filled_next, filled_none, closings_next, closings_none, first_of_rest, none_first, rest_of_next}
+
+frames_append : (n : ℕ) (cs ds : List Command) → frames_of n (cs ++ ds) ≡ frames_of n cs ++ frames_of n ds
+frames_append n cs ds = flat_map-append (λ (c : Command). framed (frame_of n c)) cs ds
+
+-- one command is written, of those that are left
+pub one_command : (before : List ℕ) {all after : List ℕ} (n m : ℕ) (c : Command) (left rest : List Command) → left ≡ c ∷ rest → m ≡ n → before ++ frames_of n left ≡ all → after ≡ before ++ framed (frame_of n c)
+    → after ++ frames_of m rest ≡ all
+one_command before {all} {after} n m c left rest is same was written =
+    ap (λ (k : ℕ). after ++ frames_of k rest) same
+    ∙ one_less before (framed (frame_of n c)) (frames_of n rest) (ap (λ (cs : List Command). before ++ frames_of n cs) (sym is) ∙ was) written
+
+-- some are written
+pub some_commands : (before : List ℕ) {all after : List ℕ} (n m : ℕ) (cs left rest : List Command) → left ≡ cs ++ rest → m ≡ n → before ++ frames_of n left ≡ all → after ≡ before ++ frames_of n cs
+    → after ++ frames_of m rest ≡ all
+some_commands before {all} {after} n m cs left rest is same was written =
+    ap (λ (k : ℕ). after ++ frames_of k rest) same
+    ∙ one_less before (frames_of n cs) (frames_of n rest) (ap (λ (xs : List ℕ). before ++ xs) (sym (frames_append n cs rest)) ∙ ap (λ (ds : List Command). before ++ frames_of n ds) (sym is) ∙ was) written
+
+-- none is left
+pub no_commands : {all now : List ℕ} (n : ℕ) (left : List Command) → left ≡ [] → now ++ frames_of n left ≡ all → now ≡ all
+no_commands {all} {now} n left none was = nothing_left (frames_of n left) was (ap (frames_of n) none)
+
+-- ---- the keys of a map
+
+module _ (fd : ℕ) (es : List PlacedEntry) (once : (p : ℕ) → occurrences p (values_of es) ≤ 1) where
+  pub next_put : (place : Option ℕ) (e : PlacedEntry) → Some e ≡ next_entry place es → puts fd (rest_after place es) ≡ put_of fd e.0 ∷ puts fd (rest_after (Some e.1) es)
+  next_put place e is = ap (puts fd) (rest_of_next place e es once (sym is))
+
+  pub fewer_left : (place : Option ℕ) (e : PlacedEntry) → Some e ≡ next_entry place es → length (rest_after (Some e.1) es) < length (rest_after place es)
+  fewer_left place e is = let same = ap length (rest_of_next place e es once (sym is)) in omega (arith, same)
+
+pub no_put : (fd : ℕ) (es : List PlacedEntry) (place : Option ℕ) → None ≡ next_entry place es → puts fd (rest_after place es) ≡ []
+no_put fd es place is = ap (puts fd) (none_first (rest_after place es) (sym (first_of_rest place es) ∙ sym is))
+
+-- ---- a map
+
+same_puts : (fd : ℕ) (v : ℕ → List ℕ) (es : List (List ℕ × ℕ)) → map (put_of fd) (map (λ (e : List ℕ × ℕ). (e.0, v e.1)) es) ≡ puts fd (map (λ (e : List ℕ × ℕ). ((e.0, v e.1), e.1)) es)
+same_puts fd v [] = refl
+same_puts fd v (e ∷ es) = ap (λ (cs : List Command). put_of fd (e.0, v e.1) ∷ cs) (same_puts fd v es)
+
+pub map_puts : (part : List ℕ) (t : LiveMaps) (k fd : ℕ) → map (put_of fd) (map_in part t k).entries ≡ puts fd (placed_entries part t k)
+map_puts part t k fd = same_puts fd (value_in part t k) (places_at t k).entries
+
+-- a result brings what was written after a frame
+pub ok_more : {U E : Type 0} (r : Result U E) (old : List ℕ) {mid : List ℕ} (new : List ℕ) (n m : ℕ) (c : Command) (rest all : List Command) → all ≡ c ∷ rest → m ≡ n → mid ≡ old ++ framed (frame_of n c)
+    → OnOk r (new ≡ mid ++ frames_of m rest) → OnOk r (new ≡ old ++ frames_of n all)
+ok_more (Ok x) old {mid} new n m c rest all is same one more =
+    then_more old (framed (frame_of n c)) (frames_of n rest) one (more ∙ ap (λ (k : ℕ). mid ++ frames_of k rest) same)
+    ∙ ap (λ (cs : List Command). old ++ frames_of n cs) (sym is)
+ok_more (Err e) old new n m c rest all is same one more = tt

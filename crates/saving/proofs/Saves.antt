@@ -1,0 +1,213 @@
+-- The parts of a save, and the frames that are written so far.
+use Rattle.std.proofs.Common.{◌≡◌, ◌≢◌, ℕ, zero, suc, ◌+◌, ◌-◌, ◌<◌, ◌≤◌, Bool, true, false, List, [], ◌∷◌, ◌++◌, map, length, reverse, Option, Some, None, option_map, refl, sym, ap, ◌∙◌, nat_eq, if◌then◌else◌, arith, eqb-true, eq-eqb}
+use Rattle.std.specs.Prelude.{slice_get}
+use Rattle.std.specs.List.{flat_map}
+use Rattle.std.specs.Map.{values_of}
+use Rattle.std.proofs.lemmas.Grind.{flat_map-append}
+use Rattle.std.proofs.lemmas.List.{append_assoc, append-nil, reverse-append, length-reverse}
+use Rattle.std.proofs.lemmas.Option.{none-some, same_Some, slice_get_past}
+use Rattle.command_frames.specs.Command.{Command}
+use Rattle.command_frames.specs.Frame.{framed}
+use Rattle.fd_table.specs.Table.{first_descriptor, most, named}
+use Rattle.insn_set.specs.Program.{program_bytes}
+use Rattle.insn_set.specs.Spelling.{spelling}
+use Rattle.ordered_keys.specs.Orders.{occurrences, first_entry, entry_behind, next_entry}
+use Rattle.tenant.specs.declared.object.OpenObject.{OpenObject}
+use Rattle.tenant.specs.State.{TenantState}
+use Rattle.saving.specs.Births.{Birth}
+use Rattle.saving.specs.Filler.{filler}
+use Rattle.saving.specs.Frames.{frame_of}
+use Rattle.saving.specs.Restored.{load_of, filled, born, closings, restored}
+use Rattle.saving.specs.SaveParts.{birth_commands, parts, frames_of, PartsAreWhole}
+use Rattle.saving.specs.inside.Puts.{closing, rest_behind, rest_after}
+
+-- ---- the parts together
+
+born_in_order : (s : TenantState) (births : List Birth) → born s births ≡ flat_map (birth_commands s) (reverse births)
+born_in_order s [] = refl
+born_in_order s (b ∷ older) =
+    ap (λ (cs : List Command). cs ++ birth_commands s b) (born_in_order s older)
+    ∙ ap (λ (cs : List Command). flat_map (birth_commands s) (reverse older) ++ cs) (sym (append-nil (birth_commands s b)))
+    ∙ sym (flat_map-append (birth_commands s) (reverse older) (b ∷ []))
+    ∙ ap (flat_map (birth_commands s)) (sym (reverse-append (b ∷ []) older))
+
+collected : {A B : Type 0} (f : A → List B) (xs : List A) (last : List B) → flat_map (λ (part : List B). part) (map f xs ++ last ∷ []) ≡ flat_map f xs ++ last
+collected f [] last = append-nil last
+collected {A} {B} f (x ∷ xs) last = ap (λ (ys : List B). f x ++ ys) (collected f xs last) ∙ sym (append_assoc (f x) (flat_map f xs) last)
+
+pub parts_are_whole : PartsAreWhole
+parts_are_whole s births =
+    let last = closings s.objects first_descriptor most in
+    ap (λ (cs : List Command). filled most ++ cs) (collected (birth_commands s) (reverse births) last)
+    ∙ ap (λ (cs : List Command). filled most ++ (cs ++ last)) (sym (born_in_order s births))
+
+-- ---- a part by its index
+
+there : {A B : Type 0} (f : A → B) (xs : List A) (last : B) (i : ℕ) (x : A) → slice_get xs i ≡ Some x → slice_get (map f xs ++ last ∷ []) i ≡ Some (f x)
+there f [] last i x e = absurd (none-some x e)
+there {A} {B} f (y ∷ xs) last zero x e = ap (λ (z : A). let o : Option B = Some (f z) in o) (same_Some y x e)
+there f (y ∷ xs) last (suc i) x e = there f xs last i x e
+
+at_end : {A B : Type 0} (f : A → B) (xs : List A) (last : B) (i : ℕ) → i ≡ length xs → slice_get (map f xs ++ last ∷ []) i ≡ Some last
+at_end f [] last zero e = refl
+at_end f [] last (suc i) e = let wrong : suc i ≡ 0 = e in absurd (omega arith)
+at_end f (y ∷ xs) last zero e = let wrong : 0 ≡ suc (length xs) = e in absurd (omega arith)
+at_end f (y ∷ xs) last (suc i) e = let more : suc i ≡ suc (length xs) = e in at_end f xs last i (omega arith)
+
+past_end : {A B : Type 0} (f : A → B) (xs : List A) (last : B) (i : ℕ) → slice_get xs i ≡ None → i ≢ length xs → slice_get (map f xs ++ last ∷ []) i ≡ None
+past_end f [] last zero e other = absurd (other refl)
+past_end f [] last (suc i) e other = refl
+past_end f (y ∷ xs) last zero e other = absurd (none-some y (sym e))
+past_end f (y ∷ xs) last (suc i) e other = past_end f xs last i e (λ same. other (ap suc same))
+
+module _ (s : TenantState) (births : List Birth) where
+  pub part_of_fillers : (i : ℕ) → i ≡ 0 → slice_get (parts s births) i ≡ Some (filled most)
+  part_of_fillers i e = ap (slice_get (parts s births)) e
+
+  pub part_of_birth : (i : ℕ) (b : Birth) → i ≢ 0 → slice_get (reverse births) (i - 1) ≡ Some b → slice_get (parts s births) i ≡ Some (birth_commands s b)
+  part_of_birth zero b other e = absurd (other refl)
+  part_of_birth (suc i) b other e =
+      let less : suc i - 1 ≡ i = omega arith in
+      there (birth_commands s) (reverse births) (closings s.objects first_descriptor most) i b (ap (slice_get (reverse births)) (sym less) ∙ e)
+
+  pub part_of_rest : (i : ℕ) → i ≢ 0 → i - 1 ≡ length births → slice_get (parts s births) i ≡ Some (closings s.objects first_descriptor most)
+  part_of_rest zero other e = absurd (other refl)
+  part_of_rest (suc i) other e =
+      let same : i ≡ length (reverse births) = omega (arith, e, length-reverse births) in
+      at_end (birth_commands s) (reverse births) (closings s.objects first_descriptor most) i same
+
+  pub no_part : (i : ℕ) → i ≢ 0 → slice_get (reverse births) (i - 1) ≡ None → i - 1 ≢ length births → slice_get (parts s births) i ≡ None
+  no_part zero other e far = absurd (other refl)
+  no_part (suc i) other e far =
+      let less : suc i - 1 ≡ i = omega arith in
+      past_end (birth_commands s) (reverse births) (closings s.objects first_descriptor most) i (ap (slice_get (reverse births)) (sym less) ∙ e)
+      (λ same. far (omega (arith, same, length-reverse births)))
+
+-- ---- frames
+
+-- what is written after a frame
+pub then_more : {A : Type 0} (old : List A) {mid new : List A} (frame rest : List A) → mid ≡ old ++ frame → new ≡ mid ++ rest → new ≡ old ++ (frame ++ rest)
+then_more {A} old frame rest one more = more ∙ ap (λ (xs : List A). xs ++ rest) one ∙ append_assoc old frame rest
+
+-- if a frame is written, that much less is left
+pub one_less : {A : Type 0} (before : List A) {all after : List A} (frame rest : List A) → before ++ (frame ++ rest) ≡ all → after ≡ before ++ frame → after ++ rest ≡ all
+one_less {A} before frame rest left written = ap (λ (xs : List A). xs ++ rest) written ∙ append_assoc before frame rest ∙ left
+
+pub nothing_left : {A : Type 0} {all now : List A} (rest : List A) → now ++ rest ≡ all → rest ≡ [] → now ≡ all
+nothing_left {A} {all} {now} rest left none = sym (append-nil now) ∙ ap (λ (xs : List A). now ++ xs) (sym none) ∙ left
+
+-- ---- the fillers
+
+-- the slots of the filler
+pub filler_bytes : program_bytes filler ≡ 183 ∷ 0 ∷ 0 ∷ 0 ∷ 0 ∷ 0 ∷ 0 ∷ 0 ∷ 149 ∷ 0 ∷ 0 ∷ 0 ∷ 0 ∷ 0 ∷ 0 ∷ 0 ∷ []
+unfolding spelling
+filler_bytes = refl
+
+pub filled_next : (n i : ℕ) → i < n → filled (n - i) ≡ load_of filler ∷ filled (n - (i + 1))
+unfolding filled
+filled_next n i lt = let e : n - i ≡ suc (n - (i + 1)) = omega arith in ap filled e
+
+pub filled_none : (n i : ℕ) → n ≤ i → filled (n - i) ≡ []
+unfolding filled
+filled_none n i le = let e : n - i ≡ 0 = omega arith in ap filled e
+
+-- ---- the closings
+
+pub closings_next : (objects : List (Option OpenObject)) (fd n : ℕ) → 0 < n → closings objects fd n ≡ closing fd (named objects fd) ++ closings objects (fd + 1) (n - 1)
+unfolding closings
+closings_next objects fd n lt = let e : n ≡ suc (n - 1) = omega arith in ap (closings objects fd) e
+
+pub closings_none : (objects : List (Option OpenObject)) (fd n : ℕ) → n ≡ 0 → closings objects fd n ≡ []
+unfolding closings
+closings_none objects fd n e = ap (closings objects fd) e
+
+-- ---- the entries of a map after a place
+
+fewer : (b : Bool) (n : ℕ) → (if b then 1 else 0) + n ≤ 1 → n ≤ 1
+fewer true n le = omega (arith, le)
+fewer false n le = omega (arith, le)
+
+seen : (p q n : ℕ) → p ≡ q → 1 ≤ (if nat_eq p q then 1 else 0) + n
+seen p q n e = let b : nat_eq p q ≡ true = eq-eqb p q e in grind arith
+
+seen_later : (b : Bool) (n : ℕ) → 1 ≤ n → 1 ≤ (if b then 1 else 0) + n
+seen_later true n le = omega arith
+seen_later false n le = omega (arith, le)
+
+self : (p q : ℕ) → p ≡ q → nat_eq q p ≡ true
+self p q e = eq-eqb q p (sym e)
+
+module _ {K : Type 0} where
+  -- the next entry is the first of them
+  pub first_of_rest : (place : Option ℕ) (es : List (K × ℕ)) → next_entry place es ≡ first_entry (rest_after place es)
+  first_of_rest None es = refl
+  first_of_rest (Some p) es = behind p es
+    where
+      behind : (p : ℕ) (es : List (K × ℕ)) → entry_behind p es ≡ first_entry (rest_behind p es)
+      behind p [] = refl
+      behind p (e ∷ es) = by (nat_eq p e.1) (behind p es)
+        where
+          by : (b : Bool) → entry_behind p es ≡ first_entry (rest_behind p es) → (if b then first_entry es else entry_behind p es) ≡ first_entry (if b then es else rest_behind p es)
+          by true r = refl
+          by false r = r
+
+  pub none_first : (es : List (K × ℕ)) → first_entry es ≡ None → es ≡ []
+  none_first [] e = refl
+  none_first (x ∷ es) e = absurd (none-some x (sym e))
+
+  with_first : (e : K × ℕ) (es : List (K × ℕ)) → first_entry es ≡ Some e → (rest : List (K × ℕ)) × (es ≡ e ∷ rest)
+  with_first e [] is = absurd (none-some e is)
+  with_first e (x ∷ es) is = (es, ap (λ (y : K × ℕ). y ∷ es) (same_Some x e is))
+
+  abbrev AreOnce : List (K × ℕ) → Type 0
+  AreOnce es = (p : ℕ) → occurrences p (values_of es) ≤ 1
+
+  later_once : (x : K × ℕ) (es : List (K × ℕ)) → AreOnce (x ∷ es) → AreOnce es
+  later_once x es once p = fewer (nat_eq p x.1) (occurrences p (values_of es)) (once p)
+
+  -- an entry of the rest is another than the first
+  head_other : (x : K × ℕ) (es : List (K × ℕ)) (p : ℕ) → AreOnce (x ∷ es) → 1 ≤ occurrences p (values_of es) → nat_eq p x.1 ≡ false
+  head_other x es p once some = by (nat_eq p x.1) refl (once p)
+    where
+      by : (b : Bool) → nat_eq p x.1 ≡ b → (if b then 1 else 0) + occurrences p (values_of es) ≤ 1 → b ≡ false
+      by true e le = absurd (omega (arith, le, some))
+      by false e le = refl
+
+  first_seen : (e : K × ℕ) (es : List (K × ℕ)) → first_entry es ≡ Some e → 1 ≤ occurrences e.1 (values_of es)
+  first_seen e [] is = absurd (none-some e is)
+  first_seen e (x ∷ es) is = seen e.1 x.1 (occurrences e.1 (values_of es)) (ap (λ (y : K × ℕ). y.1) (sym (same_Some x e is)))
+
+  behind_seen : (p : ℕ) (e : K × ℕ) (es : List (K × ℕ)) → entry_behind p es ≡ Some e → 1 ≤ occurrences e.1 (values_of es)
+  behind_seen p e [] is = absurd (none-some e is)
+  behind_seen p e (x ∷ es) is = seen_later (nat_eq e.1 x.1) (occurrences e.1 (values_of es)) (by (nat_eq p x.1) is (first_seen e es) (behind_seen p e es))
+    where
+      by : (b : Bool) → (if b then first_entry es else entry_behind p es) ≡ Some e → (first_entry es ≡ Some e → 1 ≤ occurrences e.1 (values_of es)) → (entry_behind p es ≡ Some e → 1 ≤ occurrences e.1 (values_of es)) → 1 ≤ occurrences e.1 (values_of es)
+      by true is f r = f is
+      by false is f r = r is
+
+  skip : (p : ℕ) (x : K × ℕ) (es : List (K × ℕ)) → nat_eq p x.1 ≡ false → rest_behind p (x ∷ es) ≡ rest_behind p es
+  skip p x es e = ap (λ (b : Bool). if b then es else rest_behind p es) e
+
+  rest_of_first : (e : K × ℕ) (es : List (K × ℕ)) → first_entry es ≡ Some e → es ≡ e ∷ rest_behind e.1 es
+  rest_of_first e [] is = absurd (none-some e is)
+  rest_of_first e (x ∷ es) is =
+      let same = same_Some x e is in
+      let hit : nat_eq e.1 x.1 ≡ true = self x.1 e.1 (ap (λ (y : K × ℕ). y.1) same) in
+      ap (λ (y : K × ℕ). y ∷ es) same ∙ ap (λ (b : Bool). e ∷ (if b then es else rest_behind e.1 es)) (sym hit)
+
+  rest_of_behind : (p : ℕ) (e : K × ℕ) (es : List (K × ℕ)) → AreOnce es → entry_behind p es ≡ Some e → rest_behind p es ≡ e ∷ rest_behind e.1 es
+  rest_of_behind p e [] once is = absurd (none-some e is)
+  rest_of_behind p e (x ∷ es) once is = by (nat_eq p x.1) is (rest_of_behind p e es (later_once x es once))
+    where
+      other : 1 ≤ occurrences e.1 (values_of es) → rest_behind e.1 (x ∷ es) ≡ rest_behind e.1 es
+      other some = skip e.1 x es (head_other x es e.1 once some)
+
+      by : (b : Bool) → (if b then first_entry es else entry_behind p es) ≡ Some e → (entry_behind p es ≡ Some e → rest_behind p es ≡ e ∷ rest_behind e.1 es)
+          → (if b then es else rest_behind p es) ≡ e ∷ rest_behind e.1 (x ∷ es)
+      by true is r = rest_of_first e es is ∙ ap (λ (ys : List (K × ℕ)). e ∷ ys) (sym (other (first_seen e es is)))
+      by false is r = r is ∙ ap (λ (ys : List (K × ℕ)). e ∷ ys) (sym (other (behind_seen p e es is)))
+
+  -- the entries after the next one
+  pub rest_of_next : (place : Option ℕ) (e : K × ℕ) (es : List (K × ℕ)) → ((p : ℕ) → occurrences p (values_of es) ≤ 1) → next_entry place es ≡ Some e → rest_after place es ≡ e ∷ rest_after (Some e.1) es
+  rest_of_next None e es once is = rest_of_first e es is
+  rest_of_next (Some p) e es once is = rest_of_behind p e es once is

@@ -1,0 +1,5 @@
+use Rattle.saving.proofs.Saves as proof
+use Rattle.saving.proofs.laws.parts_are_whole.Goals as goal
+
+pub returns : goal.returns
+returns c = proof.parts_are_whole

@@ -1,0 +1,38 @@
+-- A tenant with the births of its objects. This project's own.
+use Rattle.std.specs.Prelude.{◌≡◌, ℕ, Bool, List, Option, Some, Result, Ok, Err}
+use Rattle.command_frames.specs.declared.command.BadFrame.{BadFrame}
+use Rattle.command_frames.specs.Command.{Command, parsed}
+use Rattle.command_frames.specs.Frame.{reply_to}
+use Rattle.tenant.specs.Kept.{KeptTenant, state_in}
+use Rattle.tenant.specs.State.{TenantState}
+use Rattle.tenant.specs.Machine.{Answer}
+use Rattle.tenant.specs.Alone.{AnswersFrame}
+use Rattle.saving.specs.Alike.{HoldsItsMaps}
+use Rattle.saving.specs.Births.{Birth, AreBirths, births_after}
+
+-- how a tenant is kept, and the births of its live maps and open programs, the latest first
+pub record RecordedTenant : Type 0 where
+  pub kept : KeptTenant
+  pub births : List Birth
+
+-- the state that a tenant represents, with the bytes of its part
+abbrev pub tenant_state : List ℕ → RecordedTenant → TenantState
+tenant_state part t = state_in part t.kept
+
+-- what always holds: just the maps that an open object names are live, and the births are those of the state
+abbrev pub IsRecorded : RecordedTenant → Type 0
+IsRecorded t = (part : List ℕ) → HoldsItsMaps (tenant_state part t) × AreBirths (tenant_state part t) t.births
+
+-- a frame that carries no command changes no births
+abbrev pub births_after_frame : Result Command BadFrame → Answer → List Birth → List Birth
+births_after_frame (Err fault) a births = births
+births_after_frame (Ok command) a births = births_after command a births
+
+-- a frame, its reply, and the state and the births of its tenant before and after it, with some refusals of memory
+pub record RecordsFrame (frame reply : List ℕ) (before after : TenantState) (births later : List Birth) : Type 0 where
+  pub refusals : List Bool
+  pub answer : Answer
+  pub answers : AnswersFrame refusals before (parsed frame) answer
+  pub reply_is : reply ≡ reply_to frame answer.status answer.payload
+  pub left : after ≡ answer.after
+  pub recorded : later ≡ births_after_frame (parsed frame) answer births

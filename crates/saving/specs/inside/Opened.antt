@@ -1,0 +1,14 @@
+-- The births after a command that opens an object. This project's own.
+use Rattle.std.specs.Prelude.{List, Option, Result, Ok}
+use Rattle.fd_table.specs.Table.{named}
+use Rattle.tenant.specs.declared.errno.Errno.{Errno}
+use Rattle.tenant.specs.declared.object.OpenObject.{OpenObject}
+use Rattle.tenant.specs.declared.reply.Reply.{Reply}
+use Rattle.tenant.specs.declared.reply.Reply.TheVariants as reply
+use Rattle.saving.specs.Births.{Birth, with_birth}
+use Rattle.tenant.specs.State.{TenantState}
+
+-- the object that a reply opens is born last
+abbrev pub with_told : Result Reply Errno → List (Option OpenObject) → List Birth → List Birth
+with_told (Ok (reply.Opened fd)) objects births = with_birth fd (named objects fd) births
+with_told r objects births = births

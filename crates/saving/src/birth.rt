@@ -1,0 +1,106 @@
+//! The order in which the objects of a tenant were made.
+
+ghost use Rattle.std.specs.Prelude.{◌≡◌, ◌<◌, ◌≤◌, ℕ, List, [], ◌∷◌, length, filter, reverse, slice_get, IfOk};
+ghost use Rattle.tenant.specs.Kept.{state_in};
+ghost use Rattle.saving.specs.Births.{lives as lives_in};
+ghost use Rattle.saving.specs.inside.Opened.{with_told};
+
+use bpf_maps::{MAPS, MapKey};
+use fd_table::MOST;
+use std::alloc::{AllocError, Global};
+use std::marker::Model;
+use tenant::{Errno, OpenObject, Reply, Tenant};
+
+/// The most births: one for each descriptor, and one for each map.
+const MOST_BIRTHS: usize = MOST + MAPS;
+
+/// A map was created, or a program was loaded, and opened at a descriptor.
+#[derive(Clone, Copy)]
+pub enum Birth {
+    /// The map, and its descriptor.
+    OfMap(MapKey, u32),
+    /// The descriptor of the program.
+    OfProgram(u32),
+}
+
+/// The births of a tenant's live maps and open programs. Contracts see them with the latest first.
+#[derive(Drop)]
+pub(crate) struct Births {
+    oldest_first: Vec<Birth>,
+}
+
+impl Model for Births {
+    ghost use Rattle.std.specs.Prelude.{◌≤◌, List, reverse, vec_capacity};
+    ghost use Rattle.saving.specs.declared.birth.Birth.{Birth};
+    ghost use Rattle.saving.specs.declared.birth.TheConstants.{MOST_BIRTHS};
+
+    ghost Value = { List Birth };
+
+    ghost view = { λ b. reverse b.oldest_first.items };
+
+    ghost invariant = { λ b. MOST_BIRTHS ≤ vec_capacity b.oldest_first };
+}
+
+/// Whether what was born still lives: the map is live, or the descriptor names a program.
+fn lives(tenant: &Tenant, birth: &Birth) -> bool
+    ensures { (part : List ℕ) → result ≡ lives_in (state_in part tenant.now) birth.now }
+{
+    match *birth {
+        Birth::OfMap(map, _) => tenant.is_live(map),
+        Birth::OfProgram(fd) => matches!(tenant.object(fd), Some(OpenObject::Program(_))),
+    }
+}
+
+impl Births {
+    /// No births. Allocates room for all that there may be. `AllocError`: out of memory.
+    pub(crate) fn new(alloc: Global) -> Result<Births, AllocError>
+        ensures { IfOk result (λ births. births ≡ []) }
+    {
+        Ok(Births {
+            oldest_first: Vec::with_capacity(alloc, MOST_BIRTHS)?,
+        })
+    }
+
+    /// How many there are.
+    pub(crate) fn len(&self) -> usize
+        ensures { result ≡ length self.now }
+    {
+        self.oldest_first.len()
+    }
+
+    /// The birth at an index, with the oldest first; `None` if there are no more.
+    pub(crate) fn get(&self, index: usize) -> Option<Birth>
+        ensures { result ≡ slice_get (reverse self.now) index }
+    {
+        self.oldest_first.get(index).copied()
+    }
+
+    /// Adds the latest birth. There is room for it.
+    fn push(&mut self, birth: Birth)
+        requires { length self.old < MOST_BIRTHS }
+        ensures { self.new ≡ birth ∷ self.old }
+    {
+        self.oldest_first.push_reserved(birth);
+    }
+
+    /// Adds the birth of the object that a command opened, if its reply has a descriptor. There is room for it.
+    pub(crate) fn note(&mut self, tenant: &Tenant, answer: &Result<Reply<'_>, Errno>)
+        requires { length (with_told answer.now tenant.now.objects self.old) ≤ MOST_BIRTHS }
+        ensures { self.new ≡ with_told answer.now tenant.now.objects self.old }
+    {
+        if let Ok(Reply::Opened(fd)) = answer {
+            match tenant.object(*fd) {
+                Some(OpenObject::Map(map)) => self.push(Birth::OfMap(*map, *fd)),
+                Some(OpenObject::Program(_)) => self.push(Birth::OfProgram(*fd)),
+                None => {}
+            }
+        }
+    }
+
+    /// Forgets the births of what lives no more.
+    pub(crate) fn keep_living(&mut self, tenant: &Tenant)
+        ensures { (part : List ℕ) → self.new ≡ filter (lives_in (state_in part tenant.now)) self.old }
+    {
+        self.oldest_first.retain(|birth| lives(tenant, birth));
+    }
+}

@@ -1,0 +1,216 @@
+//! The frames that make what was born.
+
+ghost use Rattle.std.specs.Prelude.{◌≡◌, ◌++◌, [], length, IsSome, OnOk};
+ghost use Rattle.bpf_maps.specs.declared.part.TheConstants.{PART};
+ghost use Rattle.bpf_maps.specs.Live.{live_at};
+ghost use Rattle.command_frames.specs.Command.{close, prog_load};
+ghost use Rattle.command_frames.specs.Frame.{framed};
+ghost use Rattle.fd_table.specs.Table.{first_descriptor, most, named};
+ghost use Rattle.tenant.specs.Entry.{placed_entries};
+ghost use Rattle.tenant.specs.Kept.{state_in};
+ghost use Rattle.tenant.specs.State.{live};
+ghost use Rattle.saving.specs.Frames.{frame_of};
+ghost use Rattle.saving.specs.Restored.{create_of, put_of, filled, closings, made_map, made_program};
+ghost use Rattle.saving.specs.SaveParts.{birth_commands, frames_of};
+ghost use Rattle.saving.specs.inside.Puts.{closing, puts};
+
+use crate::birth::Birth;
+use crate::command_bytes::{write_close, write_create, write_load, write_put};
+use bpf_maps::MapKey;
+use fd_table::{FIRST, MOST};
+use insn_codec::write_program;
+use std::alloc::{AllocError, Global};
+use tagged_model::MapShape;
+use tenant::{OpenObject, Tenant};
+
+/// The slots of the program that keeps a descriptor open: it returns 0.
+const FILLER: [u8; 16] = [0xb7, 0, 0, 0, 0, 0, 0, 0, 0x95, 0, 0, 0, 0, 0, 0, 0];
+
+/// Frames to one tenant, each with its length before it.
+#[derive(Drop)]
+pub(crate) struct FrameWriter {
+    pub(crate) frames: Vec<u8>,
+    // The frame that was written last.
+    frame: Vec<u8>,
+    pub(crate) number: u16,
+}
+
+/// Appends a frame with its length before it.
+fn append_framed(frames: &mut Vec<u8>, frame: &[u8]) -> Result<(), AllocError>
+    ensures { OnOk result (frames.new.items ≡ frames.old.items ++ framed frame.now) }
+{
+    let [a, b, c, d, _, _, _, _] = (frame.len() as u64).to_le_bytes();
+    frames.extend_from_slice(&[a, b, c, d])?;
+    frames.extend_from_slice(frame)
+}
+
+impl FrameWriter {
+    /// No frames to tenant `number`.
+    pub(crate) fn new(alloc: Global, number: u16) -> FrameWriter
+        ensures frames { result.frames.items ≡ [] }
+        ensures number { result.number ≡ number }
+    {
+        FrameWriter {
+            frames: Vec::new(alloc),
+            frame: Vec::new(alloc),
+            number,
+        }
+    }
+
+    /// Closes a descriptor.
+    fn close(&mut self, fd: u32) -> Result<(), AllocError>
+        ensures written { OnOk result (self.new.frames.items
+            ≡ self.old.frames.items ++ framed (frame_of self.old.number (close fd))) }
+        ensures number { self.new.number ≡ self.old.number }
+    {
+        write_close(&mut self.frame, self.number, fd)?;
+        append_framed(&mut self.frames, &self.frame)
+    }
+
+    /// Creates a map of this shape.
+    fn create(&mut self, shape: MapShape) -> Result<(), AllocError>
+        ensures written { OnOk result (self.new.frames.items
+            ≡ self.old.frames.items ++ framed (frame_of self.old.number (create_of shape))) }
+        ensures number { self.new.number ≡ self.old.number }
+    {
+        write_create(&mut self.frame, self.number, shape)?;
+        append_framed(&mut self.frames, &self.frame)
+    }
+
+    /// Puts a key and its value into the map at a descriptor.
+    fn put(&mut self, fd: u32, key: &[u8], value: &[u8]) -> Result<(), AllocError>
+        ensures written { OnOk result (self.new.frames.items
+            ≡ self.old.frames.items
+            ++ framed (frame_of self.old.number (put_of fd (key.now, value.now)))) }
+        ensures number { self.new.number ≡ self.old.number }
+    {
+        write_put(&mut self.frame, self.number, fd, key, value)?;
+        append_framed(&mut self.frames, &self.frame)
+    }
+
+    /// Loads the program that these slots spell.
+    fn load(&mut self, slots: &[u8]) -> Result<(), AllocError>
+        ensures written { OnOk result (self.new.frames.items
+            ≡ self.old.frames.items ++ framed (frame_of self.old.number (prog_load 1 slots.now))) }
+        ensures number { self.new.number ≡ self.old.number }
+    {
+        write_load(&mut self.frame, self.number, slots)?;
+        append_framed(&mut self.frames, &self.frame)
+    }
+
+    /// Opens a program at each descriptor.
+    pub(crate) fn fill(&mut self) -> Result<(), AllocError>
+        ensures written { OnOk result (self.new.frames.items
+            ≡ self.old.frames.items ++ frames_of self.old.number (filled most)) }
+    {
+        for _ in 0..MOST {
+            self.load(&FILLER)?;
+        }
+        Ok(())
+    }
+
+    /// Closes a descriptor that is not open.
+    fn close_unless_open(&mut self, tenant: &Tenant, fd: u32) -> Result<(), AllocError>
+        ensures written { OnOk result (self.new.frames.items
+            ≡ self.old.frames.items ++ frames_of self.old.number
+            (closing fd (named tenant.now.objects fd))) }
+        ensures number { self.new.number ≡ self.old.number }
+    {
+        match tenant.object(fd) {
+            None => self.close(fd),
+            Some(_) => Ok(()),
+        }
+    }
+
+    /// Closes each descriptor that is not open.
+    pub(crate) fn close_rest(&mut self, tenant: &Tenant) -> Result<(), AllocError>
+        ensures written { OnOk result (self.new.frames.items
+            ≡ self.old.frames.items ++ frames_of self.old.number
+            (closings tenant.now.objects first_descriptor most)) }
+    {
+        for fd in FIRST..FIRST + MOST as u32 {
+            self.close_unless_open(tenant, fd)?;
+        }
+        Ok(())
+    }
+
+    /// Puts the keys of a live map in their order. The part has `PART` bytes.
+    fn put_all(
+        &mut self,
+        tenant: &Tenant,
+        map: MapKey,
+        fd: u32,
+        part: &[u8],
+    ) -> Result<(), AllocError>
+        requires live { IsSome (live_at tenant.now.live map) }
+        requires whole { length part.now ≡ PART }
+        ensures written { OnOk result (self.new.frames.items
+            ≡ self.old.frames.items ++ frames_of self.old.number
+            (puts fd (placed_entries part.now tenant.now.live map))) }
+    {
+        let mut after = None;
+        while let Some(entry) = tenant.map_entry(map, after, part) {
+            self.put(fd, entry.key.bytes(), entry.value)?;
+            after = Some(entry.place);
+        }
+        Ok(())
+    }
+
+    /// Creates a map with its keys, if it is live. The part has `PART` bytes.
+    fn make_map(
+        &mut self,
+        tenant: &Tenant,
+        map: MapKey,
+        fd: u32,
+        part: &[u8],
+    ) -> Result<(), AllocError>
+        requires whole { length part.now ≡ PART }
+        ensures written { OnOk result (self.new.frames.items
+            ≡ self.old.frames.items ++ frames_of self.old.number
+            (made_map fd (live (state_in part.now tenant.now) map))) }
+    {
+        let Some(shape) = tenant.map_shape(map) else {
+            return Ok(());
+        };
+        self.create(shape)?;
+        self.put_all(tenant, map, fd, part)
+    }
+
+    /// Loads the program at a descriptor, if one is open there.
+    fn make_program(&mut self, tenant: &Tenant, alloc: Global, fd: u32) -> Result<(), AllocError>
+        ensures written { OnOk result (self.new.frames.items
+            ≡ self.old.frames.items ++ frames_of self.old.number
+            (made_program (named tenant.now.objects fd))) }
+    {
+        let Some(OpenObject::Program(program)) = tenant.object(fd) else {
+            return Ok(());
+        };
+        let slots = write_program(alloc, program.program().program())?;
+        self.load(&slots)
+    }
+
+    /// Closes the descriptor of what was born, and makes it there. The part has `PART` bytes.
+    pub(crate) fn make(
+        &mut self,
+        tenant: &Tenant,
+        alloc: Global,
+        birth: Birth,
+        part: &[u8],
+    ) -> Result<(), AllocError>
+        requires whole { length part.now ≡ PART }
+        ensures written { OnOk result (self.new.frames.items
+            ≡ self.old.frames.items ++ frames_of self.old.number
+            (birth_commands (state_in part.now tenant.now) birth)) }
+    {
+        match birth {
+            Birth::OfMap(map, fd) => {
+                self.close(fd)?;
+                self.make_map(tenant, map, fd, part)
+            }
+            Birth::OfProgram(fd) => {
+                self.close(fd)?;
+                self.make_program(tenant, alloc, fd)
+            }
+        }
+    }
+}

@@ -1,0 +1,146 @@
+//! The frames of one tenant, and the replies to them.
+
+ghost use Rattle.std.specs.Prelude.{◌≡◌, ◌≢◌, ◌≤◌, ℕ, [], Some};
+ghost use Rattle.arena.specs.Memory.{part_bytes};
+ghost use Rattle.bpf_helpers.specs.Parts.{IsPartOf};
+ghost use Rattle.command_frames.specs.Command.{longest_frame};
+ghost use Rattle.command_frames.specs.Frame.{head_of, reply_to};
+ghost use Rattle.command_frames.specs.Shown.{shown_command};
+ghost use Rattle.tenant.specs.Alone.{MayReply, frame_errno};
+ghost use Rattle.tenant.specs.Errno.{status_of};
+ghost use Rattle.tenant.specs.Kept.{state_in};
+ghost use Rattle.saving.specs.Recorded.{IsRecorded, RecordsFrame, tenant_state};
+ghost use Rattle.tenant.specs.declared.errno.Errno.TheVariants.{BadAddress};
+ghost use Rattle.saving.specs.inside.Frames.{tail_length, AnswersCommand, ChangesPart};
+
+use crate::birth::Births;
+use crate::laws::{births_are_kept, maps_are_held};
+use crate::savable::SavableTenant;
+use arena::{Arena, laws};
+use command_frames::{BadFrame, Command, Head, ReplyBuf, parse};
+use std::alloc::Global;
+use tenant::{Errno, Tenant, write_answer};
+
+/// The error for a frame that carries no command.
+fn frame_error(fault: BadFrame) -> Errno
+    ensures errno { result ≡ frame_errno fault }
+    ensures no_fault { result ≢ BadAddress }
+{
+    match fault {
+        BadFrame::TooLong => Errno::TooBig,
+        BadFrame::Unknown => Errno::Invalid,
+        BadFrame::Body => Errno::Invalid,
+    }
+}
+
+/// Executes the command of a frame of a tenant, writes the reply, and keeps the order of births.
+fn reply_to_command(
+    tenant: &mut Tenant,
+    births: &mut Births,
+    alloc: Global,
+    head: Head,
+    command: Command<'_>,
+    number: usize,
+    arena: &mut Arena,
+    reply: &mut ReplyBuf,
+)
+    requires short { tail_length (shown_command command) ≤ longest_frame }
+    requires part { IsPartOf number arena.old }
+    requires recorded { IsRecorded (record { kept = tenant.old; births = births.old }) }
+    ensures told { AnswersCommand (shown_command command.entry) head reply.new
+        (state_in (part_bytes arena.old number) tenant.old)
+        (state_in (part_bytes arena.new number) tenant.new) births.old births.new }
+    ensures changes { ChangesPart number arena.old arena.new }
+{
+    arena.memory_is_its_parts();
+    laws::parts_are_apart();
+    maps_are_held();
+    births_are_kept();
+    match command {
+        Command::MapCreate {
+            kind,
+            key_size,
+            value_size,
+            max_entries,
+            flags,
+        } => {
+            let part = arena.part_mut(number);
+            let answer = tenant.create(kind, key_size, value_size, max_entries, flags, part);
+            births.note(tenant, &answer);
+            write_answer(head, answer, reply);
+        }
+        Command::MapLookup { fd, key } => {
+            let answer = tenant.look_up(fd, key, arena.part(number));
+            write_answer(head, answer, reply);
+        }
+        Command::MapUpdate {
+            fd,
+            flags,
+            key_and_value,
+        } => {
+            let answer = tenant.update(fd, flags, key_and_value, arena.part_mut(number));
+            write_answer(head, answer, reply);
+        }
+        Command::MapDelete { fd, key } => {
+            let answer = tenant.delete(fd, key);
+            write_answer(head, answer, reply);
+        }
+        Command::MapNextKey { fd, key } => {
+            let answer = tenant.next_key(fd, key);
+            write_answer(head, answer, reply);
+        }
+        Command::ProgLoad { kind, slots } => {
+            let answer = tenant.load(alloc, kind, slots);
+            births.note(tenant, &answer);
+            write_answer(head, answer, reply);
+        }
+        Command::ProgTestRun { fd, words, packet } => {
+            let answer = tenant.test_run(fd, &words, packet, number, arena);
+            write_answer(head, answer, reply);
+        }
+        Command::Close { fd } => {
+            let answer = tenant.close(fd, arena.part_mut(number));
+            births.keep_living(tenant);
+            write_answer(head, answer, reply);
+        }
+    }
+}
+
+impl SavableTenant {
+    /// Executes a frame of this tenant, which is what follows the length field and has this head, and writes the reply to
+    /// `reply`.
+    pub fn handle(
+        &mut self,
+        alloc: Global,
+        head: Head,
+        frame: &[u8],
+        tenant: usize,
+        arena: &mut Arena,
+        reply: &mut ReplyBuf,
+    )
+        requires head { head_of frame.now ≡ Some head }
+        requires part { IsPartOf tenant arena.old }
+        ensures told { MayReply frame.now reply.new
+            (Some (tenant_state (part_bytes arena.old tenant) self.old))
+            (Some (tenant_state (part_bytes arena.new tenant) self.new)) }
+        ensures recorded { RecordsFrame frame.now reply.new
+            (tenant_state (part_bytes arena.old tenant) self.old)
+            (tenant_state (part_bytes arena.new tenant) self.new)
+            self.old.births self.new.births }
+        ensures no_fault { reply.new ≢ reply_to frame.now (status_of BadAddress) [] }
+        ensures parts { arena.new.parts ≡ arena.old.parts }
+        ensures part { arena.new.part ≡ arena.old.part }
+        ensures others { (other : ℕ) → other ≢ tenant
+            → part_bytes arena.new other ≡ part_bytes arena.old other }
+    {
+        maps_are_held();
+        births_are_kept();
+        match parse(frame) {
+            Ok(command) => {
+                let (kept, births) = (&mut self.tenant, &mut self.births);
+                reply_to_command(kept, births, alloc, head, command, tenant, arena, reply);
+            }
+            Err(fault) => write_answer(head, Err(frame_error(fault)), reply),
+        }
+    }
+}

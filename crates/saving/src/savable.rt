@@ -1,0 +1,137 @@
+//! A tenant that can be saved.
+
+ghost use Rattle.std.specs.Prelude.{◌≡◌, ◌≢◌, ℕ, List, [], length, option_map, slice_get, IfOk, OnOk, OnErr};
+ghost use Rattle.std.specs.Result.{result_err};
+ghost use Rattle.arena.specs.Memory.{part_bytes};
+ghost use Rattle.bpf_helpers.specs.Parts.{IsPartOf};
+ghost use Rattle.fd_table.specs.Table.{named};
+ghost use Rattle.bpf_maps.specs.declared.part.TheConstants.{PART};
+ghost use Rattle.saving.specs.Recorded.{tenant_state};
+ghost use Rattle.saving.specs.SaveParts.{parts, frames_of};
+ghost use Rattle.tenant.specs.Batch.{RunsBatch, packets_in, batch_refusal};
+ghost use Rattle.tenant.specs.State.{new_tenant};
+
+use crate::birth::Births;
+use crate::frame_writer::FrameWriter;
+use crate::laws::{births_are_kept, maps_are_held};
+use arena::Arena;
+use flat_machine::GIVEN_WORDS;
+use seeded_hash::HashSeed;
+use std::alloc::{AllocError, Global};
+use std::marker::Model;
+use tenant::{Errno, Tenant};
+
+/// A tenant, and the order in which its objects were made, from which it can be saved.
+#[derive(Drop)]
+pub struct SavableTenant {
+    pub(crate) tenant: Tenant,
+    pub(crate) births: Births,
+}
+
+impl Model for SavableTenant {
+    ghost use Rattle.saving.specs.Recorded.{RecordedTenant, IsRecorded};
+
+    ghost Value = { RecordedTenant };
+
+    ghost view = { λ t. record { kept = t.tenant; births = t.births } };
+
+    ghost invariant = { λ t. IsRecorded (record { kept = t.tenant; births = t.births }) };
+}
+
+impl SavableTenant {
+    /// A tenant without open objects or maps; the keys of its maps will be hashed with this seed. Allocates its tables, and room for
+    /// its births. `AllocError`: out of memory.
+    pub fn new(alloc: Global, seed: HashSeed) -> Result<SavableTenant, AllocError>
+        ensures new { IfOk result (λ tenant. (part : List ℕ) →
+            tenant_state part tenant ≡ new_tenant) }
+        ensures births { IfOk result (λ tenant. tenant.births ≡ []) }
+    {
+        maps_are_held();
+        births_are_kept();
+        Ok(SavableTenant {
+            tenant: Tenant::new(alloc, seed)?,
+            births: Births::new(alloc)?,
+        })
+    }
+
+    /// Whether memory was ever refused to this tenant: to a load, to a new map or to a new key.
+    pub fn memory_was_refused(&self) -> bool
+        ensures { (part : List ℕ) → result ≡ (tenant_state part self.now).refused }
+    {
+        self.tenant.memory_was_refused()
+    }
+
+    /// The frames of one part of a save, which are frames of tenant `number`, each with its length before it; `None` after the
+    /// last part. The tenant's part of the memory has `PART` bytes.
+    ///
+    /// A new tenant that is given the frames of all parts in their order is then as this one. Between two parts nothing may change
+    /// in this tenant, and other tenants may be served. Part 0 opens a program at each descriptor, the parts after it make one map
+    /// or program each, in the order in which they were made, and the last part closes what is not open.
+    ///
+    /// # Errors
+    ///
+    /// `AllocError`: out of memory.
+    pub fn save_part(
+        &self,
+        alloc: Global,
+        number: u16,
+        index: usize,
+        part: &[u8],
+    ) -> Result<Option<Vec<u8>>, AllocError>
+        requires { length part.now ≡ PART }
+        ensures { IfOk result (λ saved. option_map (λ frames. frames.items) saved
+            ≡ option_map (frames_of number)
+            (slice_get (parts (tenant_state part.now self.now) self.now.births) index)) }
+    {
+        let mut writer = FrameWriter::new(alloc, number);
+        if index == 0 {
+            writer.fill()?;
+            return Ok(Some(writer.frames));
+        }
+        if let Some(birth) = self.births.get(index - 1) {
+            writer.make(&self.tenant, alloc, birth, part)?;
+            return Ok(Some(writer.frames));
+        }
+        if index - 1 != self.births.len() {
+            return Ok(None);
+        }
+        writer.close_rest(&self.tenant)?;
+        Ok(Some(writer.frames))
+    }
+
+    /// Runs the program at a descriptor on many packets, as `Tenant::run_packets` does.
+    ///
+    /// # Errors
+    ///
+    /// Those of `Tenant::run_packets`. Then no packet was run, and nothing has changed.
+    pub fn run_packets(
+        &mut self,
+        fd: u32,
+        words: &[u32; GIVEN_WORDS],
+        bytes: &[u8],
+        ends: &[usize],
+        results: &mut [u32],
+        tenant: usize,
+        arena: &mut Arena,
+    ) -> Result<(), Errno>
+        requires part { IsPartOf tenant arena.old }
+        ensures runs { OnOk result (RunsBatch fd words.now
+            (tenant_state (part_bytes arena.old tenant) self.old)
+            (packets_in bytes.now ends.now) results.old results.new
+            (tenant_state (part_bytes arena.new tenant) self.new)) }
+        ensures refusal { result_err result ≡ batch_refusal (named self.old.kept.objects fd)
+            (length bytes.now) ends.now (length results.old) }
+        ensures births { self.new.births ≡ self.old.births }
+        ensures unchanged { OnErr result ((self.new ≡ self.old) × (arena.new ≡ arena.old)
+            × (results.new ≡ results.old)) }
+        ensures parts { arena.new.parts ≡ arena.old.parts }
+        ensures part { arena.new.part ≡ arena.old.part }
+        ensures others { (other : ℕ) → other ≢ tenant
+            → part_bytes arena.new other ≡ part_bytes arena.old other }
+    {
+        maps_are_held();
+        births_are_kept();
+        let kept = &mut self.tenant;
+        kept.run_packets(fd, words, bytes, ends, results, tenant, arena)
+    }
+}

@@ -1,0 +1,62 @@
+use Rattle.std.proofs.Common.{◌≡◌, ℕ, ◌+◌, ◌-◌, ◌≤◌, List, length, take, drop, Option, Some, None, IsSome, option_map, sym, ap, ap₂, subst, ◌∙◌, arith}
+use Rattle.std.specs.Map.{values_of}
+use Rattle.bpf_maps.specs.KeyRef.{key_bytes, shown_entry}
+use Rattle.bpf_maps.specs.Live.{live_at, value_in}
+use Rattle.bpf_maps.specs.Places.{occurrences}
+use Rattle.ordered_keys.specs.Orders.{next_entry}
+use Rattle.tagged_model.specs.declared.shape.MapShape.{MapShape}
+use Rattle.tenant.specs.Entry.{PlacedEntry, placed_entries}
+use Rattle.tenant.specs.Kept.{KeptTenant}
+use Rattle.tenant.proofs.MapEntries.{next_placed, placed_once}
+use Rattle.tenant.proofs.StillKept.{kept_in}
+use Rattle.tenant.proofs.tenant.Tenant.map_entry.Goals as goal
+
+abbrev some_entry : List ℕ → List ℕ → ℕ → Option PlacedEntry
+some_entry key value place = Some ((key, value), place)
+
+abbrev no_entry : Option PlacedEntry
+no_entry = None
+
+abbrev with_value : List ℕ → KeptTenant → ℕ → List ℕ × ℕ → PlacedEntry
+with_value part k map e = ((e.0, value_in part k.live map e.1), e.1)
+
+is_there : (k l : KeptTenant) (map : ℕ) → k ≡ l → IsSome (live_at l.live map) → IsSome (live_at k.live map)
+is_there k l map same some = subst (λ (k : KeptTenant). IsSome (live_at k.live map)) (sym same) some
+
+pub entry_after-requires : goal.entry_after-requires
+entry_after-requires c = is_there (kept_in c.self.inside) c.args.self.now c.args.map c.self.view_is c.requires.live
+
+once_in : (part : List ℕ) (k l : KeptTenant) (map : ℕ) → k ≡ l → ((p : ℕ) → occurrences p (values_of (placed_entries part k.live map)) ≤ 1) → (p : ℕ) → occurrences p (values_of (placed_entries part l.live map)) ≤ 1
+once_in part k l map same once p = subst (λ (k : KeptTenant). occurrences p (values_of (placed_entries part k.live map)) ≤ 1) same (once p)
+
+pub returns-in_default : goal.returns-in_default
+returns-in_default c =
+    let k = kept_in c.self.inside in
+    let part = c.args.part.now in
+    let map = c.args.map in
+    let some = is_there k c.args.self.now map c.self.view_is c.requires.live in
+    record {
+      entry = subst (λ (k : KeptTenant). no_entry ≡ next_entry c.args.after (placed_entries part k.live map)) c.self.view_is
+          (ap (option_map (with_value part k map)) (ap (option_map shown_entry) (sym c.in_default.is) ∙ c.entry_after.ensures.entry) ∙ sym (next_placed part k.live map c.args.after));
+      once = once_in part k c.args.self.now map c.self.view_is (placed_once part k.live map (c.maps_are_laid.ensures.sound map some));
+    }
+
+pub returns : goal.returns
+returns c =
+    let k = kept_in c.self.inside in
+    let part = c.args.part.now in
+    let map = c.args.map in
+    let e = c.in-Some.entry in
+    let start = c.value_at-start.result in
+    let size = c.shape-size.result.value_size in
+    let n : (start + size) - start ≡ size = omega arith in
+    let lent : take ((start + size) - start) (drop start part) ≡ value_in part k.live map e.1 =
+    ap₂ (λ (count from : ℕ). take count (drop from part)) (n ∙ ap (λ (s : MapShape). s.value_size) c.shape-size.ensures) c.value_at-start.ensures.offset in
+    let some = is_there k c.args.self.now map c.self.view_is c.requires.live in
+    record {
+      entry = subst (λ (k : KeptTenant). some_entry (key_bytes e.0) (take ((start + size) - start) (drop start part)) e.1 ≡ next_entry c.args.after (placed_entries part k.live map)) c.self.view_is
+          (ap (λ (value : List ℕ). some_entry (key_bytes e.0) value e.1) lent
+          ∙ ap (option_map (with_value part k map)) (ap (option_map shown_entry) (sym c.in-Some.is) ∙ c.entry_after.ensures.entry)
+          ∙ sym (next_placed part k.live map c.args.after));
+      once = once_in part k c.args.self.now map c.self.view_is (placed_once part k.live map (c.maps_are_laid.ensures.sound map some));
+    }

@@ -1,0 +1,38 @@
+-- Laws of the maps at their places, proved here for the proofs of this crate and of the crates above. This project's own. No
+-- contract cites them, so there is nothing in them to believe.
+use Rattle.std.proofs.Common.{◌≡◌, ℕ, ◌<◌, ◌≤◌, ◌⊎◌, inl, inr, List, length, Option, Some, None, is_some, refl, sym, ap, ◌∙◌, get_or, arith}
+use Rattle.std.specs.Prelude.{option_map}
+use Rattle.std.proofs.lemmas.Bool.{cases_lt}
+use Rattle.std.proofs.lemmas.List.{get_or_past}
+use Rattle.std.proofs.lemmas.List.FromFn.{length-map-range_with_len, get_or-map-range_with_len}
+use Rattle.bpf_maps.specs.Live.{LiveMaps, live_at, map_in}
+use Rattle.bpf_maps.specs.Limits.{most_maps}
+use Rattle.tenant.specs.State.{Map}
+use Rattle.tenant.specs.Kept.{at_places, map_at}
+
+pub length-at : (f : ℕ → Option Map) → length (at_places f) ≡ most_maps
+unfolding at_places
+length-at f = length-map-range_with_len f 0 most_maps
+
+pub at-within : (f : ℕ → Option Map) (i : ℕ) → i < most_maps → get_or (at_places f) i None ≡ f i
+unfolding at_places
+at-within f i lt = get_or-map-range_with_len f 0 most_maps i i None lt (omega arith)
+
+pub at-past : (f : ℕ → Option Map) (i : ℕ) → most_maps ≤ i → get_or (at_places f) i None ≡ None
+at-past f i past = let long = length-at f in get_or_past (at_places f) i None (omega arith)
+
+pub is_some-mapped : {A B : Type 0} (f : A → B) (o : Option A) → is_some (option_map f o) ≡ is_some o
+is_some-mapped f None = refl
+is_some-mapped f (Some x) = refl
+
+-- whether a map is live does not depend on the bytes of its values
+pub some_at_each : (p q : List ℕ) (t : LiveMaps) (place : ℕ) → is_some (get_or (at_places (map_at p t)) place None) ≡ is_some (get_or (at_places (map_at q t)) place None)
+some_at_each p q t place = by (cases_lt place most_maps)
+  where
+    by : (place < most_maps) ⊎ (most_maps ≤ place) → is_some (get_or (at_places (map_at p t)) place None) ≡ is_some (get_or (at_places (map_at q t)) place None)
+    by (inl lt) =
+        ap is_some (at-within (map_at p t) place lt)
+        ∙ is_some-mapped (λ l. map_in p t place) (live_at t place)
+        ∙ sym (is_some-mapped (λ l. map_in q t place) (live_at t place))
+        ∙ sym (ap is_some (at-within (map_at q t) place lt))
+    by (inr past) = ap is_some (at-past (map_at p t) place past) ∙ sym (ap is_some (at-past (map_at q t) place past))

@@ -1,0 +1,87 @@
+//! What a tenant has: its open objects, its live maps, and their keys and values.
+
+ghost use Rattle.std.specs.Prelude.{◌≡◌, ◌≤◌, ℕ, List, IsSome, IfSome, is_some, length, option_map};
+ghost use Rattle.std.specs.Map.{values_of};
+ghost use Rattle.std.specs.Option.{option_copied};
+ghost use Rattle.bpf_maps.specs.declared.part.TheConstants.{PART};
+ghost use Rattle.bpf_maps.specs.Live.{live_at, shape_at, map_in};
+ghost use Rattle.bpf_maps.specs.Places.{occurrences};
+ghost use Rattle.fd_table.specs.Table.{named};
+ghost use Rattle.ordered_keys.specs.Orders.{next_entry};
+ghost use Rattle.tenant.specs.Entry.{placed_entries, lent_entry};
+ghost use Rattle.tenant.specs.Kept.{state_in};
+ghost use Rattle.tenant.specs.State.{live};
+
+use crate::object::OpenObject;
+use crate::tenant::Tenant;
+use bpf_maps::{KeyRef, MapKey};
+use tagged_model::MapShape;
+
+/// A key of a map, its value, and the place of the value in the map.
+#[derive(Drop)]
+pub struct MapEntry<'a> {
+    pub key: KeyRef<'a>,
+    pub value: &'a [u8],
+    pub place: u32,
+}
+
+impl Tenant {
+    /// The object that a descriptor names; `None` if it is not open.
+    pub fn object(&self, fd: u32) -> Option<&OpenObject>
+        ensures { option_copied result ≡ named self.now.objects fd }
+    {
+        self.objects.get(fd)
+    }
+
+    /// Whether a map is live.
+    pub fn is_live(&self, map: MapKey) -> bool
+        ensures { (part : List ℕ) → result ≡ is_some (live (state_in part self.now) map) }
+    {
+        self.maps.maps_are_laid();
+        self.maps.is_live(map)
+    }
+
+    /// The shape of a map; `None` if it is not live.
+    pub fn map_shape(&self, map: MapKey) -> Option<MapShape>
+        ensures shape { IfSome result (λ shape. IsSome (live_at self.now.live map)
+            × (shape ≡ shape_at self.now.live map)) }
+        ensures state { (part : List ℕ) → live (state_in part self.now) map
+            ≡ option_map (λ shape. map_in part self.now.live map) result }
+    {
+        self.maps.maps_are_laid();
+        if self.maps.is_live(map) {
+            Some(self.maps.shape(map))
+        } else {
+            None
+        }
+    }
+
+    /// The key of a live map that follows the one of a place, or the first key if no place is given, with its value, which is
+    /// borrowed from the tenant's part of `PART` bytes. `None` if there is none, and if no key has the place.
+    pub fn map_entry<'a>(
+        &'a self,
+        map: MapKey,
+        after: Option<u32>,
+        part: &'a [u8],
+    ) -> Option<MapEntry<'a>>
+        requires live { IsSome (live_at self.now.live map) }
+        requires whole { length part.now ≡ PART }
+        ensures entry { option_map lent_entry result
+            ≡ next_entry after (placed_entries part.now self.now.live map) }
+        ensures once { (p : ℕ) →
+            occurrences p (values_of (placed_entries part.now self.now.live map)) ≤ 1 }
+    {
+        self.maps.maps_are_laid();
+        let Some(entry) = self.maps.entry_after(map, after) else {
+            return None;
+        };
+        let (key, place) = entry;
+        let size = self.maps.shape(map).value_size as usize;
+        let start = self.maps.value_at(map, place);
+        Some(MapEntry {
+            key,
+            value: &part[start..start + size],
+            place,
+        })
+    }
+}

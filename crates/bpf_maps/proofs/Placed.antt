@@ -128,7 +128,7 @@ has_key a {place = place} {map = map} view same live = by (get_or a.keys place N
         ∙ ap (λ (p : ℕ). is_some (get_or (live_maps_of (entries_of a)) p None)) (sym same)
         ∙ ap is_some (at_lives (entries_of a) place ∙ ap (option_map live_of) (no_key a.entries a.keys place at))))
 
--- a map is live just where its place has a key
+-- a map is live if and only if its place has a key
 pub live_with_key : (a : Inside) {t : LiveMaps} {place map : ℕ} → as_live_maps a ≡ t → place ≡ map → AreKeys a.keys a.entries → is_some (get_or a.keys place None) ≡ is_some (live_at t map)
 live_with_key a {place = place} {map = map} view same is =
     sym (live_where a.keys a.entries is place)

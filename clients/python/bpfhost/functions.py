@@ -1,6 +1,6 @@
 """The functions of the library for C, with their parameters (clients/c/include/bpfhost.h), as ctypes calls them.
 
-A pointer is an address here: of a number it is `ctypes.byref`, of bytes the bytes themselves.
+Each pointer is an address here: ctypes takes a number, `byref` of a number, an array, or bytes.
 """
 
 from __future__ import annotations

@@ -100,7 +100,7 @@ fn join_other_kind(known: &mut Kind, edge: &Kind)
     ensures { known.new ≡ kind_join known.old edge.now }
 {
     match (&mut *known, edge) {
-        (Kind::Unreadable, _) | (Kind::Ctx, Kind::Ctx) => {}
+        (Kind::Ctx, Kind::Ctx) => {}
         (Kind::Stack(x), Kind::Stack(y)) if *x == *y => {}
         (Kind::MapRef(m), Kind::MapRef(n)) if *m == *n => {}
         (Kind::Value(p), Kind::Value(q)) if p.map == q.map => *p = offsets_hull(*p, *q),
@@ -108,13 +108,14 @@ fn join_other_kind(known: &mut Kind, edge: &Kind)
     }
 }
 
-/// Joins the kind `edge` into `known` in place. Nothing is written if they are ranges, and the first holds the second.
+/// Joins the kind `edge` into `known` in place. Nothing is written if `known` is unreadable, or is a range that holds that of `edge`.
 #[inline(always)]
 fn join_kind(known: &mut Kind, edge: &Kind)
     ensures { known.new ≡ kind_join known.old edge.now }
 {
     match (&mut *known, edge) {
         (Kind::Scalar(range), Kind::Scalar(other)) if holds_range(range, other) => {}
+        (Kind::Unreadable, _) => {}
         _ => join_other_kind(known, edge),
     }
 }

@@ -99,7 +99,8 @@ impl Births {
 
     /// Forgets the births of what lives no more.
     pub(crate) fn keep_living(&mut self, tenant: &Tenant)
-        ensures { (part : List ℕ) → self.new ≡ filter (lives_in (state_in part tenant.now)) self.old }
+        ensures { (part : List ℕ)
+            → self.new ≡ filter (lives_in (state_in part tenant.now)) self.old }
     {
         self.oldest_first.retain(|birth| lives(tenant, birth));
     }

@@ -35,7 +35,6 @@ NO_PROSE = re.compile(r"^(```|~~~).*?^\1$|^(?: {4}|\t)[^\n]*$|`[^`\n]*`|\]\([^)\
 MOST: dict[str, int] = {
     "CONTRIBUTING.md": 10,
     "README.md": 3,
-    "bench/FIGURES.md": 10,
     "tests/conformance/README.md": 8,
     "clients/python/DECISIONS.md": 1,
     "clients/python/FILTERS.md": 1,

@@ -5,6 +5,7 @@ A caller that sends many frames mostly sends such ones: test runs of packets of 
 
 from __future__ import annotations
 
+import struct
 from itertools import repeat
 
 from bpfhost.numbers import REPLY_HEAD, Command
@@ -14,19 +15,45 @@ from bpfhost.tenancy import BODY
 _LEAST, _FEW = 8, 64
 # Commands that neither open nor close anything, and have short replies.
 _SHORT = (Command.PROG_TEST_RUN, Command.MAP_UPDATE_ELEM, Command.MAP_DELETE_ELEM)
+# In the frame of a test run, the length, tenant, command, descriptor and context come before the packet.
+BEFORE_PACKET = 52
 
 
 def size_of_alike(stream: bytes | bytearray) -> int:
     """The length of each frame if all have the same header, with the length field; 0 if they differ or are few."""
     size = 4 + int.from_bytes(stream[:4], "little")
-    count, rest = divmod(len(stream), size)
-    if rest or count < _LEAST or size < BODY:
+    if len(stream) < _LEAST * size or len(stream) % size or size < BODY:
         return 0
+    count = len(stream) // size
     # Each frame begins after the end of the one before, as all lengths are that of the first frame. Up to `_FEW` frames are compared one
     # after the other, more of them by each byte of their heads.
     if count <= _FEW:
         return size if all(map(stream.startswith, repeat(bytes(stream[:BODY])), range(size, len(stream), size))) else 0
     return size if all(stream[at::size] == stream[at : at + 1] * count for at in range(BODY)) else 0
+
+
+def packed(stream: bytes, size: int) -> bytes:
+    """Test runs of this length that differ only in their packets: what they have in common, and then the packets.
+
+    Empty if the frames are others.
+    """
+    if size <= BEFORE_PACKET or int.from_bytes(stream[6:BODY], "little") != Command.PROG_TEST_RUN:
+        return b""
+    heads, packets = zip(*struct.iter_unpack(f"{BEFORE_PACKET}s{size - BEFORE_PACKET}s", stream))
+    head: bytes = heads[0]
+    return head + b"".join(packets) if heads.count(head) == len(heads) else b""
+
+
+def unpacked(runs: bytes) -> bytes:
+    """The test runs that were packed."""
+    head = runs[:BEFORE_PACKET]
+    packets = struct.iter_unpack(f"{size_of_packet(runs)}s", runs[BEFORE_PACKET:])
+    return b"".join([head + packet for (packet,) in packets])
+
+
+def size_of_packet(runs: bytes) -> int:
+    """The length of each packet of packed test runs."""
+    return 4 + int.from_bytes(runs[:4], "little") - BEFORE_PACKET
 
 
 def is_short(stream: bytes) -> bool:

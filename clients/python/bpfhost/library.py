@@ -22,6 +22,7 @@ from types import TracebackType
 from bpfhost import frames
 from bpfhost.errors import BpfhostError
 from bpfhost.frames import NO_CONTEXT, Context
+from bpfhost.functions import functions_of
 from bpfhost.numbers import LONGEST_PACKET, LONGEST_PAYLOAD, MOST_TENANTS, REPLY_HEAD, Command, Errno
 from bpfhost.packets import Packets
 from bpfhost.replies import Reply, read_replies
@@ -31,18 +32,6 @@ VERSION = "0.1"
 _NAME = re.compile(r"libbpfhost\.so\.(\d+\.\d+)")
 _LENGTH_FIELD = 4
 _LONGEST_REPLY = REPLY_HEAD + LONGEST_PAYLOAD
-_SIZE, _HANDLE, _OUT = ctypes.c_size_t, ctypes.POINTER(ctypes.c_void_p), ctypes.c_void_p
-# The functions, with their parameters (clients/c/include/bpfhost.h).
-_FUNCTIONS = {
-    "bpfhost_c_new": (_HANDLE, _SIZE, ctypes.c_uint64, ctypes.c_uint64),
-    "bpfhost_c_handle": (_HANDLE, ctypes.c_char_p, _SIZE, _OUT, _SIZE, ctypes.POINTER(_SIZE)),
-    "bpfhost_c_run_packets": (
-        *(_HANDLE, ctypes.c_uint16, ctypes.c_uint32, ctypes.c_char_p, ctypes.c_void_p, _SIZE),
-        *(_OUT, _SIZE, _OUT, _SIZE, ctypes.POINTER(ctypes.c_int32)),
-    ),
-    "bpfhost_c_memory_refused": (_HANDLE, ctypes.c_uint16, ctypes.POINTER(ctypes.c_bool)),
-    "bpfhost_c_free": (_HANDLE,),
-}
 # The address of empty packets and results: not null, and aligned.
 _ANYWHERE = 8
 _CODES = {-1: "its host is closed", -4: "there is no memory for a host"}
@@ -64,27 +53,19 @@ class Library:
         if named and named[1] != VERSION:
             raise LibraryError(f"{self.path} is of version {named[1]}, and this client is for {VERSION}")
         try:
-            self._library = ctypes.CDLL(str(self.path.resolve()))
+            self.functions = functions_of(str(self.path.resolve()))
         except OSError as error:
             raise LibraryError(f"{self.path} is no shared library that can be opened: {error}") from error
-        for name, types in _FUNCTIONS.items():
-            function = getattr(self._library, name, None)
-            if function is None:
-                raise LibraryError(f"{self.path} is no library of bpfhost {VERSION}: it has no {name}")
-            function.argtypes, function.restype = types, ctypes.c_int32
+        except AttributeError as error:
+            raise LibraryError(f"{self.path} is no library of bpfhost {VERSION}: {error}") from error
 
     def __repr__(self) -> str:
         return f"<Library {self.path}>"
 
-    def call(self, name: str, *values: object) -> None:
-        """Calls a function. Raises LibraryError if it returns a code other than 0."""
-        code = getattr(self._library, name)(*values)
+    def demand_done(self, code: int) -> None:
+        """Raises LibraryError if a function returned a code other than 0."""
         if code:
-            raise LibraryError(f"{self.path}, {name}: {_CODES.get(code, f'it returned {code}')}")
-
-    def free(self, handle: ctypes.c_void_p) -> None:
-        """Frees the host of a handle, which is empty then."""
-        self._library.bpfhost_c_free(handle)
+            raise LibraryError(f"{self.path}: {_CODES.get(code, f'a function returned {code}')}")
 
     def host(self, tenants: int = 1, seed: tuple[int, int] | None = None) -> LibraryHost:
         """A host of 1 to 64 tenants. Its seed is two words of 64 bits that no tenant may know: drawn, if they are not given."""
@@ -104,8 +85,10 @@ class LibraryHost:
         self.library, self.tenants = library, tenants
         self._lock = threading.Lock()
         self._handle = ctypes.c_void_p()
+        # What the library is given: the address of the handle, which is empty after the end.
+        self._at = ctypes.byref(self._handle)
         self._room, self._written = ctypes.create_string_buffer(_LONGEST_REPLY), ctypes.c_size_t()
-        library.call("bpfhost_c_new", self._handle, tenants, first, second)
+        library.demand_done(library.functions.new(self._at, tenants, first, second))
 
     def __enter__(self) -> LibraryHost:
         return self
@@ -120,7 +103,7 @@ class LibraryHost:
     def close(self) -> None:
         """Frees the host; each later call raises LibraryError."""
         with self._lock:
-            self.library.free(self._handle)
+            self.library.functions.free(self._at)
 
     def tenant(self, number: int = 0) -> LibraryTenant:
         """The tenant of this number. Raises ValueError if the host does not serve it."""
@@ -132,7 +115,8 @@ class LibraryHost:
         """Handles a frame without its length field, valid or not; returns the bytes of the reply, with its length field."""
         with self._lock:
             written = ctypes.byref(self._written)
-            self.library.call("bpfhost_c_handle", self._handle, frame, len(frame), self._room, _LONGEST_REPLY, written)
+            code = self.library.functions.handle(self._at, frame, len(frame), self._room, _LONGEST_REPLY, written)
+            self.library.demand_done(code)
             return ctypes.string_at(self._room, self._written.value)
 
     def ask(self, frame: bytes) -> Reply:
@@ -144,7 +128,7 @@ class LibraryHost:
         """Whether memory was ever refused to a tenant; False for a number that is not served."""
         refused = ctypes.c_bool()
         with self._lock:
-            self.library.call("bpfhost_c_memory_refused", self._handle, tenant, ctypes.byref(refused))
+            self.library.demand_done(self.library.functions.memory_refused(self._at, tenant, ctypes.byref(refused)))
         return refused.value
 
     def run_packets(
@@ -161,10 +145,10 @@ class LibraryHost:
         count, results, status = len(ends), array("I", bytes(4 * len(ends))), ctypes.c_int32()
         places = (ends.buffer_info()[0] or _ANYWHERE, count, results.buffer_info()[0] or _ANYWHERE, count)
         with self._lock:
-            self.library.call(
-                "bpfhost_c_run_packets",
-                *(self._handle, tenant, descriptor, _words_of(context), data, len(data), *places, ctypes.byref(status)),
+            code = self.library.functions.run_packets(
+                *(self._at, tenant, descriptor, _words_of(context), data, len(data), *places, ctypes.byref(status))
             )
+            self.library.demand_done(code)
         if status.value == -Errno.E2BIG:
             longest = max(map(sub, ends, (0, *ends)))
             raise ValueError(f"a packet has {longest:,} bytes, and that of a test run has {LONGEST_PACKET:,} at most")

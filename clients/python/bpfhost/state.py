@@ -1,10 +1,11 @@
 """The frames that build a tenant's state again, on a host on which the tenant is new.
 
-docs/SCALING.md explains why they do. All of them name tenant 0; the caller replaces the number.
+clients/python/SHARDS.md explains why they do. All of them name tenant 0; the caller replaces the number.
 """
 
 from __future__ import annotations
 
+import struct
 from collections.abc import Generator, Iterable, Iterator, Mapping, Sequence
 from typing import Protocol, TypeVar, cast
 
@@ -67,8 +68,10 @@ def with_tenant(frame: bytes, tenant: int) -> bytes:
 
 def split(stream: bytes) -> list[bytes]:
     """Splits bytes into frames or replies. Raises ValueError if they are not such."""
+    if len(stream) == 4 + int.from_bytes(stream[:4], "little"):
+        return [stream]
     if size := size_of_alike(stream):
-        return [stream[at : at + size] for at in range(0, len(stream), size)]
+        return [frame for (frame,) in struct.iter_unpack(f"{size}s", stream)]
     found, at = [], 0
     while at < len(stream):
         end = at + 4 + int.from_bytes(stream[at : at + 4], "little")

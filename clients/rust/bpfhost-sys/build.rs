@@ -1,4 +1,4 @@
-//! Finds `libbpfhost.a`: in the folder that `BPFHOST_LIB` names, else where pkg-config knows `bpfhost`.
+//! Finds `libbpfhost.a`: in the folder that `BPFHOST_LIB` names, or else the one that pkg-config knows as `bpfhost`.
 
 use std::env;
 use std::path::PathBuf;
@@ -37,7 +37,7 @@ fn folder() -> Result<PathBuf, String> {
     Ok(folder)
 }
 
-/// The folder of the library, as `bpfhost.pc` tells it.
+/// The folder of the library, as `bpfhost.pc` names it.
 fn told_by_pkg_config() -> Result<String, String> {
     let wanted = format!(
         "set BPFHOST_LIB to the folder that `tools/library FOLDER` of bpfhost has filled with {ARCHIVE}, or name it in PKG_CONFIG_PATH"

@@ -1,5 +1,5 @@
-//! Two tenants of one host in this process: a filter that counts UDP packets where they lie, and a neighbour that is hostile.
-//! `examples/embed` of the repository tells the same story in C, and has the filter as text.
+//! Two tenants of one host in this process: a filter that counts UDP packets in place, and a hostile neighbour.
+//! `examples/embed` of the repository is the same program in C, and has the filter as text.
 
 use bpfhost::{Context, Error, Fd, Host, MapShape, MapType, Packet, Tenant};
 
@@ -9,7 +9,7 @@ const UDP: u8 = 17;
 const TCP: u8 = 6;
 const ICMP: u8 = 1;
 
-/// Answers the length of a UDP packet over IPv4 over Ethernet, and counts it in the map of descriptor 3; 0 for all others.
+/// Returns the length of a UDP packet over IPv4 over Ethernet, and counts it in the map of descriptor 3; 0 for all others.
 const FILTER: [u64; 22] = [
     0xbf16_0000_0000_0000, // r6 = r1
     0xb702_0000_1700_0000, // r2 = 23
@@ -61,13 +61,13 @@ fn load(tenant: &mut Tenant<'_>, slots: &[u64]) -> Result<Fd, Error> {
 /// A packet as a driver may leave it, with room in front for the head of its frame.
 fn received(protocol: u8) -> Packet {
     let mut packet = Packet::new(64);
-    packet.bytes_mut()[12] = 0x08; // IPv4 behind the addresses of Ethernet
+    packet.bytes_mut()[12] = 0x08; // IPv4 after the addresses of Ethernet
     packet.bytes_mut()[14] = 0x45;
     packet.bytes_mut()[23] = protocol;
     packet
 }
 
-/// The packet stays where it is: only the room in front of it is written to.
+/// The packet is not copied: only the room in front of it is written to.
 fn filter(tenant: &mut Tenant<'_>, prog: Fd, packet: &mut Packet) -> Result<u32, Error> {
     tenant.prog_test_run_in_place(prog, &Context::default(), packet.room_mut())
 }

@@ -1,7 +1,7 @@
 use crate::Error;
 use bpfhost_sys::LONGEST_FRAME;
 
-/// Packets one behind another. Their memory is kept for those of the next batch.
+/// Packets one after another. Their memory is kept for those of the next batch.
 #[derive(Default)]
 pub(crate) struct Batch {
     pub(crate) bytes: Vec<u8>,

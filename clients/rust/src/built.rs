@@ -5,7 +5,7 @@ use std::fmt;
 /// The format of a file, and its version.
 const FORMAT: &str = "bpfhost program";
 const VERSION: u32 = 1;
-/// Where a slot has the descriptor of a map.
+/// The offset of a map's descriptor in a slot.
 const DESCRIPTOR: std::ops::Range<usize> = 4..8;
 
 /// A program with its maps, as `python3 -m bpfhost build` writes it. README.md of clients/python has the format.
@@ -55,8 +55,8 @@ impl BuiltProgram {
     ///
     /// # Errors
     ///
-    /// [`NotBuilt`] tells what is wrong: the JSON and where, another format or version, a key that is missing or has another type, or a
-    /// slot of a map that the program does not have.
+    /// [`NotBuilt`] says what is wrong: the JSON, with the offset; another format or version, a key that is missing or has another
+    /// type, or a slot of a map that the program does not have.
     pub fn read(text: &str) -> Result<BuiltProgram, NotBuilt> {
         let file = json::read(text).or_else(|fault| wrong(format!("{} at byte {}", fault.what, fault.at)))?;
         if field(&file, "format").and_then(string)? != FORMAT {
@@ -82,7 +82,7 @@ impl BuiltProgram {
         &self.maps
     }
 
-    /// Makes the maps for a tenant, with their first values, and loads the program. Where that is refused, the maps are closed again.
+    /// Makes the maps for a tenant, with their first values, and loads the program. If that is refused, the maps are closed again.
     ///
     /// # Errors
     ///

@@ -53,7 +53,7 @@ impl Errno {
         self as i32
     }
 
-    /// The error number of a reply's status, which is below 0 then. The library answers no other statuses below 0 than these.
+    /// The error number of a reply's status, which is below 0 then. The library returns no other statuses below 0.
     pub(crate) fn of_status(status: i32) -> Errno {
         let found = Errno::ALL.into_iter().find(|errno| -errno.number() == status);
         found.unwrap_or_else(|| panic!("the status {status} is none of bpfhost's: is the library of another version?"))

@@ -17,7 +17,7 @@ pub enum Error {
         /// For how many results there is room.
         results: usize,
     },
-    /// A command, or a run of many packets, was answered with an error number.
+    /// A command, or a run of many packets, returned an error number.
     Status(Errno),
     /// A program was refused.
     Refused {
@@ -25,7 +25,7 @@ pub enum Error {
         errno: Errno,
         /// The first slot at which a rule is broken, from 0.
         slot: u32,
-        /// The rule: a number of docs/VERIFIER.md, or above 100 where the slots spell no program.
+        /// The rule: a number of docs/VERIFIER.md, or above 100 if the slots are no program.
         reason: u16,
     },
 }

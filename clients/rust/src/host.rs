@@ -21,9 +21,9 @@ use std::hash::{BuildHasher, Hasher};
 /// ```
 pub struct Host {
     handle: Handle,
-    // Where the commands of `Tenant` build their frames.
+    // The commands of `Tenant` build their frames here.
     frame: Vec<u8>,
-    // Where `Tenant::run_packets` puts its packets.
+    // `Tenant::run_packets` puts its packets here.
     batch: Batch,
 }
 
@@ -37,7 +37,7 @@ impl Host {
     ///
     /// # Errors
     ///
-    /// [`Error::Tenants`] where their number is not 1 to [`MOST_TENANTS`](crate::MOST_TENANTS), [`Error::NoMemory`].
+    /// [`Error::Tenants`] if their number is not 1 to [`MOST_TENANTS`](crate::MOST_TENANTS), [`Error::NoMemory`].
     pub fn new(tenants: usize) -> Result<Host, Error> {
         match Handle::new(tenants, [random_word(), random_word()]) {
             Ok(handle) => Ok(Host { handle, frame: Vec::new(), batch: Batch::default() }),
@@ -47,19 +47,19 @@ impl Host {
         }
     }
 
-    /// What speaks for one tenant. Each command for a number that is not served is answered [`EPERM`](crate::Errno::EPERM).
+    /// One tenant of this host. Each command for a number that is not served returns [`EPERM`](crate::Errno::EPERM).
     pub fn tenant(&mut self, number: u16) -> Tenant<'_> {
         Tenant::new(self, number)
     }
 
-    /// Handles a frame of any length and content, which is what follows the length field in a stream. The reply is lent where it
-    /// stands; nothing is copied.
+    /// Handles a frame of any length and content, which is what follows the length field in a stream. The reply is lent, and
+    /// nothing is copied.
     pub fn handle(&mut self, frame: &[u8]) -> Reply<'_> {
         Reply::new(self.handle.handle(frame))
     }
 
-    /// Handles a frame of a tenant, a command and its fields. A frame that is too long is cut behind one byte too many: it is answered
-    /// as it is, since only its head and its length are looked at.
+    /// Handles a frame of a tenant, a command and its fields. A frame that is too long is cut after one byte too many: its reply is
+    /// the same, since only its head and its length are looked at.
     pub(crate) fn ask(&mut self, tenant: u16, command: u16, fields: &[&[u8]]) -> Reply<'_> {
         self.frame.clear();
         self.frame.extend_from_slice(&tenant.to_le_bytes());
@@ -71,7 +71,7 @@ impl Host {
         Reply::new(self.handle.handle(&self.frame))
     }
 
-    /// Copies packets one behind another, and runs a program of a tenant on them. Returns how many there were.
+    /// Copies packets one after another, and runs a program of a tenant on them. Returns how many there were.
     pub(crate) fn run_packets(
         &mut self,
         tenant: u16,
@@ -86,7 +86,7 @@ impl Host {
         Ok(ends.len())
     }
 
-    /// Runs a program of a tenant on packets that lie one behind another.
+    /// Runs a program of a tenant on packets that lie one after another.
     pub(crate) fn run_packets_in_place(
         &mut self,
         tenant: u16,
@@ -99,7 +99,7 @@ impl Host {
         run_packets(&mut self.handle, tenant, prog, context, bytes, ends, results)
     }
 
-    /// Whether memory was ever refused to a tenant. While it was not, the tenant's replies are those that it would be given alone.
+    /// Whether memory was ever refused to a tenant. While it was not, the tenant's replies are those that it would get on a host of its own.
     /// False for a number that is not served.
     pub fn memory_was_refused(&mut self, tenant: u16) -> bool {
         self.handle.memory_was_refused(tenant)
@@ -112,7 +112,7 @@ impl fmt::Debug for Host {
     }
 }
 
-/// Runs a program of a tenant on packets that lie one behind another in `bytes`, and end where `ends` says.
+/// Runs a program of a tenant on packets that lie one after another in `bytes`, and end before the bytes of `ends`.
 fn run_packets(
     handle: &mut Handle,
     tenant: u16,

@@ -1,4 +1,4 @@
-//! JSON, as far as built programs have it: RFC 8259, with whole numbers from 0 to 2^32 - 1 alone.
+//! JSON, as far as built programs have it: RFC 8259, with no other numbers than whole ones from 0 to 2^32 - 1.
 
 /// What a text is.
 #[derive(Debug, Clone, PartialEq, Eq)]
@@ -11,14 +11,14 @@ pub(crate) enum Value {
     Object(Vec<(String, Value)>),
 }
 
-/// Where a text is no such value, and why.
+/// The offset at which a text is no such value, and the reason.
 #[derive(Debug, Clone, Copy, PartialEq, Eq)]
 pub(crate) struct Fault {
     pub(crate) at: usize,
     pub(crate) what: &'static str,
 }
 
-/// Values stand in one another at most so many times.
+/// Values are nested at most so deep.
 const DEEPEST: usize = 32;
 
 /// The value that a whole text is.
@@ -47,7 +47,7 @@ impl Reader<'_> {
         self.at += self.rest().len() - self.rest().trim_start_matches([' ', '\t', '\n', '\r']).len();
     }
 
-    /// Whether this stands here, behind spaces; then it is read.
+    /// Whether this comes next, after spaces; then it is read.
     fn takes(&mut self, word: &str) -> bool {
         self.space();
         let is_here = self.rest().starts_with(word);

@@ -1,7 +1,7 @@
 //! A host of the library, by safe functions over those of `bpfhost-sys`. All `unsafe` code of this crate is here.
 //!
 //! No contract of the library's functions has a `requires`, so all that a call owes are its parameters' types (crates/bpfhost_c). A `&mut`
-//! and a slice are not null, are aligned, lead to a whole value, and outlive the call; what is behind a `&mut` overlaps no other parameter.
+//! and a slice are not null, are aligned, lead to a whole value, and outlive the call; what a `&mut` leads to overlaps no other parameter.
 
 use bpfhost_sys::{
     DONE, bpfhost, bpfhost_bytes, bpfhost_c_free, bpfhost_c_handle_lent, bpfhost_c_memory_refused, bpfhost_c_new,
@@ -17,10 +17,10 @@ pub(crate) struct Handle(bpfhost);
 unsafe impl Send for Handle {}
 
 impl Handle {
-    /// Makes a host with a seed of two words, or tells by a code why not.
+    /// Makes a host with a seed of two words, or returns a code that says why not.
     pub(crate) fn new(tenants: usize, seed: [u64; 2]) -> Result<Handle, i32> {
         let mut handle = Handle(bpfhost { at: null_mut() });
-        // SAFETY: the handle is empty, as the library wants it, and behind a `&mut`.
+        // SAFETY: the handle is empty, as the library requires, and is passed as a `&mut`.
         match unsafe { bpfhost_c_new(&mut handle.0, tenants, seed[0], seed[1]) } {
             DONE => Ok(handle),
             code => Err(code),
@@ -30,14 +30,14 @@ impl Handle {
     /// The reply to a frame, lent until the next call.
     pub(crate) fn handle(&mut self, frame: &[u8]) -> &[u8] {
         let mut lent = bpfhost_bytes { at: NonNull::dangling().as_ptr(), length: 0 };
-        // SAFETY: the address and the length are those of a slice; the handle and `lent` are behind a `&mut` each.
+        // SAFETY: the address and the length are those of a slice; the handle and `lent` are passed as a `&mut` each.
         done(unsafe { bpfhost_c_handle_lent(&mut self.0, frame.as_ptr(), frame.len(), &mut lent) });
-        // SAFETY: by `done` of the contract the reply stands there (`StandsAt`): these are bytes of a vector that the handle owns. They
+        // SAFETY: by `done` of the contract the reply is there (`StandsAt`): these are bytes of a vector that the handle owns. They
         // change at the next call with the handle, which can't come while they are used, since they borrow it.
         unsafe { std::slice::from_raw_parts(lent.at, lent.length) }
     }
 
-    /// Runs a program of a tenant on packets that lie one after another in `bytes`, and end where `ends` says. Returns the status.
+    /// Runs a program of a tenant on packets that lie one after another in `bytes`, and end before the bytes of `ends`. Returns the status.
     ///
     /// # Panics
     ///
@@ -54,7 +54,7 @@ impl Handle {
         assert!(ends.len() <= results.len(), "there is a result for each packet");
         let mut status = 0;
         // SAFETY: each address with its length is that of a slice or an array. What may be written is the handle, `results` and
-        // `status`, each behind a `&mut`.
+        // `status`, each passed as a `&mut`.
         done(unsafe {
             bpfhost_c_run_packets(
                 &mut self.0,
@@ -76,7 +76,7 @@ impl Handle {
     /// Whether memory was ever refused to a tenant.
     pub(crate) fn memory_was_refused(&mut self, tenant: u16) -> bool {
         let mut refused = false;
-        // SAFETY: the handle and `refused`, which is a whole `bool`, are behind a `&mut` each.
+        // SAFETY: the handle and `refused`, which is a whole `bool`, are passed as a `&mut` each.
         done(unsafe { bpfhost_c_memory_refused(&mut self.0, tenant, &mut refused) });
         refused
     }
@@ -84,7 +84,7 @@ impl Handle {
 
 impl Drop for Handle {
     fn drop(&mut self) {
-        // SAFETY: the handle is behind a `&mut`, and is empty or as the library left it.
+        // SAFETY: the handle is passed as a `&mut`, and is empty or as the library left it.
         unsafe { bpfhost_c_free(&mut self.0) }
     }
 }

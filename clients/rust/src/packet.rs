@@ -1,6 +1,6 @@
 use bpfhost_sys::{PROG_TEST_RUN, TEST_RUN_HEAD};
 
-/// What a test run finds in its context behind the packet's length: the fields of the kernel's `__sk_buff`, with any values.
+/// What a test run finds in its context after the packet's length: the fields of the kernel's `__sk_buff`, with any values.
 #[derive(Debug, Clone, Copy, Default, PartialEq, Eq)]
 #[allow(missing_docs, reason = "the kernel's names, which mean to this host what the program makes of them")]
 pub struct Context {
@@ -35,7 +35,7 @@ impl Context {
         ]
     }
 
-    /// What stands before the packet in the frame of a test run.
+    /// What comes before the packet in the frame of a test run.
     pub(crate) fn head(&self, tenant: u16, prog: u32) -> [u8; TEST_RUN_HEAD] {
         let mut head = [0; TEST_RUN_HEAD];
         head[..2].copy_from_slice(&tenant.to_le_bytes());
@@ -50,7 +50,7 @@ impl Context {
 
 /// A packet with room in front for the head of its frame, so that a test run copies no byte of it.
 ///
-/// It owns its memory. A packet that lies elsewhere needs no `Packet`: where [`TEST_RUN_HEAD`] bytes in front of it may be
+/// It owns its memory. A packet elsewhere needs no `Packet`: if [`TEST_RUN_HEAD`] bytes in front of it may be
 /// overwritten, [`Tenant::prog_test_run_in_place`](crate::Tenant::prog_test_run_in_place) takes it as it lies.
 #[derive(Debug, Clone, PartialEq, Eq)]
 pub struct Packet {

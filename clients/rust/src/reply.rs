@@ -20,17 +20,17 @@ impl<'a> Reply<'a> {
         Reply { bytes }
     }
 
-    /// The whole reply with its length field, 12 to [`LONGEST_REPLY`](crate::LONGEST_REPLY) bytes, as it stands in a stream.
+    /// The whole reply with its length field, 12 to [`LONGEST_REPLY`](crate::LONGEST_REPLY) bytes, as it is in a stream.
     pub fn bytes(&self) -> &'a [u8] {
         self.bytes
     }
 
-    /// The tenant of the frame; 65535 where the frame is shorter than four bytes.
+    /// The tenant of the frame; 65535 if the frame is shorter than four bytes.
     pub fn tenant(&self) -> u16 {
         u16::from_le_bytes(self.field(4))
     }
 
-    /// The command of the frame; 65535 where the frame is shorter than four bytes.
+    /// The command of the frame; 65535 if the frame is shorter than four bytes.
     pub fn command(&self) -> u16 {
         u16::from_le_bytes(self.field(6))
     }
@@ -45,7 +45,7 @@ impl<'a> Reply<'a> {
         &self.bytes[12..]
     }
 
-    /// The status where it is not below 0, else the error that the reply tells.
+    /// The status if it is not below 0, or else the error of the reply.
     pub fn done(&self) -> Result<u32, Error> {
         let status = self.status();
         u32::try_from(status).map_err(|_| self.error(Errno::of_status(status)))

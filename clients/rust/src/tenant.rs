@@ -4,7 +4,7 @@ use bpfhost_sys::{
     PROG_TEST_RUN, SOCKET_FILTER, TEST_RUN_HEAD,
 };
 
-/// A descriptor: what names a map or a program to the tenant that opened it. The host gives 3 to 66; another number is answered
+/// A descriptor: what names a map or a program to the tenant that opened it. The host gives 3 to 66; another number is refused with
 /// [`EBADF`](Errno::EBADF).
 #[derive(Debug, Clone, Copy, PartialEq, Eq, Hash, PartialOrd, Ord)]
 pub struct Fd(pub u32);
@@ -13,7 +13,7 @@ pub struct Fd(pub u32);
 #[derive(Debug, Clone, Copy, PartialEq, Eq)]
 #[repr(u32)]
 pub enum MapType {
-    /// Has no key at first. Its keys stand in the order in which they were put there.
+    /// Has no key at first. Its keys are in the order in which they were added.
     Hash = HASH,
     /// Has all its entries from the beginning, each value zero. A key is an index of four bytes, the lowest first.
     Array = ARRAY,
@@ -44,10 +44,10 @@ pub enum Update {
     Exist = EXIST,
 }
 
-/// What speaks for one tenant of a host: whoever has it can ask nothing for another tenant.
+/// One tenant of a host: no command for another tenant can be given through it.
 ///
 /// Its functions are the commands of bpf(2), and test runs of many packets by one call. docs/PROTOCOL.md has all limits, and all
-/// errors in the order in which they are tried; [`EPERM`](Errno::EPERM) comes before them, where the tenant is not served. A refused
+/// errors in the order in which they are tried; [`EPERM`](Errno::EPERM) comes before them, if the tenant is not served. A refused
 /// command changes nothing.
 #[derive(Debug)]
 pub struct Tenant<'a> {
@@ -88,13 +88,13 @@ impl<'a> Tenant<'a> {
         reply.done().map(|_| reply.payload())
     }
 
-    /// Puts a value under a key. The host takes key and value as one piece of bytes: where one is too short by as much as the other is
+    /// Puts a value under a key. The host takes key and value as one piece of bytes: if one is too short by as much as the other is
     /// too long, it sees no fault.
     ///
     /// # Errors
     ///
     /// EBADF; EINVAL: the descriptor names a program, or the bytes are not as many as the map's key and value have. E2BIG: the index is
-    /// past the end, or the key is new and the map full. EEXIST, ENOENT: `update` does not want such a key. ENOMEM.
+    /// past the end, or the key is new and the map full. EEXIST, ENOENT: `update` excludes such a key. ENOMEM.
     pub fn map_update(&mut self, map: Fd, update: Update, key: &[u8], value: &[u8]) -> Result<(), Error> {
         let fields = [&map.0.to_le_bytes()[..], &(update as u64).to_le_bytes(), key, value];
         self.ask(MAP_UPDATE, &fields).done().map(drop)
@@ -109,7 +109,7 @@ impl<'a> Tenant<'a> {
         self.ask(MAP_DELETE, &[&map.0.to_le_bytes(), key]).done().map(drop)
     }
 
-    /// The key that follows, lent until the host's next call: behind no key, and behind one that is not there, the first.
+    /// The key that follows, lent until the host's next call: after no key, and after one that is not there, the first.
     ///
     /// # Errors
     ///
@@ -137,7 +137,7 @@ impl<'a> Tenant<'a> {
     ///
     /// # Errors
     ///
-    /// [`Error::Refused`] tells the first slot that breaks a rule, and the rule; bytes that are no whole slots break one. EMFILE, ENOMEM.
+    /// [`Error::Refused`] has the first slot that breaks a rule, and the rule; bytes that are no whole slots break one. EMFILE, ENOMEM.
     pub fn prog_load(&mut self, program: &(impl AsProgram + ?Sized)) -> Result<Fd, Error> {
         self.ask(PROG_LOAD, &[&SOCKET_FILTER.to_le_bytes(), program.as_program()]).done().map(Fd)
     }
@@ -154,7 +154,7 @@ impl<'a> Tenant<'a> {
         reply.done().map(|_| reply.result())
     }
 
-    /// Runs a program on a packet where it lies: behind the first [`TEST_RUN_HEAD`] bytes of `room`, which are overwritten. The packet
+    /// Runs a program on a packet in place: after the first [`TEST_RUN_HEAD`] bytes of `room`, which are overwritten. The packet
     /// stays as it is. [`Packet`](crate::Packet) has such a room.
     ///
     /// # Errors
@@ -171,7 +171,7 @@ impl<'a> Tenant<'a> {
     /// else afterwards are those of [`prog_test_run`](Tenant::prog_test_run) on each of them in this order. The result of each is
     /// written to the front of `results`, whose rest stays as it is. Returns how many packets there were.
     ///
-    /// The packets are copied one behind another into memory that the host keeps, so that later calls allocate only for more bytes or
+    /// The packets are copied one after another into memory that the host keeps, so that later calls allocate only for more bytes or
     /// packets than before. [`run_packets_in_place`](Tenant::run_packets_in_place) copies none.
     ///
     /// ```
@@ -182,7 +182,7 @@ impl<'a> Tenant<'a> {
     /// # let mut host = Host::new(1)?;
     /// # let mut tenant = host.tenant(0);
     /// # let prog = tenant.prog_load(&LENGTH.map(u64::to_be_bytes))?;
-    /// // The program answers the packet's length.
+    /// // The program returns the packet's length.
     /// let mut results = [0; 64];
     /// let count = tenant.run_packets(prog, &Context::default(), [&b"one"[..], b"", b"three"], &mut results)?;
     /// assert_eq!(results[..count], [3, 0, 5]);
@@ -210,8 +210,8 @@ impl<'a> Tenant<'a> {
         self.host.run_packets(self.number, prog.0, context, packets, results)
     }
 
-    /// Runs a program on many packets where they lie, one behind another in `bytes`: the first begins at 0, and packet i ends before
-    /// byte `ends[i]`, where the next one begins. All else is as in [`run_packets`](Tenant::run_packets).
+    /// Runs a program on many packets in place, one after another in `bytes`: the first begins at 0, and packet i ends before
+    /// byte `ends[i]`, at which the next one begins. All else is as in [`run_packets`](Tenant::run_packets).
     ///
     /// ```
     /// # use bpfhost::{Context, Error, Host};
@@ -220,7 +220,7 @@ impl<'a> Tenant<'a> {
     /// # let mut host = Host::new(1)?;
     /// # let mut tenant = host.tenant(0);
     /// # let prog = tenant.prog_load(&LENGTH.map(u64::to_be_bytes))?;
-    /// // The program answers the packet's length.
+    /// // The program returns the packet's length.
     /// let mut results = [0; 3];
     /// tenant.run_packets_in_place(prog, &Context::default(), b"onethree", &[3, 3, 8], &mut results)?;
     /// assert_eq!(results, [3, 0, 5]);
@@ -229,8 +229,8 @@ impl<'a> Tenant<'a> {
     ///
     /// # Errors
     ///
-    /// As [`run_packets`](Tenant::run_packets); and EINVAL: a packet ends before it begins, or behind the bytes. The first packet that
-    /// is wrong tells which error it is.
+    /// As [`run_packets`](Tenant::run_packets); and EINVAL: a packet ends before it begins, or after the bytes. The first packet that
+    /// is wrong determines the error.
     pub fn run_packets_in_place(
         &mut self,
         prog: Fd,

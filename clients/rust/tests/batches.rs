@@ -1,4 +1,4 @@
-//! Many packets by one call, beside test runs of the same packets one after another.
+//! Many packets by one call, compared with test runs of the same packets one after another.
 
 mod common;
 
@@ -8,8 +8,8 @@ use std::alloc::{GlobalAlloc, Layout, System};
 use std::cell::Cell;
 use std::io::IoSlice;
 
-/// Adds the packet's first byte (0 where it has none), its length and the context's mark to the value under index 0 of the array of
-/// descriptor 3, and answers the sum.
+/// Adds the packet's first byte (0 if it has none), its length and the context's mark to the value under index 0 of the array of
+/// descriptor 3, and returns the sum.
 const SUMS: [u64; 24] = [
     0xbf16_0000_0000_0000, // r6 = r1
     0x7a0a_f8ff_0000_0000, // *(u64 *)(r10 - 8) = 0
@@ -69,7 +69,7 @@ fn packets() -> Vec<Vec<u8>> {
     lengths.iter().enumerate().map(|(at, length)| vec![251 - 7 * at as u8; *length]).collect()
 }
 
-/// Packets one behind another, and where they end.
+/// Packets one after another, and their ends.
 fn in_one_piece(packets: &[Vec<u8>]) -> (Vec<u8>, Vec<usize>) {
     let mut bytes = Vec::new();
     let end = |packet: &Vec<u8>| {
@@ -177,7 +177,7 @@ fn two_tenants() -> (Host, Fd) {
     (host, progs[0])
 }
 
-/// Each form tells an error, and nothing changes by it. Ends that are out of order or behind the bytes have no packets to be copied.
+/// Each form returns an error, and changes nothing. Ends that are out of order or after the bytes have no packets to be copied.
 fn refuses(number: u16, prog: Fd, bytes: &[u8], ends: &[usize], wanted: Error) {
     let (mut host, _) = two_tenants();
     let before = [0, 1].map(|number| values(&mut host.tenant(number)));
@@ -211,7 +211,7 @@ fn what_is_refused_is_refused_before_the_first_packet() {
         refuses(1, prog, &long, &[length], status(Errno::E2BIG));
         refuses(1, prog, &long, &[7, 7 + length, 8 + length], status(Errno::E2BIG));
     }
-    // Out of order, and behind the bytes.
+    // Out of order, and after the bytes.
     refuses(1, prog, &long, &[3, 2, 8], status(Errno::EINVAL));
     refuses(1, prog, &long, &[3, 8, 0], status(Errno::EINVAL));
     refuses(1, prog, b"12345678", &[2, 9], status(Errno::EINVAL));

@@ -1,4 +1,4 @@
-//! Each command, where it is done.
+//! Each command, if it succeeds.
 
 mod common;
 

@@ -115,7 +115,7 @@ fn lengths_too_big() {
         let mut room = vec![0; TEST_RUN_HEAD + length];
         assert_eq!(tenant.prog_test_run_in_place(prog, &context, &mut room), status(Errno::E2BIG));
     }
-    // Eight bytes stand before the key. At the limit the frame is looked at, above it is not.
+    // Eight bytes come before the key. At the limit the frame is looked at, above it is not.
     assert_eq!(tenant.map_lookup(map, &vec![0; LONGEST_FRAME - 8]), status(Errno::EINVAL));
     for length in [LONGEST_FRAME - 7, 3 * LONGEST_FRAME] {
         assert_eq!(tenant.map_lookup(map, &vec![0; length]), status(Errno::E2BIG));

@@ -1,4 +1,4 @@
-//! Memory is refused by a limit of the process, so this file has one test alone.
+//! Memory is refused by a limit of the process, so this file has only one test.
 #![cfg(all(target_os = "linux", target_pointer_width = "64"))]
 
 mod common;
@@ -66,7 +66,7 @@ fn refused_memory_is_told() {
     assert_eq!(refused, Error::NoMemory);
     assert_eq!(loaded.last(), Some(&Err(Error::Status(Errno::ENOMEM))));
 
-    // It is told of this tenant and no other, also when the same load is done.
+    // It is reported of this tenant and no other, also when the same load succeeds.
     assert!(host.memory_was_refused(0) && !host.memory_was_refused(1));
     drop(hosts);
     assert_eq!(host.tenant(0).prog_load(&long), Ok(Fd(2 + loaded.len() as u32)));

@@ -10,7 +10,7 @@ from __future__ import annotations
 import contextlib
 from collections import deque
 from collections.abc import Callable, Sequence
-from dataclasses import dataclass
+from typing import NamedTuple
 
 from bpfhost.parts import in_parts
 from bpfhost.shards.calls import Call, NoCall
@@ -25,8 +25,7 @@ _MOST_ON_THEIR_WAY = 2
 _MOST_WAITING = 4 * WRITTEN_AT_ONCE
 
 
-@dataclass(frozen=True)
-class Played:
+class Played(NamedTuple):
     """A call that was played, its replies, and whether it may have changed the tenant's state."""
 
     call: Call | NoCall
@@ -34,16 +33,15 @@ class Played:
     changed: bool
 
 
-@dataclass(frozen=True)
-class _Batch:
+class _Batch(NamedTuple):
     played: Sequence[Played]
     pending: Pending
 
 
 class Answering:
-    """Writes the replies of one shard. It calls `written` for each stored reply, and `make_room` if Redis has no memory for them."""
+    """Writes the replies of one shard. It calls `written` for stored replies, and `make_room` if Redis has no memory for them."""
 
-    def __init__(self, shard: Served, written: Callable[[Played], None], make_room: Callable[[OutOfMemory], None]) -> None:
+    def __init__(self, shard: Served, written: Callable[[Sequence[Played]], None], make_room: Callable[[OutOfMemory], None]) -> None:
         self._shard, self._written, self._make_room = shard, written, make_room
         self._line = shard.redis.line()
         self._batches: deque[_Batch] = deque()
@@ -139,10 +137,10 @@ class Answering:
             self._note(batch.played)
 
     def _note(self, played: Sequence[Played]) -> None:
-        for one in played:
-            if self._last.get(one.written.tenant) == one.written.entry:
-                del self._last[one.written.tenant]
-            self._written(one)
+        for _, written, _ in played:
+            if self._last.get(written.tenant) == written.entry:
+                del self._last[written.tenant]
+        self._written(played)
 
 
 def _parts(played: Sequence[Played]) -> list[list[Played]]:

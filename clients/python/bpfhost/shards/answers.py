@@ -43,53 +43,56 @@ class Answers:
 
     def next(self) -> Any:
         """The next reply, a Refusal if it is an error, or NOTHING if it is incomplete; raises NotRedis if the bytes are no reply."""
-        while (value := self._value()) is not NOTHING:
-            if isinstance(value, tuple):
-                self._open.append((value[0], value[1]))
-                continue
-            while self._open:
-                values, many = self._open[-1]
-                values.append(value)
-                if len(values) < many:
-                    break
-                self._open.pop()
-                value = values
-            else:
-                return value
+        try:
+            while (value := self._value()) is not NOTHING:
+                while self._open:
+                    values, many = self._open[-1]
+                    values.append(value)
+                    if len(values) < many:
+                        break
+                    self._open.pop()
+                    value = values
+                else:
+                    return value
+        except ValueError as error:
+            raise NotRedis(f"{self._data[self._at : self._at + 40]!r} is no answer of a Redis: {error}") from None
         return NOTHING
 
     def _value(self) -> Any:
-        """The next value; for an array that has values, an empty list and the number of values to come."""
-        data, at, self.lacks = self._data, self._at, 0
-        end = data.find(b"\r\n", at)
-        if end < 0:
-            return NOTHING
-        kind, said = data[at], data[at + 1 : end]
-        if kind == _BULK:
-            stop = end + 2 + _number(said)
-            if stop < end + 2:
-                self._at = end + 2
-                return None
-            if len(data) < stop + 2:
-                self.lacks = stop + 2 - len(data)
+        """The next value that is no array with values: such an array is opened, and the value is its first one."""
+        data, self.lacks = self._data, 0
+        while True:
+            at = self._at
+            end = data.find(b"\r\n", at)
+            if end < 0:
                 return NOTHING
-            self._at = stop + 2
-            return data[end + 2 : stop]
-        self._at = end + 2
-        if kind == _ARRAY:
-            many = _number(said)
-            return ([], many) if many > 0 else [] if many == 0 else None
-        if kind == _NUMBER:
-            return _number(said)
-        if kind == _ERROR:
-            return Refusal(said.decode(errors="replace"))
-        if kind == _TEXT:
-            return said
-        raise NotRedis(f"{data[at : at + 40]!r} is no answer of a Redis")
+            kind, begin = data[at], end + 2
+            if kind == _BULK:
+                stop = begin + int(data[at + 1 : end])
+                if stop < begin:
+                    self._at = begin
+                    return None
+                if len(data) < stop + 2:
+                    self.lacks = stop + 2 - len(data)
+                    return NOTHING
+                self._at = stop + 2
+                return data[begin:stop]
+            if kind != _ARRAY:
+                value = _line(kind, data[at + 1 : end])
+                self._at = begin
+                return value
+            self._at, many = begin, int(data[at + 1 : end])
+            if many <= 0:
+                return [] if many == 0 else None
+            self._open.append(([], many))
 
 
-def _number(said: bytes) -> int:
-    try:
+def _line(kind: int, said: bytes) -> Any:
+    """A value of one line."""
+    if kind == _NUMBER:
         return int(said)
-    except ValueError:
-        raise NotRedis(f"{said[:40]!r} is no number of a Redis") from None
+    if kind == _ERROR:
+        return Refusal(said.decode(errors="replace"))
+    if kind == _TEXT:
+        return said
+    raise ValueError("no value begins like this")

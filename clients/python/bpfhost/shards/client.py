@@ -6,11 +6,12 @@ is sent again if it is not known whether it was taken.
 
 from __future__ import annotations
 
-from collections.abc import Iterable, Iterator
+from collections.abc import Iterable, Iterator, Sequence
 from types import TracebackType
-from typing import cast
+from typing import NamedTuple, cast
 
 from bpfhost import frames as make
+from bpfhost.alike import packed
 from bpfhost.frames import NO_CONTEXT, Context
 from bpfhost.host import Host
 from bpfhost.packets import Packets
@@ -19,7 +20,7 @@ from bpfhost.replies import Reply, read_replies
 from bpfhost.shards import names, scripts
 from bpfhost.shards.aside import Aside
 from bpfhost.shards.calls import LONGEST_CALL, MOST_FRAMES, count_of
-from bpfhost.shards.connection import Redis, as_in
+from bpfhost.shards.connection import Entry, Redis, as_in
 from bpfhost.shards.directory import Directory, Seat, demand_name
 from bpfhost.shards.errors import (
     Away,
@@ -35,7 +36,7 @@ from bpfhost.shards.errors import (
     SetAside,
     ShardError,
 )
-from bpfhost.shards.names import FAULT, PREFIX, REPLIES, ShardKeys, before, order
+from bpfhost.shards.names import FAULT, FRAMES, PREFIX, REPLIES, RUNS, ShardKeys, before, order
 from bpfhost.shards.system import MACHINE, System
 from bpfhost.shards.tickets import Gathered, Part, Place, Ticket
 from bpfhost.state import split
@@ -45,6 +46,8 @@ SECONDS = 30.0
 _PAUSE, _LONGEST_PAUSE = 0.005, 0.1
 # While it waits for a reply, the client checks so often whether the call is set aside.
 _SECONDS_TO_LOOK = 1.0
+# The replies to so many calls, which a caller has sent and not waited for, are read together at most.
+_MOST_UNREAD = 16
 # The prefix of generated names of sessions; these are forgotten after a day in which the shard was served.
 NAMELESS = "~"
 _SESSIONS = f"customer {{name}} has {names.MOST_SESSIONS} sessions, and can't have another one"
@@ -88,6 +91,15 @@ class Client:
         return self._servers[url], ShardKeys(number, self.prefix)
 
 
+class _Used(NamedTuple):
+    """What each call to a seat uses: the shard's Redis, the keys of the script, and the text of the seat's owner."""
+
+    seat: Seat
+    redis: Redis
+    keys: list[str]
+    owner: bytes
+
+
 class Customer:
     """Sends the calls of one customer; only one thread may use it. Frames and replies name tenant 0, whichever host the customer is on."""
 
@@ -99,6 +111,9 @@ class Customer:
         self._open: Ticket | None = None
         self._gathered = Gathered()
         self._at: dict[int, tuple[Redis, ShardKeys]] = {}
+        self._used: _Used | None = None
+        # The latest calls that were taken, and whose replies were not read yet.
+        self._unread: dict[Place, Ticket] = {}
 
     # As a host is asked.
 
@@ -136,7 +151,7 @@ class Customer:
         deadline = self._deadline(None)
         seat, number, given_up, place = self._resumed(deadline)
         self._number, self._given_up = max(self._number, number), given_up
-        return Ticket(b"", self.session, number, given_up, seat, Place.read(place)) if place != b"-" else None
+        return Ticket(b"", self.session, number, given_up, seat=seat, place=Place.read(place)) if place != b"-" else None
 
     def _resumed(self, deadline: float) -> tuple[Seat, int, int, bytes]:
         """The customer's seat, and the session's record there; from then on no calls of earlier processes are taken."""
@@ -164,11 +179,16 @@ class Customer:
         Raises NotTaken if there is no room: the call is not done later either. Raises NoReply if it is not known whether it was taken:
         the error has the ticket, and waiting for the ticket, or the next call, sends the call again.
         """
-        count_of(stream)
+        _, alike = count_of(stream)
         if self._gathered.count:
             self.flush()
+        return self._post(stream, alike, seconds, by)
+
+    def _post(self, stream: bytes, alike: int, seconds: float | None = None, by: int = 1) -> Ticket:
+        """Does what `post` does, with the length of each frame if they are known to be alike, and 0 otherwise."""
         self.settle(seconds)
-        self._open = ticket = Ticket(stream, self.session, self._number + by, self._given_up)
+        runs = packed(stream, alike)
+        self._open = ticket = Ticket(runs or stream, self.session, self._number + by, self._given_up, bool(runs))
         self.settle(seconds)
         return ticket
 
@@ -188,7 +208,7 @@ class Customer:
         """Sends the gathered calls. An error is passed to each caller that waits for one of them."""
         call, self._gathered = self._gathered, Gathered()
         try:
-            call.ticket = self.post(bytes(call.stream)) if call.count else None
+            call.ticket = self._post(bytes(call.stream), call.alike) if call.count else None
         except CallError as error:
             call.error, call.ticket = error, error.ticket
         except ShardError:
@@ -201,7 +221,7 @@ class Customer:
             self.flush()
         if part.call.ticket is None or isinstance(part.call.error, NotTaken):
             raise part.call.error or NotTaken(f"frames of customer {self.name} were not sent", None)
-        return self.wait(part.call.ticket, seconds)[part.first : part.first + part.count]
+        return (part.call.ticket.answered or self.wait(part.call.ticket, seconds))[part.first : part.end]
 
     def settle(self, seconds: float | None = None) -> None:
         """Sends a call again if it is not known whether it was taken."""
@@ -218,6 +238,10 @@ class Customer:
         except Away as away:
             raise NoReply(f"it is not known whether a call of customer {self.name} was taken: {away}", ticket) from None
         self._open, self._number = None, ticket.number
+        if ticket.place:
+            self._unread[ticket.place] = ticket
+            if len(self._unread) > _MOST_UNREAD:
+                del self._unread[next(iter(self._unread))]
 
     def wait(self, ticket: Ticket, seconds: float | None = None) -> list[bytes]:
         """Waits for the replies to a call, one for each frame; raises NoReply after so many seconds, and can then be called again.
@@ -261,12 +285,13 @@ class Customer:
 
     def _send_to(self, ticket: Ticket, seat: Seat, deadline: float) -> str:
         """Sends a call once; returns a sentence if there is no room for it now."""
-        redis, keys = self._shard(seat.shard, deadline)
-        used = [keys.seats, keys.frames(seat.tenant), keys.sessions(seat.generation), keys.waiting, keys.lease]
-        session = [ticket.session, ticket.number, ticket.given_up, seat.owned_by(self.name), seat.shard, seat.tenant]
-        limits = [names.weight(len(ticket.stream)), names.MOST_WAITING, names.MOST_SESSIONS]
+        used = self._used
+        if not used or used.seat is not seat:
+            used = self._used = self._used_of(seat, deadline)
+        session = [ticket.session, ticket.number, ticket.given_up, used.owner, seat.shard, seat.tenant]
+        limits = [names.weight(len(ticket.stored)), names.MOST_WAITING, names.MOST_SESSIONS, RUNS if ticket.is_packed else FRAMES]
         try:
-            what, *said = scripts.ASK.patiently(redis, used, [*session, ticket.stream, *limits], deadline)
+            what, *said = scripts.ASK.patiently(used.redis, used.keys, [*session, ticket.stored, *limits], deadline)
         except OutOfMemory as error:
             return f"a call of customer {self.name} is not taken: {error}"
         if what == b"taken":
@@ -286,6 +311,11 @@ class Customer:
             sentence = f"call {ticket.number} of customer {self.name} was passed by call {int(said[0])} of its session"
             raise CallPassed(sentence, ticket)
         return ""
+
+    def _used_of(self, seat: Seat, deadline: float) -> _Used:
+        redis, keys = self._shard(seat.shard, deadline)
+        of_seat = [keys.seats, keys.frames(seat.tenant), keys.sessions(seat.generation), keys.waiting, keys.lease]
+        return _Used(seat, redis, of_seat, seat.owned_by(self.name))
 
     def _give_up(self, ticket: Ticket, seat: Seat, why: str) -> None:
         """Ensures that a call is not taken later, even if a command with it is still in transit to the server."""
@@ -317,6 +347,7 @@ class Customer:
     def _claim(self, seat: Seat, deadline: float) -> bool:
         # A shard may have moved to another server since it was last looked up.
         self._at.pop(seat.shard, None)
+        self._used = None
         redis, keys = self._shard(seat.shard, deadline)
         claim = [seat.tenant, seat.generation, seat.owned_by(self.name)]
         if not scripts.CLAIM.patiently(redis, [keys.seats], claim, deadline):
@@ -336,14 +367,23 @@ class Customer:
         while True:
             wait = min(_SECONDS_TO_LOOK, deadline - self._system.now())
             # The first reply after the last id below this one is the reply to this call, since each call has one.
-            found = redis.patiently(lambda limited: limited.xread({name: behind}, 1, wait), deadline, give_up).get(name)
+            many = max(1, len(self._unread))
+            found = redis.patiently(lambda limited: limited.xread({name: behind}, many, wait), deadline, give_up).get(name)
             if found and found[0][0] == place.entry:
+                self._note_read(place, found)
                 return self._said(found[0][1], ticket)
             if found:
                 raise redis.patiently(lambda limited: self._gone(limited, keys, place, ticket), deadline, give_up)
             redis.patiently(lambda limited: self._demand_hope(limited, keys, place, ticket), deadline, give_up)
             if self._system.now() >= deadline:
                 raise NoReply(f"shard {place.shard} has not answered entry {place.entry.decode()}: does its worker run?", ticket)
+
+    def _note_read(self, place: Place, found: Sequence[Entry]) -> None:
+        """Gives replies to the calls that they belong to, after the first of them, which is returned to the caller."""
+        for entry, fields in found:
+            ticket = self._unread.pop(place._replace(entry=entry), None)
+            if ticket and entry != place.entry and REPLIES in fields:
+                ticket.answered = split(fields[REPLIES])
 
     def _said(self, fields: dict[bytes, bytes], ticket: Ticket) -> list[bytes]:
         if FAULT in fields:

@@ -182,6 +182,8 @@ class Redis:
 
     def call(self, *words: Word, wait: float = 0.0) -> Any:
         """The reply to a command, which may block for so many seconds. Raises Away if the server can't be reached in time."""
+        if not self._patience:
+            return self._call_once(words, wait)
         until = self.system.now() + self._patience
         while True:
             try:

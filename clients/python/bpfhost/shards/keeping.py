@@ -60,10 +60,12 @@ class Keeping:
         """Checks all tenants the next time, since one was restored."""
         self._share = math.inf
 
-    def note(self, frames: int, size: int) -> None:
-        """Notes a call that has its replies: how many frames it has, and how many bytes together with its replies."""
+    def note(self, calls: int, frames: int, asked: int, replied: int) -> None:
+        """Notes calls that have their replies: how many they are, their frames, and the bytes of these and of the replies."""
         settings = self._settings
-        self._share += 1 / settings.snapshot_entries + frames / settings.snapshot_frames + size / settings.snapshot_bytes
+        self.came += replied
+        self._share += calls / settings.snapshot_entries + frames / settings.snapshot_frames
+        self._share += (asked + replied) / settings.snapshot_bytes
 
     def empty(self, entry: bytes) -> Manifest:
         """The snapshot of a new tenant."""

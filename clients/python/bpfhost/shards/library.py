@@ -15,30 +15,21 @@ from collections.abc import Iterable, Iterator
 from pathlib import Path
 
 import bpfhost
+from bpfhost.alike import BEFORE_PACKET, packed, size_of_packet
 from bpfhost.errors import HostError
+from bpfhost.functions import functions_of
 from bpfhost.host import LONGEST_REPLY
 from bpfhost.numbers import REPLY_HEAD, Command
 from bpfhost.program import Program
 from bpfhost.replies import Reply
+from bpfhost.shards.calls import Call
 from bpfhost.shards.shared_object import soname_of
 
 SONAME = f"libbpfhost.so.{bpfhost.__version__.rpartition('.')[0]}"
 _UNPROVED = "UNPROVED"
 _DONE = 0
-# In the frame of a test run, the length, tenant, command, descriptor and context come before the packet.
-_BEFORE_PACKET = 52
 # The size of the buffer for replies in bytes.
 _ROOM = 1 << 16
-_FUNCTIONS = {
-    "bpfhost_c_new": (ctypes.c_void_p, ctypes.c_size_t, ctypes.c_uint64, ctypes.c_uint64),
-    "bpfhost_c_handle": (ctypes.c_void_p, ctypes.c_void_p, ctypes.c_size_t, ctypes.c_void_p, ctypes.c_size_t, ctypes.c_void_p),
-    "bpfhost_c_run_packets": (
-        *(ctypes.c_void_p, ctypes.c_uint16, ctypes.c_uint32, ctypes.c_void_p, ctypes.c_char_p, ctypes.c_size_t),
-        *(ctypes.c_void_p, ctypes.c_size_t, ctypes.c_void_p, ctypes.c_size_t, ctypes.c_void_p),
-    ),
-    "bpfhost_c_memory_refused": (ctypes.c_void_p, ctypes.c_uint16, ctypes.c_void_p),
-    "bpfhost_c_free": (ctypes.c_void_p,),
-}
 
 
 class Library:
@@ -55,16 +46,9 @@ class Library:
         if soname != SONAME:
             raise HostError(f"{self.path} is {soname}, and this package is made for {SONAME}")
         try:
-            # Short calls keep Python's global interpreter lock; a run of many packets releases it.
-            short, long = ctypes.PyDLL(str(self.path)), ctypes.CDLL(str(self.path))
-            self.new, self.handle, self.run_packets, self.memory_refused, self.free = (
-                getattr(long if "packets" in name else short, name) for name in _FUNCTIONS
-            )
+            self.functions = functions_of(str(self.path), keeps_lock=True)
         except (OSError, AttributeError) as error:
             raise HostError(f"{self.path} is no library of bpfhost: {error}") from None
-        for function, types in zip((self.new, self.handle, self.run_packets, self.memory_refused, self.free), _FUNCTIONS.values()):
-            function.argtypes, function.restype = types, ctypes.c_int32
-        self.free.restype = None
 
     def host(self, tenants: int) -> LibraryHost:
         """A new host for so many tenants."""
@@ -101,11 +85,11 @@ class LibraryHost:
     """A host in this process, for one thread."""
 
     def __init__(self, library: Library, tenants: int) -> None:
-        self._library, self._is_open = library, False
+        self._path, self._functions, self._is_open = library.path, library.functions, False
         self._handle = ctypes.c_void_p()
         self._at = ctypes.addressof(self._handle)
         seed = struct.unpack("<QQ", os.urandom(16))
-        code = library.new(self._at, tenants, *seed)
+        code = library.functions.new(self._at, tenants, *seed)
         if code != _DONE:
             raise HostError(f"{library.path} makes no host for {tenants} tenants: code {code}")
         self._is_open = True
@@ -118,7 +102,7 @@ class LibraryHost:
         """Ends the host and frees its memory."""
         if self._is_open:
             self._is_open = False
-            self._library.free(self._at)
+            self._functions.free(self._at)
 
     def __del__(self) -> None:
         self.kill()
@@ -130,33 +114,28 @@ class LibraryHost:
     def refused_memory(self, tenant: int) -> bool:
         """Whether memory was ever refused to a tenant."""
         self._demand_open()
-        self._demand(self._library.memory_refused(self._at, tenant, ctypes.addressof(self._refused)))
+        self._demand(self._functions.memory_refused(self._at, tenant, ctypes.addressof(self._refused)))
         return self._refused.value
 
     def _demand(self, code: int) -> None:
         if code != _DONE:
-            raise HostError(f"{self._library.path} handles no frame: code {code}")
+            raise HostError(f"{self._path} handles no frame: code {code}")
 
     def ask_bytes(self, frames: Iterable[bytes]) -> Iterator[bytes]:
         """The replies to frames, one by one."""
         for frame in frames:
             yield self._answered(bytearray(frame), None)
 
-    def answer(self, stream: bytes, tenant: int, alike: int) -> bytes:
-        """The replies to whole frames for a tenant: its number replaces the one in each frame, and the replies name tenant 0.
-
-        `alike` is the length of each frame if they are alike.
-        """
-        if alike > _BEFORE_PACKET and int.from_bytes(stream[6:8], "little") == Command.PROG_TEST_RUN:
-            replies = self._runs(stream, tenant, alike)
-            if replies is not None:
-                return replies
-        return self._answered(bytearray(stream), tenant)
+    def answer(self, call: Call) -> bytes:
+        """The replies to a call. The tenant's number replaces the one in each frame, and the replies name tenant 0."""
+        runs = call.stored if call.is_packed else packed(call.stored, call.alike)
+        replies = self._runs(runs, call.tenant) if runs else b""
+        return replies or self._answered(bytearray(call.stream), call.tenant)
 
     def _answered(self, stream: bytearray, tenant: int | None) -> bytes:
         """The replies to frames, each handled in place."""
         self._demand_open()
-        handle, host, written, room, out = self._library.handle, self._at, self._written, self._room, 0
+        handle, host, written, room, out = self._functions.handle, self._at, self._written, self._room, 0
         begin, at, place, answers = _address_of(stream), 0, ctypes.addressof(written), list[bytes]()
         named = None if tenant is None else tenant.to_bytes(2, "little")
         while at < len(stream):
@@ -174,21 +153,19 @@ class LibraryHost:
         answers.append(bytes(room[:out]))
         return b"".join(answers)
 
-    def _runs(self, stream: bytes, tenant: int, size: int) -> bytes | None:
-        """The replies to test runs that differ only in their packets; None if they differ otherwise, or the first of them is refused."""
+    def _runs(self, runs: bytes, tenant: int) -> bytes:
+        """The replies to packed test runs; empty if the first of them is refused."""
         self._demand_open()
-        heads, packets = zip(*struct.iter_unpack(f"{_BEFORE_PACKET}s{size - _BEFORE_PACKET}s", stream))
-        head, many = heads[0], len(heads)
-        if heads.count(head) != many:
-            return None
+        size, packets = size_of_packet(runs), runs[BEFORE_PACKET:]
+        many = len(packets) // size
         results = array("I", bytes(4 * many))
-        code = self._library.run_packets(
-            *(self._at, tenant, int.from_bytes(head[8:12], "little"), head[12:], b"".join(packets), many * (size - _BEFORE_PACKET)),
-            *(self._ends_of(size - _BEFORE_PACKET, many).buffer_info()[0], many, results.buffer_info()[0], many),
+        code = self._functions.run_packets(
+            *(self._at, tenant, int.from_bytes(runs[8:12], "little"), runs[12:BEFORE_PACKET], packets, len(packets)),
+            *(self._ends_of(size, many).buffer_info()[0], many, results.buffer_info()[0], many),
             ctypes.addressof(self._status),
         )
         self._demand(code)
-        return None if self._status.value else _results(results.tobytes(), many)
+        return b"" if self._status.value else _results(results.tobytes(), many)
 
     def _ends_of(self, size: int, many: int) -> array[int]:
         """The offsets at which packets of one size end."""

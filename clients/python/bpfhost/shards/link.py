@@ -24,6 +24,7 @@ _AWAY = ("NOREPLICAS", "UNBLOCKED", "CLUSTERDOWN", "MASTERDOWN", "READONLY", "TR
 # A connection ends if what was sent is not acknowledged for so long, even if much is in transit over a slow link.
 _MILLISECONDS_UNACKNOWLEDGED = 10_000
 _READ_AT_ONCE = 1 << 16
+_LONGEST_NAME = 64
 # Linux's TCP_USER_TIMEOUT, which has no name in the types of the library.
 _USER_TIMEOUT = getattr(socket, "TCP_USER_TIMEOUT", 18)
 
@@ -79,20 +80,18 @@ def _told() -> Iterator[None]:
 
 
 def packed(words: Sequence[Word]) -> bytes:
-    """A command as the server reads it. A worker's turn names 64 streams, for which the library's own encoder takes four times as long."""
-    parts = [b"*%d\r\n" % len(words)]
-    for word in words:
-        parts.append(_bulk(word) if type(word) is str else _bulk_of(word if isinstance(word, bytes) else str(word).encode()))
-    return b"".join(parts)
+    """A command as the server reads it. A worker's command names many streams, for which the library's own encoder takes four times as long."""
+    parts = [_name(word) if type(word) in (str, int) or type(word) is bytes and len(word) <= _LONGEST_NAME else _bulk(word) for word in words]
+    return b"".join([b"*%d\r\n" % len(words), *parts])
 
 
-def _bulk_of(data: bytes) -> bytes:
+def _bulk(word: Word) -> bytes:
+    data = word if isinstance(word, bytes) else str(word).encode()
     return b"$%d\r\n%b\r\n" % (len(data), data)
 
 
-@functools.lru_cache(4096)
-def _bulk(word: str) -> bytes:
-    return _bulk_of(word.encode())
+# Names, ids and numbers are sent again and again; longer bytes are not.
+_name = functools.lru_cache(4096)(_bulk)
 
 
 class SocketPending:
@@ -110,10 +109,6 @@ class SocketPending:
     def is_answered(self) -> bool:
         """Whether the reply, or some of it, was there when `any_of` last looked for it."""
         return self.value is not NOTHING or self.link.has_more
-
-    def fileno(self) -> int:
-        """The socket that the reply comes by."""
-        return self.link.fileno()
 
     def answer(self) -> Any:
         """Waits for the reply."""
@@ -133,6 +128,7 @@ class SocketLink:
         self._connection = _pool(url, _library().ConnectionPool).make_connection()
         self._answers = Answers()
         self._pending: deque[SocketPending] = deque()
+        self._socket: _Socket | None = None
         # Whether unread bytes had come at the last check.
         self.has_more = False
 
@@ -145,23 +141,24 @@ class SocketLink:
         pending = SocketPending(self, time.monotonic() + seconds)
         self._pending.append(pending)
         try:
-            self._prepare(seconds)
-            self._connection._sock.sendall(packed(words))
+            (self._socket or self._connected(seconds)).send(packed(words), seconds)
         except Exception as error:
             self._break(error)
         return pending
 
     def read_one(self) -> None:
         """Waits for the next reply, and gives it to the command that was sent first. If the connection breaks, no command has a reply."""
-        pending = self._pending[0]
+        pending, answers = self._pending[0], self._answers
         try:
-            while (value := self._answers.next()) is NOTHING:
-                self._connection._sock.settimeout(max(0.0001, pending.deadline - time.monotonic()))
-                data = self._connection._sock.recv(max(_READ_AT_ONCE, self._answers.lacks))
+            while (value := answers.next()) is NOTHING:
+                if not self._socket:
+                    raise ConnectionError("the connection was closed")
+                data = self._socket.receive(max(_READ_AT_ONCE, answers.lacks), pending.deadline, self.has_more)
                 if not data:
                     raise ConnectionError("the server has ended the connection")
-                self._answers.feed(data)
-            self.has_more = self._answers.has_more()
+                self.has_more = False
+                answers.feed(data)
+            self.has_more = answers.has_more()
         except Exception as error:
             self._break(error)
             return
@@ -170,30 +167,29 @@ class SocketLink:
 
     def is_ready(self) -> bool:
         """Whether a read from the socket does not wait."""
-        sock = self._connection._sock
-        return self.has_more or not sock or bool(hasattr(sock, "pending") and sock.pending())
+        self.has_more = self.has_more or bool(self._socket and self._socket.has_more())
+        return self.has_more
 
     def fileno(self) -> int:
         """The socket; below 0 if there is none."""
-        return int(self._connection._sock.fileno()) if self._connection._sock else -1
+        return self._socket.number if self._socket else -1
 
-    def _prepare(self, seconds: float) -> None:
-        """A connection whose calls take so many seconds at most."""
+    def _connected(self, seconds: float) -> _Socket:
+        """A new connection, to which a call takes so many seconds at most."""
         connection = self._connection
-        if not connection._sock:
-            connection.socket_timeout = seconds
-            connection.socket_connect_timeout = min(seconds, _SECONDS_TO_CONNECT)
-            connection.connect()
-            _watch(connection._sock)
-            self._answers = Answers()
-        connection._sock.settimeout(seconds)
+        connection.socket_timeout = seconds
+        connection.socket_connect_timeout = min(seconds, _SECONDS_TO_CONNECT)
+        connection.connect()
+        _watch(connection._sock)
+        self._answers, self._socket = Answers(), _Socket(connection._sock)
+        return self._socket
 
     def _break(self, error: Exception) -> None:
         """Ends the connection: none of the commands that were sent gets a reply."""
         if isinstance(error, NotRedis):
             error = ConnectionError(str(error))
         self._connection.disconnect()
-        self.has_more = False
+        self._socket, self.has_more = None, False
         while self._pending:
             self._pending.popleft().value = error
 
@@ -202,13 +198,59 @@ class SocketLink:
         self._break(ConnectionError("the connection was closed"))
 
 
+class _Socket:
+    """A connected socket. Without TLS it does not block: one that blocks for a limited time takes two more calls of the system each time."""
+
+    def __init__(self, connected: Any) -> None:
+        self._socket, self.number = connected, int(connected.fileno())
+        self._has_tls = hasattr(connected, "pending")
+        self._poll = select.poll()
+        self._poll.register(self.number, select.POLLIN)
+        if not self._has_tls:
+            connected.setblocking(False)
+
+    def has_more(self) -> bool:
+        """Whether TLS has bytes that were received and not read."""
+        return self._has_tls and bool(self._socket.pending())
+
+    def send(self, data: bytes, seconds: float) -> None:
+        """Sends all of it, within so many seconds."""
+        sent = 0
+        if not self._has_tls:
+            with contextlib.suppress(BlockingIOError):
+                sent = self._socket.send(data)
+            if sent == len(data):
+                return
+        self._socket.settimeout(seconds)
+        self._socket.sendall(memoryview(data)[sent:])
+        if not self._has_tls:
+            self._socket.setblocking(False)
+
+    def receive(self, most: int, deadline: float, is_there: bool) -> bytes:
+        """What has come, or comes until the deadline; empty if the connection has ended. `is_there` if something seems to have come."""
+        if is_there and not self._has_tls:
+            with contextlib.suppress(BlockingIOError):
+                return bytes(self._socket.recv(most))
+        left = max(0.0001, deadline - time.monotonic())
+        if self._has_tls:
+            self._socket.settimeout(left)
+        elif not self._poll.poll(left * 1000):
+            raise TimeoutError
+        return bytes(self._socket.recv(most))
+
+
 def any_of(pending: Sequence[Pending], seconds: float) -> None:
     """Waits until one of these has a reply, at most so many seconds."""
-    waiting = [one for one in (each.first for each in pending) if isinstance(one, SocketPending) and one.value is NOTHING]
-    if len(waiting) < len(pending) or any(one.link.is_ready() for one in waiting):
-        seconds = 0.0
-    for one in select.select(waiting, [], [], seconds)[0]:
-        one.link.has_more = True
+    poll, links = select.poll(), dict[int, SocketLink]()
+    for each in pending:
+        one = each.first
+        if isinstance(one, SocketPending) and one.value is NOTHING and not one.link.is_ready():
+            links[one.link.fileno()] = one.link
+            poll.register(one.link.fileno(), select.POLLIN)
+        else:
+            seconds = 0.0
+    for number, _ in poll.poll(seconds * 1000):
+        links[number].has_more = True
 
 
 class AsyncConnection:

@@ -71,6 +71,15 @@ class Log:
     # Whether the last snapshot is the only one, and the stream has nothing from before it.
     is_cut: bool = False
 
+    def note(self, frames: int, asked: int, replied: int, changed: bool) -> None:
+        """Notes a call that has its replies: its frames, their bytes and those of the replies, and whether it may have changed anything."""
+        since = self.since
+        since.entries += 1
+        since.frames += frames
+        since.size += asked + replied
+        since.changed |= changed
+        self.unmarked += replied
+
     @property
     def frames(self) -> str:
         return self.keys.frames(self.tenant)

@@ -10,8 +10,8 @@ from dataclasses import dataclass
 
 PREFIX = "bpfhost"
 
-# Fields of an entry of frames: frames, or that the tenant leaves or arrives.
-FRAMES, LEAVES, ARRIVES = b"f", b"leave", b"arrive"
+# Fields of an entry of frames: frames, or packed test runs (`alike.packed`), or that the tenant leaves or arrives.
+FRAMES, RUNS, LEAVES, ARRIVES = b"f", b"runs", b"leave", b"arrive"
 # Fields of an entry of replies: replies, or a sentence with the reason why there are none.
 REPLIES, FAULT = b"r", b"e"
 

@@ -14,7 +14,6 @@ from bpfhost.numbers import MOST_TENANTS
 from bpfhost.shards.calls import Call, Item, NoCall, item_of
 from bpfhost.shards.connection import Entry, Line, entries_of
 from bpfhost.shards.errors import Away
-from bpfhost.shards.log import Log
 from bpfhost.shards.names import ShardKeys
 from bpfhost.shards.served import Served
 from bpfhost.shards.system import Pending
@@ -28,17 +27,19 @@ _SECONDS_TO_WAIT, _SECONDS_BESIDE = 1.0, 0.02
 
 @dataclass
 class _Asked:
-    """What a lane reads: its tenants with the ids after which they are read, and the pending reply."""
+    """What a lane reads: its streams with the ids after which they are read, and the pending reply."""
 
-    places: dict[int, bytes]
+    places: dict[str, bytes]
     pending: Pending
 
 
 class _Lane:
     """One lane."""
 
-    def __init__(self, line: Line, keys: ShardKeys, tenants: Sequence[int]) -> None:
+    def __init__(self, line: Line, keys: ShardKeys, tenants: range) -> None:
         self.line, self.names = line, {tenant: keys.frames(tenant) for tenant in tenants}
+        self.tenants = {name: tenant for tenant, name in self.names.items()}
+        self.of = slice(tenants.start, None, tenants.step)
         self.asked: _Asked | None = None
         self.at_once = _MOST_READ
 
@@ -70,8 +71,7 @@ class Reading:
 
     def taken(self, calls: Sequence[Call | NoCall]) -> None:
         """Notes that calls are played: their tenants are read from the entries after them."""
-        for call in calls:
-            self._read_to[call.tenant] = call.entry
+        self._read_to.update((call.tenant, call.entry) for call in calls)
 
     def written(self, tenant: int, entry: bytes) -> None:
         """Notes that a reply is written."""
@@ -81,9 +81,6 @@ class Reading:
     def unanswered(self) -> set[int]:
         """Tenants that have entries that were read, and have no written replies yet."""
         return set(self._read_to)
-
-    def _place(self, log: Log) -> bytes:
-        return self._read_to.get(log.tenant, log.place)
 
     # Lanes.
 
@@ -95,14 +92,12 @@ class Reading:
         return [lane.asked.pending for lane in self._lanes if lane.asked]
 
     def _ask(self, lane: _Lane) -> None:
-        shard = self._shard
-        readable = [log for log in map(shard.logs.__getitem__, lane.names) if not log.aside and log.tenant not in shard.busy]
-        if not readable:
-            return
-        wait = min(shard.settings.lease_seconds / 4, _SECONDS_TO_WAIT if len(readable) == len(lane.names) else _SECONDS_BESIDE)
-        places = {log.tenant: self._place(log) for log in readable}
-        names = {lane.names[tenant]: place for tenant, place in places.items()}
-        lane.asked = _Asked(places, lane.line.begin_xread(names, lane.at_once, wait))
+        shard, busy, read_to = self._shard, self._shard.busy, self._read_to
+        logs = [log for log in shard.logs[lane.of] if not log.aside and log.tenant not in busy]
+        places = {lane.names[log.tenant]: read_to.get(log.tenant) or log.place for log in logs}
+        if places:
+            wait = min(shard.settings.lease_seconds / 4, _SECONDS_TO_WAIT if len(places) == len(lane.names) else _SECONDS_BESIDE)
+            lane.asked = _Asked(places, lane.line.begin_xread(places, lane.at_once, wait))
 
     def shares(self) -> Iterator[list[Item]]:
         """What each tenant has in this turn: calls, or one entry that is no call."""
@@ -114,9 +109,9 @@ class Reading:
     def _shares(self, lane: _Lane, asked: _Asked) -> Iterator[list[Item]]:
         shard, most = self._shard, 1
         for name, entries in self._found(asked).items():
-            log = shard.logs[int(name.rpartition(":")[2])]
+            log = shard.logs[lane.tenants[name]]
             # Other work may have been done for the tenant since the read began.
-            if log.aside or log.tenant in shard.busy or self._place(log) != asked.places[log.tenant]:
+            if log.aside or log.tenant in shard.busy or (self._read_to.get(log.tenant) or log.place) != asked.places[name]:
                 continue
             items = [item_of(log.tenant, entry) for entry in entries]
             most = max([most, *(item.count for item in items if isinstance(item, Call))])

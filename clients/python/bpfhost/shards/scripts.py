@@ -12,7 +12,7 @@ from bpfhost.shards.names import GIVEN_UP_BY_ONE
 # the number of its last call, how many calls were given up, how long the shard had been served, and the shard, tenant and entry of the
 # call, or `-`. A call that is older than the last one that was given up is not taken; the script then returns how many were given up.
 # KEYS: seats, frames, sessions, waiting, lease. ARGV: session, number, given up, seat, shard, tenant, frames, weight, most waiting, most
-# sessions.
+# sessions, and the field that has the frames.
 ASK = Script("""
 local record = redis.call('HGET', KEYS[3], ARGV[1])
 if record then
@@ -25,7 +25,7 @@ if redis.call('HGET', KEYS[1], ARGV[6]) ~= ARGV[4] then return {'seat'} end
 local waits = tonumber(redis.call('HGET', KEYS[4], ARGV[6]) or '0')
 if waits > 0 and waits + tonumber(ARGV[8]) > tonumber(ARGV[9]) then return {'full'} end
 if not record and redis.call('HLEN', KEYS[3]) >= tonumber(ARGV[10]) then return {'sessions'} end
-local entry = redis.call('XADD', KEYS[2], '*', 'f', ARGV[7])
+local entry = redis.call('XADD', KEYS[2], '*', ARGV[11], ARGV[7])
 local served = redis.call('HGET', KEYS[5], 'served') or '0'
 local place = ARGV[5] .. ' ' .. ARGV[6] .. ' ' .. entry
 redis.call('HINCRBY', KEYS[4], ARGV[6], ARGV[8])

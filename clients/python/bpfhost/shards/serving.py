@@ -6,12 +6,11 @@ The replies to a tenant are a function of its own frames. So each tenant's state
 from __future__ import annotations
 
 from collections.abc import Callable, Iterable, Iterator, Sequence
-from dataclasses import dataclass
 from itertools import groupby, islice
-from typing import cast
+from typing import NamedTuple, cast
 
 from bpfhost import frames as make
-from bpfhost.alike import is_short, size_of_alike, statuses_are_zero, with_tenant_in_place
+from bpfhost.alike import size_of_alike, statuses_are_zero, with_tenant_in_place
 from bpfhost.errors import ReplyError
 from bpfhost.host import LONGEST_REPLY, Host
 from bpfhost.numbers import MOST_TENANTS, REPLY_HEAD, Command, Errno
@@ -38,8 +37,7 @@ _WANTS_MEMORY = (Command.MAP_CREATE, Command.MAP_UPDATE_ELEM, Command.PROG_LOAD)
 History = Callable[[], Iterable[Asked]]
 
 
-@dataclass(frozen=True)
-class Written:
+class Written(NamedTuple):
     """The entry of replies to a call: its tenant and id, one field, and the weight of the call while it waited."""
 
     tenant: int
@@ -99,7 +97,9 @@ class Serving:
         MemoryRefused if memory was refused to the next call.
         """
         if isinstance(self._host, LibraryHost):
-            yield from (self._play_here(self._host, call) for call in calls)
+            self._alive()
+            for call in calls:
+                yield self._play_here(self._host, call)
             return
         for is_alike, some in groupby(calls, self._is_alike):
             yield from self._play_alike(list(some)) if is_alike else self._play_each(list(some))
@@ -108,20 +108,21 @@ class Serving:
         """Plays a call in place. A call that opens and closes nothing is not examined frame by frame."""
         if isinstance(call, NoCall):
             return _fault(call), False
-        self._alive()
         self.is_new = False
-        replies = host.answer(call.stream, call.tenant, call.alike)
+        replies = host.answer(call)
         self.asked += call.count
+        if self.asked % _ASKED_AT_ONCE < call.count:
+            self._alive()
         if host.refused_memory(call.tenant):
             raise _refused(call)
-        changed = bool(call.alike) and is_short(call.stream)
+        changed = call.is_short
         if not changed:
             for frame, reply in zip(call.frames, split(replies), strict=True):
                 changed |= self._note(call, frame, reply)
         return Written(call.tenant, call.entry, REPLIES, replies, weight(call.size)), changed
 
     def _is_alike(self, call: Call | NoCall) -> bool:
-        return isinstance(call, Call) and bool(call.alike) and is_short(call.stream) and hasattr(self._host, "pipelined")
+        return isinstance(call, Call) and call.is_short and hasattr(self._host, "pipelined")
 
     def _play_each(self, calls: Sequence[Call | NoCall]) -> Iterator[tuple[Written, bool]]:
         """Examines each frame and each reply."""

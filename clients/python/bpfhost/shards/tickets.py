@@ -3,6 +3,7 @@
 from __future__ import annotations
 
 from dataclasses import dataclass, field
+from typing import NamedTuple
 
 from bpfhost.alike import is_short
 from bpfhost.shards.calls import LONGEST_CALL, MOST_ALIKE, MOST_FRAMES
@@ -11,8 +12,7 @@ from bpfhost.shards.errors import CallError
 from bpfhost.tenancy import BODY
 
 
-@dataclass(frozen=True)
-class Place:
+class Place(NamedTuple):
     """The place of a call: a shard, a tenant number, and the entry."""
 
     shard: int
@@ -28,15 +28,16 @@ class Place:
 
 @dataclass
 class Ticket:
-    """A call: its frames, its number in a session, the number of calls given up before it, its last seat, and its place.
+    """A call: its frames as they are stored, its number in a session, the number of calls given up before it, its last seat, its place.
 
-    The seat is the one that it was sent to last; the place is set once it is known.
+    The seat is the one that it was sent to last; the place is set once it is known. Test runs may be packed (`alike.packed`).
     """
 
-    stream: bytes
+    stored: bytes
     session: str
     number: int
     given_up: int = 0
+    is_packed: bool = False
     seat: Seat | None = None
     place: Place | None = None
     answered: list[bytes] = field(default_factory=list)
@@ -58,6 +59,11 @@ class Gathered:
     # The header of all frames, while they are alike and have short replies.
     head: bytes = b""
 
+    @property
+    def alike(self) -> int:
+        """The length of each frame if there are several, they are alike and have short replies; 0 otherwise."""
+        return 4 + int.from_bytes(self.head[:4], "little") if self.head and self.count > 1 else 0
+
     def add(self, stream: bytes, count: int, alike: int) -> Part | None:
         """Adds frames to these, if there is room for them."""
         head = stream[:BODY] if (alike or count == 1) and is_short(stream) else b""
@@ -68,13 +74,12 @@ class Gathered:
             return None
         self.stream += stream
         self.count, self.head = many, head
-        return Part(self, first, count)
+        return Part(self, first, many)
 
 
-@dataclass(frozen=True)
-class Part:
-    """Frames that are in a call with others: the first one, and how many they are."""
+class Part(NamedTuple):
+    """Frames that are in a call with others: the first one, and the one after the last."""
 
     call: Gathered
     first: int
-    count: int
+    end: int

@@ -109,20 +109,18 @@ class Turns:
         """Makes room. Calls that were read, and may have been played, have no replies yet."""
         self._upkeep.make_room(self._reading.unanswered(), error)
 
-    def _note(self, one: Played) -> None:
+    def _note(self, played: Sequence[Played]) -> None:
         """Notes that replies are written."""
-        shard, call, log, size = self._shard, one.call, self._shard.logs[one.call.tenant], len(one.written.value)
-        count = call.count if isinstance(call, Call) else 0
-        log.place = one.written.entry
-        log.since.entries += 1
-        log.since.frames += count
-        log.since.size += call.size + size
-        log.since.changed |= one.changed
-        log.unmarked += size
-        shard.keeping.came += size
-        shard.keeping.note(count, call.size + size)
-        shard.metrics.add("bpfhost_worker_calls_total")
-        shard.metrics.add("bpfhost_worker_frames_total", count)
-        shard.metrics.add("bpfhost_worker_bytes_total", call.size + size)
-        self._reading.written(call.tenant, one.written.entry)
-        self._suspects.is_answered(call.tenant, one.written.entry)
+        shard, frames, asked, replied = self._shard, 0, 0, 0
+        for call, written, changed in played:
+            count, size = call.count if isinstance(call, Call) else 0, len(written.value)
+            frames, asked, replied = frames + count, asked + call.size, replied + size
+            log = shard.logs[call.tenant]
+            log.place = written.entry
+            log.note(count, call.size, size, changed)
+            self._reading.written(call.tenant, written.entry)
+            self._suspects.is_answered(call.tenant, written.entry)
+        shard.keeping.note(len(played), frames, asked, replied)
+        shard.metrics.add("bpfhost_worker_calls_total", len(played))
+        shard.metrics.add("bpfhost_worker_frames_total", frames)
+        shard.metrics.add("bpfhost_worker_bytes_total", asked + replied)

@@ -9,7 +9,7 @@ import warnings
 from collections.abc import Callable, Sequence
 
 from bpfhost import MapType, frames
-from bpfhost.alike import size_of_alike
+from bpfhost.alike import packed, size_of_alike
 from bpfhost.shards import Client, Settings, ShardKeys, Worker
 from bpfhost.shards.calls import Call
 from bpfhost.shards.connection import Redis, connect
@@ -31,9 +31,11 @@ def put(value: int) -> bytes:
     return frames.map_update_elem(0, 3, b"key1", value.to_bytes(8, "little"))
 
 
-def call_of(entry: bytes, tenant: int, frames: Sequence[bytes]) -> Call:
-    """A call of frames, whatever their number is."""
+def call_of(entry: bytes, tenant: int, frames: Sequence[bytes], packs: bool = False) -> Call:
+    """A call of frames, whatever their number is; packed, if asked for and possible."""
     stream = b"".join(frames)
+    if packs and len({frame[:8] for frame in frames}) == 1 and (runs := packed(stream, len(frames[0]))):
+        return Call(entry, tenant, runs, len(frames), len(frames[0]), True)
     return Call(entry, tenant, stream, len(frames), size_of_alike(stream))
 
 

@@ -8,11 +8,12 @@ from collections.abc import Callable, Iterator
 from typing import Any
 
 from bpfhost import Errno, Host, MapType, frames
-from bpfhost.alike import is_short, size_of_alike, statuses_are_zero
+from bpfhost.alike import is_short, packed, size_of_alike, size_of_packet, statuses_are_zero, unpacked
 from bpfhost.errors import ReplyError
 from bpfhost.replies import Reply
-from bpfhost.shards.calls import MOST_ALIKE, MOST_FRAMES, Call, count_of
+from bpfhost.shards.calls import MOST_ALIKE, MOST_FRAMES, Call, NoCall, count_of, item_of
 from bpfhost.shards.errors import MemoryRefused
+from bpfhost.shards.names import RUNS
 from bpfhost.shards.serving import Serving, _so_many
 from bpfhost.state import split
 from bpfhost.shards.system import MACHINE
@@ -41,7 +42,7 @@ class Alike(HostTest):
                 calls, wanted = list[Call](), list[bytes]()
                 for tenant in draw.choices(range(3), k=5):
                     asked = begins if turn == 0 and tenant not in [call.tenant for call in calls] else draw.choice(kinds)()
-                    calls.append(call_of(b"%d-0" % turn, tenant, asked))
+                    calls.append(call_of(b"%d-0" % turn, tenant, asked, packs=turn % 2 == 1))
                     wanted.append(b"".join(alone[tenant].ask_bytes(asked)))
                 self.assertEqual([written.value for written, _ in serving.play(calls)], wanted)
             for host in alone:
@@ -112,6 +113,31 @@ class Sizes(unittest.TestCase):
                 changed = bytearray(run * many)
                 changed[11 * len(run) + at] ^= 1
                 self.assertEqual(size_of_alike(changed), 0, at)
+
+    def test_what_is_packed(self) -> None:
+        """Test runs are packed if they differ only in their packets, and unpacked to the same bytes."""
+        draw = random.Random(5)
+        for size, many in ((1, 8), (64, 144), (200, 1000)):
+            runs = b"".join(frames.prog_test_run(0, 4, draw.randbytes(size)) for _ in range(many))
+            short = packed(runs, 52 + size)
+            self.assertEqual((len(short), size_of_packet(short), unpacked(short)), (52 + size * many, size, runs))
+            call = item_of(7, (b"1-0", {RUNS: short}))
+            assert isinstance(call, Call)
+            self.assertEqual((call.count, call.alike, call.stream, call.size, call.is_short), (many, 52 + size, runs, len(short), True))
+        other = frames.prog_test_run(0, 5, bytes(64)) + frames.prog_test_run(0, 4, bytes(64)) * 8
+        marked = frames.prog_test_run(0, 4, bytes(64), frames.Context(mark=1)) + frames.prog_test_run(0, 4, bytes(64)) * 8
+        for stream in (other, marked, frames.prog_test_run(0, 4) * 9, put(1) * 9, CREATE + put(1)):
+            self.assertEqual(packed(stream, size_of_alike(stream)), b"")
+
+    def test_what_is_packed_wrongly(self) -> None:
+        """Entries that this package does not write are no calls."""
+        right = packed(frames.prog_test_run(0, 4, bytes(64)) * 8, 116)
+        wrongs = [b"", right[:51], right[:52], right + b"1", bytes(52) + bytes(64), right[:4] + b"\1" + right[5:], right[:6] + b"\5" + right[7:]]
+        many = [right + bytes(64 * MOST_ALIKE), packed(frames.prog_test_run(0, 4, bytes(1000)) * 8, 1052) + bytes(1000 * 300)]
+        for wrong in (*wrongs, *many):
+            item = item_of(7, (b"1-0", {RUNS: wrong}))
+            assert isinstance(item, NoCall), wrong
+            self.assertEqual((item.size, item.why[:8]), (len(wrong), "no call:"))
 
     def test_counts(self) -> None:
         run = frames.prog_test_run(0, 4, bytes(64))

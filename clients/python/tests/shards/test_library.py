@@ -16,7 +16,6 @@ from pathlib import Path
 from unittest import mock
 
 from bpfhost import Errno, Host, frames
-from bpfhost.alike import size_of_alike
 from bpfhost.errors import HostError
 from bpfhost.shards import Settings, ShardKeys, Worker
 from bpfhost.shards.calls import NoCall
@@ -90,19 +89,19 @@ class Answers(HostTest):
         with self.serving() as serving, Host(PROGRAM) as alone:
             for turn in range(60):
                 asked = [CREATE, frames.prog_load(0, slots_of(PROGRAM, "add")), ZERO] if turn == 0 else draw.choice(kinds)()
-                ((written, _),) = serving.play([call_of(b"%d-0" % turn, 5, asked)])
+                ((written, _),) = serving.play([call_of(b"%d-0" % turn, 5, asked, packs=turn % 2 == 1)])
                 self.assertEqual(split(written.value), list(alone.ask_bytes(asked)))
 
     def test_runs_are_one_call(self) -> None:
         library = loaded()
-        library.run_packets = mock.Mock(wraps=library.run_packets)
-        library.handle = mock.Mock(wraps=library.handle)
+        called = library.functions
+        called.run_packets, called.handle = mock.Mock(wraps=called.run_packets), mock.Mock(wraps=called.handle)
         with contextlib.closing(Closing(library.host(3))) as closing:
             for frame in (CREATE, frames.prog_load(0, slots_of(PROGRAM, "add")), ZERO):
-                closing.host.answer(frame, 2, 0)
+                closing.host.answer(call_of(b"1-0", 2, [frame]))
             stream = frames.prog_test_run(0, 4, bytes(64)) * 300
-            replies = closing.host.answer(stream, 2, size_of_alike(stream))
-        self.assertEqual((library.run_packets.call_count, library.handle.call_count), (1, 3))
+            replies = closing.host.answer(call_of(b"1-0", 2, split(stream)))
+        self.assertEqual((called.run_packets.call_count, called.handle.call_count), (1, 3))
         self.assertEqual([reply[12:] for reply in split(replies)], [number.to_bytes(4, "little") for number in range(1, 301)])
 
     def test_states(self) -> None:
@@ -141,7 +140,7 @@ class Answers(HostTest):
         host = loaded().host(1)
         host.kill()
         host.kill()
-        calls: list[Callable[[], object]] = [lambda: next(host.ask_bytes([CREATE])), lambda: host.refused_memory(0), lambda: host.answer(CREATE, 0, 0)]
+        calls: list[Callable[[], object]] = [lambda: next(host.ask_bytes([CREATE])), lambda: host.refused_memory(0), lambda: host.answer(call_of(b"1-0", 0, [CREATE]))]
         for call in calls:
             with self.assertRaisesRegex(HostError, "the host was ended"):
                 call()

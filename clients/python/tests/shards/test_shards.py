@@ -31,7 +31,7 @@ from bpfhost.shards import (
 )
 from bpfhost.shards.connection import Script, connect, demand_durable
 from bpfhost.shards.errors import Away
-from bpfhost.shards.names import after, before, order
+from bpfhost.shards.names import FRAMES, after, before, order
 from tests.common import LENGTH, PROGRAM
 from tests.shards.common import CREATE, LOOK_UP, SECONDS, ShardTest, WorkerThread, put
 from tests.shards.streams import Stream
@@ -134,7 +134,7 @@ class Calls(ShardTest):
         def ask(
             number: int, of: bytes = seat.owned_by("acme"), most: int = 10_000, session: str = "one", given_up: int = 0
         ) -> list[bytes]:
-            words = [session, number, given_up, of, 0, 0, CREATE, 1000, most, 2]
+            words = [session, number, given_up, of, 0, 0, CREATE, 1000, most, 2, FRAMES]
             return list(scripts.ASK(redis, used, words))
 
         self.assertEqual(ask(1), [b"seat"])

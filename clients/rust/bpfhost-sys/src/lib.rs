@@ -13,7 +13,7 @@ use core::ffi::c_void;
 #[derive(Debug)]
 #[repr(C)]
 pub struct bpfhost {
-    /// Where the host is.
+    /// The address of the host.
     pub at: *mut c_void,
 }
 
@@ -21,7 +21,7 @@ pub struct bpfhost {
 #[derive(Debug)]
 #[repr(C)]
 pub struct bpfhost_bytes {
-    /// Where they begin.
+    /// The address of the first one.
     pub at: *const u8,
     /// How many there are.
     pub length: usize,
@@ -65,9 +65,9 @@ unsafe extern "C" {
         status: *mut i32,
     ) -> i32;
 
-    /// Tells whether memory was ever refused to a tenant. Returns a code.
+    /// Writes whether memory was ever refused to a tenant. Returns a code.
     pub fn bpfhost_c_memory_refused(handle: *mut bpfhost, tenant: u16, refused: *mut bool) -> i32;
 
-    /// Frees the host of a handle, which is empty then. An empty handle is left alone.
+    /// Frees the host of a handle, which is empty then. On an empty handle it does nothing.
     pub fn bpfhost_c_free(handle: *mut bpfhost);
 }

@@ -6,7 +6,7 @@ use bpfhost::{Context, Fd, Host, MapShape, MapType, Tenant};
 /// r0 = the packet's length; exit
 pub const LENGTH: [u64; 2] = [0x6110_0000_0000_0000, 0x9500_0000_0000_0000];
 
-/// Adds one to the value under index 0 of the array of descriptor 3, and answers it.
+/// Adds one to the value under index 0 of the array of descriptor 3, and returns it.
 pub const COUNTS: [u64; 13] = [
     0x620a_fcff_0000_0000, // *(u32 *)(r10 - 4) = 0
     0x1811_0000_0300_0000, // r1 = map_fd 3 ll

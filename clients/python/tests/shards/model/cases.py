@@ -50,7 +50,7 @@ def client(calls: int) -> Process:
             words = _script(scripts.CLAIM, [keys.seats], tenant, generation, seat)
             return [Step(words, lambda has: ("ask", number, local[2]) if has else ("place", number))]
         used = [keys.seats, keys.frames(tenant), keys.sessions(generation), keys.waiting, keys.lease]
-        words = _script(scripts.ASK, used, "s", number, 0, seat, shard, tenant, f"call {number}", 1, 1000, 10)
+        words = _script(scripts.ASK, used, "s", number, 0, seat, shard, tenant, f"call {number}", 1, 1000, 10, "f")
         return [Step(words, lambda said: ("wait", number, said[1]) if said[0] == b"taken" else ("place", number))]
 
     return Process(("place", 1), steps, _is_done)
@@ -87,7 +87,7 @@ def resuming(call: int, more: int) -> Process:
             words = _script(scripts.RESUME, [keys.seats, keys.sessions(generation), keys.lease], "s", local[2], tenant, seat, 10)
             return [Step(words, lambda said: _resumed(local[1], said))]
         used = [keys.seats, keys.frames(tenant), keys.sessions(generation), keys.waiting, keys.lease]
-        words = _script(scripts.ASK, used, "s", local[2], local[3], seat, shard, tenant, f"call {call}", 1, 1000, 10)
+        words = _script(scripts.ASK, used, "s", local[2], local[3], seat, shard, tenant, f"call {call}", 1, 1000, 10, "f")
         # An old seat is no reason to send it to another one: in the model a process that is refused there resumes again.
         return [Step(words, lambda said: ("place",) if said[0] == b"seat" else ("done",))]
 

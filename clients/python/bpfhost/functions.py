@@ -1,0 +1,49 @@
+"""The functions of the library for C, with their parameters (clients/c/include/bpfhost.h), as ctypes calls them.
+
+Each pointer is an address here: ctypes takes a number, `byref` of a number, an array, or bytes.
+"""
+
+from __future__ import annotations
+
+import ctypes
+from dataclasses import dataclass
+from typing import Any
+
+_AT, _SIZE = ctypes.c_void_p, ctypes.c_size_t
+_PARAMETERS: dict[str, tuple[Any, ...]] = {
+    "new": (_AT, _SIZE, ctypes.c_uint64, ctypes.c_uint64),
+    "handle": (_AT, _AT, _SIZE, _AT, _SIZE, _AT),
+    "run_packets": (_AT, ctypes.c_uint16, ctypes.c_uint32, _AT, _AT, _SIZE, _AT, _SIZE, _AT, _SIZE, _AT),
+    "memory_refused": (_AT, ctypes.c_uint16, _AT),
+    "free": (_AT,),
+}
+
+
+@dataclass
+class Functions:
+    """The functions of an opened library. Each returns a code, 0 if it is done; only `free` returns nothing."""
+
+    new: Any
+    handle: Any
+    run_packets: Any
+    memory_refused: Any
+    free: Any
+
+
+def functions_of(path: str, keeps_lock: bool = False) -> Functions:
+    """Opens a library. Raises OSError if it is no shared object, and AttributeError if one of the functions is missing.
+
+    A call releases Python's global interpreter lock. With `keeps_lock` only a run of packets does: that is better for one thread, and short
+    calls.
+    """
+    long = ctypes.CDLL(path)
+    short = ctypes.PyDLL(path) if keeps_lock else long
+    return Functions(**{name: _function(long if name == "run_packets" else short, name) for name in _PARAMETERS})
+
+
+def _function(opened: ctypes.CDLL, name: str) -> Any:
+    function = getattr(opened, f"bpfhost_c_{name}", None)
+    if function is None:
+        raise AttributeError(f"it has no bpfhost_c_{name}")
+    function.argtypes, function.restype = _PARAMETERS[name], None if name == "free" else ctypes.c_int32
+    return function

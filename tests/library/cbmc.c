@@ -4,8 +4,9 @@
  *     but those of a reply that bpfhost_handle_lent says it empties;
  *   - else the proved function is called once, with what the header says of it, and no byte changes but those that may be written;
  *   - no byte outside the arena is read or written.
- * tests/library/run gives it each function `try_..` below. The header has no loop, so that the bounds of cbmc leave nothing out. Not here:
- * bpfhost_random_seed, which asks the system, and the functions for frames that are bpfhost_frame_of_key by another name.
+ * tests/library/run gives it each function `try_..` below. What is tried has no loop, so that the bounds of cbmc leave nothing out. Not here:
+ * bpfhost_random_seed, which asks the system; bpfhost_save and bpfhost_restore, which are loops over bpfhost_save_part and bpfhost_ask; and the
+ * functions for frames that are bpfhost_frame_of_key by another name.
  *
  * An arena holds the objects of its function side by side, with few bytes more: the time grows with its size. */
 #include <stddef.h>
@@ -176,7 +177,7 @@ static void copy(void *to, const void *from, size_t length)
 static int32_t ask(const struct piece *pieces, size_t pieces_count)
 {
     int32_t code = nondet_int32_t();
-    __CPROVER_assume(code <= BPFHOST_DONE && code >= BPFHOST_ERR_BUFFER_TOO_SMALL);
+    __CPROVER_assume(code <= BPFHOST_DONE && code >= BPFHOST_ERR_NO_PART);
     __CPROVER_assert(!is_asked, "a proved function is called once");
     is_asked = true;
     for (size_t i = 0; i < pieces_count; i++) {
@@ -241,6 +242,13 @@ int32_t bpfhost_c_run_packets(bpfhost *handle, uint16_t tenant, uint32_t fd, con
     (void)tenant, (void)fd;
     __CPROVER_assert(room == packets && packets <= PTRDIFF_MAX / sizeof *ends, "there are as many results as packets");
     return ask(pieces, 6);
+}
+
+int32_t bpfhost_c_save(bpfhost *handle, uint16_t tenant, size_t part, bpfhost_bytes *frames)
+{
+    const struct piece pieces[] = {{handle, BPFHOST_HANDLE_SIZE, true}, {frames, sizeof *frames, true}};
+    (void)tenant, (void)part;
+    return ask(pieces, 2);
 }
 
 int32_t bpfhost_c_memory_refused(bpfhost *handle, uint16_t tenant, bool *refused)
@@ -346,6 +354,15 @@ void try_run_packets(void)
     uint32_t *results = object(results_size, sizeof *results, WRITTEN | NULL_IF_EMPTY);
     int32_t *status = ONE(status, WRITTEN);
     end(bpfhost_run_packets(host, 1, 3, context, bytes, byte_count, ends, packets, results, status), true);
+}
+
+void try_save_part(void)
+{
+    uint8_t here[32];
+    lie_in(here, sizeof here);
+    bpfhost *host = HOST;
+    bpfhost_bytes *frames = ONE(frames, WRITTEN);
+    end(bpfhost_save_part(host, 1, 0, frames), true);
 }
 
 void try_memory_refused(void)

@@ -2,8 +2,9 @@
  *
  * Not here, since they write nothing: bpfhost_pair_code, bpfhost_bytes_at, bpfhost_frame_code, bpfhost_may_empty,
  * bpfhost_context_at, bpfhost_packets_code, bpfhost_run_code, bpfhost_may_copy, bpfhost_code_text, bpfhost_reason_text,
- * bpfhost_version, bpfhost_get16, bpfhost_get32. Since they test nothing: bpfhost_put16, bpfhost_put32, bpfhost_put_bytes. In
- * objects.c: bpfhost_are_apart, bpfhost_free. */
+ * bpfhost_version, bpfhost_get16, bpfhost_get32, bpfhost_frame_of_tenant. Since they test nothing: bpfhost_put16, bpfhost_put32,
+ * bpfhost_put_bytes. In objects.c: bpfhost_are_apart, bpfhost_free. In saves.c, since it calls bpfhost_save_part again and again:
+ * bpfhost_save. */
 #ifndef FUNCTIONS_H
 #define FUNCTIONS_H
 
@@ -191,6 +192,36 @@ static bool holds_run_packets(const struct given *given, int code)
             || (is_marked(given->at[4], packets * sizeof(uint32_t)) && is_marked(given->at[5], sizeof(int32_t))));
 }
 
+static int call_save_part(const struct given *given)
+{
+    return bpfhost_save_part((bpfhost *)given->at[0], 258, 3, (bpfhost_bytes *)given->at[1]);
+}
+
+static bool holds_save_part(const struct given *given, int code)
+{
+    const bpfhost_bytes *frames = (const bpfhost_bytes *)given->at[1];
+    return is_asked(given, 0, code) && asked.numbers[0] == 258 && asked.numbers[1] == 3
+        && (code != BPFHOST_DONE || (frames->at == lent_reply && frames->length == sizeof lent_reply));
+}
+
+/* A frame of tenant 258 with its length field, which closes descriptor 3. */
+static const uint8_t closes[12] = {8, 0, 0, 0, 2, 1, 0, 1, 3};
+
+/* The reply to its one frame is `lent_reply`, which refuses it: then it writes what it writes if it is DONE. */
+static int call_restore(const struct given *given)
+{
+    int code = bpfhost_restore((bpfhost *)given->at[0], 258, given->at[1], given->counts[0], (int32_t *)given->at[2]);
+    return code == BPFHOST_ERR_REFUSED && *(int32_t *)given->at[2] == -13 ? BPFHOST_DONE : code;
+}
+
+static bool holds_restore(const struct given *given, int code)
+{
+    if (given->counts[0] == 0)
+        return code == BPFHOST_DONE && asked.calls == 0 && *(const int32_t *)given->at[2] == 0;
+    return asked.calls == 1 && code == asked.code && asked.at[0] == given->at[0] && asked.numbers[0] == 8
+        && asked.at[1] == (const uint8_t *)given->at[1] + 4;
+}
+
 static int call_memory_refused(const struct given *given)
 {
     return bpfhost_memory_refused((bpfhost *)given->at[0], 258, (bool *)given->at[1]);
@@ -331,6 +362,9 @@ static const struct function functions[] = {
      {HOST, CONTEXT, BYTES("bytes", 11, 0, READ | NULL_IF_EMPTY),
       {"ends", sizeof(size_t), 3, alignof(size_t), 1, READ | NULL_IF_EMPTY, NULL},
       {"results", sizeof(uint32_t), 3, alignof(uint32_t), 1, WRITTEN | NULL_IF_EMPTY, NULL}, ONE("status", int32_t, WRITTEN)}},
+    {"bpfhost_save_part", call_save_part, holds_save_part, false, 0, 2, 0, {HOST, ONE("frames", bpfhost_bytes, WRITTEN)}},
+    {"bpfhost_restore", call_restore, holds_restore, false, 0, 3, 1,
+     {HOST, {"frames", 1, sizeof closes, 1, 0, READ | NULL_IF_EMPTY, closes}, ONE("status", int32_t, WRITTEN)}},
     {"bpfhost_memory_refused", call_memory_refused, holds_memory_refused, false, 0, 2, 0, {HOST, ONE("refused", bool, WRITTEN)}},
     {"bpfhost_frame_begin", call_frame_begin, holds_begun, true, 11, 1, 1, {ROOM(12)}},
     {"bpfhost_frame_map_create", call_frame_map_create, holds_map_create, true, 24, 1, 1, {ROOM(26)}},

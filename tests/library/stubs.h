@@ -132,6 +132,22 @@ int32_t bpfhost_c_run_packets(bpfhost *handle, uint16_t tenant, uint32_t fd, con
     return answer(pieces, 6);
 }
 
+int32_t bpfhost_c_save(bpfhost *handle, uint16_t tenant, size_t part, bpfhost_bytes *frames)
+{
+    const struct piece pieces[] = {{handle, BPFHOST_HANDLE_SIZE, true}, {frames, sizeof *frames, true}};
+    record(pieces, 2);
+    asked.numbers[0] = tenant;
+    asked.numbers[1] = part;
+    if (frames->at == NULL)
+        fails("a proved function is given frames that lead nowhere");
+    read_all(frames->at, frames->length);
+    if (answer(pieces, 2) == BPFHOST_DONE) {
+        frames->at = lent_reply;
+        frames->length = sizeof lent_reply;
+    }
+    return asked.code;
+}
+
 int32_t bpfhost_c_memory_refused(bpfhost *handle, uint16_t tenant, bool *refused)
 {
     const struct piece pieces[] = {{handle, BPFHOST_HANDLE_SIZE, true}, {refused, sizeof *refused, true}};

@@ -11,8 +11,8 @@
  *   - A bpfhost comes from bpfhost_new, and is not used after bpfhost_free.
  *   - A pointer that is not null is aligned for its type and leads to as many bytes as the call says. They belong to the call
  *     while it lasts.
- *   - A lent reply (bpfhost_handle_lent, bpfhost_ask) is read only before the next call on its host, bpfhost_free included, and
- *     is not the frame of that call. Only the library writes it.
+ *   - What is lent, a reply (bpfhost_handle_lent, bpfhost_ask) or the frames of a part (bpfhost_save_part, a sink), is read only before
+ *     the next call on its host, bpfhost_free included, and is not the frame of that call. Only the library writes it.
  *   - A host is in one call at a time. It may go from thread to thread, ordered by a lock, or by a thread's start or join; a
  *     lent reply goes with it. Two hosts share nothing.
  *   - No call from a signal handler, or from the forked child of a process with threads.
@@ -59,6 +59,7 @@ static inline const char *bpfhost_version(void)
 #define BPFHOST_LONGEST_REPLY 4108 /* the most bytes of a reply, its length field included */
 #define BPFHOST_LONGEST_PAYLOAD 4096 /* the most bytes of a reply's payload */
 #define BPFHOST_TEST_RUN_HEAD 48 /* the bytes of a PROG_TEST_RUN frame before its packet */
+#define BPFHOST_LONGEST_PART 2244648 /* the most bytes of a part of a save: a full map with the longest keys */
 /* end of limits */
 
 /* ---- codes of calls. Each call returns one; a status in a reply is another thing. ERR_NO_HOST and ERR_HAS_HOST come only from
@@ -72,11 +73,15 @@ enum bpfhost_code {
     BPFHOST_ERR_TENANT_COUNT = -3,     /* a host has 1 to 64 tenants */
     BPFHOST_ERR_NO_MEMORY = -4,        /* out of memory for the host */
     BPFHOST_ERR_BUFFER_TOO_SMALL = -5, /* the buffer is smaller than the longest reply */
+    BPFHOST_ERR_NO_PART = -6,          /* the tenant has no such part, or is not served */
     /* only of this header; if more than one of them holds, the call returns one that does */
     BPFHOST_ERR_NULL = -16,            /* a pointer is null */
     BPFHOST_ERR_LENGTH = -17,          /* a length is above PTRDIFF_MAX */
     BPFHOST_ERR_OVERLAP = -18,         /* an object that the call may write, the handle included, overlaps another one */
-    BPFHOST_ERR_NO_REPLY = -19         /* the bytes are not one whole reply */
+    BPFHOST_ERR_NO_REPLY = -19,        /* the bytes are not one whole reply */
+    BPFHOST_ERR_STOPPED = -20,         /* the sink stopped the save */
+    BPFHOST_ERR_REFUSED = -21,         /* a frame that restores the tenant is refused */
+    BPFHOST_ERR_BAD_FRAMES = -22       /* the bytes are not whole frames of this tenant */
     /* end of codes */
 };
 
@@ -101,7 +106,8 @@ typedef struct bpfhost_seed {
 } bpfhost_seed;
 
 /* The proved functions. No pointer is null, no length is above PTRDIFF_MAX, what they may write overlaps nothing else that they
- * are given, `*refused` is false or true, and `reply->at` leads to `reply->length` bytes. Call those below in their place. */
+ * are given, `*refused` is false or true, and `reply->at` leads to `reply->length` bytes, as `frames->at` does. Call those below in their
+ * place. */
 int32_t bpfhost_c_new(bpfhost *handle, size_t tenants, uint64_t first, uint64_t second);
 int32_t bpfhost_c_handle(bpfhost *handle, const uint8_t *frame, size_t frame_length, uint8_t *room, size_t room_length,
                          size_t *written);
@@ -109,6 +115,7 @@ int32_t bpfhost_c_handle_lent(bpfhost *handle, const uint8_t *frame, size_t fram
 int32_t bpfhost_c_run_packets(bpfhost *handle, uint16_t tenant, uint32_t fd, const uint32_t *words, const uint8_t *bytes,
                               size_t byte_count, const size_t *ends, size_t packets, uint32_t *results, size_t room,
                               int32_t *status);
+int32_t bpfhost_c_save(bpfhost *handle, uint16_t tenant, size_t part, bpfhost_bytes *frames);
 int32_t bpfhost_c_memory_refused(bpfhost *handle, uint16_t tenant, bool *refused);
 void bpfhost_c_free(bpfhost *handle);
 
@@ -313,6 +320,44 @@ static inline int bpfhost_run_packets(bpfhost *host, uint16_t tenant, uint32_t f
     if (code == BPFHOST_DONE)
         *status = told;
     return code;
+}
+
+/* Saves one part of a tenant: `frames` gets the frames of this part, each with its length field before it as in a stream, lent
+ * until the next call on this host. Parts are numbered from 0, and a tenant has 2 to 82 of them: the first opens a program at each
+ * descriptor, each part after it makes one map with its keys or one program, in the order in which they were made, and the last
+ * closes what is not open. A new tenant of this number, of any host, that is given the frames of all parts in their order
+ * (bpfhost_restore) then replies to each frame as the saved tenant does. Until the last part is taken, the tenant must not be given a frame
+ * or packets; other tenants may be. A part has at most BPFHOST_LONGEST_PART bytes, which the host keeps until the next call of
+ * bpfhost_save_part or bpfhost_save on it. ERR_NO_PART: there are no more parts, or the tenant is not served. ERR_NO_MEMORY, ERR_NO_PART,
+ * ERR_NULL, ERR_OVERLAP: nothing is written. No tenant's state changes. */
+static inline int bpfhost_save_part(bpfhost *host, uint16_t tenant, size_t part, bpfhost_bytes *frames)
+{
+    bpfhost_bytes found = {bpfhost_bytes_at(NULL, 0), 0};
+    int code = bpfhost_pair_code(host, BPFHOST_HANDLE_SIZE, frames, sizeof *frames);
+    if (code == BPFHOST_DONE)
+        code = (int)bpfhost_c_save(host, tenant, part, &found);
+    if (code == BPFHOST_DONE)
+        *frames = found;
+    return code;
+}
+
+/* Takes the frames of one part of a tenant: writes them to a file, say. They are lent: once it has used them, it may serve other tenants
+ * of the host. `context` is that of bpfhost_save. false stops the save. */
+typedef bool bpfhost_sink(void *context, const uint8_t *frames, size_t length);
+
+/* Saves a tenant: gives its parts (bpfhost_save_part) to the sink, one after another. What the sink is given, in this order, restores the
+ * tenant. ERR_NO_PART: the tenant is not served. ERR_STOPPED: the sink returned false. ERR_NO_MEMORY: the sink may have been given
+ * some parts. ERR_NULL: the host or the sink is null. No tenant's state changes, except those that the sink serves. */
+static inline int bpfhost_save(bpfhost *host, uint16_t tenant, bpfhost_sink *sink, void *context)
+{
+    bpfhost_bytes frames;
+    size_t part = 0;
+    int code = sink == NULL ? BPFHOST_ERR_NULL : bpfhost_save_part(host, tenant, part, &frames);
+    while (code == BPFHOST_DONE) {
+        part++;
+        code = sink(context, frames.at, frames.length) ? bpfhost_save_part(host, tenant, part, &frames) : BPFHOST_ERR_STOPPED;
+    }
+    return code == BPFHOST_ERR_NO_PART && part > 0 ? BPFHOST_DONE : code;
 }
 
 /* Whether memory was ever refused to a tenant: then its replies may differ from those of a host with only this tenant. False for a
@@ -564,6 +609,42 @@ static inline int bpfhost_ask(bpfhost *host, const void *frame, size_t frame_len
     return code == BPFHOST_DONE ? bpfhost_read_reply(lent.at, lent.length, reply) : code;
 }
 
+/* The length of the frame at the front of bytes, after its length field, if the frame is whole and this tenant's; else 0. */
+static inline size_t bpfhost_frame_of_tenant(const uint8_t *at, size_t left, uint16_t tenant)
+{
+    size_t size = left < 8 ? 0 : bpfhost_get32(at);
+    return size < 4 || left - 4 < size || bpfhost_get16(at + 4) != tenant ? 0 : size;
+}
+
+/* Gives saved frames, with their length fields, to a tenant one after another, and stops at the first that is refused. They may be those
+ * of all parts or of some: a save is restored by its parts in their order, in any number of calls. The tenant has to be new: it was
+ * given no frame yet, or has nothing open any more. `status` gets the status of the last reply, or 0 if there are no frames.
+ * ERR_BAD_FRAMES: the bytes end inside a frame, or a frame is another tenant's, and is not handled; the frames before it are. ERR_REFUSED: a
+ * frame is refused with this status, and those before it are handled: the tenant was not new (-24, EMFILE), or memory was refused
+ * (-12, ENOMEM). After both, the tenant is not the saved one: close its descriptors, 3 to 66, and it is new again. ERR_NULL, ERR_LENGTH,
+ * ERR_OVERLAP: nothing is written, and no tenant's state has changed. */
+static inline int bpfhost_restore(bpfhost *host, uint16_t tenant, const void *frames, size_t length, int32_t *status)
+{
+    const uint8_t *at = bpfhost_bytes_at(frames, length);
+    size_t left = length;
+    int32_t told = 0;
+    int code = bpfhost_frame_code(host, at, length, status, sizeof *status);
+    while (code == BPFHOST_DONE && left > 0) {
+        size_t size = bpfhost_frame_of_tenant(at, left, tenant);
+        bpfhost_reply reply;
+        code = size == 0 ? BPFHOST_ERR_BAD_FRAMES : bpfhost_ask(host, at + 4, size, &reply);
+        if (code == BPFHOST_DONE) {
+            told = reply.status;
+            code = told < 0 ? BPFHOST_ERR_REFUSED : BPFHOST_DONE;
+            at += 4 + size;
+            left -= 4 + size;
+        }
+    }
+    if (code == BPFHOST_DONE || code == BPFHOST_ERR_REFUSED || code == BPFHOST_ERR_BAD_FRAMES)
+        *status = told;
+    return code;
+}
+
 /* A code in words. */
 static inline const char *bpfhost_code_text(int code)
 {
@@ -575,10 +656,14 @@ static inline const char *bpfhost_code_text(int code)
     case BPFHOST_ERR_TENANT_COUNT: return "a host has 1 to 64 tenants";
     case BPFHOST_ERR_NO_MEMORY: return "out of memory for the host";
     case BPFHOST_ERR_BUFFER_TOO_SMALL: return "the buffer is smaller than the longest reply";
+    case BPFHOST_ERR_NO_PART: return "the tenant has no such part, or is not served";
     case BPFHOST_ERR_NULL: return "a pointer is null";
     case BPFHOST_ERR_LENGTH: return "a length is above PTRDIFF_MAX";
     case BPFHOST_ERR_OVERLAP: return "an object that the call may write, the handle included, overlaps another one";
     case BPFHOST_ERR_NO_REPLY: return "the bytes are not one whole reply";
+    case BPFHOST_ERR_STOPPED: return "the sink stopped the save";
+    case BPFHOST_ERR_REFUSED: return "a frame that restores the tenant is refused";
+    case BPFHOST_ERR_BAD_FRAMES: return "the bytes are not whole frames of this tenant";
     /* end of texts of codes */
     default: return "no code of bpfhost";
     }

@@ -11,6 +11,8 @@ pub const LONGEST_REPLY: usize = 4108;
 pub const LONGEST_PAYLOAD: usize = 4096;
 /// The bytes of a PROG_TEST_RUN frame before its packet.
 pub const TEST_RUN_HEAD: usize = 48;
+/// The most bytes of a part of a save: a full map with the longest keys.
+pub const LONGEST_PART: usize = 2_244_648;
 // end of limits
 
 // codes: written by tools/generate
@@ -26,6 +28,8 @@ pub const ERR_TENANT_COUNT: i32 = -3;
 pub const ERR_NO_MEMORY: i32 = -4;
 /// A code: the buffer is smaller than the longest reply.
 pub const ERR_BUFFER_TOO_SMALL: i32 = -5;
+/// A code: the tenant has no such part, or is not served.
+pub const ERR_NO_PART: i32 = -6;
 // end of codes
 
 // commands: written by tools/generate

@@ -336,8 +336,10 @@ static inline int bpfhost_save_part(bpfhost *host, uint16_t tenant, size_t part,
     int code = bpfhost_pair_code(host, BPFHOST_HANDLE_SIZE, frames, sizeof *frames);
     if (code == BPFHOST_DONE)
         code = (int)bpfhost_c_save(host, tenant, part, &found);
-    if (code == BPFHOST_DONE)
-        *frames = found;
+    if (code == BPFHOST_DONE) {
+        frames->at = bpfhost_bytes_at(found.at, found.length);
+        frames->length = found.length;
+    }
     return code;
 }
 

@@ -1,7 +1,8 @@
 use crate::{Errno, MOST_TENANTS};
 use std::fmt;
 
-/// Why something was not done. Whatever was refused has changed nothing of any tenant.
+/// Why something was not done. Whatever was refused has changed nothing of any tenant, except for the frames before it of a
+/// [restore](crate::Tenant::restore).
 #[derive(Debug, Clone, Copy, PartialEq, Eq)]
 #[non_exhaustive]
 pub enum Error {
@@ -10,8 +11,10 @@ pub enum Error {
         /// How many were asked for.
         asked: usize,
     },
-    /// There is no memory for a host.
+    /// There is no memory for a host, or for a part of a save.
     NoMemory,
+    /// The bytes of a save end inside a frame, or have a frame of another tenant.
+    BadFrames,
     /// There is room for fewer results than there are packets.
     Room {
         /// For how many results there is room.
@@ -35,7 +38,7 @@ impl Error {
     pub fn errno(&self) -> Option<Errno> {
         match *self {
             Error::Status(errno) | Error::Refused { errno, .. } => Some(errno),
-            Error::Tenants { .. } | Error::NoMemory | Error::Room { .. } => None,
+            Error::Tenants { .. } | Error::NoMemory | Error::BadFrames | Error::Room { .. } => None,
         }
     }
 }
@@ -45,6 +48,7 @@ impl fmt::Display for Error {
         match *self {
             Error::Tenants { asked } => write!(f, "a host has 1 to {MOST_TENANTS} tenants, not {asked}"),
             Error::NoMemory => f.write_str("out of memory for the host"),
+            Error::BadFrames => f.write_str("the bytes are not whole frames of this tenant"),
             Error::Room { results } => write!(f, "there is room for {results} results, and there are more packets"),
             Error::Status(errno) => errno.fmt(f),
             Error::Refused { errno, slot, reason } => {

@@ -1,7 +1,7 @@
 use crate::batch::Batch;
 use crate::library::{Handle, unexpected};
 use crate::{Context, Errno, Error, Reply, Tenant};
-use bpfhost_sys::{ERR_NO_MEMORY, ERR_TENANT_COUNT, LONGEST_FRAME};
+use bpfhost_sys::{ERR_NO_MEMORY, ERR_NO_PART, ERR_TENANT_COUNT, LONGEST_FRAME};
 use std::collections::hash_map::RandomState;
 use std::fmt;
 use std::hash::{BuildHasher, Hasher};
@@ -97,6 +97,16 @@ impl Host {
         results: &mut [u32],
     ) -> Result<(), Error> {
         run_packets(&mut self.handle, tenant, prog, context, bytes, ends, results)
+    }
+
+    /// The frames of one part of a tenant, lent; `None` if there is no such part.
+    pub(crate) fn save_part(&mut self, tenant: u16, part: usize) -> Result<Option<&[u8]>, Error> {
+        match self.handle.save(tenant, part) {
+            Ok(frames) => Ok(Some(frames)),
+            Err(ERR_NO_PART) => Ok(None),
+            Err(ERR_NO_MEMORY) => Err(Error::NoMemory),
+            Err(code) => panic!("{}", unexpected(code)),
+        }
     }
 
     /// Whether memory was ever refused to a tenant. While it was not, the tenant's replies are those that it would get on a host of its own.

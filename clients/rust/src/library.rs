@@ -5,7 +5,7 @@
 
 use bpfhost_sys::{
     DONE, bpfhost, bpfhost_bytes, bpfhost_c_free, bpfhost_c_handle_lent, bpfhost_c_memory_refused, bpfhost_c_new,
-    bpfhost_c_run_packets,
+    bpfhost_c_run_packets, bpfhost_c_save,
 };
 use std::ptr::{NonNull, null_mut};
 
@@ -71,6 +71,20 @@ impl Handle {
             )
         });
         status
+    }
+
+    /// The frames of a part of a tenant, lent until the next call; else the code.
+    pub(crate) fn save(&mut self, tenant: u16, part: usize) -> Result<&[u8], i32> {
+        let mut lent = bpfhost_bytes { at: NonNull::dangling().as_ptr(), length: 0 };
+        // SAFETY: the handle and `lent` are passed as a `&mut` each.
+        match unsafe { bpfhost_c_save(&mut self.0, tenant, part, &mut lent) } {
+            // A vector without bytes may have no address.
+            DONE if lent.length == 0 => Ok(&[]),
+            // SAFETY: by `done` of the contract the frames are there (`SavedAt`): these are bytes of a vector that the handle owns. They
+            // change at the next call with the handle, which can't come while they are used, since they borrow it.
+            DONE => Ok(unsafe { std::slice::from_raw_parts(lent.at, lent.length) }),
+            code => Err(code),
+        }
     }
 
     /// Whether memory was ever refused to a tenant.

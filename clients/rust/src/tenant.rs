@@ -60,6 +60,10 @@ impl<'a> Tenant<'a> {
         Tenant { host, number }
     }
 
+    pub(crate) fn host(&mut self) -> &mut Host {
+        self.host
+    }
+
     /// The tenant's number.
     pub fn number(&self) -> u16 {
         self.number

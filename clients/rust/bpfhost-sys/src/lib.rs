@@ -65,6 +65,9 @@ unsafe extern "C" {
         status: *mut i32,
     ) -> i32;
 
+    /// Saves a part of a tenant, and lends its frames, each with its length field, until the next call on the handle. Returns a code.
+    pub fn bpfhost_c_save(handle: *mut bpfhost, tenant: u16, part: usize, frames: *mut bpfhost_bytes) -> i32;
+
     /// Writes whether memory was ever refused to a tenant. Returns a code.
     pub fn bpfhost_c_memory_refused(handle: *mut bpfhost, tenant: u16, refused: *mut bool) -> i32;
 

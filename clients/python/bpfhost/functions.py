@@ -9,11 +9,14 @@ import ctypes
 from dataclasses import dataclass
 from typing import Any
 
+# Codes of a save: there is no memory for the part, or there are no more parts.
+NO_MEMORY, NO_PART = -4, -6
 _AT, _SIZE = ctypes.c_void_p, ctypes.c_size_t
 _PARAMETERS: dict[str, tuple[Any, ...]] = {
     "new": (_AT, _SIZE, ctypes.c_uint64, ctypes.c_uint64),
     "handle": (_AT, _AT, _SIZE, _AT, _SIZE, _AT),
     "run_packets": (_AT, ctypes.c_uint16, ctypes.c_uint32, _AT, _AT, _SIZE, _AT, _SIZE, _AT, _SIZE, _AT),
+    "save": (_AT, ctypes.c_uint16, _SIZE, _AT),
     "memory_refused": (_AT, ctypes.c_uint16, _AT),
     "free": (_AT,),
 }
@@ -26,8 +29,15 @@ class Functions:
     new: Any
     handle: Any
     run_packets: Any
+    save: Any
     memory_refused: Any
     free: Any
+
+    def saved_part(self, handle: int, tenant: int, part: int) -> tuple[int, bytes]:
+        """The code of `save`, and the frames of the part, copied."""
+        lent = (_SIZE * 2)()
+        code = self.save(handle, tenant, part, lent)
+        return code, ctypes.string_at(*lent) if lent[1] else b""
 
 
 def functions_of(path: str, keeps_lock: bool = False) -> Functions:

@@ -12,7 +12,7 @@ import re
 import secrets
 import threading
 from array import array
-from collections.abc import Iterable
+from collections.abc import Iterable, Iterator
 from functools import lru_cache
 from itertools import accumulate
 from operator import sub
@@ -22,10 +22,11 @@ from types import TracebackType
 from bpfhost import frames
 from bpfhost.errors import BpfhostError
 from bpfhost.frames import NO_CONTEXT, Context
-from bpfhost.functions import functions_of
+from bpfhost.functions import NO_PART, functions_of
 from bpfhost.numbers import LONGEST_PACKET, LONGEST_PAYLOAD, MOST_TENANTS, REPLY_HEAD, Command, Errno
 from bpfhost.packets import Packets
 from bpfhost.replies import Reply, read_replies
+from bpfhost.state import split
 
 # The versions that have the functions below, as in the name of an installed library (docs/RELEASES.md).
 VERSION = "0.1"
@@ -34,7 +35,7 @@ _LENGTH_FIELD = 4
 _LONGEST_REPLY = REPLY_HEAD + LONGEST_PAYLOAD
 # The address of empty packets and results: not null, and aligned.
 _ANYWHERE = 8
-_CODES = {-1: "its host is closed", -4: "there is no memory for a host"}
+_CODES = {-1: "its host is closed", -4: "there is no memory for a host, or for a part of a save"}
 
 
 class LibraryError(BpfhostError):
@@ -131,6 +132,31 @@ class LibraryHost:
             self.library.demand_done(self.library.functions.memory_refused(self._at, tenant, ctypes.byref(refused)))
         return refused.value
 
+    def save_part(self, tenant: int, part: int) -> bytes | None:
+        """The frames of one part of a tenant, counted from 0; None after its last part, and if the tenant is not served.
+
+        A new tenant of this number that is given the frames of all parts in their order (`restore`) replies to each frame as this one does.
+        Other tenants may be served between two parts; this one must not change before its last part is taken.
+        """
+        with self._lock:
+            code, frames = self.library.functions.saved_part(self._at, tenant, part)
+        if code == NO_PART:
+            return None
+        self.library.demand_done(code)
+        return frames
+
+    def restore(self, tenant: int, saved: bytes) -> None:
+        """Gives saved frames, of all parts or of some in their order, to a tenant that is new or has nothing open.
+
+        Raises ValueError, before the first frame, if the bytes are not whole frames of this tenant; Refused if a frame is refused. Then those
+        before it are handled, and the tenant is new again after its descriptors, 3 to 66, are closed.
+        """
+        each = split(saved)
+        if any(frame[_LENGTH_FIELD : _LENGTH_FIELD + 2] != tenant.to_bytes(2, "little") for frame in each):
+            raise ValueError(f"a frame of the save is not of tenant {tenant}")
+        for frame in each:
+            self.ask(frame).done()
+
     def run_packets(
         self, tenant: int, descriptor: int, packets: Packets | Iterable[bytes], context: Context = NO_CONTEXT
     ) -> list[int]:
@@ -173,6 +199,21 @@ class LibraryTenant:
     def run_packets(self, descriptor: int, packets: Packets | Iterable[bytes], context: Context = NO_CONTEXT) -> list[int]:
         """Runs a program on packets by one call (`LibraryHost.run_packets`)."""
         return self.host.run_packets(self.number, descriptor, packets, context)
+
+    def save_parts(self) -> Iterator[bytes]:
+        """The frames that restore this tenant, part by part (`LibraryHost.save_part`); it must not change before the last one."""
+        part = 0
+        while (found := self.host.save_part(self.number, part)) is not None:
+            yield found
+            part += 1
+
+    def save(self) -> bytes:
+        """The frames that restore this tenant."""
+        return b"".join(self.save_parts())
+
+    def restore(self, saved: bytes) -> None:
+        """Gives the frames of a save, of a tenant of this number, to this one, which is new (`LibraryHost.restore`)."""
+        self.host.restore(self.number, saved)
 
     def close(self, descriptor: int) -> None:
         """Closes a descriptor of a map or of a program."""

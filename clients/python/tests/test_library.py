@@ -17,6 +17,7 @@ from pathlib import Path
 from bpfhost import Context, Host, Packets, ProgramRefused, Refused, frames
 from bpfhost.library import Library, LibraryError, LibraryHost
 from bpfhost.numbers import MapType
+from bpfhost.state import FILLER
 from tests.classic.common import needs_libpcap
 from tests.common import LENGTH, ONE, PROGRAM, TimedTest
 
@@ -26,6 +27,10 @@ ARCHIVE = Path(PROGRAM).parent / "libbpfhost.a" if PROGRAM else None
 IS_THERE = bool(NAMED) or (ARCHIVE is not None and ARCHIVE.is_file() and shutil.which("cc") is not None)
 # r0 = the word `mark` of the context; exit.
 MARK = bytes.fromhex("6110080000000000 9500000000000000")
+# Counts in the array of descriptor 3: r1 = 1; r2 = the value of index 0; lock *(u64 *)(r2 + 0) += r1; r0 = it; exit.
+COUNT = bytes.fromhex("b701000001000000 1822000003000000 0000000000000000 db12000000000000 7920000000000000 9500000000000000")
+# A save of a tenant with nothing open: a program at each descriptor, which are all closed.
+EMPTY = b"".join([FILLER] * 64 + [frames.close(0, number) for number in range(3, 67)])
 
 
 def linked(scratch: Path) -> Path:
@@ -146,6 +151,45 @@ class Calls(TimedTest):
         tenant.close(descriptor)
         with self.assertRaises(Refused):
             tenant.run_packets(descriptor, [])
+
+    def test_saves(self) -> None:
+        """A tenant with a map, its keys in order, and a program that keeps a closed map, restored on another host and on one that is not new."""
+        tenant, ask = self.host.tenant(1), self.host.ask
+        self.assertEqual(ask(frames.map_create(1, MapType.ARRAY, 4, 8, 1)).status, 3)
+        count = tenant.prog_load(COUNT)
+        self.assertEqual(tenant.run_packets(count, [b"", b""]), [1, 2])
+        tenant.close(3)
+        self.assertEqual(ask(frames.map_create(1, MapType.HASH, 2, 8, 4)).status, 3)
+        for key in (b"no", b"my", b"so"):
+            ask(frames.map_update_elem(1, 3, key, bytes(8))).done()
+        ask(frames.map_delete_elem(1, 3, b"my")).done()
+        parts = list(tenant.save_parts())
+        self.assertEqual((len(parts), b"".join(parts)), (5, tenant.save()))
+        self.assertEqual((self.host.save_part(1, 5), self.host.save_part(3, 0), self.host.tenant(0).save()), (None, None, EMPTY))
+        with self.library.host(3) as other:
+            for part in parts:
+                other.restore(1, part)
+                self.host.ask(frames.map_create(2, MapType.ARRAY, 4, 8, 1)).done()
+            restored = other.tenant(1)
+            self.assertEqual(restored.run_packets(count, [b"", b""]), [3, 4])
+            keys = [other.ask(frames.map_get_next_key(1, 3, key)).payload for key in (b"", b"no")]
+            self.assertEqual((keys, other.ask(frames.close(1, 5)).status), ([b"no", b"so"], -9))
+            with self.assertRaises(Refused) as refused:
+                restored.restore(b"".join(parts))
+            self.assertEqual(refused.exception.status, -24)
+        self.assertEqual(tenant.run_packets(count, [b""]), [3])
+
+    def test_bad_saves(self) -> None:
+        """Cut, or of another tenant: nothing is handled."""
+        tenant = self.host.tenant(1)
+        saved = tenant.save()
+        with self.assertRaisesRegex(ValueError, "a frame of the save is not of tenant 2"):
+            self.host.restore(2, saved)
+        for length in (1, 27, len(saved) - 1):
+            with self.assertRaisesRegex(ValueError, "no whole frame"):
+                tenant.restore(saved[:length])
+        tenant.restore(saved)
+        self.assertEqual(tenant.save(), saved)
 
     def test_frames(self) -> None:
         """Valid and invalid ones; a program that is rejected."""

@@ -33,7 +33,7 @@ class Functions:
     memory_refused: Any
     free: Any
 
-    def saved_part(self, handle: int, tenant: int, part: int) -> tuple[int, bytes]:
+    def saved_part(self, handle: object, tenant: int, part: int) -> tuple[int, bytes]:
         """The code of `save`, and the frames of the part, copied."""
         lent = (_SIZE * 2)()
         code = self.save(handle, tenant, part, lent)

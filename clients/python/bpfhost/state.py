@@ -1,4 +1,4 @@
-"""The frames that build a tenant's state again, on a host on which the tenant is new.
+"""The frames that build a tenant's state again, on a host on which the tenant is new, if it is read by frames.
 
 clients/python/SHARDS.md explains why they do. All of them name tenant 0; the caller replaces the number.
 """

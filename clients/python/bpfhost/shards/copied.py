@@ -4,6 +4,8 @@ A map whose descriptor is closed lives on while a program keeps it, and no comma
 played once more on a separate host, with one difference: a map is closed only when it ends. The numbers of descriptors then differ, so
 frames are sent with those of the copy, and a program is loaded when it is run, when all its maps are open. At most 16 maps and 48
 programs are open at once, so descriptors never run out. Each reply is compared with the one that the customer was given.
+
+Only a worker whose host is a process needs this: the library saves such maps by itself.
 """
 
 from __future__ import annotations

@@ -17,13 +17,14 @@ from pathlib import Path
 import bpfhost
 from bpfhost.alike import BEFORE_PACKET, packed, size_of_packet
 from bpfhost.errors import HostError
-from bpfhost.functions import functions_of
+from bpfhost.functions import NO_PART, functions_of
 from bpfhost.host import LONGEST_REPLY
 from bpfhost.numbers import REPLY_HEAD, Command
 from bpfhost.program import Program
 from bpfhost.replies import Reply
 from bpfhost.shards.calls import Call
 from bpfhost.shards.shared_object import soname_of
+from bpfhost.state import Steps
 
 SONAME = f"libbpfhost.so.{bpfhost.__version__.rpartition('.')[0]}"
 _UNPROVED = "UNPROVED"
@@ -120,6 +121,31 @@ class LibraryHost:
     def _demand(self, code: int) -> None:
         if code != _DONE:
             raise HostError(f"{self._path} handles no frame: code {code}")
+
+    def save(self, tenant: int) -> Steps[bytes]:
+        """The frames that restore a tenant, which name tenant 0, in steps: one for each map and each program.
+
+        The tenant must get no frame meanwhile. They are the frames of the proved save (docs/EMBEDDING.md).
+        """
+        stream, number = bytearray(), 0
+        while (part := self._part(tenant, number)) is not None:
+            stream += part
+            number += 1
+            yield
+        return bytes(stream)
+
+    def _part(self, tenant: int, number: int) -> bytes | None:
+        """The frames of a part, which name tenant 0; None after the last part."""
+        self._demand_open()
+        code, frames = self._functions.saved_part(self._at, tenant, number)
+        if code == NO_PART:
+            return None
+        self._demand(code)
+        part, at = bytearray(frames), 0
+        while at < len(part):
+            part[at + 4 : at + 6] = b"\0\0"
+            at += 4 + int.from_bytes(part[at : at + 4], "little")
+        return bytes(part)
 
     def ask_bytes(self, frames: Iterable[bytes]) -> Iterator[bytes]:
         """The replies to frames, one by one."""

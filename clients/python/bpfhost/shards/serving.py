@@ -216,9 +216,11 @@ class Serving:
     def state(self, tenant: int, before: Callable[[], Steps[bytes]], history: History) -> Steps[bytes]:
         """The frames that make a tenant's state, in steps; no calls of the tenant are played meanwhile.
 
-        `before` yields the frames of its last snapshot, and `history` its frames since then: they are played again if a map has no
-        descriptor any more.
+        A host in this process saves it. Otherwise its maps are read: `before` yields the frames of its last snapshot, and `history` its
+        frames since then, which are played again if a map has no descriptor any more.
         """
+        if isinstance(self._host, LibraryHost):
+            return (yield from self._host.save(tenant))
         tenancy = self.tenancies[tenant]
         live = tenancy.live()
         named = [on for on in live if tenancy.is_open(on)]

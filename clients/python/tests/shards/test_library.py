@@ -26,6 +26,7 @@ from bpfhost.shards.serving import Serving
 from bpfhost.shards.system import MACHINE
 from bpfhost.state import Steps, at_once, split
 from tests.common import PROGRAM, HostTest
+from tests.shards import test_snapshot, test_stalls
 from tests.shards.common import CREATE, LOOK_UP, SECONDS, ShardTest, call_of, put
 from tests.shards.library_file import library_file
 from tests.shards.streams import Stream, slots_of
@@ -42,6 +43,7 @@ _FRAGILE = """
 int32_t bpfhost_c_new(void *h, size_t n, uint64_t a, uint64_t b) { return 0; }
 int32_t bpfhost_c_handle(void *h, const uint8_t *f, size_t n, uint8_t *r, size_t m, size_t *w) { abort(); }
 int32_t bpfhost_c_run_packets(void) { abort(); }
+int32_t bpfhost_c_save(void) { abort(); }
 int32_t bpfhost_c_memory_refused(void *h, uint16_t t, uint8_t *r) { *r = 0; return 0; }
 void bpfhost_c_free(void *h) { }
 """
@@ -105,18 +107,17 @@ class Answers(HostTest):
         self.assertEqual([reply[12:] for reply in split(replies)], [number.to_bytes(4, "little") for number in range(1, 301)])
 
     def test_states(self) -> None:
-        """A state is read from one form of host, and restored on the other one."""
+        """A state of one form of host, saved by the library or read by frames, is restored on the other one."""
         with self.serving() as here, Serving(PROGRAM, MACHINE) as beside:
             stream = Stream(PROGRAM, "states")
             with Host(PROGRAM) as alone:
                 asked, _ = stream.play(alone, 150)
             for serving in (here, beside):
                 list(serving.play([call_of(b"1-0", 3, asked)]))
-            made = at_once(here.state(3, self.nothing, list))
-            self.assertEqual(at_once(beside.state(3, self.nothing, list)), made)
-            at_once(here.make(9, made))
-            at_once(beside.make(9, made))
-            self.assertEqual(at_once(here.state(9, self.nothing, list)), made)
+            saved, read = (at_once(serving.state(3, self.nothing, list)) for serving in (here, beside))
+            at_once(here.make(9, read))
+            at_once(beside.make(9, saved))
+            self.assertEqual([at_once(serving.state(9, self.nothing, list)) for serving in (here, beside)], [saved, read])
             here.empty(9)
             self.assertEqual(here.tenancies[9].open, {})
             here.restart()
@@ -126,6 +127,23 @@ class Answers(HostTest):
     @staticmethod
     def nothing() -> Steps[bytes]:
         raise AssertionError("a map is without a descriptor")
+
+    def test_a_save_needs_no_history(self) -> None:
+        """A map that only a program keeps is saved, in steps that let other tenants be served."""
+        with self.serving() as serving:
+            asked = [CREATE, put(5), frames.prog_load(0, slots_of(PROGRAM, "read")), frames.close(0, 3)]
+            list(serving.play([call_of(b"1-0", 63, asked)]))
+            steps, parts = serving.state(63, self.nothing, list), 0
+            with self.assertRaises(StopIteration) as ended:
+                while True:
+                    next(steps)
+                    parts += 1
+                    list(serving.play([call_of(b"2-0", 62, [CREATE])]))
+            # All descriptors, the map, the program, and what is closed.
+            self.assertEqual(parts, 4)
+            at_once(serving.make(61, ended.exception.value))
+            ((written, _),) = serving.play([call_of(b"3-0", 61, [frames.prog_test_run(0, 4, b"key1"), LOOK_UP])])
+            self.assertEqual([reply[8:] for reply in split(written.value)], [bytes(4) + b"\5\0\0\0", (-Errno.EBADF & 0xFFFFFFFF).to_bytes(4, "little")])
 
     def test_memory_that_is_refused(self) -> None:
         """The library also reports a refusal within a run, whose reply does not show it."""
@@ -146,6 +164,39 @@ class Answers(HostTest):
                 call()
         with self.assertRaisesRegex(HostError, "makes no host for 65 tenants: code -3"):
             loaded().host(65)
+
+
+@unittest.skipIf(_FILE is None, _WHY)
+class SavedStates(test_snapshot.Snapshots):
+    """The random streams of test_snapshot, with states that the library saves."""
+
+    def serving(self) -> Serving:
+        """A host in this process."""
+        return Serving(PROGRAM, MACHINE, library=loaded())
+
+
+@unittest.skipIf(_FILE is None, _WHY)
+class RefusedStates(test_snapshot.RefusedStates):
+    """States that are not restored, with a host in this process."""
+
+    def serving(self) -> Serving:
+        """A host in this process."""
+        return Serving(PROGRAM, MACHINE, library=loaded())
+
+
+@unittest.skipIf(_FILE is None, _WHY)
+class InSteps(test_stalls.InSteps):
+    """A state of eight full maps is saved in ten parts, and restored in steps."""
+
+    library = loaded() if _FILE else None
+    parts = 10
+
+
+@unittest.skipIf(_FILE is None, _WHY)
+class SnapshotStalls(test_stalls.SnapshotStalls):
+    """Waits while the library saves."""
+
+    library = loaded() if _FILE else None
 
 
 class Closing:

@@ -59,10 +59,6 @@ class Played:
         return state
 
 
-def serving() -> Serving:
-    return Serving(PROGRAM, MACHINE)
-
-
 class Told:
     """A stream of frames, and the replies of a host that serves only this stream."""
 
@@ -90,7 +86,15 @@ def tenants(host: Serving) -> Tenants:
     return {tenant: Played(host, tenant) for tenant in range(TENANTS)}
 
 
-class Snapshots(HostTest):
+class SnapshotTest(HostTest):
+    """A test of snapshots of hosts of one form."""
+
+    def serving(self) -> Serving:
+        """A new host."""
+        return Serving(PROGRAM, MACHINE)
+
+
+class Snapshots(SnapshotTest):
     def play(self, hosts: list[Tenants], streams: dict[int, Told], draw: random.Random, until: int = LENGTH) -> None:
         """Plays random streams, up to so many frames each, on all of the hosts; each has the replies of a separate host."""
         while going := [tenant for tenant, one in streams.items() if one.at < min(until, len(one.frames))]:
@@ -107,7 +111,7 @@ class Snapshots(HostTest):
             draw = random.Random(number)
             streams = {tenant: Told(f"{number} {tenant}", LENGTH) for tenant in range(TENANTS)}
             without += sum(one.without_descriptor for one in streams.values())
-            with serving() as one, serving() as other:
+            with self.serving() as one, self.serving() as other:
                 first, second = tenants(one), tenants(other)
                 self.play([first], streams, draw, LENGTH // 3)
                 for played in first.values():
@@ -122,7 +126,7 @@ class Snapshots(HostTest):
         self.assertGreater(without, 100)
 
     def test_what_does_not_change(self) -> None:
-        with serving() as host:
+        with self.serving() as host:
             ((_, changed),) = host.play([call_of(b"1-0", 3, [CREATE])])
             self.assertTrue(changed)
             ((_, changed),) = host.play([call_of(b"2-0", 3, [LOOK_UP])])
@@ -130,7 +134,7 @@ class Snapshots(HostTest):
 
     def test_moves(self) -> None:
         draw = random.Random(1)
-        with serving() as one, serving() as other:
+        with self.serving() as one, self.serving() as other:
             first, second = tenants(one), tenants(other)
             for number in range(3):
                 streams = {tenant: Told(f"move {number} {tenant}", 150) for tenant in range(16)}
@@ -147,7 +151,7 @@ class Snapshots(HostTest):
                 for host in (first, second):
                     for tenant in range(16):
                         host[tenant].leave()
-            self.assertEqual([first[tenant].snapshot() for tenant in range(16)], [b""] * 16)
+            self.assertEqual([status_of(first[tenant].play([CREATE])[0]) for tenant in range(16)], [3] * 16)
 
 
 class WrongFrames(TimedTest):
@@ -253,7 +257,7 @@ class Entries(HostTest):
             "names tenant 0": {FRAMES: with_tenant(frame, 2)},
             "has a head": {FRAMES: b"\3\0\0\0\0\0\0"},
         }
-        with serving() as host:
+        with Serving(PROGRAM, MACHINE) as host:
             for sentence, fields in wrong.items():
                 item = item_of(1, (b"1-0", fields))
                 assert isinstance(item, NoCall)
@@ -272,7 +276,7 @@ class Entries(HostTest):
                 list(host.play([call_of(b"5-0", 0, [CREATE])]))
 
 
-class RefusedStates(HostTest):
+class RefusedStates(SnapshotTest):
     """States that a build does not restore as another one did."""
 
     # A program that no build accepts takes the place of one that a stricter build refuses.
@@ -280,14 +284,14 @@ class RefusedStates(HostTest):
     ONE = frames.prog_load(0, bytes.fromhex("b700000001000000 9500000000000000"))
 
     def test_the_tenant_is_empty_then(self) -> None:
-        with serving() as host:
+        with self.serving() as host:
             with self.assertRaisesRegex(StateRefused, "the state of tenant 5 can't be made: the host answers -[0-9]+ to frame 1 of it"):
                 at_once(host.make(5, CREATE + self.REFUSED + self.ONE))
             self.assertEqual(host.tenancies[5].open, {})
             at_once(host.make(5, CREATE + self.ONE))
 
     def test_what_is_refused_is_closed(self) -> None:
-        with serving() as host:
+        with self.serving() as host:
             at_once(host.make(5, CREATE + self.REFUSED + self.ONE + self.REFUSED, closes_refused=True))
             played = Played(host, 5)
             runs = [frames.prog_test_run(0, number) for number in (3, 4, 5, 6)]

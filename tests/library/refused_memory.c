@@ -1,7 +1,8 @@
 /* Refuses memory to the library, one call at a time, and checks that it frees all that it allocates. Linked with --wrap, so that malloc,
  * calloc, realloc and free of the library and its header come here: in the first round the first call for memory is refused, in the second
  * the second one, until a round makes fewer calls. In each, bpfhost_new returns ERR_NO_MEMORY and makes no host, or each reply is that of a
- * round without refusals or has the status -12; bpfhost_memory_refused reports the tenant that got the -12, and no other.
+ * round without refusals or has the status -12; bpfhost_memory_refused reports the tenant that got the -12, and no other. A save returns
+ * ERR_NO_MEMORY, and has the bytes of that round if it is repeated.
  * Then many hosts are made and freed. usage: refused_memory [HOSTS] */
 #include "common.h"
 #include <string.h>
@@ -54,7 +55,8 @@ void __wrap_free(void *block)
     __real_free(block);
 }
 
-#define STEPS 64
+#define STEPS 49
+#define SAVED 48 /* a save before the descriptors are closed */
 #define TENANTS 2
 
 /* Adds a new key to the hash map of descriptor 5, and returns the result of the update. */
@@ -110,6 +112,29 @@ static int outcome(bpfhost *host, int step, uint16_t tenant)
     return reply.status == 0 && step >= 40 ? (int)reply.result : reply.status;
 }
 
+/* Adds the bytes of a part to a sum. */
+static bool adds(void *context, const uint8_t *frames, size_t length)
+{
+    uint32_t *sum = (uint32_t *)context;
+    for (size_t i = 0; i < length; i++)
+        *sum = *sum * 31 + frames[i];
+    return true;
+}
+
+/* A sum over the frames of a tenant, saved again if memory is refused. */
+static int saved(bpfhost *host, uint16_t tenant)
+{
+    uint32_t sum = 0;
+    int code = bpfhost_save(host, tenant, adds, &sum);
+    if (code == BPFHOST_ERR_NO_MEMORY) {
+        is_last = false;
+        sum = 0;
+        code = bpfhost_save(host, tenant, adds, &sum);
+    }
+    CHECK(code == BPFHOST_DONE);
+    return (int)(sum & INT32_MAX);
+}
+
 /* A round: the outcomes of the steps, each repeated if memory is refused to it; true if the host exists. */
 static bool round_of(int outcomes[STEPS][TENANTS])
 {
@@ -122,7 +147,10 @@ static bool round_of(int outcomes[STEPS][TENANTS])
     }
     for (int step = 0; step < 48; step++)
         for (uint16_t tenant = 0; tenant < TENANTS; tenant++) {
-            int found = outcome(host, step, tenant);
+            int found;
+            if (step == 44)
+                outcomes[SAVED][tenant] = saved(host, tenant);
+            found = outcome(host, step, tenant);
             if (found == -12) {
                 bool before = true;
                 CHECK(bpfhost_memory_refused(host, tenant, &before) == BPFHOST_DONE && before);

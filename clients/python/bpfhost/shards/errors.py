@@ -67,7 +67,7 @@ class RepliesDiffer(ShardError):
 
 
 class MemoryRefused(ShardError):
-    """The host replied -12 to a frame; such a reply is not written."""
+    """The host replied -12 to a frame, whose reply is not written; or it has no memory for a snapshot."""
 
 
 class SnapshotDamaged(ShardError):

@@ -1,7 +1,8 @@
 """The host in the worker's own process: the library for C (docs/EMBEDDING.md) as a shared object, called by ctypes.
 
 The library handles a call's frames in place, without a copy, and writes its replies one after another. One call of the library runs all
-test runs of one program that are alike. The library reports whether memory was ever refused to a tenant, also within a run.
+test runs of one program that are alike. The library reports whether memory was ever refused to a tenant, also within a run, and saves a
+tenant for its snapshot.
 """
 
 from __future__ import annotations
@@ -17,14 +18,15 @@ from pathlib import Path
 import bpfhost
 from bpfhost.alike import BEFORE_PACKET, packed, size_of_packet
 from bpfhost.errors import HostError
-from bpfhost.functions import NO_PART, functions_of
+from bpfhost.functions import NO_MEMORY, NO_PART, functions_of
 from bpfhost.host import LONGEST_REPLY
 from bpfhost.numbers import REPLY_HEAD, Command
 from bpfhost.program import Program
 from bpfhost.replies import Reply
 from bpfhost.shards.calls import Call
+from bpfhost.shards.errors import MemoryRefused
 from bpfhost.shards.shared_object import soname_of
-from bpfhost.state import Steps
+from bpfhost.state import Steps, split
 
 SONAME = f"libbpfhost.so.{bpfhost.__version__.rpartition('.')[0]}"
 _UNPROVED = "UNPROVED"
@@ -123,9 +125,9 @@ class LibraryHost:
             raise HostError(f"{self._path} handles no frame: code {code}")
 
     def save(self, tenant: int) -> Steps[bytes]:
-        """The frames that restore a tenant, which name tenant 0, in steps: one for each map and each program.
+        """The frames that restore a tenant, which name tenant 0, in steps: one for each map and each program (docs/EMBEDDING.md).
 
-        The tenant must get no frame meanwhile. They are the frames of the proved save (docs/EMBEDDING.md).
+        The tenant must get no frame meanwhile. Raises MemoryRefused if the library has no memory for them.
         """
         stream, number = bytearray(), 0
         while (part := self._part(tenant, number)) is not None:
@@ -134,18 +136,20 @@ class LibraryHost:
             yield
         return bytes(stream)
 
-    def _part(self, tenant: int, number: int) -> bytes | None:
+    def _part(self, tenant: int, number: int) -> bytearray | None:
         """The frames of a part, which name tenant 0; None after the last part."""
         self._demand_open()
         code, frames = self._functions.saved_part(self._at, tenant, number)
         if code == NO_PART:
             return None
+        if code == NO_MEMORY:
+            raise MemoryRefused(f"memory was refused to a snapshot of tenant {tenant}")
         self._demand(code)
         part, at = bytearray(frames), 0
         while at < len(part):
             part[at + 4 : at + 6] = b"\0\0"
             at += 4 + int.from_bytes(part[at : at + 4], "little")
-        return bytes(part)
+        return part
 
     def ask_bytes(self, frames: Iterable[bytes]) -> Iterator[bytes]:
         """The replies to frames, one by one."""
@@ -157,6 +161,10 @@ class LibraryHost:
         runs = call.stored if call.is_packed else packed(call.stored, call.alike)
         replies = self._runs(runs, call.tenant) if runs else b""
         return replies or self._answered(bytearray(call.stream), call.tenant)
+
+    def replies(self, frames: Iterable[bytes], tenant: int) -> list[bytes]:
+        """The replies to frames, as those to a call."""
+        return split(self._answered(bytearray().join(frames), tenant))
 
     def _answered(self, stream: bytearray, tenant: int | None) -> bytes:
         """The replies to frames, each handled in place."""

@@ -192,7 +192,7 @@ class Serving:
         """Plays the frames of a state on an empty tenant; returns the first one whose reply is not the expected one, and its status."""
         tenancy, found = self.tenancies[tenant], None
         for part in in_parts(enumerate(made), lambda _: 1, _MADE_IN_A_STEP):
-            for (at, frame), reply in zip(part, list(self.ask(with_tenant(frame, tenant) for _, frame in part)), strict=True):
+            for (at, frame), reply in zip(part, self._replies_to(tenant, [frame for _, frame in part]), strict=True):
                 status, wanted = status_of(reply), wanted_status(tenancy, frame)
                 tenancy.note(frame, status)
                 if status == -Errno.ENOMEM:
@@ -203,6 +203,15 @@ class Serving:
                 break
             yield
         return found
+
+    def _replies_to(self, tenant: int, made: Sequence[bytes]) -> list[bytes]:
+        """The replies to frames of a state."""
+        if not isinstance(self._host, LibraryHost):
+            return list(self.ask(with_tenant(frame, tenant) for frame in made))
+        self.is_new = False
+        self.asked += len(made)
+        self._alive()
+        return self._host.replies(made, tenant)
 
     def empty(self, tenant: int) -> None:
         """Closes all descriptors of a tenant: it is then like a new one."""

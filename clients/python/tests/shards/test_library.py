@@ -145,6 +145,12 @@ class Answers(HostTest):
             ((written, _),) = serving.play([call_of(b"3-0", 61, [frames.prog_test_run(0, 4, b"key1"), LOOK_UP])])
             self.assertEqual([reply[8:] for reply in split(written.value)], [bytes(4) + b"\5\0\0\0", (-Errno.EBADF & 0xFFFFFFFF).to_bytes(4, "little")])
 
+    def test_no_memory_for_a_save(self) -> None:
+        library = loaded()
+        with Serving(PROGRAM, MACHINE, library=library) as serving, mock.patch.object(library.functions, "save", return_value=-4):
+            with self.assertRaisesRegex(MemoryRefused, "memory was refused to a snapshot of tenant 5"):
+                at_once(serving.state(5, self.nothing, list))
+
     def test_memory_that_is_refused(self) -> None:
         """The library also reports a refusal within a run, whose reply does not show it."""
         with self.serving() as serving:

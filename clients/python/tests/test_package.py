@@ -15,8 +15,8 @@ from bpfhost import __version__, hex_lines
 from tests.common import ONE, PROGRAM, TimedTest
 
 PACKAGE = Path(__file__).resolve().parents[1]
-# Builds by the standard's hooks, if the package `build` is missing.
-HOOKS = "import sys, setuptools.build_meta as hooks; hooks.build_sdist(sys.argv[1]); hooks.build_wheel(sys.argv[1])"
+# Builds by the standard's hooks, if the package `build` is missing. A hook changes the list of arguments.
+HOOKS = "import sys, setuptools.build_meta as hooks; out = sys.argv[1]; hooks.build_sdist(out); hooks.build_wheel(out)"
 
 
 class PackageTest(TimedTest):

@@ -20,6 +20,7 @@
 //! - Up to the first reply with which a tenant's flag is set, its replies are those of its machine without refusals; the
 //!   machine may give that reply: `each_is_told_alone_until_refused`.
 //! - Both also hold for a sequence of calls of `Host::handle` without a stream, and no test run faults: `calls_are_told_alone`.
+//! - `serve_new_host` serves a stream in the same way on a host of new tenants, which it frees at the end.
 //! - A caller can ask whether a tenant's flag is set: `refused`, `unrefused` of `Host::memory_was_refused`.
 //! - Two streams that agree on a tenant's initial state and on its frames give it the same replies, if neither refuses memory
 //!   to it: `same_frames_same_replies`.
@@ -91,6 +92,7 @@
 mod contract_clients;
 mod host;
 pub mod laws;
+mod new_host;
 mod reading;
 mod server;
 mod stream;
@@ -98,6 +100,7 @@ mod writing;
 
 pub use command_frames::{GIVEN_WORDS, LONGEST_REPLY, ReplyBuf};
 pub use host::{Host, MOST_TENANTS};
+pub use new_host::serve_new_host;
 pub use reading::fill;
 pub use seeded_hash::HashSeed;
 pub use server::{MOST_FRAMES, ServeFault, ServeFaultKind, serve};

@@ -1,6 +1,7 @@
 //! The facts on the edges out of an instruction.
 
-use insn_codec::Insn;
+use insn_codec::{Insn, Operand, Reg};
+use interval::Range;
 use reg_kinds::{Facts, settle};
 use tagged_model::Named;
 use transfer::{Flow, apply, set_ranges};
@@ -16,6 +17,17 @@ pub(crate) struct Edges {
     pub jumps: bool,
     /// The facts on it.
     pub jumping: Facts,
+}
+
+/// Sets the ranges of both operands on an edge of a comparison. Returns whether a run may take it.
+fn refine(facts: &mut Facts, dst: Reg, src: &Operand, ranges: Option<(Range, Range)>) -> bool {
+    match ranges {
+        Some(ranges) => {
+            set_ranges(facts, dst, src, ranges);
+            true
+        }
+        None => false,
+    }
 }
 
 impl Edges {
@@ -46,15 +58,10 @@ impl Edges {
                     falls,
                     jumps,
                 },
-            ) => {
-                if let Some(ranges) = falls {
-                    set_ranges(&mut self.falling, dst, &src, ranges);
-                }
-                if let Some(ranges) = jumps {
-                    set_ranges(&mut self.jumping, dst, &src, ranges);
-                }
-                (falls.is_some(), jumps.is_some())
-            }
+            ) => (
+                refine(&mut self.falling, dst, &src, falls),
+                refine(&mut self.jumping, dst, &src, jumps),
+            ),
             Ok(
                 Flow::Settles {
                     site,

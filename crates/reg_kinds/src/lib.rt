@@ -3,8 +3,8 @@
 //! # What is proved
 //!
 //! - Joins of kinds, slots and facts are those of the definition: `Kind::join`, `Slot::join`, `join`, `join_into`. They are
-//!   commutative and associative: `joins_commute`, `joins_associate`. Registers, and a part of the stack, can be joined alone:
-//!   `join_registers`, `join_part`. A second join with the same slot changes nothing: `slots_absorb`.
+//!   commutative and associative: `joins_commute`, `joins_associate`. The joins of the registers and of a part of the stack are
+//!   `join_registers` and `join_part`. A second join with the same slot changes nothing: `slots_absorb`.
 //! - A load from the stack gives the kind of the definition, a store the facts, or each the first reason against it:
 //!   `read_stack`, `write_stack`. A store changes only the slot that it returns. The same holds for what a helper reads and
 //!   writes over many slots: `read_many`, `fill_stack`.

@@ -43,7 +43,7 @@ none_past es kept i is past =
     let long : length kept ≡ length es = sym (ap length is) ∙ length-map es (option_map box_value) in
     get_or_past kept i None (omega (arith, long, past))
 
--- nothing is taken where there is no entry
+-- nothing is taken if there is no entry
 pub taken_none : (slot fresh : ℕ) (entries : List (Option NumberedFacts)) (known : Option NumberedFacts) → entry_of slot entries ≡ None → IsTaken slot fresh entries entries known known
 taken_none slot fresh entries known none = (
   subst (λ (e : Option NumberedFacts). IsJoinedIf fresh known e known) (sym none) refl,

@@ -1,4 +1,4 @@
--- Joins of facts whose parts of the stack have numbers are the joins of the definition, as long as each number stands for one part.
+-- Joins of facts whose parts of the stack have numbers are the joins of the definition, as long as each number means one part.
 use Rattle.std.proofs.Common.{◌≡◌, ◌⊎◌, ℕ, ◌<◌, ◌≤◌, ◌==◌, if◌then◌else◌, Bool, true, false, List, length, get_or, Option, Some, None, refl, sym, ap, subst, ◌∙◌, ⊎_elim, inl, inr, arith}
 use Rattle.std.proofs.lemmas.Bool.{cond-true, cond-false, eq-eqb, ne_eqb}
 use Rattle.std.proofs.lemmas.List.{length-replicate, get_or-replicate}
@@ -124,7 +124,7 @@ module _ (absorb : SlotsAbsorb) (held : ℕ → Slot) (n m : ℕ) (lt : n < m) (
 abbrev pub Stacks : Type 0
 Stacks = ℕ → ℕ → Slot
 
--- one more number, which stands for these slots
+-- one more number, which means these slots
 abbrev pub with_stack : Stacks → ℕ → (ℕ → Slot) → Stacks
 with_stack stacks n slots i = with_held (stacks i) n (slots i)
 

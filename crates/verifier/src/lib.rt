@@ -58,7 +58,7 @@
 //!   parts that it changes. Each part also has the number of the last part that was joined into it, and a second join with that
 //!   part is skipped, since it would change nothing. New numbers are computed from the slot of the instruction, so no counter is
 //!   needed. bench/FIGURES.md has the costs. With one number for the whole stack, a byte stored before each jump cost a join of
-//!   all slots (1,075 machine instructions a slot, now 700). Not used: copying and joining the stack only from its lowest written
+//!   all slots (1,075 machine instructions a slot, now 666). Not used: copying and joining the stack only from its lowest written
 //!   slot on (half the cost with few slots written, 3 to 15% more with all 64).
 //! - The list of entries ends with the last target so far, so a program without jumps has none.
 //! - Edges are joined in the order of the pass, which is not that of the definition; joins commute and associate.

@@ -50,7 +50,7 @@ impl NumberedFacts {
         self.includes[part] = 0;
     }
 
-    /// Gives each part of the stack a number that no other has, if the flow tells that it may have changed.
+    /// Gives each part of the stack a number that no other has, if it may have changed by this flow.
     #[inline(always)]
     pub(crate) fn note(&mut self, flow: &Flow, fresh: usize)
         requires { IsInStack flow.now }

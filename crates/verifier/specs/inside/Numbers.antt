@@ -167,17 +167,16 @@ abbrev pub IsPastIf : Shapes → ℕ → Insn → Option NumberedFacts → List 
 IsPastIf shapes n insn None entries_old new entries_new = (new ≡ None) × (entries_new ≡ entries_old)
 IsPastIf shapes n insn (Some x) entries_old new entries_new = IsPast shapes n insn x entries_old new entries_new
 
--- ---- what each number stands for, for numbers below a bound
+-- ---- what each number means, for numbers below a bound
 
--- slot s is what the number n of its part stands for, and a join with what number m stands for, which its part includes, changes
--- nothing
+-- slot s is what the number n of its part means, and a join with what number m means, which its part includes, changes nothing
 pub record IsNumberedSlot (held : ℕ → Slot) (bound : ℕ) (s : Slot) (n m : ℕ) : Type 0 where
   pub is : s ≡ held n
   pub some : 0 < n
   pub below : n < bound
   pub includes : 0 < m → (m < bound) × (slot_join s (held m) ≡ s)
 
--- the same of each slot; `stacks` tells what a number stands for in a slot
+-- the same of each slot; `stacks` gives what a number means in a slot
 pub record IsNumbered (stacks : ℕ → ℕ → Slot) (bound : ℕ) (x : NumberedFacts) : Type 0 where
   pub parts : length x.numbers ≡ stack_parts
   pub slots : (i : ℕ) → i < stack_slots → IsNumberedSlot (stacks i) bound (slot_at x.facts i) (number_of x i) (included_in x i)

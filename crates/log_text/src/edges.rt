@@ -41,37 +41,45 @@ impl Edges {
         }
     }
 
-    /// Computes the edges out of the instruction at `slot` from the facts before it: none if it is rejected.
-    pub fn leave(&mut self, facts: &Facts, named: &[Named], slot: usize, insn: &Insn) {
-        self.falling = *facts;
-        let flow = apply(&mut self.falling, named, slot, insn);
-        self.jumping = self.falling;
-        (self.falls, self.jumps) = match flow {
-            Err(_) | Ok(Flow::Ends) => (false, false),
-            Ok(Flow::Falls | Flow::WritesSlot(_) | Flow::Writes) => (true, false),
-            Ok(Flow::Jumps) => (false, true),
-            Ok(Flow::Either) => (true, true),
-            Ok(
-                Flow::Compares {
-                    dst,
-                    src,
-                    falls,
-                    jumps,
-                },
-            ) => (
+    /// Refines the facts after an instruction, which are in both buffers, by the flow out of it.
+    fn take(&mut self, flow: &Flow) {
+        (self.falls, self.jumps) = match *flow {
+            Flow::Ends => (false, false),
+            Flow::Falls | Flow::WritesSlot(_) | Flow::Writes => (true, false),
+            Flow::Jumps => (false, true),
+            Flow::Either => (true, true),
+            Flow::Compares {
+                dst,
+                src,
+                falls,
+                jumps,
+            } => (
                 refine(&mut self.falling, dst, &src, falls),
                 refine(&mut self.jumping, dst, &src, jumps),
             ),
-            Ok(
-                Flow::Settles {
-                    site,
-                    jumps_on_null,
-                },
-            ) => {
+            Flow::Settles {
+                site,
+                jumps_on_null,
+            } => {
                 settle(&mut self.falling, site, !jumps_on_null);
                 settle(&mut self.jumping, site, jumps_on_null);
                 (true, true)
             }
         };
+    }
+
+    /// Computes the edges out of the instruction at `slot` from the facts before it: none if it is rejected.
+    pub fn leave(&mut self, facts: &Facts, named: &[Named], slot: usize, insn: &Insn) {
+        self.falling = *facts;
+        match apply(&mut self.falling, named, slot, insn) {
+            Ok(flow) => {
+                self.jumping = self.falling;
+                self.take(&flow);
+            }
+            Err(_) => {
+                self.falls = false;
+                self.jumps = false;
+            }
+        }
     }
 }

@@ -1,7 +1,7 @@
 """The frames between a customer and a gateway.
 
-They are the customer's frames and their replies, and also the gateway's own frames, which name a tenant that no host has. clients/python/SHARDS.md
-describes them ("The protocol of a gateway").
+They are the customer's frames and their replies, and also the gateway's own frames, which name a tenant that no host has.
+clients/python/GATEWAYS.md describes them ("The protocol of a gateway").
 """
 
 from __future__ import annotations

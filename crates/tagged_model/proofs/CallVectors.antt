@@ -175,7 +175,7 @@ key_is_put : left_with [] puts_a_key (only (hash [])) (context 0) [] 3 ≡ Some 
 unfolding run begins_at gathered known_helpers numbered
 key_is_put = refl
 
--- -12, out of memory, at the ninth step; the refusal is noted, and the map stays
+-- -12, out of memory, at the ninth step; the refusal is noted, and the map is not changed
 abbrev at_the_call : List Bool
 at_the_call = replicate 8 false ++ (true ∷ [])
 

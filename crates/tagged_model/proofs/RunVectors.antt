@@ -16,7 +16,7 @@ use Rattle.tagged_model.specs.declared.value.Outcome.TheVariants.{Value, Fault}
 use Rattle.tagged_model.specs.Cells.{gathered}
 use Rattle.tagged_model.specs.Step.{MapsByDescriptor, run, start_of_run, result_of}
 
--- minus n
+-- -n
 abbrev pub minus : ℕ → ℤ
 minus n = neg_ℤ (pos n)
 

@@ -40,7 +40,7 @@ digit_graphic b h = grind (arith, nat_tests)
 
 -- ---- bytes that pass a test
 
--- each does
+-- each byte passes the test
 abbrev pub passes : (ℕ → Bool) → List ℕ → Bool
 passes test [] = true
 passes test (b ∷ bs) = test b && passes test bs

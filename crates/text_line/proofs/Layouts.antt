@@ -1,4 +1,4 @@
--- What is laid out is read as its tokens.
+-- A text that is laid out is read as its tokens.
 use Rattle.std.proofs.Common.{◌≡◌, ◌≢◌, ℕ, ◌<◌, ◌^◌, Bool, true, false, ◌&&◌, not, List, [], ◌∷◌, ◌++◌, length, get_or, Some, None, refl, sym, ap, ◌∙◌, arith, decimal, IsAscii}
 use Rattle.std.specs.List.{AllByRecursion}
 use Rattle.std.specs.Char.{is_ascii_digit, is_ascii_graphic}
@@ -75,12 +75,12 @@ graphic_first : (bs : List ℕ) → is_picked [] symbols ≡ false → is_picked
 graphic_first [] none h p = absurd (false≢true (sym none ∙ h))
 graphic_first (b ∷ bs) none h p = (and_parts (is_ascii_graphic b) (passes is_ascii_graphic bs) p).0
 
--- the first byte of what is more than nothing stays the first
+-- the first byte of a list that is not empty is the first byte of each longer list
 first_stays : (test : ℕ → Bool) (bs s : List ℕ) → test 0 ≡ false → test (get_or bs 0 0) ≡ true → get_or (bs ++ s) 0 0 ≡ get_or bs 0 0
 first_stays test [] s none h = absurd (false≢true (sym none ∙ h))
 first_stays test (b ∷ bs) s none h = refl
 
--- a token's bytes are graphic, and there is one
+-- the bytes of a token are graphic, and there is at least one
 record IsSeen (bs : List ℕ) : Type 0 where
   all : passes is_ascii_graphic bs ≡ true
   first : is_ascii_graphic (get_or bs 0 0) ≡ true

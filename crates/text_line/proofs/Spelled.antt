@@ -1,4 +1,4 @@
--- What is spelled is read so.
+-- Completeness of the parser: the spelling of a line is read as this line.
 use Rattle.std.proofs.Common.{◌≡◌, ℕ, suc, ◌≤◌, Bool, true, false, List, [], ◌∷◌, Option, Some, None, refl, sym, ap, arith}
 use Rattle.std.specs.Prelude.{codes, IsTrue, ◌||◌, ◌&&◌, not}
 use Rattle.std.specs.Str.{bytes_eq}
@@ -243,7 +243,7 @@ code_read (form.MapValue dst fd off) n fits none =
     let ts : List Token = tokens_of (constant fd (space ∷ sign (codes "+") ∷ space ∷ Some (number off) ∷ space ∷ word (codes "ll") ∷ [])) in
     line_from_move true dst (name (codes "map_value") ∷ ts) fits none (no_alu_name true Mov dst (codes "map_value") ts refl) (map_value_read dst fd off)
 
--- What is spelled is read so.
+-- the spelling of a well-formed line is read as this line
 pub line_read : (line : Line) → IsWellFormed line → line_of (spelled line) ≡ Some line
 unfolding line_of parsed_label after_symbol
 line_read blank h = refl

@@ -54,7 +54,7 @@ bitwise : AreRows (
 unfolding lib.Count.count_leading_zeros
 bitwise = refl
 
--- the distance is taken modulo the width; a distance that is not constant gives the full range
+-- the distance is taken modulo the width; the range of a distance that is not constant is not used
 shifts : AreRows (
     (64, Binary ShiftLeft, span 1 3, constant 4, span 16 48)
     ∷ (64, Binary ShiftLeft, span 1 3, constant 68, span 16 48)

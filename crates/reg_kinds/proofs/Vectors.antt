@@ -103,7 +103,7 @@ part_of_pointer :
 unfolding tabulate
 part_of_pointer = (refl, refl, refl, refl)
 
--- ---- stores out of place: above the stack, below it, across slots; and at the lowest slot, and of nothing
+-- ---- stores that are rejected: above the stack, below it, across slots; and stores at the lowest slot, and of an unreadable register
 
 stores_out_of_place :
     (stack_write entry (pos 0) Double (Scalar (constant 1)) ≡ Err OutsideStack)

@@ -49,7 +49,7 @@ module _ (witness : Witness) (holds_both : HullHoldsBoth) where
   register_joined Unreadable k o h = tt
   register_joined j k o h = has_kind witness (kind_join j k) o h.0 h.1 (value_joined j k h.0 h.2)
 
-  --   a value that the slot holds whole is still known to be held, unless nothing is known of it
+  -- a value that the slot holds whole is still known to be held, unless nothing is known of it
   whole_spilled : (k : Kind) (c : Cell) → HoldsWhole witness k c → HasSlot witness (spilled k) c
   whole_spilled Unreadable c h = no_bytes c
   whole_spilled k c h = inl h

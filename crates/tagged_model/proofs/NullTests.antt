@@ -51,7 +51,7 @@ zero_of : (witness : Witness) (v : Tagged) → v ≡ Scalar 0 → IsOfKind witne
 zero_of witness v e = (0, e, record { from = omega arith; to = omega arith }, omega arith)
 
 module _ (witness : Witness) (site : ℕ) (is_null : witness.gave site ≡ Scalar 0) where
-  --   a pointer that is held whole is not null, so the slot holds eight zero bytes
+  -- a pointer that is held whole is not null, so the slot holds eight zero bytes
   null_slot : (m : ℕ) (c : Cell) → HasSlot witness (Spill (kind.MaybeValue m site)) c → HasSlot witness (Bytes 0xff) c
   null_slot m c (inl h) = absurd (subst IsKeptWhole (h.2.0 ∙ is_null) h.3)
   null_slot m c (inr h) = λ j lt _. (0, h.1 j lt)

@@ -37,7 +37,7 @@ abbrev count_of : (Birth → Option ℕ) → List Birth → ℕ
 count_of mark [] = 0
 count_of mark (b ∷ older) = counted (mark b) + count_of mark older
 
--- each mark is below n, and no two births have the same
+-- the mark of each birth is below n, and no older birth has it
 abbrev AreTaken : (Birth → Option ℕ) → ℕ → List Birth → Type 0
 AreTaken mark n [] = Unit {0}
 AreTaken mark n (b ∷ older) = ((k : ℕ) → mark b ≡ Some k → get_or (marks_of mark n older) k None ≡ marked) × AreTaken mark n older

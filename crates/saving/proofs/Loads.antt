@@ -75,7 +75,7 @@ filter_entry p fd (Some t) rest = by (p fd)
     by false = refl
 
 module _ (x s : TenantState) (f : Opened) (ms : List (ℕ × ℕ)) (are_open : AreOpen f ms) (agree : (place : ℕ) → is_named (table f) place ≡ true → live x place ≡ live s place) where
-  -- the target of a descriptor that is open to a map
+  -- the target of the program's map with this descriptor
   abbrev shape_at : ℕ → Option Target
   shape_at fd = option_map (λ t. target.Map t.shape) (and_then (lookup (λ m. m == fd) ms) (live s))
 

@@ -96,7 +96,7 @@ set_there f i x k other = ap (λ (b : Bool). if b then x else f k) (ne_eqb k i o
 abbrev pub with_new_map : TenantState → ℕ → ℕ → Map → TenantState
 with_new_map s fd place m = record s { objects = with_open s.objects fd (object.Map place); maps = set s.maps place (Some m) }
 
--- a place without a map, that no object names
+-- a place without a map
 pub record IsFree (s : TenantState) (place : ℕ) : Type 0 where
   pub within : place < length s.maps
   pub none : live s place ≡ None

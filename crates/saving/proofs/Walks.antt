@@ -25,7 +25,7 @@ use Rattle.saving.proofs.States.{leads_then, Follows, follows, state_of, close_a
 use Rattle.saving.proofs.Loads.{SameEntriesSameVerdict, AreOpen, load_answer}
 use Rattle.saving.proofs.Makes.{LeadsTo, map_leads}
 
--- ---- what is open after some births
+-- ---- the open objects after some births
 
 abbrev pub filler_program : LoadedProgram
 filler_program = record { insns = filler; named = []; maps = [] }
@@ -73,7 +73,7 @@ latest_map (x ∷ older) fd place n e = by (number x == fd) (latest_map older fd
     by true rest e = or_left (is_of_map place x) (list_any (is_of_map place) older) (ap (is_of_map place) (same_Some x (OfMap place n) e) ∙ eq-eqb place place refl)
     by false rest e = or_right (is_of_map place x) (list_any (is_of_map place) older) (rest e)
 
--- each map of a program that was born was born before
+-- each map of a program that was born was itself born before
 each_born : (older : List Birth) (ms : List (ℕ × ℕ)) (fd place : ℕ) → AllByRecursion (λ m. (m.0 ≢ fd) × (latest_at older m.0 ≡ Some (OfMap m.1 m.0))) ms → list_any (λ m. m.1 == place) ms ≡ true → list_any (is_of_map place) older ≡ true
 each_born older [] fd place h e = absurd (true≢false (sym e))
 each_born older (m ∷ ms) fd place h e = by (or_parts (m.1 == place) (list_any (λ k. k.1 == place) ms) e) (each_born older ms fd place h.1)

@@ -5,7 +5,7 @@ use Rattle.tenant.specs.declared.object.OpenObject.{OpenObject}
 use Rattle.tenant.specs.Entry.{PlacedEntry}
 use Rattle.saving.specs.Restored.{put_of}
 
--- a descriptor that is not open is closed
+-- the command that closes a descriptor without an object; none for a descriptor with one
 abbrev pub closing : ℕ → Option OpenObject → List Command
 closing fd o = if is_none o then close fd ∷ [] else []
 

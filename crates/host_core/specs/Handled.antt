@@ -20,7 +20,7 @@ HandlesInOrder before (frame ∷ frames) (reply ∷ replies) after =
 HandlesInOrder before [] (reply ∷ replies) after = ⊥
 HandlesInOrder before (frame ∷ frames) [] after = ⊥
 
--- Over a sequence of calls, each tenant gets replies that its machine may give to its own frames, and where no memory was
+-- Over a sequence of calls, each tenant gets replies that its machine may give to its own frames, and if no memory was
 -- refused to it, those of its machine alone; and no test run faults.
 abbrev pub CallsAreToldAlone : Type 0
 CallsAreToldAlone =

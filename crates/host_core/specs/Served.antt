@@ -23,8 +23,8 @@ abbrev pub IsUnrefused : Option TenantState → Type 0
 IsUnrefused None = Unit {0}
 IsUnrefused (Some s) = s.refused ≡ false
 
--- Each tenant to which no memory was refused gets just the replies that its own machine, which knows of nobody else, gives to
--- its own frames where no memory is refused; and so does each number that is not served.
+-- Each tenant to which no memory was refused gets exactly the replies that its own machine, which has no other tenants, gives to
+-- its own frames without refusals of memory. The same holds for each number that is not served.
 abbrev pub Noninterference : List TenantState → List (List ℕ) → List (List ℕ) → List TenantState → Type 0
 Noninterference before frames replies after =
     (t : ℕ) → IsUnrefused (slice_get after t)

@@ -37,7 +37,7 @@ use std::hash::{BuildHasher, Hasher};
 use std::io;
 use std::random::RandomSource;
 
-/// The seed of the hash function, which makes its hashers. No contract of a map speaks of it: what a map returns does not depend
+/// The seed of the hash function, which makes its hashers. No contract of a map mentions it: what a map returns does not depend
 /// on its seed, only the time that it takes does. It has no `Debug`, so that it is not printed.
 #[derive(Clone, Copy, Drop)]
 pub struct HashSeed {

@@ -86,8 +86,8 @@ TransferKeepsWellFormed = (shapes : Shapes) (at n : ℕ) (i : Insn) (f : Facts) 
 
 -- ---- calls
 
--- after a call the state is at the same slot, and these facts describe it, by a witness that may be another
--- one: a look-up has given something
+-- after a call the state is at the same slot, and these facts describe it, by a witness that may be different:
+-- it has the result of a new look-up
 pub record CallIsAdmitted (g : Facts) (shapes : Shapes) (s u : RunState) : Type 0 where
   pub witness : Witness
   pub still : Describes witness g shapes u

@@ -55,7 +55,7 @@ present_found t key flags k h = by (nat_le flags exist) h
     by true g = present_is t flags k (look_up (table_of t) key) g
     by false g = cc
 
--- a place in use is below the most
+-- a place in use is less than `max_entries`
 pub place_below : (t : PlaceTable) (key : List ℕ) (p : ℕ) → IsSound t → look_up (table_of t) key ≡ Some p → p < t.shape.max_entries
 place_below t key p h e = by (nat_lt p t.shape.max_entries) refl (h.once p)
   where

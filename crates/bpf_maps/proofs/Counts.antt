@@ -65,7 +65,7 @@ pub sized-with : (n : ℕ) (key : List ℕ) (p : ℕ) (es : List (List ℕ × �
 sized-with n key p [] e h = (e, tt)
 sized-with n key p (x ∷ es) e h = (h.0, sized-with n key p es e h.1)
 
--- a key that is not there is not taken out
+-- the removal of an absent key changes nothing
 pub without-absent : (key : List ℕ) (es : List (List ℕ × ℕ)) → found key es ≡ None → without key es ≡ es
 without-absent key [] h = refl
 without-absent key (e ∷ es) h = by (is_key key e.0) h (without-absent key es)

@@ -184,7 +184,7 @@ module _ {a : Inside} {t : LiveMaps} {shape : MapShape} {size place : ℕ} (r : 
     pub laid_one : IsLaid (as_live_maps after)
     laid_one = laid whole_one
 
-    -- it is after the others
+    -- its area is after the others
     pub last_one : start_at (as_live_maps after) place ≡ STACK_AND_CONTEXT + areas t
     last_one = told_of (λ l. l.start) live_new ∙ d.start ∙ ap (λ (n : ℕ). STACK_AND_CONTEXT + n) (h.sum ∙ ap areas view)
 

@@ -17,7 +17,7 @@ use Rattle.text_line.specs.Blanks.{stripped}
 use Rattle.bpf_text.specs.declared.fault.TextFaultKind.{TextFaultKind}
 use Rattle.bpf_text.specs.HexText.{hex_text, hex_digits, hex_line, hex_fault, hex_fault_at, hex_fault_of, hex_bytes}
 
--- ---- what is on a line
+-- ---- the bytes of a line
 
 pub empty_line : (line digits : List ℕ) → digits ≡ stripped line → eqb (length digits) 0 ≡ true → hex_line line ≡ Some []
 unfolding hex_line

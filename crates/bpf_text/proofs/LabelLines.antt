@@ -34,7 +34,7 @@ unfolding slots_on
 slots_on-append [] x = omega arith
 slots_on-append (l ∷ xs) x = omega (arith, slots_on-append xs x)
 
--- ---- what is kept
+-- ---- the labels that are kept
 
 bytes_eq-sym : (a b : List ℕ) → bytes_eq a b ≡ true → bytes_eq b a ≡ true
 bytes_eq-sym a b h = (bytes_eq-Decides b a).1 (sym ((bytes_eq-Decides a b).0 h))

@@ -1,4 +1,4 @@
--- What the bytes of frames and of replies determine.
+-- Bytes determine the frames and the replies that they encode.
 use Rattle.std.proofs.Common.{◌≡◌, ℕ, zero, suc, ◌+◌, ◌<◌, ◌≤◌, ◌^◌, List, [], ◌∷◌, ◌++◌, length, take, drop, get_or, refl, sym, ap, ap₂, subst, ◌∙◌, arith, le_refl, append_assoc, length-append, length-take, length-take-le, length-drop, take-append-drop, inl, inr}
 use Rattle.std.specs.Prelude.{ℤ, FitsSigned, ◌⊎◌}
 use Rattle.std.specs.Int.{w32, cast_signed, cast_unsigned, from_le_bytes}
@@ -11,7 +11,7 @@ use Rattle.byteorder.specs.Endian.{little_number, little_bytes}
 use Rattle.command_frames.specs.Frame.{framed, IsFrame, IsPartial, reply_bytes}
 use Rattle.command_frames.specs.Laws.{IsStream, IsReply}
 
--- ---- numbers are read as they were written
+-- ---- a number is read from its encoding
 
 number_of_bytes : (n : ℕ) (rest : List ℕ) → n < 2 ^ 32 → little_number 4 (little_bytes 4 n ++ rest) ≡ n
 number_of_bytes n rest small = omega arith
@@ -162,7 +162,7 @@ each_is_stream_is bytes fits = reads_by (length bytes) bytes (le_refl (length by
 
 -- ---- replies
 
--- what follows the length of a reply, from its command on, and from its status on
+-- the bytes after the length of a reply, from its command on, and from its status on
 from_status : ℤ → List ℕ → List ℕ
 from_status status payload = little_bytes 4 (cast_unsigned w32 status) ++ payload
 

@@ -248,7 +248,7 @@ one_map argument a b is_a is_b =
     (sym is_a.descriptor) is_a.shaped in
     some_map a b (ap (λ target. Some (named_with a.fd target)) is_a.target ∙ (named b).1 is_b)
 
--- ---- what was read of an argument
+-- ---- the map that was read from an argument
 
 pub none_read : {E : Type 0} (r : Result Named E) (map : Named) → None ≡ result_ok r → r ≡ Ok map → ⊥
 none_read r map none ok = let both : None ≡ Some map = none ∙ ap result_ok ok in cc both

@@ -333,7 +333,7 @@ unfolding run
 run_same code zero refusals s m = same_self (s.maps m)
 run_same code (suc n) refusals s m = ending_same s (step (refused_at_first refusals) code s) (run code n (refused_later refusals)) (step_same (refused_at_first refusals) code s) (λ t. run_same code n (refused_later refusals) t) m
 
--- ---- what a run leaves
+-- ---- the maps after a run
 
 -- the map after a run, from the map before it
 pub record IsLeftOf (given left : Table (List ℕ)) : Type 0 where

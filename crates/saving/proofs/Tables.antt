@@ -12,7 +12,7 @@ use Rattle.saving.specs.Alike.{moved_object, moved_objects}
 use Rattle.saving.proofs.Lists.{set_by_place}
 use Rattle.saving.proofs.Moved.{flattened-get, first_names, named_by, or_parts}
 
--- what is open at each descriptor
+-- the object of each descriptor
 abbrev pub Opened : Type 0
 Opened = ℕ → Option OpenObject
 

@@ -119,7 +119,7 @@ module _ (held : MapsAreHeld) (bisimulation : AlikeIsBisimulation) (same_verdict
     others = λ other _ apart. ap is_some (set_other (at_births s older) (number b) None other apart);
   }
 
-  -- no object names a map before it is born
+  -- no object names a map before the map is born
   unnamed : (b : Birth) (older : List Birth) (place : ℕ) → AreInOrder s older → list_any (is_of_map place) older ≡ false → is_named (table (without b older)) place ≡ false
   unfolding without
   unnamed b older place order none = by (is_named (table (without b older)) place) refl

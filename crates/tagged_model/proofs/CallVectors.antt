@@ -136,7 +136,7 @@ past_the_end :
 unfolding run begins_at gathered known_helpers
 past_the_end = (refl, refl, refl)
 
--- ---- the grace period, in a hash map of one entry: the deleted value stays until the run ends, and counts
+-- ---- the grace period, in a hash map of one entry: the deleted value exists until the run ends, and counts
 
 abbrev hash : List (List ℕ × List ℕ) → Table (List ℕ)
 hash entries = record {

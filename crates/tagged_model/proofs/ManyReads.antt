@@ -28,7 +28,7 @@ none_below (suc n) test e i lt =
     let h = or_parts (test n) (any_below n test) e in
     ⊎_elim (λ below. none_below n test h.1 i below) (λ le. let same : n ≡ i = omega arith in subst (λ k. test k ≡ false) same h.0) (cases_lt i n)
 
--- ---- what the facts say
+-- ---- the conditions of a read
 
 record MayRead (f : Facts) (x : ℤ) (n : ℕ) : Type 0 where
   within : is_in_stack x n ≡ true

@@ -25,7 +25,7 @@ use Rattle.tagged_model.proofs.Places.{chosen}
 -- ---- a byte of a slot, touched or not
 
 module _ (i : ℕ) (c : Cell) (p : ℕ) (new : List ℕ) where
-  -- it is among those that are written
+  -- the byte is one of those that are written
   abbrev IsNew : ℕ → Bool
   IsNew j = leb p (8 * i + j) && ltb (8 * i + j) (p + length new)
 
@@ -75,7 +75,7 @@ module _ (i : ℕ) (c : Cell) (p : ℕ) (new : List ℕ) where
           same_some : (x y : ℕ) → Some x ≡ Some y → x ≡ y
           same_some x y e = cc
 
-  -- ---- what is known of the slot
+  -- ---- the facts about the slot
 
   bits_there : (lo : ℕ) → lo ≤ length new → HasBytes (bits_in p lo i) (cell_over i c p new)
   bits_there lo le j few one = let h = only_in p lo i j one in let to = h.1 in new_there j few h.0 (omega arith)

@@ -1,4 +1,4 @@
--- What the verdict on an update determines of its key.
+-- Consequences of the verdict on an update for its key.
 use Rattle.std.proofs.Common.{◌≡◌, ℕ, ◌==◌, nat_le, if◌then◌else◌, List, Option, Some, None, refl, sym, ◌∙◌}
 use Rattle.std.proofs.lemmas.Bool.{cond_both}
 use Rattle.tagged_model.specs.declared.shape.MapKind.{MapKind}

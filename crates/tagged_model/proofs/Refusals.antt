@@ -114,7 +114,7 @@ module _ (refused : Bool) (s : RunState) where
   next_like None h = refl
   next_like (Some t) h = alike (advanced 1 t) (goes (advanced 1 t) ≡ goes (advanced 1 t)) (record { flag = h.flag; bare = h.bare }) refl
 
-  -- ---- what is written
+  -- ---- writes
 
   stack_written_like : (x : ℤ) (bs : List ℕ) → AreLike (stack_written s x bs)
   stack_written_like x bs =

@@ -62,7 +62,7 @@ is_eq x y e = (bytes_eq-Decides x y).0 e
 register_is : (n : List ℕ) (r : Bool × ℕ) → named registers n ≡ Some r → (n ≡ register_name r.0 r.1) × (r.1 ≤ 10)
 register_is n r e = (sym (name_of (λ r. register_name r.0 r.1) registers n r refl e), leb-true r.1 10 (found_named (λ _ r. leb r.1 10) registers n r refl e))
 
--- ---- tokens: they begin with what is read first, and the reading continues after it
+-- ---- tokens: the list begins with the token that is read first, and reading continues after it
 
 symbol_then : {B P : Type 0} (ts : List Token) (k : List ℕ × List Token → Option B) (y : B) → (leading_symbol ts >>= k) ≡ Some y → ((s : List ℕ) (rest : List Token) → ts ≡ symbol s ∷ rest → k (s, rest) ≡ Some y → P) → P
 symbol_then (symbol s ∷ ts) k y e then = then s ts refl e

@@ -15,12 +15,12 @@ use Rattle.text_line.specs.Written.{lexeme, laid_out}
 use Rattle.text_line.proofs.Fronts.{passes, passes-append, passes_more, is_long_name, is_picked, prolongs, start_in_name, start_prolongs_none, digit_prolongs_none, name_graphic, digit_graphic, decimal_digits, name_front, number_front, symbol_front}
 use Rattle.text_line.proofs.Longest.{taken}
 
--- ---- layouts whose tokens stay apart
+-- ---- layouts whose tokens are apart
 
 abbrev pub is_sign : List ℕ → Bool
 is_sign y = is_picked y symbols && passes is_ascii_graphic y
 
--- what follows does not prolong a name or a number
+-- the text after a name or a number does not prolong it
 abbrev pub ends_word : TokenLayout → Bool
 ends_word [] = true
 ends_word (None ∷ rest) = true
@@ -28,7 +28,7 @@ ends_word (Some (name n) ∷ rest) = false
 ends_word (Some (number v) ∷ rest) = false
 ends_word (Some (symbol y) ∷ rest) = not (is_name_byte (get_or y 0 0))
 
--- what follows does not prolong a symbol
+-- the text after a symbol does not prolong it
 abbrev pub ends_sign : TokenLayout → Bool
 ends_sign [] = true
 ends_sign (None ∷ rest) = true
@@ -102,7 +102,7 @@ seen (symbol y) rest h =
 laid_first : (t : Token) (rest : TokenLayout) → IsApart (Some t ∷ rest) → get_or (laid_out (Some t ∷ rest)) 0 0 ≡ get_or (lexeme t) 0 0
 laid_first t rest h = first_stays is_ascii_graphic (lexeme t) (laid_out rest) refl (seen t rest h).first
 
--- ---- what follows a token
+-- ---- the text after a token
 
 word_ends : (rest : TokenLayout) → IsApart rest → ends_word rest ≡ true → is_name_byte (get_or (laid_out rest) 0 0) ≡ false
 word_ends [] h e = refl

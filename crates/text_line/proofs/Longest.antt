@@ -183,7 +183,7 @@ number_some : (bytes : List ℕ) (value : Option ℕ) → IsToken bytes (number 
 number_some [] value h = absurd (false≢true (number_first [] value h))
 number_some (b ∷ bs) value h = omega arith
 
--- ---- the token that is taken, by what is at the front
+-- ---- the token that is taken, by the bytes at the front
 
 whole_of : (text s : List ℕ) → take (length s) text ≡ s → text ≡ s ++ drop (length s) text
 whole_of text s h = sym (take-append-drop (length s) text) ∙ ap (λ (t : List ℕ). t ++ drop (length s) text) h

@@ -156,7 +156,7 @@ map_value_read : (dst : ℕ) (n : Number) (v : Option ℕ) → parsed_special_mo
 unfolding parsed_special_move parsed_wide_move parsed_map_value after_symbol after_word
 map_value_read dst n v = rw (constant_read n (space ∷ sign (codes "+") ∷ space ∷ Some (number v) ∷ space ∷ word (codes "ll") ∷ [])) refl
 
--- ---- what is assigned
+-- ---- assignments
 
 alu_read : (wide : Bool) (op : AluOp) (dst : ℕ) (src : SourceOperand) → IsSource src → parsed_assignment wide dst (symbol (alu_symbol op) ∷ tokens_of (operand_layout wide src [])) ≡ Some (form.Alu wide op dst src)
 unfolding parsed_assignment parsed_alu
@@ -205,7 +205,7 @@ no_label_destination w (target.Number m) n =
     ]
 no_label_destination w target.Label n = refl
 
--- a register and what is assigned to it
+-- an assignment to a register
 line_from_register : (wide : Bool) (r : ℕ) (s : List ℕ) (ts : List Token) {f : Form} {n : List ℕ} → r ≤ 10 → bytes_eq s (codes ":") ≡ false → n ≡ [] → parsed_assignment wide r (symbol s ∷ ts) ≡ Some f → line_of (name (register_name wide r) ∷ symbol s ∷ ts) ≡ Some (code f n)
 unfolding line_of parsed_label parsed_form parsed_assigned after_symbol after_word
 line_from_register true r s ts fits colon none e = rw (colon, named_register true r fits, e, none) refl

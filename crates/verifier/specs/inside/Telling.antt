@@ -1,4 +1,4 @@
--- What a watcher has received if the pass ends early. This project's own.
+-- The facts that a watcher has received if the pass ends early. This project's own.
 use Rattle.std.specs.Prelude.{◌≡◌, ◌⊎◌, ℕ, ◌+◌, List, Option}
 use Rattle.insn_set.specs.declared.insn.Insn.{Insn}
 use Rattle.reg_kinds.specs.declared.facts.Facts.{Facts}

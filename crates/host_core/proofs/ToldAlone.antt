@@ -1,4 +1,4 @@
--- If a tenant was refused no memory, its replies are those of its machine alone.
+-- If a tenant was refused no memory, its replies are those of its own machine without refusals.
 use Rattle.std.proofs.Common.{ℕ, List, [], ◌∷◌, Option, Some, None, refl, subst}
 use Rattle.std.specs.Prelude.{slice_get}
 use Rattle.tenant.specs.Laws.{ClearFlagMeansAlone, AloneUntilRefused, OneAlone}

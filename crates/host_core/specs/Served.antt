@@ -1,4 +1,4 @@
--- What a call of `serve` does: the frames that it reads, the replies to them, and where it stops. This project's own.
+-- The effect of a call of `serve`: the frames that it reads, the replies to them, and the point at which it stops. This project's own.
 use Rattle.std.specs.Prelude.{◌≡◌, ◌≢◌, Bool, true, false, ℕ, ◌+◌, ◌<◌, ◌≤◌, List, [], ◌∷◌, ◌++◌, length, take, slice_get, Option, Some, None, Result, IfOk, IfErr, OnOk}
 use Rattle.std.specs.List.{flat_map, AllByRecursion}
 use Rattle.std.specs.Io.KnownBytes.{Consumes, Appends, IsAtEnd}

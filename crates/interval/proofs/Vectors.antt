@@ -1,4 +1,4 @@
--- Known answers: rows of the table of ranges, and of the edges of comparisons.
+-- Worked cases: rows of the table of ranges, and of the edges of comparisons.
 use Rattle.std.proofs.Common.{◌≡◌, ℕ, Option, Some, None, List, [], ◌∷◌, map, refl}
 use Rattle.std.specs.Option.{option_map}
 use Rattle.words.specs.declared.operator.KeptBits.TheVariants.{Bits64}

@@ -1,4 +1,4 @@
--- Known answers: joins, loads and stores of the stack, null tests, and the numbers of reasons.
+-- Worked cases: joins, loads and stores of the stack, null tests, and the numbers of reasons.
 use Rattle.std.proofs.Common.{◌≡◌, ℕ, true, false, ℤ, pos, neg_ℤ, [], ◌∷◌, map, Option, Some, None, Result, Ok, Err, refl}
 use Rattle.words.specs.declared.stack.AccessSize.TheVariants.{Byte, Half, Word, Double}
 use Rattle.interval.specs.Ranges.{span, constant}

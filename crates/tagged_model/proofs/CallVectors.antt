@@ -1,4 +1,4 @@
--- Known answers of runs with maps and calls, worked out by hand from the kernel's documentation of helpers and maps and from
+-- Worked cases of runs with maps and calls, by hand from the kernel's documentation of helpers and maps and from
 -- this project's rules. The comments spell the programs.
 use Rattle.std.proofs.Common.{◌≡◌, ℕ, ◌==◌, pos, if◌then◌else◌, Bool, true, false, replicate, List, [], ◌∷◌, ◌++◌, Some, None, refl}
 use Rattle.words.specs.declared.operator.AluOp.TheVariants.{Add}

@@ -1,4 +1,4 @@
--- Known answers of runs: the results of small programs, and the instructions at which they fault (RFC 9669, sections 4 and
+-- Worked cases of runs: the results of small programs, and the instructions at which they fault (RFC 9669, sections 4 and
 -- 5). The comments spell the programs; each ends with `exit`, unless it says otherwise.
 use Rattle.std.proofs.Common.{◌≡◌, ℕ, ℤ, pos, neg_ℤ, true, false, List, [], ◌∷◌, ◌++◌, map, None, refl}
 use Rattle.words.specs.declared.operator.AluOp.TheVariants.{Add, Sub, Div, SignedDiv, Mod, SignedMod, Mov, ShiftLeft, ShiftRight}

@@ -30,7 +30,7 @@ values_entries_and_flags_out_of_limits : AreRows (
     ∷ [])
 values_entries_and_flags_out_of_limits = refl
 
--- values that take more than 65,536 bytes, and values that just fit; each size is rounded up to a multiple of 8
+-- values that take more than 65,536 bytes, and values of exactly this size; each size is rounded up to a multiple of 8
 too_big : AreRows (
     (Array, 4, 4096, 16, 0, None)
     ∷ (Array, 4, 4096, 17, 0, Some TooBig)

@@ -29,7 +29,7 @@ claims_new key old seen new p v room free h =
     subst (λ (t : PlaceTable). Claims (of_absent Hash (is_full (table_of t)) 0) key t (Ok p) new) v
     (subst (λ (b : Bool). Claims (of_absent Hash b 0) key old (Ok p) new) (sym room) (free, h))
 
--- ---- the place of a present key is below the most
+-- ---- the place of a present key is less than `max_entries`
 
 absent_not : (d : MapKind) (full : Bool) (flags k : ℕ) → of_absent d full flags ≡ Present k → ⊥
 absent_not Array full flags k q = cc

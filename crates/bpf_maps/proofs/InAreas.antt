@@ -49,9 +49,9 @@ apart_places value stride start p q round ne =
     (λ (l : q ≤ p). let b = value_before value 0 stride round q p (omega arith) in inr (omega arith))
     (cases_lt p q)
 
--- ---- an area is gone
+-- ---- an area is removed
 
--- the start of another one after that
+-- the start of a later area after that
 module _ (end size start : ℕ) where
   pub lower : end ≤ start → start_without end size start ≡ start - size
   lower l = ap (λ (b : Bool). if b then start - size else start) (le-leb end start l)

@@ -1,4 +1,4 @@
--- Live maps that keep their keys and the values of these.
+-- Live maps that keep their keys and the values of these keys.
 use Rattle.std.proofs.Common.{◌≡◌, ℕ, ◌<◌, List, Option, Some, None, IsSome, is_some, option_map, refl, sym, ap, subst, ◌∙◌}
 use Rattle.tagged_model.specs.Table.{with_values}
 use Rattle.bpf_maps.specs.Places.{PlaceTable, table_of, IsSound}

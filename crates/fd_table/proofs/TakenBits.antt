@@ -55,7 +55,7 @@ module _ {A : Type 0} where
       let here : Some place ≡ position is_none places = rw (first, len, within) refl in
       here ∙ ap (position is_none) same
 
-  -- and if there is none, no place is free
+  -- if no bit is 0, no place is free
   pub none_free : (word place : ℕ) (places seen : List (Option A)) → places ≡ seen → length places ≡ 64 → word < 2 ^ 64 → TellsTaken word places → place ≡ trailing_ones w64 word → 64 ≤ place
       → None ≡ position is_none seen
   none_free word place places seen same len small tells ones above =

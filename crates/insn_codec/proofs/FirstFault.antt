@@ -66,7 +66,7 @@ second_kind : (f : OpcodeForm) (src : ℕ) (rest : List ℕ) (kind : FaultKind) 
 second_kind form.Wide src rest kind e = grind (arith, nat_tests)
 second_kind _ src rest kind e = absurd cc
 
--- the fault that is found is one of the bytes
+-- the fault that is found is a fault of the bytes
 abbrev IsRight : List ℕ → Option FaultKind → Type 0
 IsRight bytes found = (kind : FaultKind) → found ≡ Some kind → HasFault bytes kind
 

@@ -94,7 +94,7 @@ begins_read i s None bytes rest fits long rest-is first second read =
 begins_read i s (Some t) bytes rest fits long rest-is first second read =
     begins_two i bytes rest fits long rest-is second.0 (read ∙ ap (λ (x : SlotFields). x ∷ fields t ∷ []) first ∙ ap (λ (x : SlotFields). slot_of bytes ∷ x ∷ []) second.1)
 
--- the other way: the bytes are a slot and a rest
+-- conversely, if the bytes are those of a slot and a rest
 slot_before : {s : SlotFields} {bytes : List ℕ} (rest : List ℕ) → IsSlot s → bytes ≡ slot_bytes s ++ rest → (slot_of bytes ≡ s) × (8 ≤ length bytes)
 slot_before {s} rest fits whole = (ap slot_of whole ∙ slot_of-append rest fits, omega (arith, ap length whole, length-append (slot_bytes s) rest))
 

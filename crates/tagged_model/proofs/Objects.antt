@@ -70,7 +70,7 @@ module _ (s : RunState) (m : ℕ) (t u : RunMap) (is : s.maps m ≡ Some t) wher
       (u, refl, keeps shape (subst (IsMapOf shape) (sym same) there.2)))
       h
 
-  -- an object has other bytes, as many as before
+  -- the bytes of an object are replaced by as many others
   pub value_kept : (number : ℕ) (new : List ℕ) (shape : MapShape) → (number < t.count → length new ≡ shape.value_size) → u ≡ with_value t number new → IsMapOf shape t → IsMapOf shape u
   value_kept number new shape size e h = subst (IsMapOf shape) (sym e) (record { shaped = h.shaped; indices = h.indices; owns = h.owns; sized = sized })
     where

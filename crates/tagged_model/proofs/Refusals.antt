@@ -68,7 +68,7 @@ module _ (refused : Bool) (s : RunState) where
   with_same_maps : (t : RunState) → t.refused ≡ s.refused → t.maps ≡ s.maps → IsLike t
   with_same_maps t flag maps = record { flag = flag; bare = λ none m. ap (λ (f : ℕ → Option RunMap). f m) maps ∙ none m }
 
-  -- ---- how parts make a step
+  -- ---- steps from their parts
 
   alike : (t : RunState) (Same : Type 0) → IsLike t → Same → IsTold refused s t Same
   alike t Same like same = record { now = false; noted = like.flag ∙ sym (or-false s.refused); same = λ _. same; needed = λ _. refl; bare = λ none. (refl, like.bare none) }

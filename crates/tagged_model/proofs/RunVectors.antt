@@ -20,7 +20,7 @@ use Rattle.tagged_model.specs.Step.{MapsByDescriptor, run, start_of_run, result_
 abbrev pub minus : ℕ → ℤ
 minus n = neg_ℤ (pos n)
 
--- the context of a packet of so many bytes
+-- the context of a packet with this many bytes
 abbrev pub context : ℕ → List ℕ
 context len = len ∷ 0 ∷ 0 ∷ 0 ∷ 0 ∷ 0 ∷ 0 ∷ 0 ∷ 0 ∷ 0 ∷ 0 ∷ []
 

@@ -37,7 +37,7 @@ without_room o many ends room program less =
     ap (λ (first : Option Errno). else_refusal first (packets_refusal many ends room)) program
     ∙ ap (λ (b : Bool). if b then Some Invalid else option_map packet_errno (packets_fault many 0 ends)) fewer
 
--- the descriptor names no program
+-- the object is rejected
 pub refused_first : {o p : Option OpenObject} {errno : Errno} (later : Option Errno) → o ≡ p → Some errno ≡ object_refusal o → Some errno ≡ else_refusal (object_refusal p) later
 refused_first later same is = ap (λ (first : Option Errno). else_refusal first later) is ∙ ap (λ (o : Option OpenObject). else_refusal (object_refusal o) later) same
 

@@ -50,7 +50,7 @@ pub record IsRemoved (k : KeptTenant) (t : LiveMaps) (fd m : ℕ) (key : List �
   pub rest : OnlyKeysChange m k.live t
   pub refused : t.refused ≡ k.live.refused
 
--- after that the map keeps no place until the end of a run
+-- after that the run on the map is ended: no place of it is kept apart
 pub record IsEnded (m : ℕ) (old new : LiveMaps) : Type 0 where
   pub ended : places_at new m ≡ after_run (places_at old m)
   pub rest : OnlyKeysChange m old new

@@ -48,7 +48,7 @@ still_kept {k} {t} is s = record {
   bound = λ n l there. bound_along (is.bound n l there) s.stays s.shape;
 }
 
--- if only the keys of one map change, and the map keeps no place until the end of a run
+-- if only the keys of one map change, and no place of it is kept apart
 pub keys_kept : {k : KeptTenant} {t : LiveMaps} {m : ℕ} → IsWellFormedTenant k → IsSome (live_at k.live m) → OnlyKeysChange m k.live t → (places_at t m).kept ≡ [] → IsWellFormedTenant (with_live k t)
 keys_kept {k} {t} {m} is live rest ended = still_kept is (record {
   was = at_each (λ q. IsSome (live_at t q) → IsSome (live_at k.live q)) m (λ now. live) (λ q other now. ap (λ (o : Option LiveMap). is_some o) (sym (rest.others q other)) ∙ now);

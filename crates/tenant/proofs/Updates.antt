@@ -57,7 +57,7 @@ refused_claim (Refused g) key old f new (is, same) = same
 refused_claim (Present p) key old f new (is, same) = same
 refused_claim New key old f new h = (memory_alone key old f new h).1
 
--- a claim does not change the places that are kept until the end of a run
+-- a claim does not change the places that are kept apart
 claimed_kept : (v : Verdict ℕ) (key : List ℕ) (old : PlaceTable) (r : Claim) (new : PlaceTable) → Claims v key old r new → new.kept ≡ old.kept
 claimed_kept (Refused f) key old r new (is, same) = ap (λ (t : PlaceTable). t.kept) same
 claimed_kept (Present p) key old r new (is, same) = ap (λ (t : PlaceTable). t.kept) same

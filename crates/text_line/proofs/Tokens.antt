@@ -132,7 +132,7 @@ first_is text t rest (u ∷ us) some at_front h =
     let same = same_front u t h.0 rest (token_at (skip_blanks text)) (found (skip_blanks text) u h.0 h.1) at_front in
     (us, ap (λ (x : Token). x ∷ us) same.0, subst (λ (r : List ℕ). HasTokens r us) same.1 h.2)
 
--- if there is no token, and more than a comment, there are no tokens
+-- if a text is more than a comment and no token is at its front, it has no list of tokens
 pub no_tokens : (text : List ℕ) (ts : List Token) → is_over (skip_blanks text) ≡ false → token_at (skip_blanks text) ≡ None → HasTokens text ts → ⊥
 no_tokens text [] some none h = false≢true (sym some ∙ h)
 no_tokens text (t ∷ ts) some none h = none_front t h.0 (token_at (skip_blanks text)) (found (skip_blanks text) t h.0 h.1) none

@@ -121,7 +121,7 @@ with_ranges x dst src ranges = record { facts = with_pair x.facts dst src ranges
 abbrev pub settled : ℕ → Bool → ℕ → NumberedFacts → NumberedFacts
 settled site null fresh x = numbered_by fresh (facts_settled site null x.facts)
 
--- from the facts that the code leaves
+-- the facts on the falling edge, from the facts that the code leaves
 abbrev pub on_falling_edge : Flow → ℕ → NumberedFacts → Option NumberedFacts
 on_falling_edge Ends fresh x = None
 on_falling_edge Falls fresh x = Some x

@@ -28,7 +28,14 @@ FORMS = {
     "answer": "answers?|answered|answering",
     "want": "wants?|wanted|wanting",
 }
-WORD = {name: re.compile(rf"\b(?:{FORMS.get(name, name)})\b", re.I) for name in PLAIN}
+
+
+def patterns(plain: Iterable[str], forms: dict[str, str]) -> dict[str, re.Pattern[str]]:
+    """What finds each of these words, in each of its forms."""
+    return {name: re.compile(rf"\b(?:{forms.get(name, name)})\b", re.I) for name in plain}
+
+
+WORD = patterns(PLAIN, FORMS)
 # What is not prose: blocks of code, code in a sentence, and the target of a link.
 NO_PROSE = re.compile(r"^(```|~~~).*?^\1$|^(?: {4}|\t)[^\n]*$|`[^`\n]*`|\]\([^)\s]*\)", re.M | re.S)
 # The most of these words, in all, that a page may have. A page that is not listed may have none.
@@ -48,10 +55,10 @@ MOST: dict[str, int] = {
 }
 
 
-def count(text: str) -> Counter[str]:
+def count(text: str, words: dict[str, re.Pattern[str]] = WORD) -> Counter[str]:
     """How often the prose of a page has each of the words."""
     prose = NO_PROSE.sub(" ", text)
-    return Counter({name: found for name, pattern in WORD.items() if (found := len(pattern.findall(prose)))})
+    return Counter({name: found for name, pattern in words.items() if (found := len(pattern.findall(prose)))})
 
 
 def bounds(pages: Iterable[tuple[str, str]]) -> str:

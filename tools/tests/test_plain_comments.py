@@ -7,7 +7,7 @@ from pathlib import Path
 from unittest import mock
 
 import plain_comments
-from plain_comments import folder, prose, too_many
+from plain_comments import by_folder, folder, prose, too_many
 
 TOP = Path(__file__).resolve().parents[2]
 
@@ -29,6 +29,20 @@ class PlainComments(unittest.TestCase):
     def test_folders(self) -> None:
         names = ("VERSION", "tools/pages", "crates/words/src/stack.rt", "clients/python/bpfhost/shards/gateway/frames.py")
         self.assertEqual([folder(name) for name in names], [".", "tools", "crates/words", "clients/python/bpfhost/shards"])
+
+    def test_proofs_are_folders_of_their_own(self) -> None:
+        names = ("crates/a/proofs/B.antt", "crates/a/proofs/b/c/D.antt", "crates/a/specs/inside/B.antt", "crates/a/specs/inside.antt")
+        self.assertEqual([folder(name) for name in names], ["crates/a/proofs", "crates/a/proofs", "crates/a/specs/inside", "crates/a"])
+
+    def test_words_of_proofs(self) -> None:
+        text = "-- where it stays\nx : y\n-- it is there, farther on\nz : y\n"
+        found = by_folder([("crates/a/proofs/B.antt", text), ("crates/a/specs/B.antt", text)])
+        self.assertEqual(found["crates/a"], {"where": 1})
+        self.assertEqual(found["crates/a/proofs"], {"where": 1, "stays": 1, "is there": 1, "farther": 1})
+        with mock.patch.object(plain_comments, "MOST", {"crates/a": 1, "crates/a/proofs": 3}):
+            wrong = too_many([("crates/a/proofs/B.antt", text), ("crates/a/specs/B.antt", text)])
+            self.assertEqual([line.partition(":")[0] for line in wrong], ["crates/a/proofs"])
+            self.assertIn("1 'stays' (is not changed, is still)", wrong[0])
 
     def test_bounds(self) -> None:
         files = [("a/b.c", "/* where */"), ("a/c.py", '"""Alone."""\nwhere = 1\n'), ("d/e.rt", "let x = 1; // plain\n")]

@@ -1,4 +1,4 @@
--- Bytes of one part, and bytes of another.
+-- A write within one part changes no other part.
 use Rattle.std.proofs.Common.{◌≡◌, ◌≢◌, ◌⊎◌, inl, inr, ℕ, zero, suc, ◌+◌, ◌*◌, ◌<◌, ◌≤◌, List, ◌++◌, length, take, drop, refl, sym, ap, ◌∙◌, arith}
 use Rattle.std.proofs.Math.Seq.{take-append_seam}
 use Rattle.words.specs.ByteLaws.{bytes_stay, bytes_written, length-written_at}
@@ -11,7 +11,7 @@ pub refilled_whole : (bytes others : List ℕ) → length others ≡ length byte
 refilled_whole bytes others e =
     ap (λ (n : ℕ). take n (others ++ drop (length others) bytes)) (sym e) ∙ take-append_seam others (drop (length others) bytes)
 
--- ---- parts follow one another
+-- ---- parts are disjoint
 
 order : (u t : ℕ) → u ≢ t → (u < t) ⊎ (t < u)
 order zero zero differ = absurd (differ refl)

@@ -1,4 +1,4 @@
--- What a run requests of the memory within a part.
+-- The accesses of a run at the addresses of a part are loads and stores of the bytes of the part.
 use Rattle.std.proofs.Common.{◌≡◌, ℕ, ◌+◌, ◌≤◌, List, length, Option, Some, refl, sym, ap, ◌∙◌, arith}
 use Rattle.words.specs.Bytes.{number_of, low_bytes}
 use Rattle.words.specs.ByteLaws.{bytes_within, length-bytes_at, length-low_bytes}

@@ -1,4 +1,4 @@
--- Bytes that are written within a part.
+-- A write within a part is a write to the bytes of the part.
 use Rattle.std.proofs.Common.{◌≡◌, ℕ, ◌+◌, ◌≤◌, List, length, ap, ◌∙◌, arith}
 use Rattle.words.specs.ByteLaws.{length-written_at, over_within, over_part}
 use Rattle.arena.specs.Bytes.{written_at}

@@ -23,7 +23,7 @@ module _ (place : ℕ → ℕ) where
   abbrev placed : List (List ℕ × ℕ) → List (List ℕ × ℕ)
   placed es = map (λ e. (e.0, place e.1)) es
 
--- places that differ past the objects alone
+-- two functions that agree on all objects give the same places
 placed_same : (f g : ℕ → ℕ) (count : ℕ) (es : List (List ℕ × ℕ)) → KeysHaveObjects count es → ((k : ℕ) → k < count → f k ≡ g k) → placed f es ≡ placed g es
 placed_same f g count [] owns same = refl
 placed_same f g count (e ∷ es) owns same =
@@ -32,7 +32,7 @@ placed_same f g count (e ∷ es) owns same =
 module _ (l : Layout) (start : ℕ) (memory after : List ℕ) (old new : LiveMaps) (k m : ℕ) (t : RunMap) (key value : List ℕ) (p : ℕ) (h : HasMap l (stored_maps start memory old) k m t) (free : IsFree (places_at old k) p) (places : places_at new k ≡ with_place (places_at old k) key p) (live : IsSome (live_at new k)) (offsets : (q : ℕ) → offset_at new k q ≡ offset_at old k q)
     (kept : (q : ℕ) → q < (shape_at old k).max_entries → q ≢ p → bytes_at after (start + offset_at old k q) (shape_at old k).value_size ≡ bytes_at memory (start + offset_at old k q) (shape_at old k).value_size)
     (written : bytes_at after (start + offset_at old k p) (shape_at old k).value_size ≡ value) where
-  -- no object has the place that was free
+  -- no object is at the place that was free
   not_free : (number : ℕ) → number < t.count → h.place number ≢ p
   not_free number lt e =
       let used = (h.objects number lt).in_use in

@@ -1,4 +1,4 @@
--- What a copy within the memory leaves.
+-- The memory after a copy within it.
 use Rattle.std.proofs.Common.{◌≡◌, ℕ, ◌+◌, ◌≤◌, Some, ap, ◌∙◌}
 use Rattle.words.specs.Bytes.{bytes_at}
 use Rattle.arena.specs.Memory.{Memory, base, size_of, place_of, with_bytes, copied}

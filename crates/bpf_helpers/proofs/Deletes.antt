@@ -1,4 +1,4 @@
--- After a delete words, bytes and live maps stand for the state after the machine's delete.
+-- After a deletion the words, bytes and live maps represent the state after the machine's deletion.
 use Rattle.std.proofs.Common.{◌≡◌, ℕ, ◌+◌, ◌<◌, false, ◌||◌, List, [], ◌∷◌, length-append, slice_get, Some, Result, Ok, Err, refl, sym, ap, subst, ◌∙◌, arith}
 use Rattle.std.specs.Prelude.{slice_index}
 use Rattle.std.specs.Map.{values_of}
@@ -58,7 +58,7 @@ module _ (below : LawsBelow) (l : Layout) (start : ℕ) (memory : List ℕ) (old
     apart = h.apart;
   }
 
--- ---- by the reply
+-- ---- by the result
 
 module _ (below : LawsBelow) (env : Environment) (l : Layout) (flat : FlatState) (s : RunState) (i m : ℕ) (map : RunMap) (key : List ℕ) (word : ℕ) (new : LiveMaps)
     (stands : Simulates env l flat s) (named : slice_get env.descriptors i ≡ Some m) (is : s.maps m ≡ Some map) (d : Deletes flat.maps (record { map = slice_index env.bind i; key = key }) word new) where

@@ -1,4 +1,4 @@
--- How the maps of a run begin and end.
+-- The maps of a run at its start and its end.
 use Rattle.std.proofs.Common.{◌≡◌, ◌⊎◌, inl, inr, ℕ, zero, suc, ◌+◌, ◌<◌, ◌≤◌, nat_eq, nat_lt, Bool, true, false, if◌then◌else◌, List, [], ◌∷◌, map, length, refl, sym, ap, subst, ◌∙◌, ⊎_elim, arith, eq-eqb}
 use Rattle.std.specs.Prelude.{slice_index, slice_index_or}
 use Rattle.std.specs.Map.{values_of}
@@ -30,7 +30,7 @@ module _ (value : ℕ → List ℕ) where
   valued_long [] = refl
   valued_long (e ∷ es) = ap suc (valued_long es)
 
-  -- each number leads to the place that its key has
+  -- the object with a number is at the place of its key
   numbered_back : (place : ℕ → ℕ) (n : ℕ) (es : List (List ℕ × ℕ)) → ((i : ℕ) → i < length es → place (n + i) ≡ slice_index (values_of es) i) → es ≡ map (λ e. let pair : List ℕ × ℕ = (e.0, place e.1) in pair) (numbered n (valued es))
   unfolding numbered
   numbered_back place n [] h = refl
@@ -44,7 +44,7 @@ module _ (value : ℕ → List ℕ) where
   value_of (e ∷ es) zero lt = refl
   value_of (e ∷ es) (suc i) lt = value_of es i (omega arith)
 
--- ---- each place once
+-- ---- each place occurs once
 
 length_values : (es : List (List ℕ × ℕ)) → length (values_of es) ≡ length es
 length_values [] = refl

@@ -1,4 +1,4 @@
--- Whether memory was refused, once or again.
+-- Laws of the flag of refused memory: after no refusal, and after two calls.
 use Rattle.std.proofs.Common.{◌≡◌, ◌||◌, Bool, true, false, refl}
 
 pub or_none : (b : Bool) → b ≡ (b || false)

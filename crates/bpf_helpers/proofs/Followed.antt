@@ -1,4 +1,4 @@
--- A call by words does what the machine's call does.
+-- A call on words and bytes simulates the machine's call.
 use Rattle.std.proofs.Common.{◌≡◌, ◌≢◌, ℕ, ◌+◌, ◌-◌, ◌*◌, ◌<◌, ◌≤◌, ◌&&◌, eqb, leb, false, List, length, Option, Some, None, refl, sym, ap, subst, ◌∙◌, ⊎_elim, arith}
 use Rattle.std.specs.Prelude.{slice_index, unwrap_or}
 use Rattle.std.proofs.lemmas.Bool.{false≢true, and_parts, leb-true, eqb-true, eqb-false, cases_Bool}
@@ -35,7 +35,7 @@ use Rattle.bpf_helpers.proofs.Updates.{updates_keep_simulation}
 use Rattle.bpf_helpers.proofs.Deletes.{deletes_keep_simulation}
 use Rattle.bpf_helpers.specs.States.{CallSite, CallAnswer, Environment, FlatState, answers, site_in, with_answer, with_held, with_memory}
 
--- where only the keys of one map change, each map has the holds that it had
+-- if only the keys of one map change, each map has as many holds as before
 same_holds : (old new : LiveMaps) (k : ℕ) → OnlyKeysChange k old new → (key : ℕ) → holds_at new key ≡ holds_at old key
 same_holds old new k rest key =
     ⊎_elim
@@ -43,7 +43,7 @@ same_holds old new k rest key =
     (λ b. ap (λ (o : Option LiveMap). (live_or o).holds) (rest.others key (eqb-false key k b)))
     (cases_Bool (eqb key k))
 
--- the bytes that are read are as many as were asked for
+-- the input has as many bytes as were requested
 input_long : (memory : Memory) (t n w : ℕ) (bs : List ℕ) → part_start memory t + memory.part ≤ length memory.bytes → part_input memory t n w ≡ Some bs → length bs ≡ n
 input_long memory t n w bs fits e =
     let a = also_some (part_place (part_start memory t) memory.part n w) (λ p. Some (bytes_at memory.bytes (part_start memory t + p) n)) bs e in
@@ -94,13 +94,13 @@ module _ (env : Environment) (l : Layout) (flat : FlatState) (s : RunState) (roo
   other_key : (index key : ℕ) → index < length env.bind → ((i : ℕ) → i < length env.bind → slice_index env.bind i ≢ key) → key ≢ slice_index env.bind index
   other_key index key lt away same = away index lt (sym same)
 
-  -- a call to which no memory is refused
+  -- a call that is refused no memory
   not_refused : (helper : Helper) (answer : CallAnswer) (u : RunState) → called false helper s ≡ Some u → Simulates env l (with_answer flat answer) u → ((key : ℕ) → IsElsewhere env.bind key → live_at answer.maps key ≡ live_at flat.maps key) → SameAreas flat.maps answer.maps → ((key : ℕ) → holds_at answer.maps key ≡ holds_at flat.maps key)
       → ResultFollows env l flat s helper answer
   not_refused helper answer u goes after others areas holds =
       record { refused = false; only = λ r. absurd (false≢true r); state = u; goes = goes; layout = l; extends = extends_itself l; stands = after; others = others; areas = areas; holds = holds }
 
-  -- and which leaves the maps
+  -- a call that is refused no memory and does not change the maps
   leaves_maps : (helper : Helper) (word : ℕ) (after : Memory) (u : RunState) → called false helper s ≡ Some u → Simulates env l (with_answer flat (answers word after flat.maps)) u → ResultFollows env l flat s helper (answers word after flat.maps)
   leaves_maps helper word after u goes stands = not_refused helper (answers word after flat.maps) u goes stands (λ key away. refl) (same_areas flat.maps) (λ key. refl)
 
@@ -200,9 +200,9 @@ module _ (env : Environment) (l : Layout) (flat : FlatState) (s : RunState) (roo
         (subst (λ (n : Memory). Simulates env l (with_answer flat (answers word n flat.maps)) (returns st.written (Scalar answer))) (sym memory_is)
         (returned env l (with_memory flat written) st.written (Scalar answer) word st.stands (r.0 ∙ gives))))
 
--- ---- where the call is made
+-- ---- the site of a call
 
--- what the code tells of a call at a place holds of the call in a run that is there
+-- a law of calls in an environment and a state holds at each site that is the site of such an environment and state
 module _ (Told : CallSite → Type 0) (reply : CallSite → CallAnswer) (words : List ℕ) (helper : Helper)
     (follows : (env : Environment) (l : Layout) (flat : FlatState) (s : RunState) → IsRoom env.memory env.tenant → Simulates env l flat s → AreArguments words flat.registers → (u : RunState) → Told (site_in env flat) → called false helper s ≡ Some u → ResultFollows env l flat s helper (reply (site_in env flat))) where
   follows_at : (site : CallSite) → Told site → CallFollows site words helper (reply site)

@@ -1,4 +1,4 @@
--- What a helper reads through a pointer stands at the pointer's address, in the part.
+-- The bytes that a helper reads through a pointer are at the pointer's address, in the part.
 use Rattle.std.proofs.Common.{◌≡◌, ℕ, ◌+◌, ◌-◌, ◌*◌, ◌<◌, ◌≤◌, ◌&&◌, leb, ℤ, pos, negsuc, ◌+ℤ◌, Bool, true, false, if◌then◌else◌, List, length, drop, Option, Some, None, refl, sym, ap, ◌∙◌, arith}
 use Rattle.std.specs.Prelude.{slice_index}
 use Rattle.std.specs.Option.{IsSome}
@@ -38,7 +38,7 @@ part_place_is start part n address at e h =
 
 -- ---- maps
 
--- an object that is placed
+-- an object that has a place
 pub record Found (l : Layout) (start : ℕ) (memory : List ℕ) (tenant : LiveMaps) (maps : ℕ → Option RunMap) (m number : ℕ) : Type 0 where
   pub map : RunMap
   pub there : maps m ≡ Some map
@@ -73,7 +73,7 @@ module _ (env : Environment) (l : Layout) (flat : FlatState) (s : RunState) (roo
   part_same : flat.memory.part ≡ PART
   part_same = stands.changed.part ∙ room.room
 
-  -- n bytes that stand in the part
+  -- n bytes that are in the part
   there : (w n q : ℕ) (bs : List ℕ) → w ≡ base + (part_start env.memory env.tenant + q) → q + n ≤ PART → bytes_at flat.memory.bytes (part_start env.memory env.tenant + q) n ≡ bs → part_input flat.memory env.tenant n w ≡ Some bs
   there w n q bs e fits same =
       let begin = start_same in

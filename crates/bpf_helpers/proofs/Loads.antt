@@ -43,7 +43,7 @@ length-packet_bytes packet offset n =
     (λ b. length-replicate n 0)
 
 module _ (env : Environment) (l : Layout) (flat : FlatState) (s : RunState) (room : IsRoom env.memory env.tenant) (stands : Simulates env l flat s) where
-  -- a number in a register is its word
+  -- the word of a register that holds a number is this number
   pub number_word : (r n : ℕ) → r < 11 → argument s r number_given ≡ Some n → slice_index flat.registers r ≡ n
   number_word r n lt e =
       let a = also_some (s.registers r) number_given n e in

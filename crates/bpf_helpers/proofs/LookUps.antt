@@ -1,4 +1,4 @@
--- A look-up on words and bytes gives what the machine's gives.
+-- A look-up on words and bytes has a result that represents the machine's.
 use Rattle.std.proofs.Common.{◌≡◌, ℕ, ◌-◌, ◌*◌, ◌<◌, ◌==◌, Bool, List, map, length, slice_get, Option, Some, None, option_map, refl, sym, ap, subst, ◌∙◌, arith}
 use Rattle.std.specs.Prelude.{slice_index}
 use Rattle.std.proofs.lemmas.Bool.{cond-false, ne_eqb}
@@ -34,7 +34,7 @@ is_map (Map n) m e = ap (λ (k : ℕ). Map k) (same_Some n m e)
 is_map (Scalar n) m e = absurd (none-some m e)
 is_map (Pointer o x) m e = absurd (none-some m e)
 
--- the map in a register
+-- the map in a register is this one
 pub record IsGiven (s : RunState) (r : ℕ) (g : GivenMap) : Type 0 where
   pub register : s.registers r ≡ Some (Map g.descriptor)
   pub there : s.maps g.descriptor ≡ Some g.map
@@ -48,7 +48,7 @@ is_given s r g e =
     subst (IsGiven s r) same (record { register = b.1 ∙ ap (λ (v : Tagged). Some v) (is_map b.0 a.0 b.2); there = c.1 })
 
 module _ (env : Environment) (l : Layout) (flat : FlatState) (s : RunState) (room : IsRoom env.memory env.tenant) (stands : Simulates env l flat s) where
-  -- the map that a word names, and what stands for it
+  -- the map that a word names, and the live map that represents it
   pub record IsBound (w m : ℕ) (map : RunMap) : Type 0 where
     pub index : ℕ
     pub within : index < length env.bind
@@ -72,7 +72,7 @@ module _ (env : Environment) (l : Layout) (flat : FlatState) (s : RunState) (roo
         has = subst (HasMap l (stored_maps (part_start env.memory env.tenant) flat.memory.bytes flat.maps) (slice_index env.bind i) m) same g.2;
       }
 
-  -- ---- what is found
+  -- ---- the result
 
   module _ (along : CallsRefineValues ℕ ℕ) (m key : ℕ) (map : RunMap) (has : HasMap l (stored_maps (part_start env.memory env.tenant) flat.memory.bytes flat.maps) key m map) where
     shape_same : shape_at flat.maps key ≡ map.table.shape

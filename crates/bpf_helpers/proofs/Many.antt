@@ -17,9 +17,9 @@ pub also_some : {A B : Type 0} (o : Option A) (f : A → Option B) (y : B) → a
 also_some None f y e = absurd (none-some y e)
 also_some (Some x) f y e = (x, refl, e)
 
--- ---- bytes that are there
+-- ---- bytes that are present
 
--- a list of the bytes from place p on
+-- the list has the n bytes from place p on
 pub record AreFrom (byte : ℕ → Option ℕ) (p n : ℕ) (list : List ℕ) : Type 0 where
   pub count : length list ≡ n
   pub each : (k : ℕ) → k < n → byte (p + k) ≡ Some (get_or list k 0)
@@ -41,7 +41,7 @@ are_from byte (suc n) p list e =
 
 -- ---- reading
 
--- a byte of the stack is the memory's
+-- a byte of the stack is the byte in the memory
 stack_byte_there : (env : Environment) (l : Layout) (memory : List ℕ) (start : ℕ) (s : RunState) (q b : ℕ) → HasStack env l memory start s.cells → q < 512 → stack_byte s q ≡ Some b → get_or memory (start + q) 0 ≡ b
 stack_byte_there env l memory start s q b has lt e =
     let at : start + q ≡ start + 8 * (q / 8) + q % 8 = omega arith in
@@ -63,7 +63,7 @@ bytes_there env l memory start s y n bs has fits e =
 -- ---- writing
 
 module _ (env : Environment) (l : Layout) (memory : List ℕ) (start : ℕ) (fits : start + 512 ≤ length memory) (p : ℕ) (new : List ℕ) (room : p + length new ≤ 512) where
-  -- a cell elsewhere
+  -- a cell that is not written
   cell_stays : (i : ℕ) (c : Cell) → i < 64 → (8 * i + 8 ≤ p) ⊎ (p + length new ≤ 8 * i) → HasCell env l memory (start + 8 * i) c → HasCell env l (written_at memory (start + p) new) (start + 8 * i) c
   cell_stays i c lt away has =
       record {
@@ -79,7 +79,7 @@ module _ (env : Environment) (l : Layout) (memory : List ℕ) (start : ℕ) (fit
       beside (inl below) = inl (omega arith)
       beside (inr above) = inr (omega arith)
 
-  -- a byte of a cell that is touched
+  -- a byte of a cell that is written
   over_byte : (i : ℕ) (c : Cell) (j b : ℕ) → i < 64 → j < 8 → HasCell env l memory (start + 8 * i) c
       → (if leb p (8 * i + j) && ltb (8 * i + j) (p + length new) then slice_get new (8 * i + j - p) else byte_at c j) ≡ Some b → get_or (written_at memory (start + p) new) (start + 8 * i + j) 0 ≡ b
   over_byte i c j b lt few has =

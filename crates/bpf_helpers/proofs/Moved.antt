@@ -1,4 +1,4 @@
--- The maps of a run as they stand elsewhere, or with one of them changed.
+-- The maps of a run in other bytes, or after one of them changed.
 use Rattle.std.proofs.Common.{◌≡◌, ◌≢◌, ℕ, ◌+◌, ◌<◌, ◌≤◌, ◌==◌, ◌||◌, Bool, eqb, List, length, slice_get, Option, Some, refl, sym, ap, subst, ◌∙◌, ⊎_elim, arith}
 use Rattle.std.specs.Prelude.{slice_index}
 use Rattle.std.specs.Option.{IsSome}
@@ -24,7 +24,7 @@ other_key {env} has i m j n named e differ same =
     let one : j ≡ i = has.keys j i (omega arith) (omega arith) same in
     differ (same_Some n m (sym e ∙ ap (λ (x : ℕ). slice_get env.descriptors x) one ∙ named))
 
--- its places are the same, and begin where they did
+-- the map has the same places, at the same addresses
 map_moved : {l : Layout} {start : ℕ} {memory : List ℕ} {old new : LiveMaps} {k m : ℕ} {t : RunMap} → places_at new k ≡ places_at old k → ((p : ℕ) → offset_at new k p ≡ offset_at old k p) → IsSome (live_at new k) → HasMap l (stored_maps start memory old) k m t → HasMap l (stored_maps start memory new) k m t
 map_moved {start = start} {memory = memory} {old = old} {new = new} {k = k} places offsets live h = record {
   live = live;
@@ -49,12 +49,12 @@ live_places old new k e = ap (λ (o : Option LiveMap). (live_or o).places) e
 live_offsets : (old new : LiveMaps) (k p : ℕ) → live_at new k ≡ live_at old k → offset_at new k p ≡ offset_at old k p
 live_offsets old new k p e = ap (λ (o : Option LiveMap). offset (live_or o) p) e
 
--- the bytes are others, and maybe the values with them; the keys and their places are the same
+-- the bytes, and possibly the values, are different; the keys and their places are the same
 pub other_bytes : {l : Layout} {start : ℕ} {before after : List ℕ} {tenant : LiveMaps} {k m : ℕ} {t : RunMap} {values : ℕ → List ℕ} (h : HasMap l (stored_maps start before tenant) k m t) → ((number : ℕ) → number < t.count → HasObject (stored_maps start after tenant) k (h.place number) (l.object_at m number) (values number))
     → HasMap l (stored_maps start after tenant) k m (record t { values = values })
 other_bytes h objects = record { live = h.live; place = h.place; table = h.table; owns = h.owns; counted = h.counted; objects = objects; apart = h.apart }
 
--- the maps other than the one under key k are as they were, and so are the places of this one
+-- only the map under key k changes, and its places have the same addresses
 module _ {old new : LiveMaps} {k : ℕ} (rest : OnlyKeysChange k old new) where
   pub other_moved : {l : Layout} {start : ℕ} {memory : List ℕ} {j n : ℕ} {u : RunMap} → j ≢ k → HasMap l (stored_maps start memory old) j n u → HasMap l (stored_maps start memory new) j n u
   other_moved {j = j} differ h = map_moved (live_places old new j (rest.others j differ)) (λ p. live_offsets old new j p (rest.others j differ)) (subst IsSome (sym (rest.others j differ)) h.live) h
@@ -77,7 +77,7 @@ module _ {old new : LiveMaps} {k : ℕ} (rest : OnlyKeysChange k old new) where
     laid = rest.laid;
   }
 
--- the same map again
+-- the same map is set again
 pub maps_again : {env : Environment} {l : Layout} {stored : StoredMaps} {maps : ℕ → Option RunMap} (m : ℕ) {t : RunMap} → maps m ≡ Some t → MapsStandFor env l stored maps → MapsStandFor env l stored (set_at maps m (Some t))
 maps_again {env} {l} {stored} {maps} m {t} is has = record {
   count = has.count;
@@ -91,7 +91,7 @@ maps_again {env} {l} {stored} {maps} m {t} is has = record {
   laid = has.laid;
 }
 
--- one map is another
+-- one map is replaced
 module _ {env : Environment} {l : Layout} {start : ℕ} {memory : List ℕ} {old new : LiveMaps} {maps : ℕ → Option RunMap} (i m : ℕ) {t : RunMap} (has : MapsStandFor env l (stored_maps start memory old) maps) (named : slice_get env.descriptors i ≡ Some m)
     (rest : OnlyKeysChange (slice_index env.bind i) old new) (own : HasMap l (stored_maps start memory new) (slice_index env.bind i) m t) where
   pub map_replaced : MapsStandFor env l (stored_maps start memory new) (set_at maps m (Some t))
@@ -110,14 +110,14 @@ module _ {env : Environment} {l : Layout} {start : ℕ} {memory : List ℕ} {old
 
 -- ---- a call that changes one map of the run
 
--- the maps that the run doesn't name are as they were
+-- the maps that the run does not name are not changed
 pub others_moved : (bind : List ℕ) (start : ℕ) (old memory : List ℕ) (tenant new : LiveMaps) (i : ℕ) → i < length bind → ((other : ℕ) → other ≢ slice_index bind i → live_at new other ≡ live_at tenant other) → KeepsUnboundValues bind old (stored_maps start memory tenant) → KeepsUnboundValues bind old (stored_maps start memory new)
 others_moved bind start old memory tenant new i within others has key p away =
     subst (λ (o : Option LiveMap). IsSome o → p < (live_or o).places.shape.max_entries → bytes_at memory (start + offset (live_or o) p) (live_or o).places.shape.value_size ≡ bytes_at old (start + offset (live_or o) p) (live_or o).places.shape.value_size)
     (sym (others key (λ same. away i within (sym same))))
     (λ live lt. has key p away live lt)
 
--- words and bytes stand for a state with other maps, where the call writes no value
+-- words and bytes represent a state with other maps, if the call writes no value
 pub maps_stand : {env : Environment} {l : Layout} {flat : FlatState} {s : RunState} → Simulates env l flat s → (i m : ℕ) → slice_get env.descriptors i ≡ Some m → (new : LiveMaps) → OnlyKeysChange (slice_index env.bind i) flat.maps new → (maps : ℕ → Option RunMap) (refused : Bool)
     → MapsStandFor env l (stored_maps (part_start env.memory env.tenant) flat.memory.bytes new) maps → new.refused ≡ (env.maps.refused || refused) → Simulates env l (with_held flat flat.memory new) (record s { maps = maps; refused = refused })
 maps_stand {env} {flat = flat} stands i m named new rest maps refused stand flag = record {

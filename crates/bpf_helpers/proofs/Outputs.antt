@@ -1,4 +1,4 @@
--- What is written through a pointer leaves words and bytes that stand for the state after it.
+-- After a write through a pointer the words and bytes represent the state after it.
 use Rattle.std.proofs.Common.{◌≡◌, ◌≢◌, ◌⊎◌, inl, inr, ℕ, ◌+◌, ◌*◌, ◌<◌, ◌≤◌, ◌==◌, leb, ℤ, pos, negsuc, ◌+ℤ◌, List, length, drop, slice_get, Option, Some, None, refl, sym, ap, subst, ◌∙◌, ⊎_elim, arith}
 use Rattle.std.specs.Prelude.{slice_index}
 use Rattle.std.specs.Option.{IsSome}
@@ -29,7 +29,7 @@ use Rattle.bpf_maps.specs.LiveLaws.{laid_inside}
 use Rattle.bpf_helpers.proofs.Inputs.{part_place_is, start_same, memory_long}
 use Rattle.bpf_helpers.specs.States.{Environment, FlatState, with_memory}
 
--- ---- what is apart from what is written stays
+-- ---- bytes outside the write are not changed
 
 module _ (env : Environment) (l : Layout) (memory new : List ℕ) (from : ℕ) (fits : from + length new ≤ length memory) where
   abbrev IsApart : ℕ → ℕ → Type 0
@@ -63,7 +63,7 @@ module _ (env : Environment) (l : Layout) (memory new : List ℕ) (from : ℕ) (
         bytes = bytes_stay memory new from (start + offset_at tenant key place) (shape_at tenant key).value_size fits away ∙ has.bytes;
       }
 
--- ---- the values of maps lie apart
+-- ---- the values of maps are disjoint
 
 module _ (tenant : LiveMaps) (laid : IsLaid tenant) where
   pub laid_apart : (k p j q : ℕ) → IsSome (live_at tenant k) → IsSome (live_at tenant j) → p < (shape_at tenant k).max_entries → q < (shape_at tenant j).max_entries → (k ≡ j → p ≢ q)
@@ -79,7 +79,7 @@ module _ (tenant : LiveMaps) (laid : IsLaid tenant) where
 -- ---- maps
 
 module _ (env : Environment) (l : Layout) (start : ℕ) (memory new : List ℕ) (tenant : LiveMaps) (maps : ℕ → Option RunMap) (has : MapsStandFor env l (stored_maps start memory tenant) maps) (long : start + PART ≤ length memory) where
-  -- what is written lies in the front of the part
+  -- the bytes are written in the stack, before all values
   maps_behind : (q : ℕ) → q + length new ≤ 512 → MapsStandFor env l (stored_maps start (written_at memory (start + q) new) tenant) maps
   maps_behind q low = record { count = has.count; each = each; listed = has.listed; keys = has.keys; names = has.names; laid = has.laid }
     where
@@ -95,7 +95,7 @@ module _ (env : Environment) (l : Layout) (start : ℕ) (memory new : List ℕ) 
       each : (i m : ℕ) → slice_get env.descriptors i ≡ Some m → (t : RunMap) × (maps m ≡ Some t) × HasMap l (stored_maps start (written_at memory (start + q) new) tenant) (slice_index env.bind i) m t
       each i m e = let g = has.each i m e in (g.0, g.1, one (slice_index env.bind i) m g.0 g.2)
 
-  -- it lies in an object
+  -- the bytes are written in an object
   module _ (m number : ℕ) (t : RunMap) (is : maps m ≡ Some t) (i : ℕ) (at : slice_get env.descriptors i ≡ Some m) (h : HasMap l (stored_maps start memory tenant) (slice_index env.bind i) m t) (lt : number < t.count) (y : ℕ) (room : y + length new ≤ (shape_at tenant (slice_index env.bind i)).value_size) where
     abbrev key : ℕ
     key = slice_index env.bind i
@@ -127,7 +127,7 @@ module _ (env : Environment) (l : Layout) (start : ℕ) (memory new : List ℕ) 
           bytes = ap (λ (a : ℕ). bytes_at (written_at memory a new) (start + off) size) at ∙ over_within memory new (start + off) size y (omega arith) room ∙ ap (λ (v : List ℕ). written_at v y new) o.bytes;
         }
 
-    -- another place
+    -- the value at another place is not changed
     other_after : (other n k : ℕ) (value : List ℕ) (p : ℕ) → IsSome (live_at tenant other) → (other ≡ key → p ≢ h.place number) → HasObject (stored_maps start memory tenant) other p (l.object_at n k) value → HasObject (stored_maps start after tenant) other p (l.object_at n k) value
     other_after other n k value p live differ o =
         let q = laid_inside tenant has.laid other p live o.within in
@@ -169,7 +169,7 @@ module _ (bind : List ℕ) (start : ℕ) (old memory new : List ℕ) (tenant : L
       let within = is.within in let behind = is.behind in
       bytes_stay memory new (start + q) (start + offset_at tenant key p) (shape_at tenant key).value_size (omega arith) (inr (omega arith)) ∙ has key p away live lt
 
-  -- a place of a map that it names is written
+  -- the bytes are written in the value of a map that the run names
   pub others_over : (i at y : ℕ) → i < length bind → IsSome (live_at tenant (slice_index bind i)) → at < (shape_at tenant (slice_index bind i)).max_entries → y + length new ≤ (shape_at tenant (slice_index bind i)).value_size
       → KeepsUnboundValues bind old (stored_maps start (written_at memory (start + (offset_at tenant (slice_index bind i) at + y)) new) tenant)
   others_over i at y within live lt room key p away there few =
@@ -200,7 +200,7 @@ module _ (writes : WritesStayInside) (env : Environment) (l : Layout) (flat : Fl
         others = λ u differ. writes flat.memory env.tenant u (part_start env.memory env.tenant + q) new is (omega arith) (omega arith) differ ∙ stands.changed.others u differ;
       }
 
-  -- bytes are written in the stack
+  -- bytes are written to the stack
   pub stack_stands : (q : ℕ) (new : List ℕ) (cells : ℕ → Cell) → q + length new ≤ 512 → HasStack env l (written_at flat.memory.bytes (part_start env.memory env.tenant + q) new) (part_start env.memory env.tenant) cells
       → Simulates env l (with_memory flat (with_bytes flat.memory (part_start env.memory env.tenant + q) new)) (with_cells s cells)
   stack_stands q new cells low stack =
@@ -221,7 +221,7 @@ module _ (writes : WritesStayInside) (env : Environment) (l : Layout) (flat : Fl
         flag = stands.flag;
       }
 
-  -- the place of what is written, and what stands then
+  -- the place of the write, and the simulation after it
   Written : ℕ → List ℕ → RunState → Type 0
   Written w bs u = (q : ℕ) × (place_named flat.memory env.tenant (length bs) w ≡ Some q) × Simulates env l (with_memory flat (with_bytes flat.memory (part_start flat.memory env.tenant + q) bs)) u
 

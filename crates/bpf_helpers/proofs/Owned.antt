@@ -1,4 +1,4 @@
--- How often a place is in use.
+-- The number of uses of a place.
 use Rattle.std.proofs.Common.{◌≡◌, ℕ, ◌+◌, nat_eq, if◌then◌else◌, List, [], ◌∷◌, eq-eqb, refl, ap, ◌∙◌, arith}
 use Rattle.std.specs.Map.{values_of}
 use Rattle.std.proofs.lemmas.Bool.{cond-true}

@@ -23,7 +23,7 @@ lent_written law m t at n part new written is same count parts lt room =
     ∙ ap (λ (x : List ℕ). with_part m t (written_at x at new)) is
     ∙ law.memory m t at new (parts, lt) (omega (arith, count))
 
--- the same, by what the part is then
+-- the same for a part that was given by its bytes
 pub lent_over : WritesAreInParts → (m : Memory) (t at : ℕ) (part new : List ℕ) → part ≡ part_bytes m t → size_of m ≡ m.parts * m.part → t < m.parts → at + length new ≤ m.part
     → with_part m t (written_at part at new) ≡ with_bytes m (part_start m t + at) new
 lent_over law m t at part new is parts lt room = ap (λ (x : List ℕ). with_part m t (written_at x at new)) is ∙ law.memory m t at new (parts, lt) room

@@ -1,4 +1,4 @@
--- How a run begins and ends on words, bytes and live maps.
+-- Start and end of a run on words, bytes and live maps.
 use Rattle.std.proofs.Common.{◌≡◌, ℕ, zero, suc, ◌+◌, ◌*◌, ◌<◌, ◌≤◌, ◌==◌, eqb, pos, Bool, true, false, cond, if◌then◌else◌, List, [], ◌∷◌, length, slice_get, Option, Some, None, option_map, refl, sym, ap, subst, ◌∙◌, arith}
 use Rattle.std.specs.Prelude.{slice_index}
 use Rattle.std.specs.Option.{IsSome}
@@ -29,9 +29,9 @@ use Rattle.bpf_helpers.proofs.Ends.{maps_begin, maps_end}
 use Rattle.bpf_helpers.proofs.Flags.{or_none}
 use Rattle.bpf_helpers.specs.States.{Environment, FlatState}
 
--- ---- where a descriptor stands
+-- ---- the position of a descriptor
 
--- its first place in a list
+-- the first position of a descriptor in a list
 place_in : List ℕ → ℕ → Option ℕ
 place_in [] m = None
 place_in (x ∷ xs) m = if x == m then Some 0 else option_map suc (place_in xs m)
@@ -73,7 +73,7 @@ module _ (old : Memory) (t : ℕ) (room : IsRoom old t) (memory : Memory) (size 
 
 module _ (env : Environment) (memory : Memory) (maps : MapsByDescriptor) (words : List ℕ) (room : IsRoom env.memory env.tenant) (context : HasContext env.memory env.tenant words memory) (ready : AreReady env)
     (given : (i m : ℕ) → slice_get env.descriptors i ≡ Some m → maps m ≡ Some (map_in (part_bytes env.memory env.tenant) env.maps (slice_index env.bind i))) where
-  -- the objects of a map are those of its keys, in order
+  -- the number of objects of a map is the number of its keys
   count_at : Option ℕ → ℕ
   count_at None = 0
   count_at (Some i) = length (places_at env.maps (slice_index env.bind i)).entries
@@ -89,7 +89,7 @@ module _ (env : Environment) (memory : Memory) (maps : MapsByDescriptor) (words 
     counts = λ m. count_at (place_in env.descriptors m);
   }
 
-  -- a value lies behind the context, and stays
+  -- a value lies after the context, and is not changed
   value_stays : (k p : ℕ) → IsSome (live_at env.maps k) → p < (shape_at env.maps k).max_entries
       → bytes_at memory.bytes (part_start env.memory env.tenant + offset_at env.maps k p) (shape_at env.maps k).value_size ≡ bytes_at env.memory.bytes (part_start env.memory env.tenant + offset_at env.maps k p) (shape_at env.maps k).value_size
   value_stays k p live lt =
@@ -108,7 +108,7 @@ module _ (env : Environment) (memory : Memory) (maps : MapsByDescriptor) (words 
   index_within : (i m : ℕ) → slice_get env.descriptors i ≡ Some m → i < length env.bind
   index_within i m e = let fits = slice_get_within env.descriptors i m e in let count = ready.count in omega arith
 
-  -- the place of a descriptor is the one that it has
+  -- a descriptor in the list has its position as its first position
   place_is : (i m : ℕ) → slice_get env.descriptors i ≡ Some m → place_in env.descriptors m ≡ Some i
   place_is i m e =
       let r = has_place env.descriptors m i e in

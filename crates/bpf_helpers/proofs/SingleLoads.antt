@@ -1,4 +1,4 @@
--- What single loads give on words and bytes.
+-- Results of single loads on words and bytes.
 use Rattle.std.proofs.Common.{◌≡◌, ℕ, ◌+◌, ◌*◌, ◌/◌, ◌%◌, ◌<◌, ◌≤◌, ◌^◌, ℤ, pos, ◌+ℤ◌, Bool, false, List, Option, Some, None, option_map, refl, sym, ap, subst, ◌∙◌, arith}
 use Rattle.std.proofs.lemmas.Option.{none-some, same_Some, slice_get_within, get_or_from_slice_get}
 use Rattle.words.specs.declared.stack.AccessSize.{AccessSize}
@@ -29,7 +29,7 @@ mapped_some f None y e = absurd (none-some y e)
 mapped_some f (Some x) y e = (x, refl, same_Some (f x) y e)
 
 module _ (env : Environment) (l : Layout) (flat : FlatState) (s : RunState) (room : IsRoom env.memory env.tenant) (stands : Simulates env l flat s) where
-  -- where a word stands for what is loaded
+  -- the bytes are in the part, and the word that is loaded represents the value
   Loads : AccessSize → Bool → ℕ → Tagged → Type 0
   Loads size signed from v = (place : ℕ) × (place_of (size_of flat.memory) (bytes_of size) from ≡ Some place) × IsInside env.memory env.tenant (from, bytes_of size) × IsWord env l v (widened size signed (number_of (bytes_at flat.memory.bytes place (bytes_of size))))
 

@@ -1,4 +1,4 @@
--- What single stores leave on words and bytes.
+-- Words and bytes after single stores.
 use Rattle.std.proofs.Common.{◌≡◌, ◌⊎◌, inl, inr, ℕ, ◌+◌, ◌*◌, ◌/◌, ◌%◌, ◌<◌, ◌≤◌, eqb, ℤ, pos, ◌+ℤ◌, List, length, Some, refl, sym, ap, subst, ⊎_elim, arith}
 use Rattle.std.proofs.lemmas.Bool.{cond_both, eqb-true, eqb-false, cases_lt}
 use Rattle.std.proofs.lemmas.Option.{none-some, same_Some}
@@ -27,13 +27,13 @@ use Rattle.bpf_helpers.proofs.Addresses.{in_front, part_place_told, is_at, in_st
 use Rattle.bpf_helpers.specs.States.{Environment, FlatState, with_memory}
 
 module _ (writes : WritesStayInside) (env : Environment) (l : Layout) (flat : FlatState) (s : RunState) (room : IsRoom env.memory env.tenant) (stands : Simulates env l flat s) where
-  -- where bytes are stored, and what stands then
+  -- the bytes are in the part, and the memory after the store represents the state
   Stores : ℕ → List ℕ → ℕ → RunState → Type 0
   Stores n new from u = (place : ℕ) × (place_of (size_of flat.memory) n from ≡ Some place) × IsInside env.memory env.tenant (from, n) × Simulates env l (with_memory flat (with_bytes flat.memory place new)) u
 
   -- ---- the stack
 
-  -- the slot that is written, and the others
+  -- the slot that is written, and the other slots
   cells_after : (size : AccessSize) (q w : ℕ) (v : Tagged) (d : Cell) → q + bytes_of size ≤ 512 → q % bytes_of size ≡ 0 → IsWord env l v w → PointerFits v w → write_cell (s.cells (q / 8)) (q % 8) size v ≡ Some d → (k : ℕ) → k < 64 → HasCell env l (written_at flat.memory.bytes (part_start env.memory env.tenant + q) (low_bytes (bytes_of size) w)) (part_start env.memory env.tenant + 8 * k) (set_at s.cells (q / 8) d k)
   cells_after size q w v d within even h small e k lt =
       let start = part_start env.memory env.tenant in

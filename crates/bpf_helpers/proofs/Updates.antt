@@ -1,4 +1,4 @@
--- After an update words, bytes and live maps stand for the state after the machine's update.
+-- After an update the words, bytes and live maps represent the state after the machine's update.
 use Rattle.std.proofs.Common.{◌≡◌, ◌≢◌, inl, inr, ℕ, ◌+◌, ◌*◌, ◌<◌, ◌≤◌, ◌==◌, ◌||◌, leb, pos, Bool, true, false, List, ◌++◌, length, drop, slice_get, Some, None, Result, Ok, Err, refl, sym, ap, subst, ◌∙◌, ⊎_elim, arith}
 use Rattle.std.specs.Prelude.{slice_index}
 use Rattle.std.specs.Option.{IsSome}
@@ -53,7 +53,7 @@ module _ (below : LawsBelow) (env : Environment) (l : Layout) (flat : FlatState)
   index_within : i < length env.bind
   index_within = let count = stands.maps.count in let fits = slice_get_within env.descriptors i m named in omega arith
 
-  -- what is to be shown of a verdict
+  -- the simulation after an update with this verdict
   record Done (v : Verdict ℕ) : Type 0 where
     refused : Bool
     only : refused ≡ true → v ≡ New
@@ -70,12 +70,12 @@ module _ (below : LawsBelow) (env : Environment) (l : Layout) (flat : FlatState)
   value_size_is : (shape_at flat.maps k).value_size ≡ length value
   value_size_is = ap (λ (x : Table ℕ). x.shape.value_size) has.table ∙ sym size
 
-  -- whether memory was refused to the live maps, where it was, or was not, to this update
+  -- the flag of the live maps, by whether this update was refused memory
   flag_after : (answer : Result ℕ MapFault) (refused : Bool) → u.claim ≡ answer → is_memory answer ≡ refused → reply.maps.refused ≡ (env.maps.refused || (s.refused || refused))
   flag_after answer refused told memory_is =
       u.flag ∙ ap (λ a. flat.maps.refused || is_memory a) told ∙ ap (λ b. flat.maps.refused || b) memory_is ∙ ap (λ b. b || refused) stands.flag ∙ or_once_more env.maps.refused s.refused refused
 
-  -- nothing has changed but the flag
+  -- only the flag has changed
   unchanged : (x : RunState) (refused : Bool) → x ≡ with_refusal (with_map s m map) refused → reply.maps.refused ≡ (env.maps.refused || (s.refused || refused)) → places_at reply.maps k ≡ places_at flat.maps k → reply.memory ≡ flat.memory → Simulates env l (with_held flat reply.memory reply.maps) x
   unchanged x refused e flag places same =
       subst (λ (y : RunState). Simulates env l (with_held flat reply.memory reply.maps) y) (sym e)
@@ -108,7 +108,7 @@ module _ (below : LawsBelow) (env : Environment) (l : Layout) (flat : FlatState)
 
   -- ---- a present key
 
-  -- the value is written at the place that its address names
+  -- the value is written at the place of its address
   at_place : (off w : ℕ) (x : RunState) → place_named flat.memory env.tenant (length value) w ≡ Some off → (q : ℕ) × (place_named flat.memory env.tenant (length value) w ≡ Some q) × Simulates env l (with_memory flat (with_bytes flat.memory (part_start flat.memory env.tenant + q) value)) x
       → Simulates env l (with_memory flat (with_bytes flat.memory (part_start flat.memory env.tenant + off) value)) x
   at_place off w x named written = subst (λ (q : ℕ). Simulates env l (with_memory flat (with_bytes flat.memory (part_start flat.memory env.tenant + q) value)) x) (same_Some written.0 off (sym written.1 ∙ named)) written.2
@@ -175,7 +175,7 @@ module _ (below : LawsBelow) (env : Environment) (l : Layout) (flat : FlatState)
     room_there : begin + off + length value ≤ length flat.memory.bytes
     room_there = let a = within in let b = long_memory in omega arith
 
-    -- another place of any map
+    -- the value at another place of any map is not changed
     place_kept : (j q : ℕ) → IsSome (live_at flat.maps j) → q < (shape_at flat.maps j).max_entries → (j ≡ k → q ≢ p)
         → bytes_at bytes (begin + offset_at flat.maps j q) (shape_at flat.maps j).value_size ≡ bytes_at flat.memory.bytes (begin + offset_at flat.maps j q) (shape_at flat.maps j).value_size
     place_kept j q live lt differ =

@@ -1,4 +1,4 @@
--- What the verdict of an update tells, and that of a delete.
+-- Consequences of the verdicts on an update and on a deletion.
 use Rattle.std.proofs.Common.{◌≡◌, ℕ, ◌==◌, nat_le, false, if◌then◌else◌, List, Option, Some, None, Ok, Err, refl, ap, subst}
 use Rattle.std.proofs.lemmas.Bool.{cond_both}
 use Rattle.tagged_model.specs.declared.fault.MapFault.{MapFault}
@@ -8,7 +8,7 @@ use Rattle.tagged_model.specs.declared.shape.MapKind.TheVariants.{Hash, Array}
 use Rattle.tagged_model.specs.Table.{Table, removal_of, Verdict, Refused, Present, New, no_exist, exist, is_full, of_absent, of_found, look_up, verdict}
 use Rattle.bpf_maps.specs.Live.{is_memory}
 
--- a present key has its object, and no refusal is one of memory
+-- the verdict Present has the object of the key, and the verdict Refused is not for lack of memory
 abbrev Tells : Option ℕ → Verdict ℕ → Type 0
 Tells found (Refused fault) = is_memory (Err fault) ≡ false
 Tells found (Present number) = found ≡ Some number

@@ -58,7 +58,7 @@ module _ (l : Layout) (m a : ℕ) where
     same = λ k number lt. extended_same k number (λ e f. let same = ap l.counts e in omega arith);
   }
 
--- a map of which nothing is written, in a layout with more
+-- a map that is not written, in a layout with more objects
 pub map_extended : (l : Layout) (start : ℕ) (memory : List ℕ) (tenant : LiveMaps) (m a key n : ℕ) (u : RunMap) → n ≢ m → HasMap l (stored_maps start memory tenant) key n u → HasMap (extended l m a) (stored_maps start memory tenant) key n u
 map_extended l start memory tenant m a key n u differ h = record {
   live = h.live;

@@ -1,4 +1,4 @@
--- What words name, by what the code has found of it.
+-- The maps, keys and values that words name, from the results of the code.
 use Rattle.std.proofs.Common.{◌≡◌, ℕ, ◌+◌, ◌≤◌, List, slice_range, Option, Some, None, option_map, sym, ap, ◌∙◌}
 use Rattle.words.specs.Bytes.{bytes_at}
 use Rattle.words.specs.ByteLaws.{bytes_within, range_is_bytes}
@@ -39,7 +39,7 @@ module _ (site : CallSite) (map key : ℕ) where
     pub key_is : (bs : List ℕ) → key_input site k key ≡ Some bs → key_named site map key ≡ Some (record { map = k; key = bs })
     key_is bs e = by_map (Some bs) e
 
-    -- as the code has asked for its bytes
+    -- the size that the code has requested is the map's key size
     module _ {n : ℕ} (size : n ≡ (shape_at site.maps k).key_size) where
       pub no_key : None ≡ place_named site.memory site.tenant n key → key_named site map key ≡ None
       no_key e = by_map None (no_input site.memory site.tenant (shape_at site.maps k).key_size n key size e)

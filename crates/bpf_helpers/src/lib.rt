@@ -9,7 +9,7 @@
 //! # What is proved
 //!
 //! - A call simulates the call on tagged values, if its words simulate values for which that is defined. Memory is refused only
-//!   to an update that adds a key, and the flag of the live maps says so. All maps keep their areas and reference counts, those
+//!   to an update that adds a key, and this sets the flag of the live maps. All maps keep their areas and reference counts, those
 //!   that the run does not name their keys and values, and the other parts all bytes: `follows` of `call`.
 //! - If a word names no map of the run, or bytes that are not in the tenant's part, a look-up returns null, an update and a
 //!   delete EINVAL, a load of bytes EFAULT, and nothing changes: `unnamed` of `call`.

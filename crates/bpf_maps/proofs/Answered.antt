@@ -29,7 +29,7 @@ claims_new key old seen new p v room free h =
     subst (λ (t : PlaceTable). Claims (of_absent Hash (is_full (table_of t)) 0) key t (Ok p) new) v
     (subst (λ (b : Bool). Claims (of_absent Hash b 0) key old (Ok p) new) (sym room) (free, h))
 
--- ---- the place of a present key is below the most
+-- ---- the place of a present key is less than `max_entries`
 
 absent_not : (d : MapKind) (full : Bool) (flags k : ℕ) → of_absent d full flags ≡ Present k → ⊥
 absent_not Array full flags k q = cc
@@ -55,7 +55,7 @@ present_found t key flags k h = by (nat_le flags exist) h
     by true g = present_is t flags k (look_up (table_of t) key) g
     by false g = cc
 
--- a place in use is below the most
+-- a place in use is less than `max_entries`
 pub place_below : (t : PlaceTable) (key : List ℕ) (p : ℕ) → IsSound t → look_up (table_of t) key ≡ Some p → p < t.shape.max_entries
 place_below t key p h e = by (nat_lt p t.shape.max_entries) refl (h.once p)
   where

@@ -36,7 +36,7 @@ module _ (s : MapShape) (array : s.kind ≡ Array) where
       ∙ found_index 0 s.max_entries i (omega arith) small (omega arith)
       ∙ ap (λ (x : ℕ). if nat_lt i x then Some i else None) m
 
-  -- what follows an index that is in range
+  -- the key after an index that is in range
   next_new : (key : List ℕ) (i : ℕ) → index_key i ≡ key → i < s.max_entries → next_of (table_of (new_places s)) key ≡ (if nat_lt (i + 1) s.max_entries then Some (index_key (i + 1)) else None)
   next_new key i same below =
       let few = few_entries s in
@@ -44,7 +44,7 @@ module _ (s : MapShape) (array : s.kind ≡ Array) where
       ∙ ap (λ (k : List ℕ). key_after k (indexed (λ i. i) 0 s.max_entries)) (sym same)
       ∙ after_index s.max_entries i (omega arith) below
 
-  -- what follows a key that is not there
+  -- the key after an absent key
   next_other : (key : List ℕ) → look_up (table_of (new_places s)) key ≡ None → next_of (table_of (new_places s)) key ≡ (if nat_lt 0 s.max_entries then Some (index_key 0) else None)
   next_other key none = ap (key_after key) entries_are ∙ after_other s.max_entries key (ap (found key) (sym entries_are) ∙ none)
 

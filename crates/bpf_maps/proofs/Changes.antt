@@ -21,7 +21,7 @@ with_entry a key new refused = record a { entries = with_value a.entries key new
 pub told_of : {P : Type 0} (f : LiveMap → P) {o : Option LiveMap} {l : LiveMap} → o ≡ Some l → f (live_or o) ≡ f l
 told_of f is = ap (λ (x : Option LiveMap). f (live_or x)) is
 
--- what is left of a map after one hold less
+-- the map without its area after one hold is released; None if it was the last
 abbrev held_less : LiveMap → Bool → Option MapWithoutArea
 held_less l last = if last then None else Some (let h : MapWithoutArea = record { places = l.places; holds = l.holds - 1 } in h)
 
@@ -40,7 +40,7 @@ pub record IsUnder (a : Inside) (t : LiveMaps) (place map key : ℕ) (e : Entry)
 pub is_under : {a : Inside} {t : LiveMaps} {place map key : ℕ} {e : Entry} → as_live_maps a ≡ t → IsWellFormedMaps a → place ≡ map → get_or a.keys place None ≡ Some key → get a.entries key ≡ Some e → IsUnder a t place map key e
 is_under view whole same keyed here = record { view = view; whole = whole; same = same; keyed = keyed; here = here }
 
--- it has become another
+-- the entry is replaced by one with the same shape and area
 pub record IsChange (a : Inside) (t : LiveMaps) (place map key : ℕ) (old new : Entry) : Type 0 where
   pub under : IsUnder a t place map key old
   pub start : new.start ≡ old.start
@@ -110,7 +110,7 @@ module _ {a : Inside} {t : LiveMaps} {place map key : ℕ} {old new : Entry} (c 
   pub room_stays : areas (as_live_maps now) ≡ areas t
   room_stays = sym (whole_stays {refused = a.refused}).sum ∙ c.under.whole.sum ∙ ap areas c.under.view
 
-  -- a part of the map that stays
+  -- a property of the map that does not change
   pub part_stays : {P : Type 0} (f : LiveMap → P) → f (live_of new) ≡ f (live_of old) → f (live_or (live_at (as_live_maps now) map)) ≡ f (live_or (live_at t map))
   part_stays f same = told_of f live_new ∙ same ∙ sym (told_of f live_old)
 
@@ -144,6 +144,6 @@ module _ {a : Inside} {t : LiveMaps} {place map key : ℕ} {old new : Entry} (c 
 pub not_more : (t : LiveMaps) (key : ℕ) {l : LiveMap} → live_at t key ≡ Some l → l.holds ≤ 1 → 1 < holds_at t key → ⊥
 not_more t key here last more = let held = told_of (λ (x : LiveMap). x.holds) here in omega arith
 
--- a map that goes had one hold
+-- a map that is removed had at most one hold
 pub none_held : (t u : LiveMaps) (map : ℕ) {l : LiveMap} → live_at t map ≡ Some l → live_at u map ≡ None → l.holds ≤ 1 → held_at u map ≡ one_less (held_at t map)
 none_held t u map {l = l} at bt last = ap (option_map without_area) bt ∙ sym (less_than_held at (le-leb l.holds 1 last))

@@ -49,7 +49,7 @@ sum-without f sum key place (e ∷ es) h = by (is_key key e.0) h (sum-without f 
 pub in_use : (p : ℕ) (key : List ℕ) (es : List (List ℕ × ℕ)) → found key es ≡ Some p → 1 ≤ occurrences p (values_of es)
 in_use p key es h = let w = sum-without (occurrences p) (times-append p) key p es h in let one = times_self p in omega arith
 
--- the place of a key that goes is kept
+-- the place of a removed key is kept apart
 pub times-kept : (p : ℕ) (key : List ℕ) (place : ℕ) (es : List (List ℕ × ℕ)) (kept : List ℕ) → found key es ≡ Some place → occurrences p (values_of (without key es)) + occurrences p (kept ++ place ∷ []) ≡ occurrences p (values_of es) + occurrences p kept
 times-kept p key place es kept h = let w = sum-without (occurrences p) (times-append p) key place es h in let a = times-append p kept (place ∷ []) in omega arith
 
@@ -65,7 +65,7 @@ pub sized-with : (n : ℕ) (key : List ℕ) (p : ℕ) (es : List (List ℕ × �
 sized-with n key p [] e h = (e, tt)
 sized-with n key p (x ∷ es) e h = (h.0, sized-with n key p es e h.1)
 
--- a key that is not there is not taken out
+-- the removal of an absent key changes nothing
 pub without-absent : (key : List ℕ) (es : List (List ℕ × ℕ)) → found key es ≡ None → without key es ≡ es
 without-absent key [] h = refl
 without-absent key (e ∷ es) h = by (is_key key e.0) h (without-absent key es)

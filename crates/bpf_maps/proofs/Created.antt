@@ -48,7 +48,7 @@ full_fault t s full =
     (ap (λ (x : Bool). is_none (free_place t) || x) (lt-ltb LARGEST_SUM (areas t + area_by s) l) ∙ or_true (is_none (free_place t))))
     full
 
--- there is none
+-- there is no room
 module _ {a : Inside} {t : LiveMaps} (shape : MapShape) {size : ℕ} (view : as_live_maps a ≡ t) (h : IsWellFormedMaps a) (size_is : size ≡ area_by shape) where
   pub creates_full : (position is_none a.keys ≡ None) ⊎ (LARGEST_SUM < a.bytes + size) → Creates (create_fault t shape) t shape (Err NoSpace) t
   creates_full full =
@@ -123,7 +123,7 @@ module _ {a : Inside} {t : LiveMaps} {shape : MapShape} {size place : ℕ} (r : 
       subst (λ (o : Option MapFault). Creates o t shape (Err Memory) (as_live_maps (record a { refused = true }))) (sym no_fault_here)
       (ap (λ (u : LiveMaps). let v : LiveMaps = record { maps = u.maps; refused = true } in v) view)
 
-  -- there are fewer entries than fit
+  -- there is room for one more entry in the slab
   pub has_room : slab_len a.entries + 1 ≤ a.entries.capacity
   has_room = let few = fewer_keys a.keys place front.0 free in let all = h.keys.all in let long = h.keys.long in let room = h.room in omega arith
 
@@ -184,7 +184,7 @@ module _ {a : Inside} {t : LiveMaps} {shape : MapShape} {size place : ℕ} (r : 
     pub laid_one : IsLaid (as_live_maps after)
     laid_one = laid whole_one
 
-    -- it is after the others
+    -- its area is after the others
     pub last_one : start_at (as_live_maps after) place ≡ STACK_AND_CONTEXT + areas t
     last_one = told_of (λ l. l.start) live_new ∙ d.start ∙ ap (λ (n : ℕ). STACK_AND_CONTEXT + n) (h.sum ∙ ap areas view)
 

@@ -30,11 +30,11 @@ given_of : (n : ℕ) (given : Option KeyRef) → HasSize n (option_map key_bytes
 given_of n None h = tt
 given_of n (Some key) h = h
 
--- a key that is given is one of the keys
+-- the key that follows has the size of all keys
 pub given_sized : (n : ℕ) (key : List ℕ) (es : List (List ℕ × ℕ)) (given : Option KeyRef) → IsSized n es → option_map key_bytes given ≡ key_after key es → IfSome given (λ key. length (key_bytes key) ≡ n)
 given_sized n key es given sized e = given_of n given (subst (HasSize n) (sym e) (after_sized n key es sized))
 
--- and one that has the size of keys that fit fits too
+-- a key of this size fits in a room of at least this size
 pub given_short : (n room : ℕ) (given : Option KeyRef) → n ≤ room → IfSome given (λ key. length (key_bytes key) ≡ n) → IfSome given (λ key. length (key_bytes key) ≤ room)
 given_short n room None fits sized = tt
 given_short n room (Some key) fits sized = omega arith

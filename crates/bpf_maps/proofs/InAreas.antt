@@ -1,4 +1,4 @@
--- Where values lie in their areas, and the areas in a part.
+-- The positions of values in areas, and of the areas in a part.
 use Rattle.std.proofs.Common.{◌≡◌, ◌≢◌, ℕ, ◌+◌, ◌-◌, ◌*◌, ◌/◌, ◌%◌, ◌<◌, ◌≤◌, ◌⊎◌, Bool, if◌then◌else◌, ap, ◌∙◌, arith, ⊎_elim, inl, inr}
 use Rattle.std.proofs.lemmas.Bool.{le-leb, lt-leb, cases_lt}
 use Rattle.tagged_model.specs.Shape.{area}
@@ -30,7 +30,7 @@ module _ (value max stride : ℕ) (round : stride ≡ (value + 7) / 8 * 8) where
       let e : max * stride ≡ area value max = ap (λ (s : ℕ). max * s) round in
       omega arith
 
-  -- and so in the part
+  -- the value lies in the part
   pub place_inside : (start bytes p : ℕ) → STACK_AND_CONTEXT ≤ start → start % 8 ≡ 0 → start + area value max ≤ STACK_AND_CONTEXT + bytes → bytes ≤ LARGEST_SUM → p < max → LiesInPart (start + p * stride) value
   place_inside start bytes p behind aligned within few l = record {
     behind = omega arith;
@@ -49,9 +49,9 @@ apart_places value stride start p q round ne =
     (λ (l : q ≤ p). let b = value_before value 0 stride round q p (omega arith) in inr (omega arith))
     (cases_lt p q)
 
--- ---- an area is gone
+-- ---- an area is removed
 
--- the start of another one after that
+-- the start of a later area after that
 module _ (end size start : ℕ) where
   pub lower : end ≤ start → start_without end size start ≡ start - size
   lower l = ap (λ (b : Bool). if b then start - size else start) (le-leb end start l)
@@ -59,8 +59,8 @@ module _ (end size start : ℕ) where
   pub same : start < end → start_without end size start ≡ start
   same l = ap (λ (b : Bool). if b then start - size else start) (lt-leb end start l)
 
--- an area of n bytes at s, apart from the area of `size` bytes at `gone` that is freed: it lies before that one and stays, or after
--- it and moves down
+-- an area of n bytes at s, apart from the area of `size` bytes at `gone` that is freed: it lies before that one and is not moved, or
+-- it lies after it and is moved down
 module _ (gone size s n : ℕ) (apart : (gone + size ≤ s) ⊎ (s + n ≤ gone)) where
   pub before_or_behind : ((s + n ≤ gone) × (start_without (gone + size) size s ≡ s)) ⊎ ((gone + size ≤ s) × (start_without (gone + size) size s ≡ s - size))
   before_or_behind =

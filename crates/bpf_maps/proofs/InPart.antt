@@ -77,7 +77,7 @@ module _ (part : List ℕ) (t : LiveMaps) (k p : ℕ) (bytes : List ℕ) (is : I
 pub value_written : (part : List ℕ) (t : LiveMaps) (k p : ℕ) (bytes : List ℕ) → IsValueAt part t k p bytes → ValueIsWritten part t k p bytes
 value_written = value_is_written
 
--- ---- a map changes, and its area stays
+-- ---- the keys of a map change, and its area does not
 
 module _ (along : CallsRefineValues ℕ (List ℕ)) (tell : MapVerdictsMatchLookUps ℕ) (part : List ℕ) (old new : LiveMaps) (k : ℕ) (areas : SameAreas old new) (live : IsSome (live_at new k)) where
   abbrev value : ℕ → List ℕ
@@ -114,7 +114,7 @@ module _ (along : CallsRefineValues ℕ (List ℕ)) (tell : MapVerdictsMatchLook
         (value_is_written part new k p bytes is).key key (ap (λ (t : PlaceTable). map.look_up (table_of t) key) places ∙ tell.present (table_of (places_at old k)) key flags p v)
         ∙ ap (λ (t : map.Table (List ℕ)). map.with_object t key bytes) (same places)
 
-    -- no value that was there lies at a free place
+    -- no value of a key is at a free place
     others_stay : IsFree (places_at old k) p → places_at new k ≡ with_place (places_at old k) key p → (q : ℕ) → 1 ≤ occurrences q (values_of (places_at old k).entries) → value_in after new k q ≡ value q
     others_stay free places q used =
         elsewhere part new k p bytes is k q live (used_in_entries (places_at new k) q (is.sound k live) still) (λ _. differ) ∙ value_stays old new k areas live part q

@@ -34,7 +34,7 @@ same_key i j hi hj = by (nat_eq i j) refl (is_key (index_key i) (index_key j)) r
         let numbers : i ≡ j = sym (number_of_key i hi) ∙ ap number_of keys ∙ number_of_key j hj in
         sym (eq-eqb i j numbers) ∙ e
 
--- ---- what is found
+-- ---- look-ups of keys and of indices
 
 behind_first : (a b : ℕ) → b ≤ a → nat_eq a b ≡ false → b + 1 ≤ a
 behind_first a b h f = grind (arith, nat_tests)
@@ -93,7 +93,7 @@ behind_index first (suc n) k h l u =
         let m : first + 1 + n ≡ first + suc n = omega arith in
         r (behind_first k first l e) ∙ ap (λ (x : ℕ). if nat_lt (k + 1) x then Some (index_key (k + 1)) else None) m
 
--- after an index that is there
+-- the key after a present index
 pub after_index : (n k : ℕ) → n ≤ 2 ^ 32 → k < n → key_after (index_key k) (indexed itself 0 n) ≡ (if nat_lt (k + 1) n then Some (index_key (k + 1)) else None)
 after_index n k h l =
     let t : nat_lt k (0 + n) ≡ true = lt-ltb k (0 + n) (omega arith) in
@@ -103,7 +103,7 @@ after_index n k h l =
     ∙ behind_index 0 n k (omega arith) (omega arith) (omega arith)
     ∙ ap (λ (x : ℕ). if nat_lt (k + 1) x then Some (index_key (k + 1)) else None) m
 
--- after a key that is not there
+-- the key after an absent key
 pub after_other : (n : ℕ) (key : List ℕ) → found key (indexed itself 0 n) ≡ None → key_after key (indexed itself 0 n) ≡ (if nat_lt 0 n then Some (index_key 0) else None)
 after_other n key h =
     ap (λ (o : Option ℕ). if is_some o then key_behind key (indexed itself 0 n) else first_key (indexed itself 0 n)) h ∙ first_index 0 n

@@ -1,4 +1,4 @@
--- The places stay whole: each is in use, or kept apart, or free.
+-- The invariant of a hash map after a change: each place is in use, kept apart or free.
 use Rattle.std.proofs.Common.{◌≡◌, ℕ, suc, ◌+◌, ◌-◌, ◌<◌, ◌==◌, Bool, true, false, List, [], ◌∷◌, ◌++◌, length, Option, Some, slice_get, get_or, option_to_list, refl, sym, ap, subst, ◌∙◌, nat_lt, if◌then◌else◌, arith, vec_capacity, length-append}
 use Rattle.std.proofs.lemmas.Bool.{ltb-true}
 use Rattle.std.proofs.lemmas.List.{length-map}
@@ -28,11 +28,11 @@ sound {a} h = record {
 abbrev sum_of : (List ℕ → ℕ) → Inside → ℕ
 sum_of f a = f (values_of (entries_of a.index)) + f a.kept.items + f a.free.items
 
--- all sums are the same: that of how often a place is there, and that of how many there are
+-- the lists of places have the same sums; examples are how often a place occurs, and the number of places
 abbrev SamePlaces : Inside → Inside → Type 0
 SamePlaces a b = (f : List ℕ → ℕ) → IsSum f → sum_of f b ≡ sum_of f a
 
--- then the map stays whole, with the same room and keys of its size
+-- the invariant holds after a change that keeps these sums, the capacities and the size of keys
 kept_whole : {a : Inside} (b : Inside) → IsWellFormedHash a → b.shape ≡ a.shape → SamePlaces a b → vec_capacity b.kept ≡ vec_capacity a.kept → vec_capacity b.free ≡ vec_capacity a.free → TakesKeys b.index a.shape.key_size → bound_of b.index ≡ bound_of a.index → IsSized a.shape.key_size (entries_of b.index) → IsWellFormedHash b
 kept_whole {a} b h shape places kept free takes bound sized =
     let most : b.shape.max_entries ≡ a.shape.max_entries = ap (λ (s : MapShape). s.max_entries) shape in
@@ -104,7 +104,7 @@ module _ {a : Inside} (h : IsWellFormedHash a) (place : ℕ) (rest : List ℕ) (
       unequal : (n m : ℕ) → n < m → (n == m) ≡ false
       unequal n m l = grind (arith, nat_tests)
 
-  -- a new key gets it
+  -- a new key gets the last free place
   pub kept_by_add : (b : Inside) (key : List ℕ) → length key ≡ a.shape.key_size → b.shape ≡ a.shape → entries_of b.index ≡ with_key key place (entries_of a.index) → b.kept ≡ a.kept → b.free.items ≡ rest → vec_capacity b.free ≡ vec_capacity a.free → TakesKeys b.index a.shape.key_size → bound_of b.index ≡ bound_of a.index → IsWellFormedHash b
   kept_by_add b key size shape index kept free cap takes bound =
       kept_whole b h shape
@@ -130,7 +130,7 @@ kept_by_free {a} b place h shape index kept free ck cf =
     ck cf (subst (λ (i : KeyIndex). TakesKeys i a.shape.key_size) (sym index) h.takes) (ap bound_of index)
     (subst (λ (i : KeyIndex). IsSized a.shape.key_size (entries_of i)) (sym index) h.sized)
 
--- what `pop` takes is what `last` showed
+-- the element that `pop` removes is the one that `last` returned
 pub last_is : (xs ys : List ℕ) (r : Option ℕ) (n place : ℕ) → n ≡ length xs → slice_get xs (length xs - 1) ≡ Some place → xs ≡ ys ++ option_to_list r → ((d : ℕ) → 0 < n → r ≡ Some (get_or xs (n - 1) d)) → xs ≡ ys ++ place ∷ []
 last_is [] ys r n place l h e v = absurd (none-some place h)
 last_is (x ∷ xs) ys r n place l h e v =
@@ -139,7 +139,7 @@ last_is (x ∷ xs) ys r n place l h e v =
     let s : get_or (x ∷ xs) (n - 1) 0 ≡ place = ap (λ (i : ℕ). get_or (x ∷ xs) i 0) k ∙ get_or_from_slice_get (x ∷ xs) (length (x ∷ xs) - 1) place 0 h in
     e ∙ ap (λ (o : Option ℕ). ys ++ option_to_list o) (q ∙ ap (λ (z : ℕ). let o : Option ℕ = Some z in o) s)
 
--- the list before what `last` shows
+-- the list before its last element
 pub ends_with : (xs : List ℕ) (place : ℕ) → slice_get xs (length xs - 1) ≡ Some place → (rest : List ℕ) × (xs ≡ rest ++ place ∷ [])
 ends_with [] place h = absurd (none-some place h)
 ends_with (x ∷ []) place h = ([], ap (λ (y : ℕ). y ∷ []) (same_Some x place h))

@@ -135,7 +135,7 @@ live_with_key a {place = place} {map = map} view same is =
     ∙ ap (λ (p : ℕ). is_some (get_or (live_maps_of (entries_of a)) p None)) same
     ∙ ap (λ (u : LiveMaps). is_some (live_at u map)) view
 
--- ---- the entry under one key is another, and those at the other places stay
+-- ---- the entry under one key is replaced, and the entries at other places are not changed
 
 module _ (keys : List (Option ℕ)) (old new : Slab Entry) (is : AreKeys keys old) (p key : ℕ) (at : get_or keys p None ≡ Some key) (others : (j : ℕ) → j ≢ key → get new j ≡ get old j) where
   pub others_placed : (q : ℕ) → q ≢ p → get_or (placed keys new) q None ≡ get_or (placed keys old) q None

@@ -1,4 +1,4 @@
--- A map that goes.
+-- A map that is removed.
 use Rattle.std.proofs.Common.{◌≡◌, ◌≢◌, ℕ, ◌+◌, ◌-◌, ◌*◌, ◌<◌, ◌≤◌, List, ◌++◌, length, take, drop, Option, Some, None, is_some, option_map, refl, sym, ap, subst, ◌∙◌, arith, get_or, set, ⊎_elim, true≢false}
 use Rattle.std.proofs.lemmas.List.{drop-take, drop-drop, length-drop}
 use Rattle.std.proofs.Math.Seq.{length-take-le, take-take}
@@ -20,7 +20,7 @@ use Rattle.bpf_maps.proofs.InAreas.{value_ends, before_or_behind}
 use Rattle.bpf_maps.proofs.Written.{front_same, before_same, own}
 use Rattle.bpf_maps.proofs.Whole.{laid, sound_at, offset_of, offset_without, beside, whole_removed}
 
--- the entry that is taken out is the one that was there
+-- the entry that is removed is the one of the map
 pub record IsTaken (a : Inside) (t : LiveMaps) (place map key : ℕ) (old gone : Entry) : Type 0 where
   pub under : IsUnder a t place map key old
   pub value : get (with_value a.entries key old) key ≡ Some gone
@@ -32,14 +32,14 @@ pub record IsLeft (a : Inside) (key : ℕ) (old : Entry) (left : Slab Entry) : T
   pub len : slab_len left + 1 ≡ slab_len (with_value a.entries key old)
   pub capacity : left.capacity ≡ a.entries.capacity
 
--- and those after they have closed up, with these keys
+-- the entries after it are moved down, with these keys
 pub record IsClosed (keys : List (Option ℕ)) (end size : ℕ) (left entries : Slab Entry) (layouts : List MapLayout) : Type 0 where
   pub each : (p : ℕ) → get_or (placed keys entries) p None ≡ option_map (closed_up end size) (get_or (placed keys left) p None)
   pub are_keys : AreKeys keys entries
   pub capacity : entries.capacity ≡ left.capacity
   pub layouts_are : AreLaidOut (placed keys entries) layouts
 
--- the map goes: its entry is taken out, and the others close up by the size of its area
+-- the map is removed: its entry is taken out, and the later ones move down by the size of its area
 pub record Goes (a : Inside) (t : LiveMaps) (place map key size : ℕ) (old gone : Entry) (left entries : Slab Entry) (layouts : List MapLayout) : Type 0 where
   pub taken : IsTaken a t place map key old gone
   pub size_is : size ≡ area_of (live_of gone)
@@ -69,7 +69,7 @@ module _ {a : Inside} {t : LiveMaps} {place map key : ℕ} {old gone : Entry} (c
   was_there : get_or (entries_of a) place None ≡ Some gone
   was_there = subst (λ (e : Entry). get_or (entries_of a) place None ≡ Some e) is_gone (at_place c.under)
 
-  -- its area
+  -- the area of the removed map
   gone_behind : STACK_AND_CONTEXT ≤ gone.start
   gone_behind = (whole.placed place gone was_there).behind
 

@@ -67,7 +67,7 @@ module _ (old new : LiveMaps) (k : ℕ) (areas : SameAreas old new) (live : IsSo
       ap (λ (n : ℕ). take (shape_at new k).value_size (drop n part)) (offsets_stay p)
       ∙ ap (λ s. take s.value_size (drop (offset_at old k p) part)) shape_stays
 
--- the same key, or another
+-- two keys are equal or different
 pub same_or_other : {P : Type 0} (j k : ℕ) → (j ≡ k → P) → (j ≢ k → P) → P
 same_or_other {P} j k f g = by (nat_eq j k) refl
   where
@@ -78,7 +78,7 @@ same_or_other {P} j k f g = by (nat_eq j k) refl
 pub same_some : {A : Type 0} {o : Option A} {l m : A} → o ≡ Some l → o ≡ Some m → l ≡ m
 same_some {l = l} {m = m} e f = same_Some l m (sym e ∙ f)
 
--- at one place there is one element
+-- a place has one element
 pub same_at : {A : Type 0} (xs : List (Option A)) {j k : ℕ} {f g : A} → get_or xs k None ≡ Some f → j ≡ k → get_or xs j None ≡ Some g → f ≡ g
 same_at xs there same at = same_some there (ap (λ (i : ℕ). get_or xs i None) (sym same) ∙ at)
 

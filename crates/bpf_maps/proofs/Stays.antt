@@ -1,4 +1,4 @@
--- Live maps that keep their keys and the values of these.
+-- Live maps that keep their keys and the values of these keys.
 use Rattle.std.proofs.Common.{◌≡◌, ℕ, ◌<◌, List, Option, Some, None, IsSome, is_some, option_map, refl, sym, ap, subst, ◌∙◌}
 use Rattle.tagged_model.specs.Table.{with_values}
 use Rattle.bpf_maps.specs.Places.{PlaceTable, table_of, IsSound}
@@ -41,6 +41,6 @@ module _ (old new : LiveMaps) (bytes later : List ℕ) (k : ℕ) (values : SameV
   pub keeps_held : held_at new k ≡ held_at old k → KeepsMap k old bytes new later
   keeps_held same live = (held_live old new k same live, kept (same_places old new k same) live (held_live old new k same live))
 
-  -- with places that are the same
+  -- the places of the keys are the same
   pub keeps_places : IsSome (live_at new k) → places_at new k ≡ places_at old k → KeepsMap k old bytes new later
   keeps_places is places live = (is, kept places live is)

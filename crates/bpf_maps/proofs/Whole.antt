@@ -1,4 +1,4 @@
--- The invariant of the live maps, which each change keeps.
+-- The invariant of the live maps, which each change preserves.
 use Rattle.std.proofs.Common.{◌≡◌, ◌≢◌, ℕ, ◌+◌, ◌*◌, ◌/◌, ◌%◌, ◌<◌, ◌≤◌, ◌⊎◌, Bool, List, Option, Some, None, IsSome, option_map, refl, sym, ap, subst, ◌∙◌, arith, get_or, ⊎_elim, inl, inr}
 use Rattle.std.proofs.lemmas.Option.{none-some, same_Some}
 use Rattle.tagged_model.specs.declared.shape.MapShape.{MapShape}
@@ -17,7 +17,7 @@ use Rattle.bpf_maps.proofs.LaidOut.{replaced_out}
 use Rattle.bpf_maps.proofs.Totals.{total_but_one}
 use Rattle.bpf_maps.proofs.InAreas.{area_aligned, value_ends, place_inside, apart_places, before_or_behind, apart_still}
 
--- ---- the values are laid out apart
+-- ---- the values do not overlap
 
 abbrev entry_at : Inside → ℕ → Entry → Type 0
 entry_at a k e = get_or (entries_of a) k None ≡ Some e
@@ -112,7 +112,7 @@ module _ {a : Inside} (b : Inside) (k : ℕ) (h : IsWellFormedMaps a) (others : 
   still : (j : ℕ) (e : Entry) → j ≢ k → entry_at b j e → entry_at a j e
   still j e ne at = sym (others j ne) ∙ at
 
-  -- what holds of the entry there, and of the others, holds of each
+  -- a property of the entry at this place and of all others is a property of each entry
   by_place : (P : Entry → Type 0) {f : Entry} → entry_at b k f → P f → ((j : ℕ) (g : Entry) → entry_at a j g → P g) → (j : ℕ) (g : Entry) → entry_at b j g → P g
   by_place P bt here there j g gt = same_or_other j k (λ (s : j ≡ k). subst P (same_at (entries_of b) bt s gt) here) (λ (o : j ≢ k). there j g (still j g o gt))
 
@@ -229,7 +229,7 @@ module _ {a : Inside} (b : Inside) (k : ℕ) (h : IsWellFormedMaps a) (others : 
 
 -- ---- a map is removed, and those after it move down
 
--- what an entry that has closed up was
+-- an entry that was moved down, before it was moved
 pub opened_up : (end size : ℕ) (o : Option Entry) (g : Entry) → option_map (closed_up end size) o ≡ Some g → (f : Entry) × (o ≡ Some f) × (closed_up end size f ≡ g)
 opened_up end size None g h = absurd (none-some g h)
 opened_up end size (Some f) g h = (f, refl, same_Some (closed_up end size f) g h)

@@ -49,7 +49,7 @@ module _ (size : ℕ) (key : List ℕ) (small : AreBytes key) (long : length key
   pub word_tests : (word : ℕ) (es : List (ℕ × ℕ)) → word ≡ number_of key → AreBelow (256 ^ size) es → Tests (low_bytes size) key (nat_eq word) es
   word_tests word es is h = subst (λ (n : ℕ). Tests (low_bytes size) key (nat_eq n) es) (sym is) (number_tests es h)
 
--- ---- the numbers stay below
+-- ---- all numbers are below the bound
 
 pub below-append : (bound word place : ℕ) (es : List (ℕ × ℕ)) → AreBelow bound es → word < bound → AreBelow bound (es ++ (word, place) ∷ [])
 below-append bound word place [] h l = (l, tt)

@@ -38,7 +38,7 @@ module _ (xs new : List ℕ) (start size : ℕ) (count : length new ≡ size) (r
   pub after_same : (at n : ℕ) → start + size ≤ at → take n (drop at written) ≡ take n (drop at xs)
   after_same at n l = ap (take n) (behind_same at l)
 
-  -- what was written
+  -- the bytes that were written
   pub own : (x n : ℕ) → x + n ≤ size → take n (drop (start + x) written) ≡ take n (drop x new)
   own x n l =
       let f = front in

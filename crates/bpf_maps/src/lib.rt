@@ -2,7 +2,7 @@
 //!
 //! A map is an ordered list of keys with their objects (`Table` of `tagged_model`), whatever an object is; here it is a place
 //! for a value. Both kinds of map have this one definition. The values of a tenant's live maps are in its part of the memory,
-//! where each place of a map has bytes of its own.
+//! in which each place of a map has bytes of its own.
 //!
 //! # What is proved
 //!
@@ -11,7 +11,7 @@
 //! - A look-up, an update, a delete and a request for the next key return and leave what the definition says, with errors in
 //!   its order. Only a new key of a hash map can be out of memory, and then nothing changes. This holds for the calls of
 //!   `ValueMap`, for `ArrayMap` and `HashMapIx`.
-//! - The address of a key's value is that of its place in the part, modulo 2^64, where the whole value is, and 0 if the map has
+//! - The address of a key's value is that of its place in the part, modulo 2^64, at which the whole value is, and 0 if the map has
 //!   no such key: `address`, `inside` of `address_of`.
 //! - A key is the list of its bytes, whether it is stored as a number or as bytes: `entries_of`, in the calls of `KeyIndex` and
 //!   the model of `HashMapIx`.
@@ -46,12 +46,12 @@
 //! - A new map comes after the others and leaves them unchanged. The last release of a map moves each later map down by its
 //!   area, with its values, and changes nothing else of the others. No other call moves an area: `last`, `older` of `create`,
 //!   `moved`, `values`, `areas` of `release`, `areas` or `rest` of the other calls.
-//! - The values of live maps do not overlap and no two keys of a map have one place; the same areas keep where each value is; a
+//! - The values of live maps do not overlap and no two keys of a map have one place; the same areas keep the address of each value; a
 //!   delete keeps the other places: `maps_are_laid`, `areas_keep_places`, `deletes_keep_places`.
 //! - A key and a value of any map are no longer than a part: `sizes_fit_in_parts`.
 //! - A map is freed at its last release, and no other map: `less`, `gone`, `others` of `release`.
 //!
-//! What a caller can derive from these alone, such as a whole update, a whole delete, or a map in the area of another, is
+//! What a caller can derive only from these, such as a whole update, a whole delete, or a map in the area of another, is
 //! proved in `contract_clients.rt`. The keys of a hash map are in an `OrderedMap` of `ordered_keys`, and hashed with a seed
 //! that no clause names.
 //!
@@ -84,15 +84,15 @@
 //!   the bytes of all later maps move down by its area: at most 262,136 bytes, by at most 65,536. A program's run closes
 //!   nothing, so no map moves between looking up an address and using it; addresses of a later run may differ, and no reply
 //!   shows one.
-//! - An entry stores where its area begins, so an access needs no sum over earlier maps. When a map is freed, those of the
+//! - An entry stores the start of its area, so an access needs no sum over earlier maps. When a map is freed, those of the
 //!   later maps are reduced.
 //! - A map of a tenant has one name, its place, 0 to 15, and a new map gets the lowest free one. Descriptors, programs and runs
 //!   use it (`MapKey`). The slab that stores the maps chooses keys of its own, about which nothing is known; they stay inside
 //!   `Maps`.
-//! - What a call needs of a map is in a list by place (`Layouts`): its shape, where its area begins and the distance of its
+//! - What a call needs of a map is in a list by place (`Layouts`): its shape, the start of its area and the distance of its
 //!   values, 32 bytes for each map. It is kept with the maps and not built in each run, so a run without calls pays nothing for
 //!   it, and a call has all with one load of the list's address. An array is only its shape, so a look-up or an update in one
-//!   reads nothing else (`arrays_have_their_indices`). The map itself stores where its area begins too: that both agree is a
+//!   reads nothing else (`arrays_have_their_indices`). The map itself stores the start of its area too: that both agree is a
 //!   clause of the invariant (`AreLaidOut`).
 #![tactic(auto)]
 

@@ -6,7 +6,7 @@ use std::alloc::{AllocError, Global};
 use std::marker::Model;
 use tagged_model::{MapKind, MapShape};
 
-/// The shape of a live map, and where its values lie.
+/// The shape of a live map, and the positions of its values.
 #[derive(Clone, Copy)]
 pub(crate) struct MapLayout {
     pub shape: MapShape,

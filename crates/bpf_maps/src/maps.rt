@@ -41,7 +41,7 @@ impl Model for MapKey {
     ghost inverse = { λ n. record { place = n } };
 }
 
-/// A tenant's live maps. Contracts see the map at each of `MAPS` places, and where it has its values in the tenant's part.
+/// A tenant's live maps. Contracts see the map at each of `MAPS` places, and the positions of its values in the tenant's part.
 #[derive(Drop)]
 pub struct Maps {
     alloc: Global,

@@ -1,4 +1,4 @@
--- From the lines to the program.
+-- Assembling: from the lines to the program.
 use Rattle.std.proofs.Common.{◌≡◌, ◌≢◌, ℕ, zero, suc, ◌+◌, ◌<◌, ◌≤◌, min, Bool, true, false, cond, ltb, not, List, [], ◌∷◌, ◌++◌, length, take, map, get_or, Option, Some, None, subst, refl, sym, ap, ◌∙◌, arith, ℤ, pos, ◌-ℤ◌, unwrap_or, append-nil, append_assoc, below_more, sum_by, inl, inr}
 use Rattle.std.specs.Prelude.{option_map, is_some, ◌||◌, ◌⊎◌, MatchOption}
 use Rattle.std.specs.List.{AllByRecursion}
@@ -61,7 +61,7 @@ is_kept lines (Some k) = refl
 
 -- ---- faults
 
--- the fault by the labels that are kept is the line's
+-- the fault of a line by the labels that are kept is the fault by its definition
 pub fault_is : (lines : List (Option Line)) (labels : Labels) (i before : ℕ) (line : Option Line) → Finds lines labels → kept_fault labels (record { line = i; slot = before }) line ≡ line_fault lines i before line
 fault_is lines labels i before None finds = refl
 fault_is lines labels i before (Some blank) finds = refl
@@ -82,7 +82,7 @@ label_fault_kind : (twice : Bool) (kind : TextFaultKind) → cond twice (Some La
 label_fault_kind true kind e = λ m. cc
 label_fault_kind false kind e = λ m. cc
 
--- no line is to blame for memory
+-- no line has the fault Memory
 pub fault_kind : (lines : List (Option Line)) (i before : ℕ) (line : Option Line) (kind : TextFaultKind) → line_fault lines i before line ≡ Some kind → kind ≢ Memory
 fault_kind lines i before (Some (label name)) kind e = label_fault_kind (is_twice lines i name) kind e
 fault_kind lines i before (Some (code form name)) kind e = code_fault_kind (form_fits form) (is_known lines form name) (passes before (form_slots form)) kind e
@@ -92,7 +92,7 @@ pub fault_here : (lines : List (Option Line)) (i : ℕ) (d : Option Line) → i 
 unfolding fault_at
 fault_here lines i d h = ap (line_fault_of lines i) (slice_get-get_or lines i d h)
 
--- past the last line there is none
+-- after the last line there is no fault
 pub no_fault_past : (lines : List (Option Line)) → NoneBelow (fault_at lines) (length lines) → (i : ℕ) → fault_at lines i ≡ None
 unfolding fault_at
 no_fault_past lines below i =
@@ -103,7 +103,7 @@ no_fault_past lines below i =
 
 -- ---- instructions
 
--- the instruction of a line is the form that is kept for it
+-- the instruction of a line is its form with the labels that are kept
 pub form_kept : (labels : Labels) (slot : ℕ) (line : Option CodeLine) (form : Form) (name : Bor (List ℕ)) (place : Option Place) (insn : Insn) → line ≡ Some (Code form name) → place ≡ place_of labels name.now → written insn ≡ resolved (kept_distance place slot) form → written insn ∷ [] ≡ kept_form labels slot (seen_option line)
 form_kept labels slot line form name place insn is found e =
     ap (λ (f : Form). f ∷ []) (e ∙ ap (λ (o : Option Place). resolved (kept_distance o slot) form) found)
@@ -113,7 +113,7 @@ pub no_forms : (labels : Labels) (slot : ℕ) → kept_forms labels slot [] ≡ 
 unfolding kept_forms
 no_forms labels slot = refl
 
--- one more line
+-- the forms after one more line
 pub kept_forms-append : (labels : Labels) (slot : ℕ) (lines : List (Option Line)) (line : Option Line) → kept_forms labels slot (lines ++ line ∷ []) ≡ kept_forms labels slot lines ++ kept_form labels (slot + slots_on lines) line
 unfolding kept_forms slots_on
 kept_forms-append labels slot [] line = append-nil (kept_form labels slot line) ∙ ap (λ (n : ℕ). kept_form labels n line) (plus_none slot)
@@ -127,14 +127,14 @@ kept_forms-append labels slot (l ∷ lines) line =
     moved : (a b c : ℕ) → (a + b) + c ≡ a + (b + c)
     moved a b c = omega arith
 
--- a front takes no more slots than the whole
+-- the first lines take at most as many slots as all lines
 pub slots_on-take : (k : ℕ) (lines : List (Option Line)) → slots_on (take k lines) ≤ slots_on lines
 unfolding slots_on
 slots_on-take zero lines = omega arith
 slots_on-take (suc k) [] = omega arith
 slots_on-take (suc k) (l ∷ lines) = let more : slots_on (take k lines) ≤ slots_on lines = slots_on-take k lines in omega arith
 
--- if all slots are those that a program may have, a label's distance is the true one
+-- if the lines have at most as many slots as a program may have, the distance by the labels that are kept is the label's distance
 distance_is : (lines : List (Option Line)) (labels : Labels) (slot : ℕ) (name : List ℕ) → Finds lines labels → slots_on lines ≤ MAX_SLOTS → kept_distance (place_of labels name) slot ≡ distance lines slot name
 distance_is lines labels slot name finds room =
     let at : kept_slot (place_of labels name) ≡ label_slot lines name = ap kept_slot (finds name) ∙ kept_slot_is lines (label_line name lines) in
@@ -185,7 +185,7 @@ count_is insns all e = sym (insns_slots insns) ∙ ap (λ (fs : List Form). sum_
 
 -- ---- the loop
 
--- what is so far after one more line
+-- the instructions after one more line
 pub record Goes (labels : Labels) (lines : List (Option Line)) (i slot : ℕ) (insns : List Insn) : Type 0 where
   pub below : NoneBelow (fault_at lines) i
   pub slot_is : slot ≡ slots_on (take i lines)
@@ -277,7 +277,7 @@ formed_at [] i d h all = absurd (omega arith)
 formed_at (line ∷ lines) zero d h all = all.0
 formed_at (line ∷ lines) (suc i) d h all = formed_at lines i d (omega arith) all.1
 
--- the next line, as it is seen
+-- the next line
 pub seen_at : (lines : List (Option CodeLine)) (i : ℕ) (line : Option CodeLine) → i < length lines → line ≡ get_or lines i line → seen_option line ≡ get_or (seen_lines lines) i (seen_option line)
 seen_at lines i line h e = ap seen_option e ∙ sym (get_or-map seen_option lines i line (seen_option line) h)
 

@@ -50,7 +50,7 @@ eight a b c d e f g h bytes =
 no_feeds : (xs : List ℕ) → AllPass is_hex_digit xs → All (λ b. eqb b 10 ≡ false) xs
 no_feeds xs all = λ k d h. digit_no_feed (get_or xs k d) (all k d h)
 
--- each line is read
+-- each line can be read
 abbrev AreSlots : List (List ℕ) → Type 0
 AreSlots lines = AllByRecursion (λ line. IsSome (hex_line line)) lines
 

@@ -17,7 +17,7 @@ use Rattle.text_line.specs.Blanks.{stripped}
 use Rattle.bpf_text.specs.declared.fault.TextFaultKind.{TextFaultKind}
 use Rattle.bpf_text.specs.HexText.{hex_text, hex_digits, hex_line, hex_fault, hex_fault_at, hex_fault_of, hex_bytes}
 
--- ---- what is on a line
+-- ---- the bytes of a line
 
 pub empty_line : (line digits : List ℕ) → digits ≡ stripped line → eqb (length digits) 0 ≡ true → hex_line line ≡ Some []
 unfolding hex_line
@@ -55,7 +55,7 @@ unfolding hex_text
 hex_text_short (a ∷ b ∷ c ∷ d ∷ e ∷ f ∷ g ∷ h ∷ rest) short = absurd (omega arith)
 hex_text_short _ short = refl
 
--- ---- line by line
+-- ---- one line after another
 
 abbrev texts : List (Bor (List ℕ)) → List (List ℕ)
 texts xs = map (λ line. line.now) xs
@@ -65,7 +65,7 @@ unfolding hex_fault_at
 fault_here xs i d h =
     ap (hex_fault_of (length (hex_bytes (take i (texts xs))))) (slice_get-map (λ (line : Bor (List ℕ)). line.now) xs i ∙ ap (option_map (λ (line : Bor (List ℕ)). line.now)) (slice_get-get_or xs i d h))
 
--- one more line without a fault
+-- the lines after one more line without a fault
 pub none_more : (xs : List (Bor (List ℕ))) (i : ℕ) (d : Bor (List ℕ)) (bytes : List ℕ) → i < length xs → bytes ≡ hex_bytes (take i (texts xs)) → NoneBelow (hex_fault_at (texts xs)) i → hex_fault (length bytes) (hex_line (get_or xs i d).now) ≡ None → NoneBelow (hex_fault_at (texts xs)) (i + 1)
 none_more xs i d bytes h e below none = below_more _ _ below (fault_here xs i d h ∙ ap (λ (b : List ℕ). hex_fault (length b) (hex_line (get_or xs i d).now)) (sym e) ∙ none)
 
@@ -94,7 +94,7 @@ first_here xs i d bytes kind fault h e below at (inr here) =
       below = below;
     })
 
--- past the last line there is none
+-- after the last line there is no fault
 pub none_at_all : (xs : List (Bor (List ℕ))) → NoneBelow (hex_fault_at (texts xs)) (length xs) → (i : ℕ) → hex_fault_at (texts xs) i ≡ None
 unfolding hex_fault_at
 none_at_all xs below i =

@@ -23,7 +23,7 @@ label_line_step name l x xs false e = ap (option_map suc) e ∙ pushed (label_li
     pushed None true n = refl
     pushed None false n = refl
 
--- one more line
+-- the line of a label after one more line
 pub label_line-append : (name : List ℕ) (xs : List (Option Line)) (x : Option Line) → label_line name (xs ++ x ∷ []) ≡ or_else (label_line name xs) (cond (defines name x) (Some (length xs)) None)
 unfolding label_line
 label_line-append name [] x = elim (defines name x) as (λ (b : Bool). cond b (Some 0) (option_map suc None) ≡ cond b (Some 0) None) [ true ↦ refl | false ↦ refl ]
@@ -34,7 +34,7 @@ unfolding slots_on
 slots_on-append [] x = omega arith
 slots_on-append (l ∷ xs) x = omega (arith, slots_on-append xs x)
 
--- ---- what is kept
+-- ---- the labels that are kept
 
 bytes_eq-sym : (a b : List ℕ) → bytes_eq a b ≡ true → bytes_eq b a ≡ true
 bytes_eq-sym a b h = (bytes_eq-Decides b a).1 (sym ((bytes_eq-Decides a b).0 h))
@@ -64,7 +64,7 @@ noted_step old new place name q x false is eq none e =
     let there : defines q x ≡ false = defines_is q name x is ∙ bytes_eq-other name q (bytes_eq q name) eq refl in
     e ∙ sym (ap (λ (t : Bool). or_else old (cond t (some_place place) None)) there ∙ or_none old)
 
--- a name that was not kept is kept now
+-- the place of a name that had none is kept now
 pub noted : (old new : Labels) (place : Place) (name : List ℕ) (x : Option Line) → label_defined x ≡ Some name → place_of old name ≡ None
     → ((q : List ℕ) → place_of new q ≡ cond (bytes_eq name q) (some_place place) (place_of old q))
     → (q : List ℕ) → place_of new q ≡ or_else (place_of old q) (cond (defines q x) (some_place place) None)
@@ -76,7 +76,7 @@ pushed_place lines (Some k) b i = refl
 pushed_place lines None true i = refl
 pushed_place lines None false i = refl
 
--- one more line
+-- the labels after one more line
 pub finds_more : (lines : List (Option Line)) (i : ℕ) (x : Option Line) (old new : Labels) (place : Place) → take (i + 1) lines ≡ take i lines ++ x ∷ [] → length (take i lines) ≡ i → FindsLabels lines old i → place ≡ place_at lines i
     → ((q : List ℕ) → place_of new q ≡ or_else (place_of old q) (cond (defines q x) (some_place place) None))
     → FindsLabels lines new (i + 1)

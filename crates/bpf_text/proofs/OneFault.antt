@@ -1,4 +1,4 @@
--- A text has one fault of its own at most.
+-- A text has at most one fault of its own.
 use Rattle.std.proofs.Common.{◌≡◌, ℕ, ◌<◌, List, length, Option, Some, None, sym, ap, ◌∙◌, arith, inl, inr}
 use Rattle.std.specs.Prelude.{◌⊎◌}
 use Rattle.bpf_text.specs.declared.fault.TextFault.{TextFault}
@@ -41,7 +41,7 @@ no_hex_fault text slots fault is (inr h) = omega (arith, is.some, ap length is.b
 pub faultless : {A : Type 0} (text slots : List ℕ) (fault : TextFault) → IsHexText text slots → IsHexFault text fault → A
 faultless text slots fault is h = absurd (no_hex_fault text slots fault is h)
 
--- the fault that is returned is the text's, or out of memory
+-- the fault that is returned is the fault of the text, or out of memory
 pub told : (text : List ℕ) (told fault : TextFault) → (told ≡ memory_fault) ⊎ IsHexFault text told → IsHexFault text fault → (told ≡ fault) ⊎ (told ≡ memory_fault)
 told text e fault (inl memory) h = inr memory
 told text e fault (inr own) h = inl (one_fault _ (length (hex_bytes (text_lines text))) e fault own h)

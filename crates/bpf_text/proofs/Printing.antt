@@ -12,7 +12,7 @@ use Rattle.text_line.specs.Form.{TokenLayout, constant, sign, word, space}
 use Rattle.text_line.specs.Written.{number_of, laid_out, printed_insn}
 use Rattle.bpf_text.specs.Printed.{printed, printed_line}
 
--- what follows a number comes after it
+-- the layout after a constant comes after its text
 pub laid_out_constant : (z : ℤ) (rest : TokenLayout) → laid_out (constant (number_of z) rest) ≡ laid_out (constant (number_of z) []) ++ laid_out rest
 laid_out_constant (pos n) rest = ap (λ (t : List ℕ). t ++ laid_out rest) (sym (append-nil (decimal n)))
 laid_out_constant (negsuc n) rest = ap (λ (t : List ℕ). 45 ∷ (t ++ laid_out rest)) (sym (append-nil (decimal (suc n))))
@@ -34,7 +34,7 @@ printed_map_value dst fd off before named held n h =
     ∙ ap (λ (t : List ℕ). before ++ t) (append_assoc (register_name true dst) (codes " = map_value ") (number_text ++ laid_out behind)
     ∙ ap (λ (t : List ℕ). register_name true dst ++ (codes " = map_value " ++ t)) (sym (laid_out_constant fd behind)))
 
--- one more slot
+-- the text after one more slot
 pub printed_more : (insns before after : List Insn) (text : List ℕ) (o : Option Insn) (line : List ℕ) → text ≡ printed before → after ≡ before ++ option_to_list o → line ≡ printed (option_to_list o) → text ++ line ≡ printed after
 printed_more insns before after text o line h e l =
     ap (λ (t : List ℕ). t ++ line) h ∙ ap (λ (t : List ℕ). printed before ++ t) l

@@ -1,5 +1,5 @@
--- Which texts are programs: a text has at most one program and no fault besides it, and the printed
--- text is a program.
+-- A text has at most one program, and no fault besides it; the printed text of a program is
+-- read as this program.
 use Rattle.std.proofs.Common.{◌≡◌, ◌≢◌, ℕ, zero, suc, ◌+◌, ◌≤◌, Bool, true, false, cond, eqb, ltb, not, List, [], ◌∷◌, ◌++◌, length, take, map, Option, Some, None, Result, Ok, Err, leb, lit<, refl, sym, ap, ◌∙◌, arith, subst, inl, inr, append_assoc}
 use Rattle.std.specs.Prelude.{slice_get, is_some, ◌⊎◌, ◌||◌, ◌&&◌, IfOk, IfErr, IsErrAnd, MatchResult}
 use Rattle.std.specs.List.{All, AllByRecursion}
@@ -69,13 +69,13 @@ one_fault_is reading text a b h k =
     let same : h.lines ≡ k.lines = lines_same reading (text_lines text) h.lines k.lines h.read k.read in
     one_fault (fault_at k.lines) (slots_on k.lines) a b (subst (λ (ls : List (Option Line)). IsFaultBy (fault_at ls) (slots_on ls) a) same h.first) k.first
 
--- a fault of the text is returned
+-- if the text has a fault, it is returned
 pub faulty_is : ProgramHasNoFault → OneFault → (text : List ℕ) (answer : Result (List Insn) TextFault) → IfOk answer (λ program. IsAssembled text program) → IfErr answer (λ e. (e ≡ memory_fault) ⊎ IsOwnFault text e) → (fault : TextFault) → IsOwnFault text fault → IsErrAnd answer (λ e. (e ≡ fault) ⊎ (e ≡ memory_fault))
 faulty_is none one text (Ok program) ok told fault own = absurd (none text program fault ok own)
 faulty_is none one text (Err e) ok (inl memory) fault own = inr memory
 faulty_is none one text (Err e) ok (inr told) fault own = inl (one text e fault told own)
 
--- the meaning of a text is returned
+-- if the text has a program, it is returned
 pub only_is : OneProgram → ProgramHasNoFault → (text : List ℕ) (answer : Result (List Insn) TextFault) → IfOk answer (λ program. IsAssembled text program) → IfErr answer (λ e. (e ≡ memory_fault) ⊎ IsOwnFault text e) → (insns : List Insn) → IsAssembled text insns → MatchResult answer (λ program. program ≡ insns) (λ e. e ≡ memory_fault)
 only_is one none text (Ok program) ok told insns h = one text program insns ok h
 only_is one none text (Err e) ok (inl memory) insns h = memory

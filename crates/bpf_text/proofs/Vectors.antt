@@ -1,4 +1,4 @@
--- Known texts: how slots and instructions are written, and what a line of hex digits is.
+-- Known texts: the text of slots and of instructions, and the bytes of lines of hex digits.
 use Rattle.std.specs.Prelude.{◌≡◌, ℕ, [], ◌∷◌, codes, Bool, true, false, pos, negsuc, refl, Option, Some, None}
 use Rattle.words.specs.declared.operator.AluOp.TheVariants.{Mov}
 use Rattle.words.specs.declared.operator.Condition.TheVariants.{SignedBelow}

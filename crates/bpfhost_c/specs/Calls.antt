@@ -1,4 +1,4 @@
--- What the calls from C do. This project's own.
+-- The effects of the calls from C. This project's own.
 use denote.RawPtr.{Ptr}
 use Rattle.std.specs.Prelude.{◌≡◌, ℕ, ℤ, nat_lt, ◌||◌, if◌then◌else◌, is_none, List, [], vec_len, Option, Some, None}
 use Rattle.std.specs.Vec.{vec_ptr}
@@ -27,28 +27,28 @@ abbrev pub StandsAt : Option Session → List ℕ → Ptr → ℕ → Type 0
 StandsAt None reply at length = ⊥
 StandsAt (Some s) reply at length = (s.reply.items ≡ reply) × (at ≡ vec_ptr s.reply) × (length ≡ vec_len s.reply)
 
--- so do frames that were saved
+-- the frames of a save lie at an address in the same way
 abbrev pub SavedAt : Option Session → List ℕ → Ptr → ℕ → Type 0
 SavedAt None frames at length = ⊥
 SavedAt (Some s) frames at length = (s.saved.items ≡ frames) × (at ≡ vec_ptr s.saved) × (length ≡ vec_len s.saved)
 
--- ---- codes
+-- ---- return codes
 
--- of `new`, unless it is out of memory
+-- the code of `new`, unless it is out of memory
 abbrev pub new_code : Option Session → ℕ → ℤ
 new_code before tenants =
     if nat_lt tenants 1 || nat_lt most_tenants tenants then ERR_TENANT_COUNT
     else (if is_none before then DONE else ERR_HAS_HOST)
 
--- of a call that takes a host
+-- the code of a call that takes a host
 abbrev pub host_code : Option Session → ℤ
 host_code before = if is_none before then ERR_NO_HOST else DONE
 
--- of a call that also takes room for the longest reply
+-- the code of a call that also takes room for the longest reply
 abbrev pub room_code : Option Session → ℕ → ℤ
 room_code before room = if nat_lt room longest_reply then ERR_BUFFER_TOO_SMALL else host_code before
 
--- of a call that saves a part, unless it is out of memory
+-- the code of a call that saves a part, unless it is out of memory
 abbrev pub save_code : Option Session → ℕ → ℕ → ℤ
 save_code before tenant part =
     if is_none before then ERR_NO_HOST else (if is_none (saved_part (host_of before) tenant part) then ERR_NO_PART else DONE)

@@ -1,4 +1,4 @@
-//! Why a line has no other answer.
+//! Errors of lines.
 
 use bpf_text::TextFault;
 use hex::FromHexError;
@@ -27,7 +27,7 @@ pub enum CaseError {
     /// A number is missing, or wrong.
     #[error("no number")]
     Number(#[from] ParseIntError),
-    /// A number is out of the range of what it is for.
+    /// A number is out of its range.
     #[error("out of range")]
     OutOfRange,
     #[error("no hex digits")]

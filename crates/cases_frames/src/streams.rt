@@ -5,7 +5,7 @@ use cases::{CaseError, GROUP, bytes_of, first_word, hex_groups, input_of, outcom
 use host::{Counted, Failure, HashSeed, Host, MOST_FRAMES, ServeFault, run_words, serve};
 use std::alloc::{AllocError, Global};
 
-/// How a stream ended: by the fault line of the program, where it ended with a fault.
+/// How a stream ended: by the fault line of the program, if it ended with a fault.
 fn end_of(alloc: Global, end: Result<u32, ServeFault>) -> Result<String, AllocError> {
     match end {
         Ok(frames) => format!(in alloc; "ok {frames}"),

@@ -6,7 +6,7 @@ use crate::texts::{assembled, printed, read_hex_lines};
 use cases::{CaseError, Player, first_word};
 use std::alloc::Global;
 
-/// A player of lines that stand by themselves.
+/// A player of lines that do not depend on each other.
 #[derive(Drop)]
 pub struct TextPlayer {
     alloc: Global,

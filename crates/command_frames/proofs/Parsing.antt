@@ -1,4 +1,4 @@
--- The parts of a frame.
+-- The parts of a frame, from their positions.
 use Rattle.std.proofs.Common.{◌≡◌, ℕ, ◌≤◌, false, true, List, length, drop, Ok, Result, ap, ◌∙◌}
 use Rattle.std.specs.Prelude.{nat_lt, nat_le}
 use Rattle.std.proofs.lemmas.Bool.{le-ltb, le-leb}

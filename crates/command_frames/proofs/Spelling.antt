@@ -1,4 +1,4 @@
--- What the bytes of frames and of replies determine.
+-- Bytes determine the frames and the replies that they encode.
 use Rattle.std.proofs.Common.{◌≡◌, ℕ, zero, suc, ◌+◌, ◌<◌, ◌≤◌, ◌^◌, List, [], ◌∷◌, ◌++◌, length, take, drop, get_or, refl, sym, ap, ap₂, subst, ◌∙◌, arith, le_refl, append_assoc, length-append, length-take, length-take-le, length-drop, take-append-drop, inl, inr}
 use Rattle.std.specs.Prelude.{ℤ, FitsSigned, ◌⊎◌}
 use Rattle.std.specs.Int.{w32, cast_signed, cast_unsigned, from_le_bytes}
@@ -11,7 +11,7 @@ use Rattle.byteorder.specs.Endian.{little_number, little_bytes}
 use Rattle.command_frames.specs.Frame.{framed, IsFrame, IsPartial, reply_bytes}
 use Rattle.command_frames.specs.Laws.{IsStream, IsReply}
 
--- ---- numbers are read as they were written
+-- ---- a number is read from its encoding
 
 number_of_bytes : (n : ℕ) (rest : List ℕ) → n < 2 ^ 32 → little_number 4 (little_bytes 4 n ++ rest) ≡ n
 number_of_bytes n rest small = omega arith
@@ -21,14 +21,14 @@ half_of_bytes n rest small = omega arith
 
 -- ---- frames
 
--- two lists of one length, each with more after it: if the whole is equal, so are the lists, and so is the rest
+-- two lists of one length, each followed by another: if the wholes are equal, so are the lists and so are the rests
 same_halves : (f g xs ys : List ℕ) → length f ≡ length g → f ++ xs ≡ g ++ ys → (f ≡ g) × (xs ≡ ys)
 same_halves f g xs ys len e =
     let f_is : f ≡ g = sym (take_at f xs (length f) refl) ∙ ap (take (length f)) e ∙ take_at g ys (length f) (sym len) in
     let rest_is : xs ≡ ys = sym (drop_at f xs (length f) refl) ∙ ap (drop (length f)) e ∙ drop_at g ys (length f) (sym len) in
     (f_is, rest_is)
 
--- the first frame of a stream is one, and so is what follows
+-- a stream has one first frame, and one rest after it
 same_front : (f g xs ys : List ℕ) → IsFrame f → IsFrame g → framed f ++ xs ≡ framed g ++ ys → (f ≡ g) × (xs ≡ ys)
 same_front f g xs ys small small_too e =
     let len : length f ≡ length g = sym (number_of_bytes (length f) (f ++ xs) small) ∙ ap (little_number 4) e ∙ number_of_bytes (length g) (g ++ ys) small_too in
@@ -75,7 +75,7 @@ frames_in_front_are bytes first frames left rest all e is = frames_after bytes f
 AreBytes : List ℕ → Type 0
 AreBytes bytes = (i : ℕ) → get_or bytes i 0 < 256
 
--- its reading
+-- the frames of a stream and the bytes after them
 Reads : List ℕ → Type 0
 Reads bytes = (frames : List (List ℕ)) × (rest : List ℕ) × IsStream bytes frames rest
 
@@ -96,13 +96,13 @@ unfolding AreBytes
 front_fits bytes fits i (inl low) = omega (arith, get_or-take 4 bytes i 0 low, fits i)
 front_fits bytes fits i (inr high) = omega (arith, get_or_past (take 4 bytes) i 0 (omega (arith, length-take 4 bytes)))
 
--- the length at the front is spelled by the first four bytes
+-- the first four bytes are the encoding of the length at the front
 length_spelled : (bytes : List ℕ) → AreBytes bytes → 4 ≤ length bytes → little_bytes 4 (little_number 4 bytes) ≡ take 4 bytes
 length_spelled bytes fits long =
     let same : little_number 4 bytes ≡ from_le_bytes w32 (take 4 bytes) = sym (number_in_front bytes) ∙ omega arith in
     le_bytes_4 (take 4 bytes) (little_number 4 bytes) (length-take-le 4 bytes long) (λ i. front_fits bytes fits i (cases_lt i 4)) same
 
--- the frame at the front of bytes that hold a whole one, and what follows it
+-- the frame at the front of bytes that include a whole frame, and the bytes after it
 front_frame : List ℕ → List ℕ
 front_frame bytes = take (little_number 4 bytes) (drop 4 bytes)
 
@@ -162,7 +162,7 @@ each_is_stream_is bytes fits = reads_by (length bytes) bytes (le_refl (length by
 
 -- ---- replies
 
--- what follows the length of a reply, from its command on, and from its status on
+-- the bytes after the length of a reply, from its command on, and from its status on
 from_status : ℤ → List ℕ → List ℕ
 from_status status payload = little_bytes 4 (cast_unsigned w32 status) ++ payload
 

@@ -1,4 +1,4 @@
--- Words one after the other.
+-- Words that follow one another in a list of bytes.
 use Rattle.std.proofs.Common.{◌≡◌, ℕ, zero, suc, ◌+◌, ◌*◌, ◌<◌, List, [], ◌∷◌, length, take, drop, get_or, refl, sym, ap, ap₂, ◌∙◌, arith}
 use Rattle.std.proofs.lemmas.List.{get_or-take, get_or-drop, drop-drop}
 use Rattle.byteorder.specs.Endian.{little_number, IsRead}
@@ -9,7 +9,7 @@ later k bytes =
     let same : 4 * suc k ≡ 4 + 4 * k = omega arith in
     ap (λ n. drop n bytes) same ∙ sym (drop-drop (4 * k) 4 bytes)
 
--- numbers one after the other
+-- words that are read one after another
 words_read : (n : ℕ) (bytes found : List ℕ) → length found ≡ n → ((k : ℕ) → k < n → get_or found k 0 ≡ little_number 4 (drop (4 * k) bytes)) → found ≡ words n bytes
 unfolding words
 words_read zero bytes [] len each = refl
@@ -23,7 +23,7 @@ words_read (suc n) bytes (w ∷ ws) len each =
 byte_of_front : (bytes : List ℕ) (n at j : ℕ) → at + j < n → get_or (drop at (take n bytes)) j 0 ≡ get_or (drop at bytes) j 0
 byte_of_front bytes n at j lt = get_or-drop at (take n bytes) j 0 ∙ get_or-take n bytes (at + j) 0 lt ∙ sym (get_or-drop at bytes j 0)
 
--- a word that lies in the front of the bytes
+-- a word that lies in the first n bytes
 word_of_front : (bytes : List ℕ) (n at : ℕ) → at + 3 < n → little_number 4 (drop at (take n bytes)) ≡ little_number 4 (drop at bytes)
 word_of_front bytes n at lt =
     let first = byte_of_front bytes n at 0 (omega arith) in

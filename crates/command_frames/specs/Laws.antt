@@ -12,7 +12,7 @@ pub record IsStream (bytes : List ℕ) (frames : List (List ℕ)) (rest : List �
   pub partial : IsPartial rest
   pub spelled : bytes ≡ flat_map framed frames ++ rest
 
--- all bytes are a stream, and in one way
+-- all bytes are a stream, in exactly one way
 abbrev pub EachIsStream : Type 0
 EachIsStream =
     (bytes : List ℕ) → ((i : ℕ) → slice_index bytes i < 256)

@@ -55,7 +55,7 @@ module _ {A : Type 0} where
       let here : Some place ≡ position is_none places = rw (first, len, within) refl in
       here ∙ ap (position is_none) same
 
-  -- and if there is none, no place is free
+  -- if no bit is 0, no place is free
   pub none_free : (word place : ℕ) (places seen : List (Option A)) → places ≡ seen → length places ≡ 64 → word < 2 ^ 64 → TellsTaken word places → place ≡ trailing_ones w64 word → 64 ≤ place
       → None ≡ position is_none seen
   none_free word place places seen same len small tells ones above =
@@ -71,7 +71,7 @@ module _ {A : Type 0} where
   more_at word places place x within lt tells k low (inr other) =
       bit_at_set_other w64 word place lt k other ∙ tells k low ∙ sym (ap (λ (o : Option A). cond (is_none o) 0 1) (get_or-set_other places place k (Some x) None other))
 
-  -- a place that is taken has its bit set
+  -- after a place is taken, its bit is set
   pub taken_more : (word : ℕ) (places : List (Option A)) (place : ℕ) (x : A) → length places ≡ 64 → place < 64 → TellsTaken word places
       → TellsTaken (bit_or word (1 * 2 ^ place % 2 ^ 64)) (set places place (Some x))
   taken_more word places place x len lt tells k low = more_at word places place x (omega arith) lt tells k low (cases_eq k place)
@@ -83,12 +83,12 @@ module _ {A : Type 0} where
   less_at word places place within lt tells k low (inr other) =
       bit_at_clear_other w64 word place lt k low other ∙ tells k low ∙ sym (ap (λ (o : Option A). cond (is_none o) 0 1) (get_or-set_other places place k None None other))
 
-  -- a place that is free has its bit cleared
+  -- after a place is freed, its bit is cleared
   pub taken_less : (word : ℕ) (places : List (Option A)) (place : ℕ) → length places ≡ 64 → place < 64 → TellsTaken word places
       → TellsTaken (bit_and word (bit_not w64 (1 * 2 ^ place % 2 ^ 64))) (set places place None)
   taken_less word places place len lt tells k low = less_at word places place (omega arith) lt tells k low (cases_eq k place)
 
--- and there is nothing at that place
+-- the same, if `left` is None
 pub left_free : {A : Type 0} (word : ℕ) (places : List (Option A)) (place : ℕ) (left : Option A) → length places ≡ 64 → place < 64 → TellsTaken word places → left ≡ None
     → TellsTaken (bit_and word (bit_not w64 (1 * 2 ^ place % 2 ^ 64))) (set places place left)
 left_free {A = A} word places place left len lt tells gone =

@@ -28,7 +28,7 @@ pub(crate) fn bytes_fit(bytes: &[u8])
     let _ = bytes.len();
 }
 
-/// The instruction that is next with these maps and this memory is next if less of the two is known.
+/// The next instruction with these maps and this memory is also the next one if less of the two is known.
 #[inline(always)]
 pub(crate) fn has_some_next(
     fds: &[u32],

@@ -6,7 +6,7 @@
 //!
 //! - A run of an accepted program returns what the tagged machine returns on the same maps, context and packet, and leaves the
 //!   same pairs in the maps that are bound to it, whatever else is in memory. If memory is refused to new keys, it does what
-//!   the tagged machine does with these refusals, and the flag of the live maps says so: `runs` of `run`.
+//!   the tagged machine does with these refusals, and the flag of the live maps is set: `runs` of `run`.
 //! - It never faults, whatever memory is refused: `no_fault` of `run`.
 //! - It takes as many steps as the tagged machine, which are at most as many as the program has slots: `runs`, `few` of `run`.
 //! - Each range of addresses that it requests is in its tenant's part: `ranges` of `run`.

@@ -38,7 +38,7 @@ impl<'a> Model for Packets<'a> {
 }
 
 impl<'a> Packets<'a> {
-    /// The packets that end at these numbers of bytes. Each begins where the one before it ends.
+    /// The packets that end at these numbers of bytes. Each begins at the end of the one before it.
     ///
     /// # Errors
     ///

@@ -1,4 +1,4 @@
--- The numbers that decimal digits name.
+-- The numbers of decimal digits.
 use Rattle.std.proofs.Common.{◌≡◌, ◌<◌, ◌^◌, ℕ, true, List, [], ◌∷◌, length, None, refl, rules, arith, Result, Ok, Err}
 use Rattle.std.specs.Char.{is_ascii_digit}
 use Rattle.std.specs.List.{list_all}
@@ -21,7 +21,7 @@ same_number : {E : Type 0} (digits : List ℕ) (r : Result ℕ E) → list_all i
 same_number digits (Ok number) all is = grind (arith, nat_tests)
 same_number digits (Err fault) all unfit = none_named digits unfit
 
--- what `parse` gives at digits
+-- the result of `parse` on digits
 pub parsed_digits : {E : Type 0} (digits : List ℕ) (r : Result ℕ E) → ParsesUnsigned 32 10 digits r → list_all is_ascii_digit digits ≡ true
     → result_ok r ≡ decimal_number digits
 parsed_digits digits r parses all = same_number digits r all (parse_digits digits_model 32 digits r parses all)

@@ -1,4 +1,4 @@
--- Why hex lines are refused: one reason only.
+-- Why hex lines are rejected: for one reason only.
 use Rattle.std.proofs.Common.{◌≡◌, ◌⊎◌, ◌∙◌, ℕ, List, ap, sym, subst, inl, inr, IsUtf8}
 use Rattle.bpf_text.specs.Fault.{memory_fault}
 use Rattle.bpf_text.specs.HexText.{IsHexFault}
@@ -25,7 +25,7 @@ lines_refused text fault utf8 faulty refusal (inr refused) =
       | inr e ↦ inr (ap text_failure e)
     ]
 
--- lines without a fault are not refused
+-- lines without a fault are not rejected
 pub lines_not_refused : (text : List ℕ) → IsUtf8 text → ((own : TextFault) → ¬ IsHexFault text own) → (refusal : Failure) → ¬ (IsUnreadable text refusal)
 lines_not_refused text utf8 faultless refusal (inl none) = none.0 utf8
 lines_not_refused text utf8 faultless refusal (inr refused) = faultless refused.fault refused.own
@@ -35,7 +35,7 @@ lines_not_refused text utf8 faultless refusal (inr refused) = faultless refused.
 slots_of : {input : List ℕ} {refusal : Failure} → (is : IsProgramRefused input refusal) → IsSlotText input is.bytes
 slots_of is = record { utf8 = is.utf8; lines = is.slots }
 
--- if the lines are refused, that refusal is returned, or out of memory
+-- if the lines are rejected, their rejection is returned, or out of memory
 pub input_refused : (input : List ℕ) (failure : Failure) → ((refusal : Failure) → IsUnreadable input refusal → (failure ≡ refusal) ⊎ (failure ≡ Memory))
     → ((slots : List ℕ) → IsSlotText input slots → failure ≡ Memory)
     → (refusal : Failure) → IsNoProgramText input refusal → (failure ≡ refusal) ⊎ (failure ≡ Memory)
@@ -54,7 +54,7 @@ slots_refused input slots fault readable one faulty refusal (inr refused) =
       | inr e ↦ inr (ap codec_failure e.1)
     ]
 
--- the slots of a program are not refused
+-- the slots of a program are not rejected
 pub program_not_refused : (input slots : List ℕ) → ((refusal : Failure) → ¬ IsUnreadable input refusal)
     → ((other : List ℕ) → IsSlotText input other → slots ≡ other)
     → ((own : CodecFault) → ¬ (IsProgramFault slots own))

@@ -1,4 +1,4 @@
--- There is one judgement of an input.
+-- An input has one judgement.
 use Rattle.std.proofs.Common.{◌≡◌, ℕ, List, Option, Some, None, Result, Ok, Err, ap, sym, subst}
 use Rattle.insn_set.specs.declared.insn.Insn.{Insn}
 use Rattle.tagged_model.specs.declared.shape.Named.{Named}
@@ -10,7 +10,7 @@ use Rattle.host.specs.program.Texts.{IsSlotText}
 use Rattle.host.specs.declared.program.failure.Failure.{Failure}
 use Rattle.host.specs.declared.program.failure.Failure.TheVariants.{Memory}
 
--- why slots with this judgement are refused
+-- the reason for which slots with this judgement are rejected
 abbrev pub refusal_in : Result (List Insn) Refusal → Option Refusal
 refusal_in (Ok insns) = None
 refusal_in (Err refusal) = Some refusal

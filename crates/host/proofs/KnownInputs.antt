@@ -1,4 +1,4 @@
--- Runs whose input is known.
+-- Runs on a known input.
 use Rattle.std.proofs.Common.{◌≡◌, ◌∙◌, ◌++◌, ℕ, List, [], Option, Some, None, IfSome, Result, IfOk, ap, sym, subst, arith, append-nil}
 use Rattle.std.proofs.lemmas.Result.{IfOk-weaker}
 use Rattle.clap.specs.Words.{Text}
@@ -10,7 +10,7 @@ use Rattle.host.specs.inside.program.Rewriting.{WritesWholeOutput, ReadsWholeInp
 use Rattle.host.specs.program.Arguments.{Asked, Verifies}
 use Rattle.verifier.specs.declared.refusal.Refusal.{Refusal}
 
--- what holds of the bytes that were read holds of the input
+-- a property of the bytes that were read is a property of the input
 of_input : (P : List ℕ → Type 0) (before after : Option (List ℕ)) (input : List ℕ) → ReadsWholeInput before after input → P input → IfSome before P
 of_input P None after input whole holds = tt
 of_input P (Some bytes) None input whole holds = absurd whole.read

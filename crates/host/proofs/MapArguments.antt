@@ -1,4 +1,4 @@
--- An argument names one map at most.
+-- An argument names at most one map.
 use Rattle.std.proofs.Common.{◌≡◌, ◌∙◌, ◌<◌, ◌==◌, ℕ, Bool, true, false, List, [], ◌∷◌, length, Option, Some, None, IfSome, IfNone, IsTrue, MatchOption, codes, ap, sym, subst, refl, arith, Bor, Result, Ok}
 use Rattle.std.specs.Char.{is_ascii_digit}
 use Rattle.std.specs.List.{All, AllByRecursion, after_first, before_first, join_with_byte, list_all, position_or_len}
@@ -32,7 +32,7 @@ Lacks text = All (λ b. is_colon b ≡ false) text
 one_field : (text : Text) → Lacks text → map_fields text ≡ text ∷ []
 one_field text lacks = slice_split_none is_colon text lacks
 
--- what is cut at the first colon
+-- the text before and after the first colon
 pub first_cut : (text : Text) (r : Option (Bor Text × Bor Text))
     → MatchOption r (position_or_len is_colon text ≡ length text)
     (λ cut. (position_or_len is_colon text < length text) × (cut.0.now ≡ before_first is_colon text) × (cut.1.now ≡ after_first is_colon text))
@@ -47,7 +47,7 @@ pub no_cut : (text : Text) (r : Option (Bor Text × Bor Text))
 no_cut text None is = one_field text (λ k d below. fails_before_first is_colon text k d (omega (arith, is)))
 no_cut text (Some cut) is = tt
 
--- fields without a colon, joined by colons, are these fields
+-- fields without a colon, joined by colons, are the fields of the joined text
 fields_joined : (first : Text) (more : List Text) → AllByRecursion Lacks (first ∷ more) → map_fields (join_with_byte colon (first ∷ more)) ≡ first ∷ more
 fields_joined first [] lack = one_field first lack.0
 fields_joined first (second ∷ more) lack =
@@ -97,7 +97,7 @@ none_named argument r none never map = ((λ some. absurd (let both : None ≡ So
 pub few_fields : (argument : Text) → length (map_fields argument) < 5 → (map : Named) → ¬ IsMapArgument argument map
 few_fields argument few map is = omega (arith, ap length (five_fields argument map is))
 
--- the fields of an argument that was cut at four colons
+-- the fields of a map argument are those of the argument that was cut at four colons
 pub record SameFields (argument fd kind key_size value_size max_entries : Text) (map : Named) (is : IsMapArgument argument map) : Type 0 where
   pub fd_is : is.fd ≡ fd
   pub kind_is : is.kind ≡ kind
@@ -208,7 +208,7 @@ same_map argument fd kind key_size value_size max_entries descriptor shape cut n
     let fd_is : descriptor ≡ map.fd = some_same _ _ _ _ (sym number) is.descriptor (ap descriptor_number (sym same.fd_is)) in
     ap (λ fd. named_with fd (Map shape)) fd_is ∙ ap (named_with map.fd) (ap Map shape_is ∙ sym is.target)
 
--- an argument of these fields names the map that they say
+-- an argument with these fields names this map
 pub named_by : (argument fd kind key_size value_size max_entries : Text) {descriptor : ℕ} {shape : MapShape} → argument ≡ join_with_byte colon (fd ∷ kind ∷ key_size ∷ value_size ∷ max_entries ∷ [])
     → descriptor_number fd ≡ Some descriptor → IsShapeOf shape kind key_size value_size max_entries → IsMapArgument argument (record { fd = descriptor; target = Map shape })
 named_by argument fd kind key_size value_size max_entries {descriptor} {shape} spelled number shaped = record {
@@ -238,7 +238,7 @@ one_named argument fd kind key_size value_size max_entries descriptor shape cut 
     (sym number) shaped in
     ((λ e. subst (IsMapArgument argument) (some_map _ _ e) is), (λ other. ap Some (same_map argument fd kind key_size value_size max_entries descriptor shape cut number shaped map other)))
 
--- two maps that an argument names are one
+-- two maps that an argument names are the same
 pub one_map : (argument : Text) (a b : Named) → IsMapArgument argument a → IsMapArgument argument b → a ≡ b
 unfolding named_with
 one_map argument a b is_a is_b =
@@ -248,7 +248,7 @@ one_map argument a b is_a is_b =
     (sym is_a.descriptor) is_a.shaped in
     some_map a b (ap (λ target. Some (named_with a.fd target)) is_a.target ∙ (named b).1 is_b)
 
--- ---- what was read of an argument
+-- ---- the map that was read from an argument
 
 pub none_read : {E : Type 0} (r : Result Named E) (map : Named) → None ≡ result_ok r → r ≡ Ok map → ⊥
 none_read r map none ok = let both : None ≡ Some map = none ∙ ap result_ok ok in cc both

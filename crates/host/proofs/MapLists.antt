@@ -1,4 +1,4 @@
--- Several arguments name one list of maps, or one of them is the first wrong one.
+-- Arguments name one list of maps, or one of them is the first wrong argument.
 use Rattle.std.proofs.Common.{◌≡◌, ◌≢◌, ◌∙◌, ◌<◌, ◌+◌, ◌==◌, ◌||◌, ℕ, zero, suc, Bool, true, false, true≢false, List, [], ◌∷◌, ◌++◌, length, get_or, take, drop, ap, ap₂, sym, subst, refl, arith, Bor}
 use Rattle.std.specs.List.{AllPairs, AllZip}
 use Rattle.std.proofs.lemmas.Bool.Decides.{nat_tests}
@@ -14,7 +14,7 @@ use Rattle.host.proofs.MapArguments.{one_map}
 abbrev Differ : Named → Named → Type 0
 Differ a b = a.fd ≢ b.fd
 
--- ---- one argument more
+-- ---- one more argument
 
 both_false : (a b : Bool) → (a || b) ≡ false → (a ≡ false) × (b ≡ false)
 both_false true b e = absurd (true≢false e)
@@ -77,7 +77,7 @@ next_wrong arguments i d maps below are wrong = record {
   number_is = omega (arith, length_before arguments i below);
 }
 
--- ---- right arguments have no wrong one
+-- ---- if all arguments name maps, none is wrong
 
 -- the maps of the first arguments, of the next one, and of the others
 pub record AreParted (before : List Text) (argument : Text) (after : List Text) (maps : List Named) : Type 0 where

@@ -1,4 +1,4 @@
--- No failure of a run over streams is that the arguments are wrong.
+-- No failure of a run on streams is a failure of the arguments.
 use Rattle.std.proofs.Common.{◌≢◌, ◌∙◌, ℕ, List, Result, Ok, Err, IfErr, ap, subst, sym, inl, inr, arith}
 use Rattle.bpf_text.specs.declared.fault.TextFaultKind.{TextFaultKind}
 use Rattle.bpf_text.specs.declared.fault.TextFaultKind.TheVariants as text
@@ -18,7 +18,7 @@ use Rattle.host.specs.declared.program.failure.Failure.TheVariants.{TooLong, Rea
 use Rattle.host.specs.declared.program.texts.TextTask.{TextTask}
 use Rattle.host.specs.declared.program.texts.TextTask.TheVariants.{Assemble, Disassemble}
 
--- the failure is not that the arguments are wrong
+-- the failure is not one of the arguments
 abbrev pub IsOther : Failure → Type 0
 IsOther failure = exit_status failure ≢ 2
 
@@ -32,7 +32,7 @@ at_slot : (slot : ℕ) (kind : FaultKind) → IsOther (failure_at slot kind)
 at_slot slot codec.Memory = λ e. omega (arith, e)
 at_slot slot other = λ e. omega (arith, e)
 
--- ---- refused inputs
+-- ---- inputs that are rejected
 
 pub refused_otherwise : (task : TextTask) (input : List ℕ) (failure : Failure) → IsInputRefused task input failure → IsOther failure
 refused_otherwise Assemble input failure (inl none) = λ e. omega (arith, sym (ap exit_status none.1) ∙ e)

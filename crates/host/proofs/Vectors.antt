@@ -1,4 +1,4 @@
--- Words that name maps, and arguments that name none.
+-- Arguments that name maps, and arguments that name none.
 use Rattle.std.proofs.Common.{◌≡◌, ◌∷◌, [], Some, None, codes, refl}
 use Rattle.clap.proofs.OnLiterals.{clap_on_literals}
 use Rattle.tagged_model.specs.declared.shape.MapKind.TheVariants.{Array, Hash}

@@ -1,2 +1,2 @@
--- What private contracts and proofs cite. No public contract names it.
+-- Definitions for private contracts and proofs. No public contract names them.
 pub mod program

@@ -1,4 +1,4 @@
--- A batch is the calls on its frames.
+-- A batch is the same as the calls with its frames.
 use Rattle.std.proofs.Common.{◌≡◌, ℕ, zero, suc, ◌<◌, List, [], ◌∷◌, length, set, get_or, Option, Some, None, refl, sym, ap, subst, ◌∙◌, inl, inr, arith, length-set}
 use Rattle.std.specs.Prelude.{pos, slice_get, Result, ◌⊎◌}
 use Rattle.std.proofs.lemmas.Bool.{cases_eq}
@@ -14,7 +14,7 @@ use Rattle.host_core.specs.Batch.{ChangesTenant, BatchIsItsCalls}
 use Rattle.host_core.specs.Handled.{Handles}
 use Rattle.host_core.proofs.Tenants.{slice_get-set_same, slice_get-set_other}
 
--- lists that have the same at each place
+-- lists with the same element at each place
 same_places : {X : Type 0} (xs ys : List X) → length ys ≡ length xs → ((i : ℕ) → slice_get ys i ≡ slice_get xs i) → ys ≡ xs
 same_places [] [] long each = refl
 same_places [] (y ∷ ys) long each = let wrong : suc (length ys) ≡ 0 = long in absurd (omega arith)
@@ -30,11 +30,11 @@ within [] i x found = let wrong : None ≡ Some x = found in cc
 within (y ∷ xs) zero x found = omega arith
 within (y ∷ xs) (suc i) x found = let rest = within xs i x found in omega arith
 
--- a result is no fault
+-- the reply to a run with a result is no fault
 result_is_no_fault : (frame payload : List ℕ) → ¬ IsFault (reply_to frame (pos 0) payload)
 result_is_no_fault frame payload e = let same : 0 ≡ 242 = ap (λ (b : List ℕ). get_or b 0 0) e in absurd (omega (arith, same))
 
--- nothing was run
+-- no packet was run
 none_run : (t : ℕ) (before after : List TenantState) (s last : TenantState) → slice_get before t ≡ Some s → last ≡ s → slice_get after t ≡ Some last → ChangesTenant t before after → after ≡ before
 none_run t before after s last found same left changes = same_places before after changes.count (λ i. by i (cases_eq i t))
   where
@@ -43,7 +43,7 @@ none_run t before after s last found same left changes = same_places before afte
         ap (slice_get after) here ∙ left ∙ ap (λ (x : TenantState). Some x) same ∙ sym found ∙ ap (slice_get before) (sym here)
     by i (inr other) = changes.others i other
 
--- one run
+-- one packet was run
 one_run : (t : ℕ) (frame payload : List ℕ) (before : List TenantState) (s between : TenantState) → owner frame ≡ t → slice_get before t ≡ Some s
     → MayReply frame (reply_to frame (pos 0) payload) (Some s) (Some between) → Handles before frame (reply_to frame (pos 0) payload) (set before t between)
 one_run t frame payload before s between own found told =

@@ -1,4 +1,4 @@
--- How a stream of known bytes ends.
+-- The result of a stream whose bytes are known.
 use Rattle.std.proofs.Common.{◌≡◌, ◌≢◌, ℕ, ◌+◌, ◌<◌, ◌≤◌, Bool, true, false, List, [], ◌∷◌, ◌++◌, length, Option, Some, None, Result, Ok, Err, refl, sym, ap, ap₂, subst, ◌∙◌, arith, append-nil, append_assoc, length-append, inl, inr}
 use Rattle.std.specs.Prelude.{◌⊎◌, ◌==◌, nat_lt, if◌then◌else◌}
 use Rattle.std.proofs.lemmas.Bool.{lt-ltb, le-ltb}
@@ -39,25 +39,25 @@ chosen b c x y e = ap (λ (d : Bool). if d then x else y) e
 past_limit : (limit many : ℕ) (rest : List ℕ) → limit < many → stream_result limit many rest ≡ Err (record { kind = TooManyFrames; frames = limit })
 past_limit limit many rest more = chosen (nat_lt limit many) true _ _ (lt-ltb limit many more)
 
--- no more, and nothing follows
+-- at most as many, and no bytes after them
 at_end : (limit many : ℕ) (rest : List ℕ) → many ≤ limit → rest ≡ [] → stream_result limit many rest ≡ Ok many
 at_end limit many rest few none = chosen (nat_lt limit many) false _ _ (le-ltb limit many few) ∙ chosen (length rest == 0) true _ _ (ap (λ (l : List ℕ). length l == 0) none)
 
--- just as many, and bytes follow
+-- exactly as many, and bytes after them
 at_limit : (limit many : ℕ) (rest : List ℕ) → many ≡ limit → 0 < length rest → stream_result limit many rest ≡ Err (record { kind = TooManyFrames; frames = limit })
 at_limit limit many rest same some =
     chosen (nat_lt limit many) false _ _ (le-ltb limit many (omega arith))
     ∙ chosen (length rest == 0) false _ _ (some_left rest some)
     ∙ chosen (many == limit) true _ _ (is_equal many limit same)
 
--- fewer, and bytes follow
+-- fewer, and bytes after them
 in_frame : (limit many : ℕ) (rest : List ℕ) → many < limit → 0 < length rest → stream_result limit many rest ≡ Err (record { kind = Truncated; frames = many })
 in_frame limit many rest fewer some =
     chosen (nat_lt limit many) false _ _ (le-ltb limit many (omega arith))
     ∙ chosen (length rest == 0) false _ _ (some_left rest some)
     ∙ chosen (many == limit) false _ _ (is_other many limit (λ e. omega (arith, e)))
 
--- ---- what was read of known bytes
+-- ---- the frames that were read from known bytes
 
 -- the bytes that were read, and those that are left
 read_of : (old new : Option (List ℕ)) (bytes read : List ℕ) → old ≡ Some bytes → Consumes old new read → (left : List ℕ) × (new ≡ Some left) × (bytes ≡ read ++ left)
@@ -67,7 +67,7 @@ read_of old (Some left) bytes read known consumed = (left, refl, subst (λ (o : 
 none_left : (new : Option (List ℕ)) (left : List ℕ) → new ≡ Some left → IsAtEnd new → left ≡ []
 none_left new left known end = subst IsAtEnd known end
 
--- what follows the frames that were read: more frames, and then the rest
+-- the stream after the frames that were read: the other frames and the rest
 follows : FramesInFront → (old new : StreamState) (count : ℕ) (bytes after rest : List ℕ) (frames : List (List ℕ)) → old.input ≡ Some bytes → IsStream bytes frames rest → AnswersFrames old new count after
     → (left : List ℕ) × (more : List (List ℕ)) × (new.input ≡ Some left) × (length frames ≡ count + length more) × IsStream (after ++ left) more rest
 follows law old new count bytes after rest frames known stream (first, replies, many, s) =
@@ -78,12 +78,12 @@ follows law old new count bytes after rest frames known stream (first, replies, 
 framed_some : (frame : List ℕ) (frames : List (List ℕ)) (rest : List ℕ) → 4 ≤ length (flat_map framed (frame ∷ frames) ++ rest)
 framed_some frame frames rest = omega (arith, length-append (flat_map framed (frame ∷ frames)) rest, length-append (framed frame) (flat_map framed frames))
 
--- of no bytes there are no frames and no rest
+-- no bytes have no frames and no rest
 of_none : (bytes : List ℕ) (more : List (List ℕ)) (rest : List ℕ) → bytes ≡ [] → IsStream bytes more rest → (length more ≡ 0) × (rest ≡ [])
 of_none bytes [] rest none is = (refl, sym is.spelled ∙ none)
 of_none bytes (frame ∷ frames) rest none is = absurd (omega (arith, ap length (sym is.spelled ∙ none), framed_some frame frames rest))
 
--- of bytes that are no whole frame there are no frames
+-- bytes that are less than a whole frame have no frames
 of_partial : FramesInFront → (bytes : List ℕ) (more : List (List ℕ)) (rest : List ℕ) → IsPartial bytes → IsStream bytes more rest → (length more ≡ 0) × (rest ≡ bytes)
 of_partial law bytes more rest partial is =
     let (none, nothing, tail) = law bytes more [] rest bytes is.each is.spelled (record { each = tt; partial = partial; spelled = refl }) in
@@ -93,7 +93,7 @@ of_partial law bytes more rest partial is =
     as_rest [] no_frames is = is
     as_rest (frame ∷ frames) no_frames is = absurd (omega arith)
 
--- ---- by the end of the call
+-- ---- by the way in which the call ends
 
 ends_done : FramesInFront → (limit count : ℕ) (old new : StreamState) (bytes rest : List ℕ) (frames : List (List ℕ)) → old.input ≡ Some bytes → IsStream bytes frames rest → count ≤ limit → ServesToEnd old new count
     → Ok count ≡ stream_result limit (length frames) rest

@@ -1,4 +1,4 @@
--- Which tenant a frame belongs to.
+-- The tenant of a frame.
 use Rattle.std.proofs.Common.{◌≡◌, ℕ, zero, suc, ◌≤◌, Bool, true, false, List, [], ◌∷◌, length, drop, Option, Some, None, refl, sym, ap, arith}
 use Rattle.std.specs.Prelude.{nat_lt, slice_get, if◌then◌else◌}
 use Rattle.std.proofs.lemmas.Option.{none-some, same_Some}
@@ -9,7 +9,7 @@ use Rattle.tenant.specs.Alone.{unserved_errno}
 use Rattle.tenant.specs.Errno.{status_of}
 use Rattle.tenant.specs.declared.errno.Errno.TheVariants.{NotPermitted, Invalid}
 
--- ---- a frame of no tenant that is served
+-- ---- a frame of a tenant that is not served
 
 abbrev head_if : Bool → ℕ → ℕ → Option Head
 head_if short m n = if short then None else Some (record { tenant = m; command = n })
@@ -19,7 +19,7 @@ headless : (short : Bool) (m n : ℕ) → head_if short m n ≡ None
 headless true m n e = refl
 headless false m n e = absurd (none-some (record { tenant = m; command = n }) (sym e))
 
--- one without a head
+-- a frame without a head
 pub refused_headless : (frame : List ℕ) → head_of frame ≡ None → reply_bytes 65535 65535 (status_of Invalid) [] ≡ reply_to frame (status_of (unserved_errno frame)) []
 refused_headless frame e = headless (nat_lt (length frame) 4) (little_number 2 frame) (little_number 2 (drop 2 frame)) e
 
@@ -28,7 +28,7 @@ headed : (short : Bool) (m n : ℕ) (h : Head) → head_if short m n ≡ Some h
 headed true m n h e = absurd (none-some h e)
 headed false m n h e = ap (λ (x : Head). reply_bytes x.tenant x.command (status_of NotPermitted) []) (same_Some h (record { tenant = m; command = n }) (sym e))
 
--- one with a head
+-- a frame with a head
 pub refused_headed : (frame : List ℕ) (h : Head) → head_of frame ≡ Some h → reply_bytes h.tenant h.command (status_of NotPermitted) [] ≡ reply_to frame (status_of (unserved_errno frame)) []
 refused_headed frame h e = headed (nat_lt (length frame) 4) (little_number 2 frame) (little_number 2 (drop 2 frame)) h e
 
@@ -48,7 +48,7 @@ by_no_length false frame is e = absurd (let wrong = rw is at e in cc wrong)
 pub no_head : (frame : List ℕ) → head_of frame ≡ None → owner frame ≡ 65535
 no_head frame e = by_no_length (nat_lt (length frame) 4) frame refl e
 
--- no state has a number behind the last
+-- an index past the end has no state
 pub no_state : {X : Type 0} (xs : List X) (i : ℕ) → length xs ≤ i → slice_get xs i ≡ None
 no_state [] i few = refl
 no_state (x ∷ xs) zero few = absurd (omega arith)

@@ -1,4 +1,4 @@
--- Each tenant of a host has a history, so it is restored.
+-- Each tenant of a host has a history, so its save restores it.
 use Rattle.std.proofs.Common.{◌≡◌, ◌≢◌, ◌⊎◌, inl, inr, ℕ, zero, suc, Bool, true, false, List, [], ◌∷◌, ◌++◌, length, Option, Some, None, Result, Ok, Err, refl, sym, ap, ap₂, subst, ◌∙◌, nat_eq, true≢false, arith, eqb-true, eq-eqb, ◌<◌, ◌^◌, map}
 use Rattle.std.specs.Prelude.{replicate, slice_get}
 use Rattle.std.specs.List.{AllByRecursion, flat_map}
@@ -32,7 +32,7 @@ use Rattle.host_core.proofs.Tenants.{saved_of}
 abbrev IsReached : TenantState → List Birth → Type 0
 IsReached s births = (commands : List Command) × IsHistory new_tenant [] commands s births
 
--- a history goes on
+-- a history with one more command
 further : (commands : List Command) (s t : TenantState) (births later : List Birth) (refusals : List Bool) (c : Command) (a : Answer) → IsHistory s births commands t later → Answers refusals t c a
     → IsHistory s births (commands ++ c ∷ []) a.after (births_after c a later)
 further [] s t births later refusals c a (same, same_births) answers = (refusals, a, subst (λ (x : TenantState). Answers refusals x c a) same answers, (refl, ap (births_after c a) same_births))
@@ -145,9 +145,9 @@ new_reached count = record {
   each = λ t s births there born. ([], (get_replicated count new_tenant s t there, get_replicated count (let none : List Birth = [] in none) births t born));
 }
 
--- ---- what is saved
+-- ---- a save
 
--- the bytes of parts are the frames of their commands
+-- the frames of the parts, joined, are the frames of all commands
 together : (tenant : ℕ) (ps : List (List Command)) → flat_map (λ (bytes : List ℕ). bytes) (map (frames_of tenant) ps) ≡ flat_map framed (map (frame_of tenant) (flat_map (λ (part : List Command). part) ps))
 together tenant [] = refl
 together tenant (p ∷ ps) =
@@ -155,7 +155,7 @@ together tenant (p ∷ ps) =
     ∙ sym (flat_map-append framed (map (frame_of tenant) p) (map (frame_of tenant) (flat_map (λ (part : List Command). part) ps)))
     ∙ ap (flat_map framed) (sym (map-append (frame_of tenant) p (flat_map (λ (part : List Command). part) ps)))
 
--- each is a frame of the tenant
+-- each of them is a frame of the tenant
 owned : FramesHaveOwners → (tenant : ℕ) → tenant < 2 ^ 16 → (cs : List Command) → AllByRecursion (λ (frame : List ℕ). owner frame ≡ tenant) (map (frame_of tenant) cs)
 owned law tenant few [] = tt
 owned law tenant few (c ∷ cs) = (law tenant c few, owned law tenant few cs)

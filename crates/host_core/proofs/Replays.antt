@@ -14,7 +14,7 @@ all_to : {X : Type 0} (P Q : X → Type 0) (xs : List X) → ((x : X) → P x �
 all_to P Q [] f all = tt
 all_to P Q (x ∷ xs) f all = (f x all.0, all_to P Q xs f all.1)
 
--- what two lists have in front, if it is there, tells nothing of what follows
+-- if two lists with an optional first element are equal, so are the lists without it
 same_later : (b : Bool) (x y : List ℕ) (xs ys : List (List ℕ)) → (if b then x ∷ xs else xs) ≡ (if b then y ∷ ys else ys) → xs ≡ ys
 same_later true x y xs ys e = cc
 same_later false x y xs ys e = e
@@ -31,7 +31,7 @@ same_first n x y xs ys e =
     let in_front = subst (λ (b : Bool). (if b then x ∷ xs else xs) ≡ (if b then y ∷ ys else ys)) (is_itself n) e in
     cc in_front
 
--- the tenants' replies make up all replies
+-- if each tenant has the same replies, all replies are the same
 replies_agree : (frames replies others : List (List ℕ)) → length replies ≡ length frames → length others ≡ length frames
     → AllByRecursion (λ frame. replies_of (owner frame) frames replies ≡ replies_of (owner frame) frames others) frames → replies ≡ others
 replies_agree [] [] [] paired paired_too agree = refl

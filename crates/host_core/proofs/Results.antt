@@ -1,4 +1,4 @@
--- Facts that hold whatever a result is.
+-- Facts that hold for all results.
 use Rattle.std.proofs.Common.{Result, Ok, Err, OnErr}
 
 pub on_err : {T E P : Type 0} (r : Result T E) → P → OnErr r P

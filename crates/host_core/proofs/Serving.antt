@@ -1,4 +1,4 @@
--- One frame more.
+-- Serving one more frame.
 use Rattle.std.proofs.Common.{◌≡◌, ◌≢◌, ℕ, ◌+◌, ◌<◌, ◌≤◌, Ok, Err, Bool, true, false, List, [], ◌∷◌, ◌++◌, length, Option, refl, sym, ap, subst, ◌∙◌, arith, append-nil, append_assoc, length-append, take, lit≤, inl}
 use Rattle.std.specs.Prelude.{slice_get, ◌==◌, if◌then◌else◌}
 use Rattle.std.proofs.lemmas.Bool.{eqb-true, eqb-false}
@@ -43,7 +43,7 @@ ahead : (same : Bool) (frame reply : List ℕ) (frames replies : List (List ℕ)
 ahead true frame reply frames replies before mid after own other rest = (mid, own refl, rest)
 ahead false frame reply frames replies before mid after own other rest = subst (λ (x : Option TenantState). AloneWithRefusals x frames replies after) (other refl) rest
 
--- a frame that is handled goes ahead of those that its tenant has behind it
+-- a frame that is handled comes before the later frames of its tenant
 handled_first : (t : ℕ) (frame reply : List ℕ) (frames replies : List (List ℕ)) (before mid : List TenantState) (after : Option TenantState) → Handles before frame reply mid → AloneWithRefusals (slice_get mid t) frames replies after
     → AloneWithRefusals (slice_get before t) (if owner frame == t then frame ∷ frames else frames) (if owner frame == t then reply ∷ replies else replies) after
 handled_first t frame reply frames replies before mid after h rest =
@@ -54,7 +54,7 @@ handled_first t frame reply frames replies before mid after h rest =
 pub served_none : (states : List TenantState) → EachIsToldByItsMachine states [] [] states
 served_none states t = refl
 
--- what each tenant is told goes on by one frame
+-- the replies to each tenant after one more frame
 pub served_more : (before mid after : List TenantState) (frames replies : List (List ℕ)) (frame reply : List ℕ) → length replies ≡ length frames
     → EachIsToldByItsMachine before frames replies mid → Handles mid frame reply after → EachIsToldByItsMachine before (frames ++ frame ∷ []) (replies ++ reply ∷ []) after
 served_more before mid after frames replies frame reply len served h t =
@@ -63,7 +63,7 @@ served_more before mid after frames replies frame reply len served h t =
     let rs = replies_of-push t frames replies frame reply len in
     rw (fs, rs) more
 
--- ---- calls of `handle`, one after another
+-- ---- calls of `handle` in sequence
 
 calls_told : (before after : List TenantState) (frames replies : List (List ℕ)) → HandlesInOrder before frames replies after → EachIsToldByItsMachine before frames replies after × NoneFaults replies
 calls_told before after [] [] same = ((λ t. ap (λ (s : List TenantState). slice_get s t) same), tt)
@@ -83,7 +83,7 @@ all_push : {X : Type 0} (P : X → Type 0) (xs : List X) (x : X) → AllByRecurs
 all_push P [] x h p = (p, tt)
 all_push P (y ∷ ys) x h p = (h.0, all_push P ys x h.1 p)
 
--- the frames that were read, and one more; `rest` is what came after it
+-- the frames that were read after one more frame; `rest` are the bytes after it
 pub read_more : (a b c : Option (List ℕ)) (frames : List (List ℕ)) (frame rest : List ℕ) → Consumes a b (flat_map framed frames ++ []) → Consumes b c (framed frame ++ rest)
     → Consumes a c (flat_map framed (frames ++ frame ∷ []) ++ rest)
 read_more a b c frames frame rest first later =
@@ -141,7 +141,7 @@ answered_rest old mid new count rest (frames, replies, len, s) h = (
   },
 )
 
--- the room held as much of the frame as its answer depends on
+-- the buffer has all bytes of the frame on which its reply depends
 pub turns : (old new : StreamState) (frame front reply out : List ℕ) → IsFrame frame → Consumes old.input new.input (framed frame) → IsKeptFrontOf front frame
     → Appends old.output new.output out → MayReply front reply (slice_get old.states (owner front)) (slice_get new.states (owner front))
     → ((other : ℕ) → other ≢ owner front → slice_get new.states other ≡ slice_get old.states other) → length new.states ≡ length old.states → ¬ IsFault reply → ServesOneFrame old new frame reply out
@@ -164,7 +164,7 @@ turns old new frame front reply out is_frame read stands written own others coun
 sound_both : (old mid new : StreamState) → NoCallFailed old mid → NoCallFailed mid new → NoCallFailed old new
 sound_both old mid new h k = (k.0 ∙ h.0, k.1 ∙ h.1)
 
--- a frame that stops the call
+-- the call stops in a frame
 pub frame_stops : (old mid new : StreamState) (kind : ServeFaultKind) (count : ℕ) → AnswersFrames old mid count [] → NoCallFailed old mid → StopsInFrame mid new kind → StopsWithFault old new kind count
 frame_stops old mid new Read count answered sound ((rest, partial, waits), failed) =
     (rest, partial, answered_rest old mid new count rest answered waits, omega (arith, sound.0, failed))
@@ -175,7 +175,7 @@ frame_stops old mid new Truncated count answered sound ((rest, partial, some, wa
 frame_stops old mid new TooManyFrames count answered sound h = absurd h
 frame_stops old mid new Memory count answered sound h = absurd h
 
--- reading changes nothing of what is flushed
+-- reads do not change what is flushed
 pub frame_stays_flushed : (old mid new : StreamState) (kind : ServeFaultKind) → IsFlushedAgain old mid → StopsInFrame mid new kind → kind ≢ Write → IsFlushedAgain old new
 frame_stays_flushed old mid new Read flushed ((rest, partial, waits), failed) other = record { again = λ first. waits.flushed ∙ flushed.again first }
 frame_stays_flushed old mid new Write flushed stopped other = absurd (other refl)
@@ -189,18 +189,18 @@ end_stays_flushed old mid new flushed (waits, end, more) = record { again = λ f
 pub frame_is_no_limit : (old new : StreamState) (kind : ServeFaultKind) {P : Type 0} → StopsInFrame old new kind → kind ≡ TooManyFrames → P
 frame_is_no_limit old new kind stopped same = absurd (subst (StopsInFrame old new) same stopped)
 
--- the input is at its end
+-- the input ends
 pub frame_done : (old mid new : StreamState) (count : ℕ) → AnswersFrames old mid count [] → NoCallFailed old mid → ServesFrameOrEnds mid new false → ServesToEnd old new count
 frame_done old mid new count answered sound (waits, end, more) = (answered_rest old mid new count [] answered waits, end, sound_both old mid new sound more)
 
--- as many frames are answered as the limit allows, and the input is at its end
+-- the limit of frames is reached, and the input ends
 pub end_done : (old mid new : StreamState) (count limit : ℕ) → count ≡ limit → AnswersFrames old mid count [] → NoCallFailed old mid → Consumes mid.input new.input []
     → new.output ≡ mid.output → new.flushed ≡ mid.flushed → new.states ≡ mid.states → IsAtEnd new.input → NoCallFailed mid new → ServesToEnd old new limit
 end_done old mid new count limit same answered sound read written flushed states end more =
     let rest = answered_rest old mid new count [] answered (record { read = read; written = written; flushed = flushed; states = states }) in
     (subst (λ (n : ℕ). AnswersFrames old new n []) same rest, end, sound_both old mid new sound more)
 
--- each tenant was told what its machine alone tells it
+-- the replies to each tenant are those of its machine
 answered_alone : UnrefusedAreToldAlone → (old new : StreamState) (count : ℕ) (rest : List ℕ) → IsPartial rest → AnswersFrames old new count rest → ServesAlone old new count rest
 answered_alone law old new count rest partial (frames, replies, many, s) = record {
   frames = frames;
@@ -217,7 +217,7 @@ answered_alone law old new count rest partial (frames, replies, many, s) = recor
 pub serves_alone : UnrefusedAreToldAlone → (old new : StreamState) (count : ℕ) → ServesToEnd old new count → ServesAlone old new count []
 serves_alone law old new count (answered, end, sound) = answered_alone law old new count [] (inl (lit≤ tt)) answered
 
--- before anything is read nobody is told anything
+-- before anything is read there are no replies
 pub nothing_served : (m : StreamState) → ServesAlone m m 0 []
 nothing_served m = record {
   frames = [];
@@ -242,21 +242,21 @@ stops_alone law old new Memory count (none, same) whole =
 pub frame_more : (old mid new : StreamState) (count : ℕ) → AnswersFrames old mid count [] → NoCallFailed old mid → ServesFrameOrEnds mid new true → AnswersFrames old new (count + 1) [] × NoCallFailed old new × IsFlushedAgain old new
 frame_more old mid new count answered sound ((frame, reply, turn), flushed, more) = (answered_more old mid new count frame reply answered turn, sound_both old mid new sound more, record { again = λ first. flushed })
 
--- as many frames are answered as the limit allows, and another byte follows
+-- the limit of frames is reached, and another byte follows
 pub end_more : (old mid new : StreamState) (count limit byte : ℕ) → count ≡ limit → AnswersFrames old mid count [] → NoCallFailed old mid → Consumes mid.input new.input (byte ∷ [])
     → new.output ≡ mid.output → new.flushed ≡ mid.flushed → new.states ≡ mid.states → NoCallFailed mid new → StopsWithFault old new TooManyFrames limit
 end_more old mid new count limit byte same answered sound read written flushed states more =
     let rest = answered_rest old mid new count (byte ∷ []) answered (record { read = read; written = written; flushed = flushed; states = states }) in
     (byte, subst (λ (n : ℕ). AnswersFrames old new n (byte ∷ [])) same rest, sound_both old mid new sound more)
 
--- or the call fails that would tell
+-- the limit of frames is reached, and the read that looks for another byte fails
 pub end_fails : (old mid new : StreamState) (count limit : ℕ) (kind : ServeFaultKind) → kind ≡ Read → count ≡ limit → AnswersFrames old mid count [] → NoCallFailed old mid
     → Consumes mid.input new.input [] → new.output ≡ mid.output → new.flushed ≡ mid.flushed → new.states ≡ mid.states → mid.read_failures < new.read_failures → StopsWithFault old new kind limit
 end_fails old mid new count limit kind is same answered sound read written flushed states failed =
     let rest = answered_rest old mid new count [] answered (record { read = read; written = written; flushed = flushed; states = states }) in
     subst (λ (k : ServeFaultKind). StopsWithFault old new k limit) (sym is) ([], inl (lit≤ tt), subst (λ (n : ℕ). AnswersFrames old new n []) same rest, omega (arith, sound.0, failed))
 
--- ---- what a call of `serve` promises
+-- ---- the contract of `serve`
 
 pub ends_served : UnrefusedAreToldAlone → (limit count : ℕ) (old new : StreamState) → count ≤ limit → IsFlushedAgain old new → ServesToEnd old new count → ServesStream limit (Ok count) old new
 ends_served law limit count old new few flushed served = record {

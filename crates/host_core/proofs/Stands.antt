@@ -1,4 +1,4 @@
--- A frame that was cut to the room for it is answered as the whole one.
+-- A frame that is cut to the size of the buffer has the same reply as the whole frame.
 use Rattle.std.proofs.Common.{◌≡◌, ℕ, ◌<◌, true, false, List, [], length, take, drop, get_or, Option, Some, None, Result, refl, sym, ap, subst, ◌∙◌, arith, inl, inr}
 use Rattle.std.specs.Prelude.{ℤ, nat_lt, if◌then◌else◌}
 use Rattle.std.proofs.lemmas.Bool.{lt-ltb, le-ltb}
@@ -45,7 +45,7 @@ pub stands_owner : (front frame : List ℕ) → IsKeptFrontOf front frame → ow
 stands_owner front frame (inl same) = ap owner same
 stands_owner front frame (inr h) = same_owner front frame h.0 h.1 h.2
 
--- neither frame is looked at
+-- frames that are too long are not parsed, so both have the same fault
 same_parsed : (front frame : List ℕ) → longest_frame < length front → longest_frame < length frame → parsed front ≡ parsed frame
 same_parsed front frame long_front long_frame =
     let front_long : nat_lt longest_frame (length front) ≡ true = lt-ltb longest_frame (length front) long_front in

@@ -1,4 +1,4 @@
--- The states of all tenants, of which one moves.
+-- The states of all tenants, if one of them changes.
 use Rattle.std.proofs.Common.{◌≡◌, ◌≢◌, ℕ, zero, suc, ◌+◌, ◌<◌, ◌≤◌, Bool, true, false, List, [], ◌∷◌, ◌++◌, length, Option, Some, None, refl, sym, ap, ap₂, subst, ◌∙◌, arith, get_or, set, length-set}
 use Rattle.std.proofs.lemmas.List.{map-append}
 use Rattle.std.proofs.lemmas.Option.{none-some, same_Some, slice_get_read, slice_get-map}
@@ -36,7 +36,7 @@ set_there [] i x found = refl
 set_there {X} (y ∷ ys) zero x found = let same : x ≡ y = cc in ap (λ (z : X). z ∷ ys) same
 set_there {X} (y ∷ ys) (suc i) x found = ap (λ (l : List X). y ∷ l) (set_there ys i x found)
 
--- what an index read is there
+-- an element that was read by its index is in the list
 pub slice_get_in : {X : Type 0} (xs : List X) (i : ℕ) (x : X) → i < length xs → x ≡ get_or xs i x → slice_get xs i ≡ Some x
 slice_get_in xs i x lt e = slice_get_read xs (length xs) i x refl lt e
 
@@ -47,7 +47,7 @@ unfolding states_from
 states_length m t [] = refl
 states_length m t (k ∷ ks) = ap suc (states_length m (t + 1) ks)
 
--- the state of a tenant is the one that its own part and what is kept of it stand for
+-- the state of a tenant is represented by its part and its record
 state_from : (m : Memory) (t : ℕ) (ks : List RecordedTenant) (i : ℕ) → slice_get (states_from m t ks) i ≡ option_map (tenant_state (part_bytes m (t + i))) (slice_get ks i)
 unfolding states_from
 state_from m t [] i = refl
@@ -66,7 +66,7 @@ states_push m t (x ∷ ks) k =
     let same : t + 1 + length ks ≡ t + suc (length ks) = omega arith in
     ap (λ (l : List TenantState). tenant_state (part_bytes m t) x ∷ l) (states_push m (t + 1) ks k ∙ ap (λ (n : ℕ). states_from m (t + 1) ks ++ tenant_state (part_bytes m n) k ∷ []) same)
 
--- ---- one tenant moves
+-- ---- one tenant changes
 
 pub own_before : (m : Memory) (ks : List RecordedTenant) (i : ℕ) (k : RecordedTenant) → slice_get ks i ≡ Some k → slice_get (states_in m ks) i ≡ Some (tenant_state (part_bytes m i) k)
 own_before m ks i k e = state_of m ks i ∙ ap (option_map (tenant_state (part_bytes m i))) e
@@ -74,7 +74,7 @@ own_before m ks i k e = state_of m ks i ∙ ap (option_map (tenant_state (part_b
 pub own_after : (m : Memory) (ks : List RecordedTenant) (i : ℕ) (k : RecordedTenant) → i < length ks → slice_get (states_in m (set ks i k)) i ≡ Some (tenant_state (part_bytes m i) k)
 own_after m ks i k lt = own_before m (set ks i k) i k (slice_get-set_same ks i k lt)
 
--- where no part but its own changes, every other state stays
+-- if only its own part changes, the states of the other tenants do not change
 pub others_stay : (m n : Memory) (ks : List RecordedTenant) (i other : ℕ) (k : RecordedTenant) → other ≢ i → part_bytes n other ≡ part_bytes m other
     → slice_get (states_in n (set ks i k)) other ≡ slice_get (states_in m ks) other
 others_stay m n ks i other k ne same =
@@ -88,7 +88,7 @@ count_stays m n ks i k = states_length n 0 (set ks i k) ∙ length-set ks i k �
 pub state_there : (m : Memory) (ks : List RecordedTenant) (states : List TenantState) (i : ℕ) (k : RecordedTenant) → states_in m ks ≡ states → slice_get ks i ≡ Some k → slice_get states i ≡ Some (tenant_state (part_bytes m i) k)
 state_there m ks states i k is found = ap (λ (s : List TenantState). slice_get s i) (sym is) ∙ own_before m ks i k found
 
--- it goes on in its own
+-- its own state changes by the reply
 pub tells_own : (m n : Memory) (ks : List RecordedTenant) (states : List TenantState) (i o : ℕ) (k l : RecordedTenant) (frame reply : List ℕ) → states_in m ks ≡ states → i ≡ o → i < length ks → slice_get ks i ≡ Some k
     → MayReply frame reply (Some (tenant_state (part_bytes m i) k)) (Some (tenant_state (part_bytes n i) l)) → MayReply frame reply (slice_get states o) (slice_get (states_in n (set ks i l)) o)
 tells_own m n ks states i o k l frame reply is own lt found told =
@@ -97,14 +97,14 @@ tells_own m n ks states i o k l frame reply is own lt found told =
     let here = subst (λ (x : Option TenantState). MayReply frame reply (slice_get states i) x) (sym after) (subst (λ (x : Option TenantState). MayReply frame reply x (Some (tenant_state (part_bytes n i) l))) (sym before) told) in
     subst (λ (j : ℕ). MayReply frame reply (slice_get states j) (slice_get (states_in n (set ks i l)) j)) own here
 
--- the reply to a frame of no tenant that is served
+-- the reply to a frame of a tenant that is not served
 pub tells_none : (states : List TenantState) (i : ℕ) (frame reply : List ℕ) → slice_get states i ≡ None
     → reply ≡ reply_to frame (status_of (if nat_lt (length frame) 4 then Invalid else NotPermitted)) [] → MayReply frame reply (slice_get states i) (slice_get states i)
 tells_none states i frame reply none told = subst (λ (x : Option TenantState). MayReply frame reply x x) (sym none) ([], (refl, told))
 
 -- ---- the flag
 
--- what is told of the flag of a tenant that is served is told of its state
+-- the flag of a tenant that is served is the flag of its state
 module _ (m : Memory) (ks : List RecordedTenant) (states : List TenantState) (i : ℕ) (k : RecordedTenant) (is : states_in m ks ≡ states) (found : slice_get ks i ≡ Some k) (flag : Bool) (told : (part : List ℕ) → flag ≡ (tenant_state part k).refused) where
   pub told_unrefused : flag ≡ false → IsUnrefused (slice_get states i)
   told_unrefused clear = subst IsUnrefused (sym (state_there m ks states i k is found)) (sym (told (part_bytes m i)) ∙ clear)
@@ -114,7 +114,7 @@ module _ (m : Memory) (ks : List RecordedTenant) (states : List TenantState) (i 
       let here : (tenant_state (part_bytes m i) k).refused ≡ false = subst IsUnrefused (state_there m ks states i k is found) unrefused in
       let wrong : true ≡ false = sym set ∙ told (part_bytes m i) ∙ here in cc wrong
 
--- one that is not served has no state, and so no flag
+-- a tenant that is not served has no state, and so no flag
 pub none_unrefused : (states : List TenantState) (i : ℕ) → length states ≤ i → IsUnrefused (slice_get states i)
 none_unrefused states i few = subst IsUnrefused (sym (no_state states i few)) tt
 
@@ -141,11 +141,11 @@ runs_own m n ks states i fd k l words room written packets is lt found runs =
     let after = own_after n ks i l lt in
     subst (λ (x : Option TenantState). RunsFor fd words x packets room written (slice_get (states_in n (set ks i l)) i)) (sym before) (tenant_state (part_bytes n i) l, runs, after)
 
--- a tenant that is put back as it was
+-- a tenant whose record is not changed
 pub put_back : (m n : Memory) (ks : List RecordedTenant) (i : ℕ) (k l : RecordedTenant) → slice_get ks i ≡ Some k → l ≡ k → n ≡ m → host_state n (set ks i l) ≡ host_state m ks
 put_back m n ks i k l found same still = ap₂ (λ (x : Memory) (y : RecordedTenant). host_state x (set ks i y)) still same ∙ ap (host_state m) (set_there ks i k found)
 
--- what a result brings with it
+-- an implication in the value of a result
 pub with_ok : {A E : Type 0} {P Q : Type 0} (r : Result A E) → (P → Q) → OnOk r P → OnOk r Q
 with_ok (Ok x) f p = f p
 with_ok (Err e) f p = tt
@@ -156,7 +156,7 @@ with_err (Err e) f p = f p
 
 -- ---- births
 
--- the two lists of a host
+-- the states and the births of a host
 pub states_are : (m : Memory) (ks : List RecordedTenant) (h : HostState) → host_state m ks ≡ h → states_in m ks ≡ h.states
 states_are m ks h is = ap (λ (x : HostState). x.states) is
 
@@ -167,7 +167,7 @@ births_count : (ks : List RecordedTenant) → length (births_in ks) ≡ length k
 births_count [] = refl
 births_count (k ∷ ks) = ap suc (births_count ks)
 
--- a tenant that keeps its births
+-- a tenant whose births do not change
 pub births_stay : (ks : List RecordedTenant) (i : ℕ) (k l : RecordedTenant) → slice_get ks i ≡ Some k → l.births ≡ k.births → births_in (set ks i l) ≡ births_in ks
 births_stay [] i k l found same = refl
 births_stay (x ∷ ks) zero k l found same =
@@ -182,7 +182,7 @@ no_births_more ks k n new none =
     map-append (λ (t : RecordedTenant). t.births) ks (k ∷ []) ∙ ap (λ (bss : List (List Birth)). bss ++ k.births ∷ []) new
     ∙ ap (λ (bs : List Birth). replicate n empty ++ bs ∷ []) none ∙ replicate_push n empty ∙ ap (λ (i : ℕ). replicate i empty) counted
 
--- a frame of no tenant that is served changes none
+-- a frame of a tenant that is not served does not change the births
 pub records_none : (h : HostState) (frame reply : List ℕ) → slice_get h.states (owner frame) ≡ None → Records frame reply h h
 records_none h frame reply none = record {
   own = λ s births there others. absurd (none-some s (sym none ∙ there));
@@ -190,7 +190,7 @@ records_none h frame reply none = record {
   count = refl;
 }
 
--- the births of the tenant of a frame follow its command
+-- the births of the tenant of a frame after its command
 pub records_own : (m n : Memory) (ks : List RecordedTenant) (h : HostState) (i : ℕ) (k l : RecordedTenant) (frame reply : List ℕ) → host_state m ks ≡ h → i ≡ owner frame → i < length ks → slice_get ks i ≡ Some k
     → RecordsFrame frame reply (tenant_state (part_bytes m i) k) (tenant_state (part_bytes n i) l) k.births l.births → Records frame reply h (host_state n (set ks i l))
 records_own m n ks h i k l frame reply is own lt found told =
@@ -226,7 +226,7 @@ records_own m n ks h i k l frame reply is own lt found told =
         ∙ ap (option_map (λ (t : RecordedTenant). t.births)) (slice_get-set_other ks i other l (λ e. ne (e ∙ own)))
         ∙ sym (births_of ks other)
 
--- ---- what is saved
+-- ---- saves
 
 abbrev pub saved_of : ℕ → ℕ → Option TenantState → Option (List Birth) → Option (List ℕ)
 saved_of tenant part s bs = option_and_then (λ (x : TenantState). option_and_then (λ (births : List Birth). option_map (frames_of tenant) (slice_get (parts x births) part)) bs) s
@@ -238,6 +238,6 @@ saved_there m ks h t part k is found =
     sym (ap (λ (x : HostState). saved_part x t part) (sym is)
     ∙ ap₂ (saved_of t part) (own_before m ks t k found) (births_of ks t ∙ ap (option_map (λ (x : RecordedTenant). x.births)) found))
 
--- and one that is not
+-- a tenant that is not served
 pub saved_nowhere : (h : HostState) (t part : ℕ) → slice_get h.states t ≡ None → saved_part h t part ≡ None
 saved_nowhere h t part none = ap (λ (s : Option TenantState). saved_of t part s (slice_get h.births t)) none

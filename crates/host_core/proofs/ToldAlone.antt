@@ -1,4 +1,4 @@
--- A tenant to which no memory was refused is told what its machine alone tells it.
+-- If a tenant was refused no memory, its replies are those of its own machine without refusals.
 use Rattle.std.proofs.Common.{ℕ, List, [], ◌∷◌, Option, Some, None, refl, subst}
 use Rattle.std.specs.Prelude.{slice_get}
 use Rattle.tenant.specs.Laws.{ClearFlagMeansAlone, AloneUntilRefused, OneAlone}
@@ -7,7 +7,7 @@ use Rattle.tenant.specs.Alone.{frames_of, replies_of, IsToldAlone, AloneWithRefu
 use Rattle.host_core.specs.Laws.{UnrefusedAreToldAlone, EachIsToldAloneUntilRefused, SameFramesSameReplies}
 use Rattle.host_core.specs.Served.{IsUnrefused}
 
--- a tenant that is served is so to the end
+-- a tenant that is served is still served at the end
 stays_served : (s : TenantState) (frames replies : List (List ℕ)) → ¬ AloneWithRefusals (Some s) frames replies None
 stays_served s [] [] h = cc h
 stays_served s (frame ∷ frames) (reply ∷ replies) (between, (refusals, (a, answers, told, goes)), rest) =
@@ -15,7 +15,7 @@ stays_served s (frame ∷ frames) (reply ∷ replies) (between, (refusals, (a, a
 stays_served s [] (reply ∷ replies) h = absurd h
 stays_served s (frame ∷ frames) [] h = absurd h
 
--- one that is not served is never so
+-- a tenant that is not served is never served
 unserved : (frames replies : List (List ℕ)) (after : Option TenantState) → AloneWithRefusals None frames replies after → IsToldAlone None frames replies after
 unserved [] [] after h = h
 unserved (frame ∷ frames) (reply ∷ replies) after (between, (refusals, (goes, told)), rest) =

@@ -20,8 +20,8 @@ HandlesInOrder before (frame ∷ frames) (reply ∷ replies) after =
 HandlesInOrder before [] (reply ∷ replies) after = ⊥
 HandlesInOrder before (frame ∷ frames) [] after = ⊥
 
--- Over a sequence of calls, each tenant gets replies that its machine may give to its own frames, and where no memory was
--- refused to it, those of its machine alone; and no test run faults.
+-- Over a sequence of calls, each tenant gets replies that its machine may give to its own frames, and if no memory was
+-- refused to it, exactly those of its machine without refusals; and no test run faults.
 abbrev pub CallsAreToldAlone : Type 0
 CallsAreToldAlone =
     (before after : List TenantState) (frames replies : List (List ℕ)) → HandlesInOrder before frames replies after

@@ -40,7 +40,7 @@ pub record BeginsAlike (old new old_too new_too : List TenantState) (t : ℕ) : 
   pub unrefused_too : IsUnrefused (slice_get new_too t)
 
 -- Two streams with the same frames have the same replies, and the same bytes are written, whatever hosts serve them, if each tenant
--- of these frames begins alike in both.
+-- of these frames has the same state at the beginning of both.
 abbrev pub SameFramesSameOutput : Type 0
 SameFramesSameOutput =
     (old new old_too new_too : StreamState) (count count_too : ℕ) (rest rest_too : List ℕ)

@@ -1,4 +1,4 @@
--- What a call of `serve` does: the frames that it reads, the replies to them, and where it stops. This project's own.
+-- The effect of a call of `serve`: the frames that it reads, the replies to them, and the point at which it stops. This project's own.
 use Rattle.std.specs.Prelude.{◌≡◌, ◌≢◌, Bool, true, false, ℕ, ◌+◌, ◌<◌, ◌≤◌, List, [], ◌∷◌, ◌++◌, length, take, slice_get, Option, Some, None, Result, IfOk, IfErr, OnOk}
 use Rattle.std.specs.List.{flat_map, AllByRecursion}
 use Rattle.std.specs.Io.KnownBytes.{Consumes, Appends, IsAtEnd}
@@ -23,8 +23,8 @@ abbrev pub IsUnrefused : Option TenantState → Type 0
 IsUnrefused None = Unit {0}
 IsUnrefused (Some s) = s.refused ≡ false
 
--- Each tenant to which no memory was refused gets just the replies that its own machine, which knows of nobody else, gives to
--- its own frames where no memory is refused; and so does each number that is not served.
+-- Each tenant to which no memory was refused gets exactly the replies that its own machine, which has no other tenants, gives to
+-- its own frames without refusals of memory. The same holds for each number that is not served.
 abbrev pub Noninterference : List TenantState → List (List ℕ) → List (List ℕ) → List TenantState → Type 0
 Noninterference before frames replies after =
     (t : ℕ) → IsUnrefused (slice_get after t)

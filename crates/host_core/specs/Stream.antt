@@ -4,7 +4,7 @@ use Rattle.std.specs.Io.KnownBytes.{Consumes}
 use Rattle.std.specs.declared.result.Result.{Result}
 use Rattle.std.specs.declared.result.Result.TheVariants.{Ok, Err}
 
--- just these bytes were read from a reader
+-- exactly these bytes were read from a reader
 abbrev pub Takes : {R : Type 0} → (R → Option (List ℕ)) → R → R → List ℕ → Type 0
 Takes remaining old new bytes = Consumes (remaining old) (remaining new) bytes
 

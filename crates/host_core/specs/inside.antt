@@ -1,3 +1,3 @@
--- What private contracts and proofs cite. No public contract names it.
+-- Definitions for private contracts and proofs. No public contract names them.
 pub mod Reading
 pub mod Frame

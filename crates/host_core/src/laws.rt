@@ -20,8 +20,8 @@ pub fn each_is_told_alone_until_refused()
     tenant::laws::alone_until_refused();
 }
 
-/// Over a sequence of calls of `Host::handle`, each tenant gets replies that its machine may give to its own frames, and where
-/// no memory was refused to it, those of its machine alone; and no test run faults.
+/// Over a sequence of calls of `Host::handle`, each tenant gets replies that its machine may give to its own frames, and if
+/// no memory was refused to it, exactly those of its machine without refusals; and no test run faults.
 pub fn calls_are_told_alone()
     ensures { CallsAreToldAlone }
 {

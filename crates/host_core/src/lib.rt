@@ -73,7 +73,7 @@
 //! - A host is seen as the list of its tenants' states, with the births of their objects in a second list, so what concerns
 //!   replies cites the states only. Each state is made of what is kept of the tenant and of the bytes of its part, so no
 //!   contract of the host names the arena.
-//! - A save is no command of the protocol: whoever has the host asks for it, not a tenant.
+//! - A save is no command of the protocol: the owner of the host requests it, not a tenant.
 //! - Two relations define the replies to each tenant: one allows refused memory and holds whenever a call of `serve` ends; the
 //!   other has no refusals and holds for each tenant whose flag is clear. The second follows from the first by the law
 //!   `unrefused_are_told_alone`, and has clauses of its own in `serve`, so that it can be read without the first. If a write

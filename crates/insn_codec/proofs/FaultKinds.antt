@@ -19,7 +19,7 @@ use Rattle.insn_codec.specs.ProgramFault.{length_fault, IsProgramFault}
 use Rattle.insn_codec.proofs.Slots.{whole_of_begins}
 use Rattle.insn_codec.proofs.KnownOpcodes.{known_first}
 
--- ---- what follows from what
+-- ---- implications between the premises
 
 first_slot_long : (top : ℕ) (bytes : List ℕ) → HasFirstSlot top bytes → 8 ≤ length bytes
 first_slot_long top bytes h = omega (arith, ap length h.2, length-take 8 bytes)

@@ -32,7 +32,7 @@ use Rattle.insn_set.specs.RowLaws.{unsigned_of, atomic_number_again}
 use Rattle.insn_set.specs.Operator.{alu_number, alu_offset}
 use Rattle.insn_codec.proofs.Opcodes.{source_of, form_of}
 
--- ---- which the form lists
+-- ---- each field has a value that the form lists
 
 offset_listed-alu : (wide : Bool) (o : AluOp) (src : Operand) → offset_listed wide (unsigned_of o) (source_of src) (alu_offset o) ≡ true
 offset_listed-alu wide op.Mov (operand.Imm n) = refl

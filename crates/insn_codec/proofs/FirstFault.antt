@@ -66,7 +66,7 @@ second_kind : (f : OpcodeForm) (src : ℕ) (rest : List ℕ) (kind : FaultKind) 
 second_kind form.Wide src rest kind e = grind (arith, nat_tests)
 second_kind _ src rest kind e = absurd cc
 
--- the fault that is found is one of the bytes
+-- the fault that is found is a fault of the bytes
 abbrev IsRight : List ℕ → Option FaultKind → Type 0
 IsRight bytes found = (kind : FaultKind) → found ≡ Some kind → HasFault bytes kind
 
@@ -101,7 +101,7 @@ has_fault bytes kind fits e =
     cond_both (ltb (length bytes) 8) (Some Ragged) (fault_by_form (form_at (slot_of bytes).opcode) (slot_of bytes) (drop 8 bytes)) (IsRight bytes)
     (λ short. told bytes Ragged (ltb-true _ _ short)) (λ long. by_opcode bytes fits (ltb-false _ _ long) none (form_at (slot_of bytes).opcode) refl) kind e
 
--- of a slot whose own fields are right the fault is the second slot's
+-- if the first slot has valid fields, the fault is that of the second slot
 pub fault_by_second : (f : OpcodeForm) (s t : SlotFields) (rest : List ℕ) (kind : FaultKind) → s ≡ t → listed f s ≡ true → s.dst ≤ 10 → s.src ≤ 10 → second_fault f t.src rest ≡ Some kind → fault_in_form f t rest ≡ Some kind
 unfolding fault_in_form
 fault_by_second f s t rest kind same ok dst src second =

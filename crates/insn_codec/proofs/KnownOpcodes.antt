@@ -88,13 +88,13 @@ known bytes f byte is =
     let i = of_an_instruction (slice_index bytes 0) f byte (ap form_at (sym (opcode-slot_of bytes)) ∙ is) in
     (i.0, i.1, sym i.2 ∙ sym (first_byte i.0))
 
--- one without a form is not
+-- an opcode without a form is not known
 pub unknown : (bytes : List ℕ) → form_at (slot_of bytes).opcode ≡ None → HasOpcode bytes → ⊥
 unknown bytes none has =
     let at : (slot_of bytes).opcode ≡ (first has.0).opcode = opcode-slot_of bytes ∙ has.2 ∙ first_byte has.0 in
     none-some (form_of has.0) (sym none ∙ ap form_at at ∙ form_at-first has.0)
 
--- registers that are not there do not change the opcode
+-- the opcode of an instruction is known, also if its registers are out of range
 pub known_first : (i : Insn) (bytes : List ℕ) → slice_index bytes 0 ≡ (first i).opcode → HasOpcode bytes
 known_first i bytes at =
     let j = an_instruction (form_of i) (is_form-form_of i) in

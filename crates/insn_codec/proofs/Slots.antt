@@ -35,7 +35,7 @@ pub record IsSlot (s : SlotFields) : Type 0 where
   pub offset : s.offset < 2 ^ 16
   pub imm : s.imm < 2 ^ 32
 
--- what was written is read
+-- the fields that are read from the bytes of a slot are the slot's
 pub slot_of-append : {s : SlotFields} (rest : List ℕ) → IsSlot s → slot_of (slot_bytes s ++ rest) ≡ s
 unfolding slot_of
 slot_of-append {s} rest h =
@@ -43,7 +43,7 @@ slot_of-append {s} rest h =
     let high : (16 * s.src + s.dst) / 16 ≡ s.src = omega arith in
     rw (low, high, from_le_bytes-to_le_bytes_2 s.offset h.offset, from_le_bytes-to_le_bytes_4 s.imm h.imm) refl
 
--- what was read is written
+-- the bytes of the slot that was read are the bytes at the front
 pub slot_bytes-slot_of : (bytes : List ℕ) → IsBytes bytes → 8 ≤ length bytes → slot_bytes (slot_of bytes) ≡ take 8 bytes
 unfolding slot_of
 slot_bytes-slot_of (a ∷ b ∷ c ∷ d ∷ e ∷ f ∷ g ∷ h ∷ rest) fits long =
@@ -56,7 +56,7 @@ slot_bytes-slot_of (a ∷ b ∷ c ∷ d ∷ e ∷ f ∷ g ∷ h ∷ rest) fits l
     ∙ ap (λ (x : List ℕ). a ∷ b ∷ c ∷ d ∷ x) imm
 slot_bytes-slot_of _ fits long = absurd (omega arith)
 
--- what was read fits its bits
+-- the fields that are read fit their bits
 pub IsSlot-slot_of : (bytes : List ℕ) → IsBytes bytes → 8 ≤ length bytes → IsSlot (slot_of bytes)
 unfolding slot_of
 IsSlot-slot_of bytes fits long = record {
@@ -94,7 +94,7 @@ begins_read i s None bytes rest fits long rest-is first second read =
 begins_read i s (Some t) bytes rest fits long rest-is first second read =
     begins_two i bytes rest fits long rest-is second.0 (read ∙ ap (λ (x : SlotFields). x ∷ fields t ∷ []) first ∙ ap (λ (x : SlotFields). slot_of bytes ∷ x ∷ []) second.1)
 
--- the other way: the bytes are a slot and a rest
+-- conversely, if the bytes are those of a slot and a rest
 slot_before : {s : SlotFields} {bytes : List ℕ} (rest : List ℕ) → IsSlot s → bytes ≡ slot_bytes s ++ rest → (slot_of bytes ≡ s) × (8 ≤ length bytes)
 slot_before {s} rest fits whole = (ap slot_of whole ∙ slot_of-append rest fits, omega (arith, ap length whole, length-append (slot_bytes s) rest))
 

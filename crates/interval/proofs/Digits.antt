@@ -13,7 +13,7 @@ below_digits m h =
     let same : found.0 ≡ binary_digits m = omega (arith, found.1) in
     subst (λ (k : ℕ). m < 2 ^ k) same found.2
 
--- all ones, as many as the digits
+-- 2 ^ 64 - 1, shifted right by the leading zeros, has as many ones as the number has digits
 pub digits_shifted : (m : ℕ) → (2 ^ 64 - 1) / 2 ^ leading_zeros w64 m ≡ 2 ^ binary_digits m - 1
 digits_shifted m = ones_shr 64 (leading_zeros w64 m) (leading_le 64 m)
 

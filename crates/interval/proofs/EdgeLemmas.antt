@@ -1,4 +1,4 @@
--- Two members that take an edge are members of the ranges on it.
+-- If two members take an edge, they are members of the ranges on it.
 use Rattle.std.proofs.Common.{◌≡◌, ℕ, ◌%◌, ◌^◌, ◌<◌, ◌≤◌, ◌≢◌, ◌==◌, true, false, nat_lt, IsTrue, IsFalse, Option, Some, None, refl, sym, ap₂, ◌∙◌, ◌&&◌, arith}
 use Rattle.std.proofs.Math.Nat.{mod-eq_of_lt}
 use Rattle.std.proofs.lemmas.Bool.{cond_both, eqb-true, eqb-false, ltb-true, ltb-false, leb-true, leb-false, not-true, not-false, and_parts}
@@ -48,7 +48,7 @@ edges_keep n AboveOrEqual a b x y h k =
     ((λ t. turned_keeps (where_at_most b a) x y (at_most_keeps b a y x k h (leb-true y x t))), (λ t. turned_keeps (where_above b a) x y (above_keeps b a y x k h (leb-false y x t))))
 edges_keep n condition a b x y h k = stay n condition a b x y h k
 
--- an operand that fits is seen whole
+-- an operand below 2 ^ n is not cut
 seen_whole : (n x : ℕ) → x < 2 ^ n → operand_bits n x ≡ x
 seen_whole n x h = cond_both (nat_lt n 64) (x % 2 ^ n) x (λ v. v ≡ x) (λ _. mod-eq_of_lt h) (λ _. refl)
 
@@ -65,7 +65,7 @@ refined_keep n condition a b x y h k =
     ((λ w. keep.0 (same ∙ w)), (λ w. keep.1 (same ∙ w))))
     (λ _. ((λ _. (h, k)), (λ _. (h, k))))
 
--- ---- the ranges on the edges are ones of words
+-- ---- the ranges on the edges are ranges of words
 
 equal_words : (a b : Range) → IsOfWords a → IsOfWords b → IsPairOfWords (where_equal a b)
 equal_words a b p q = grind (arith, nat_tests)

@@ -1,4 +1,4 @@
--- The table, as the code reads it.
+-- The table of ranges, as the code computes it.
 use Rattle.std.proofs.Common.{◌≡◌, ℕ, ◌^◌, ◌<◌, ◌≤◌, true, false, refl, sym, ap, ap₂, subst, ◌∙◌, arith}
 use Rattle.std.proofs.Math.Nat.{mod-eq_of_lt}
 use Rattle.std.proofs.lemmas.Bool.{cond-true, cond-false}
@@ -20,7 +20,7 @@ from_spread : (n : ℕ) (op : Operator) (a b r : Range) → are_constants op a b
 from_spread n op a b r t f =
     f ∙ sym (cond-false (are_constants op a b) (constant (combined n op a.lo b.lo)) (general_range n op a b) t)
 
--- it is the range of the table, and it holds the result of every two members
+-- r is the range in the table, and includes the result of every two members
 pub record IsRange (n : ℕ) (op : Operator) (a b r : Range) : Type 0 where
   pub exact : r ≡ range_of n op a b
   pub sound : (x y : ℕ) → IsMember x a → IsMember y b → IsMember (operate n op x y) r
@@ -28,7 +28,7 @@ pub record IsRange (n : ℕ) (op : Operator) (a b r : Range) : Type 0 where
 by_table : (n : ℕ) (op : Operator) (a b r : Range) → r ≡ range_of n op a b → 2 ^ n ≤ 2 ^ 64 → ((x : ℕ) → IsMember x a → Sees n a x) → ((y : ℕ) → IsMember y b → Sees n b y) → IsRange n op a b r
 by_table n op a b r e w f g = record { exact = e; sound = λ x y h k. subst (IsMember (operate n op x y)) (sym e) (table_sound n op a b x y w h k (f x h) (g y k)) }
 
--- ---- on 64 bits an operator sees all of a word
+-- ---- on 64 bits an operator reads the whole word
 
 wide_range : (op : Operator) (a b : Range) → result_range 64 op a b ≡ range_of 64 op a b
 wide_range (Binary op) a b = refl
@@ -52,7 +52,7 @@ module _ (op : Operator) (a b r : Range) (first : a.hi < 2 ^ 64) (second : b.hi 
   pub wide_spread : are_constants op a b ≡ false → r ≡ general_range 64 op a b → IsRange 64 op a b r
   wide_spread t f = wide (from_spread 64 op a b r t f)
 
--- ---- on 32 bits it sees low halves, but for a change of byte order
+-- ---- on 32 bits it reads the low halves, except for a byte-order conversion
 
 abbrev pub IsNoEnd : Operator → Type 0
 IsNoEnd op = (how : ByteOrder) (kept : KeptBits) → op ≡ End how kept → ⊥

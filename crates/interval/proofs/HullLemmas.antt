@@ -1,4 +1,4 @@
--- The hull holds both ranges, in whatever order they come.
+-- The hull includes both ranges and is the least range that does; it is commutative and associative.
 use Rattle.std.proofs.Common.{◌≡◌, ℕ, arith}
 use Rattle.std.proofs.Math.Nat.{le_refl}
 use Rattle.interval.specs.declared.range.Range.{Range}

@@ -1,4 +1,4 @@
--- Members of the ranges that the table is made of.
+-- Members of the ranges in the table.
 use Rattle.std.proofs.Common.{◌≡◌, ℕ, ◌^◌, ◌<◌, ◌≤◌, true, nat_lt, nat_le, if◌then◌else◌, arith}
 use Rattle.std.proofs.lemmas.Bool.{cond_both, ltb-true, ltb-false, leb-true, leb-false, eqb-true}
 use Rattle.interval.specs.declared.range.Range.{Range}
@@ -13,7 +13,7 @@ in_span lo hi v h k = record { from = h; to = omega arith }
 pub in_constant : (c v : ℕ) → v ≡ c → IsMember v (constant c)
 in_constant c v e = record { from = omega arith; to = omega arith }
 
--- the member of a constant
+-- a constant range has one member, its low end
 pub only_member : (r : Range) (x : ℕ) → is_constant r ≡ true → IsMember x r → x ≡ r.lo
 only_member r x t h = omega (arith, eqb-true r.lo r.hi t, h.from, h.to)
 

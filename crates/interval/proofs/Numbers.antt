@@ -3,7 +3,7 @@ use Rattle.std.proofs.Common.{◌≡◌, ℕ, ◌+◌, ◌-◌, ◌*◌, ◌/◌
 use Rattle.std.proofs.Math.Nat.{mul-le-mul_left}
 use Rattle.std.proofs.lemmas.Nat.{pow_pos, mod_below, le-div, mod-mul-add, div-add-mod'}
 
--- a number that wraps once
+-- a number from p up to 2p, modulo p
 pub mod_once : (s p : ℕ) → p ≤ s → s < p + p → s % p ≡ s - p
 mod_once s p h k =
     let split : s ≡ 1 * p + (s - p) = omega arith in ap (λ t. t % p) split ∙ mod-mul-add 1 p (s - p) (omega arith)

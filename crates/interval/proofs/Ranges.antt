@@ -1,4 +1,4 @@
--- Ranges are their ends.
+-- A range is determined by its ends.
 use Rattle.std.proofs.Common.{◌≡◌, ℕ, ◌≤◌, ap, subst, arith}
 use Rattle.std.proofs.Math.Bridge.{le_prop}
 use Rattle.interval.specs.declared.range.Range.{Range}

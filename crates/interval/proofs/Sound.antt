@@ -1,4 +1,4 @@
--- The table holds the result of each operator.
+-- Soundness of the table: a range in it includes the result of the operator on all members of its operands.
 use Rattle.std.proofs.Common.{◌≡◌, ℕ, ◌%◌, ◌^◌, ◌<◌, ◌≤◌, if◌then◌else◌, true, nat_lt, ap, ap₂, sym, subst, arith, ◌&&◌}
 use Rattle.std.proofs.lemmas.Bool.{cond_both, and_parts, ltb-true}
 use Rattle.std.proofs.Math.Nat.{mod-eq_of_lt}
@@ -76,7 +76,7 @@ general_range_sound n Neg a b x y w p q h k = in_full n _ (below_pow n _)
 general_range_sound n (SignExtend from) a b x y w p q h k = sign_extend_sound n (extended_bits from) b y q k
 general_range_sound n (End how kept) a b x y w p q h k = in_full (kept_bits kept) _ (byte_order_below how kept x)
 
--- the members of constants are the constants
+-- the members of constant ranges are the constants
 both : (n : ℕ) (f : ℕ → ℕ → ℕ) (a b : Range) (x y : ℕ) → IsMember x a → IsMember y b → (is_constant a && is_constant b) ≡ true → f x y ≡ f a.lo b.lo
 both n f a b x y h k t =
     let parts = and_parts (is_constant a) (is_constant b) t in
@@ -103,7 +103,7 @@ result_sound n op a b x y w p q h k = in_result n op a b x y h k (general_range_
 
 -- ---- the table on words
 
--- what an operator on n bits sees of a member and of its range
+-- the operand that an operator on n bits reads is a member of the range that it reads, and this range is below 2 ^ n
 pub record Sees (n : ℕ) (r : Range) (x : ℕ) : Type 0 where
   pub member : IsMember (operand_bits n x) (operand_range n r)
   pub below : (operand_range n r).hi < 2 ^ n
@@ -113,11 +113,11 @@ table_sound n (End how kept) a b x y w h k s r =
     in_result n (End how kept) a b x y h k (in_full (kept_bits kept) _ (byte_order_below how kept x))
 table_sound n op a b x y w h k s r = result_sound n op (operand_range n a) (operand_range n b) (operand_bits n x) (operand_bits n y) w s.below r.below s.member r.member
 
--- on 64 bits all of the word
+-- on 64 bits it reads the whole word
 pub sees_64 : (r : Range) (x : ℕ) → r.hi < 2 ^ 64 → IsMember x r → Sees 64 r x
 sees_64 r x p h = record { member = h; below = p }
 
--- on 32 bits its low half
+-- on 32 bits it reads the low half
 pub cut_below : (r : Range) → (range_modulo 32 r).hi < 2 ^ 32
 cut_below r =
     cond_both (nat_lt r.hi (2 ^ 32)) r (if is_constant r then constant (r.lo % 2 ^ 32) else full 32) (λ q. q.hi < 2 ^ 32) (λ t. ltb-true r.hi (2 ^ 32) t)

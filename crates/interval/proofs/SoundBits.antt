@@ -1,4 +1,4 @@
--- The ranges of the operators that work bit by bit, of shifts and of sign extensions hold each result.
+-- The ranges of the bitwise operators, of shifts and of sign extensions include each result.
 use Rattle.std.proofs.Common.{◌≡◌, ℕ, ◌-◌, ◌*◌, ◌%◌, ◌^◌, ◌<◌, ◌≤◌, max, bit_and, bit_or, bit_xor, nat_lt, ℤ, pos, negsuc, subst, ap, sym, ◌∙◌, arith}
 use Rattle.std.proofs.Math.Nat.{mod-eq_of_lt, mul-le-mul_right, pow-le-pow_right}
 use Rattle.std.proofs.Math.Pow.{shr_mono}

@@ -1,4 +1,4 @@
--- The ranges of sums, differences, products, quotients and remainders hold each result.
+-- The ranges of sums, differences, products, quotients and remainders include each result.
 use Rattle.std.proofs.Common.{◌≡◌, ℕ, ◌+◌, ◌-◌, ◌*◌, ◌%◌, ◌^◌, ◌<◌, ◌≤◌, ◌==◌, if◌then◌else◌, arith}
 use Rattle.std.proofs.Math.Nat.{mod-eq_of_lt, div-le_self, mod-le}
 use Rattle.std.proofs.lemmas.Bool.{cond_both, eqb-true, eqb-false}
@@ -34,7 +34,7 @@ product_sound n a b x y h k =
     (λ (small : a.hi * b.hi < 2 ^ n). let same : (x * y) % 2 ^ n ≡ x * y = mod-eq_of_lt (omega arith) in in_span _ _ _ (omega arith) (omega arith))
     (λ large. in_full n _ (below_pow n (x * y)))
 
--- for a divisor of 0, and for another one
+-- by the divisor: 0, or at least 1
 pub by_divisor : (y u v : ℕ) (r : Range) → (y ≡ 0 → IsMember u r) → (1 ≤ y → IsMember v r) → IsMember (if y == 0 then u else v) r
 by_divisor y u v r f g =
     cond_both (y == 0) u v (λ w. IsMember w r) (λ t. f (eqb-true y 0 t)) (λ t. g (omega (arith, eqb-false y 0 t)))

@@ -1,4 +1,4 @@
--- Known answers: rows of the table of ranges, and of the edges of comparisons.
+-- Worked cases: rows of the table of ranges, and of the edges of comparisons.
 use Rattle.std.proofs.Common.{◌≡◌, ℕ, Option, Some, None, List, [], ◌∷◌, map, refl}
 use Rattle.std.specs.Option.{option_map}
 use Rattle.words.specs.declared.operator.KeptBits.TheVariants.{Bits64}
@@ -54,7 +54,7 @@ bitwise : AreRows (
 unfolding lib.Count.count_leading_zeros
 bitwise = refl
 
--- the distance is taken modulo the width, and a range of distances is not followed
+-- the distance is taken modulo the width; the range of a distance that is not constant is not used
 shifts : AreRows (
     (64, Binary ShiftLeft, span 1 3, constant 4, span 16 48)
     ∷ (64, Binary ShiftLeft, span 1 3, constant 68, span 16 48)

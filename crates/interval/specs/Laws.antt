@@ -38,11 +38,11 @@ abbrev pub EdgesAreWords : ℕ → Type 0
 EdgesAreWords n =
     (condition : Condition) (a b : Range) → IsOfWords a → IsOfWords b → IsPairOfWords (refined n condition a b).0 × IsPairOfWords (refined n condition a b).1
 
--- the hull holds the members of both
+-- the hull includes the members of both
 abbrev pub HullHoldsBoth : Type 0
 HullHoldsBoth = (a b : Range) (x : ℕ) → (IsMember x a → IsMember x (hull a b)) × (IsMember x b → IsMember x (hull a b))
 
--- every range that holds the members of both holds those of the hull
+-- every range that includes the members of both includes those of the hull
 abbrev pub HullIsLeast : Type 0
 HullIsLeast =
     (a b c : Range) → ((x : ℕ) → IsMember x a → IsMember x c) → ((x : ℕ) → IsMember x b → IsMember x c) →

@@ -64,7 +64,7 @@ edges SignedBelow a b = unchanged a b
 edges SignedBelowOrEqual a b = unchanged a b
 edges CommonBit a b = unchanged a b
 
--- a comparison on n bits reads only the low n bits, so ranges with greater members stay as they are
+-- a comparison on n bits reads only the low n bits, so ranges with greater members are not changed
 abbrev pub refined : ℕ → Condition → Range → Range → EdgePairs
 refined n condition a b =
     if nat_lt a.hi (2 ^ n) && nat_lt b.hi (2 ^ n) then edges condition a b else unchanged a b

@@ -13,7 +13,7 @@ use crate::range::{Range, greatest};
 use crate::shifts::{shift_left, shift_right, sign_extend, signed_shift_right};
 use words::{AluOp, KeptBits, Operator, words32, words64};
 
-/// The range of the results of `op` on 64 bits, as the table of ranges gives it: it holds the result of every two members.
+/// The range of the results of `op` on 64 bits, as the table of ranges gives it: it includes the result of every two members.
 /// An operand that `op` does not read is ignored.
 #[inline(always)]
 pub fn alu64(op: Operator, a: Range, b: Range) -> Range

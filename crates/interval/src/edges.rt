@@ -13,7 +13,7 @@ use words::Condition;
 pub type Edge = Option<(Range, Range)>;
 
 /// Refines the ranges of both operands of a conditional jump, on the edge that jumps and on the one that falls through.
-/// The ranges on an edge hold every two members that take it. They stay as they are if the condition is signed or
+/// The ranges on an edge include every two members that take it. They are not changed if the condition is signed or
 /// a test of common bits, and on 32 bits if an operand may be 2^32 or more.
 pub fn refine(condition: Condition, wide: bool, a: Range, b: Range) -> (Edge, Edge)
     ensures exact { result ≡ refined (width wide) condition a b }

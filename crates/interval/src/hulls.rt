@@ -5,7 +5,7 @@ ghost use Rattle.interval.specs.Ranges.{hull};
 
 use crate::range::Range;
 
-/// The join of two ranges: the least range that holds the members of both.
+/// The join of two ranges: the least range that includes the members of both.
 pub fn hull(a: Range, b: Range) -> Range
     ensures { result ≡ hull a b }
 {

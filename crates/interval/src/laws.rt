@@ -26,7 +26,7 @@ pub fn edges_are_words()
     ensures narrow { EdgesAreWords 32 }
 {}
 
-/// The hull is a join: it is the least range that holds the members of both, and it is commutative and associative.
+/// The hull is a join: it is the least range that includes the members of both, and it is commutative and associative.
 pub fn hull_is_a_join()
     ensures holds_both { HullHoldsBoth }
     ensures least { HullIsLeast }

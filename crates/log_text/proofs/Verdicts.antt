@@ -1,4 +1,4 @@
--- The verdict of a pass, against what a log says of it.
+-- The verdict at the end of a log is the verdict of the pass.
 use Rattle.std.proofs.Common.{◌≡◌, ℕ, Bool, true, false, not, List, Option, Some, None, is_some, inl, inr, true≢false}
 use Rattle.std.proofs.lemmas.Bool.{false≢true}
 use Rattle.insn_set.specs.declared.insn.Insn.{Insn}
@@ -8,7 +8,7 @@ use Rattle.log_text.specs.declared.recorder.KnownFacts.{KnownFacts}
 use Rattle.tagged_model.specs.declared.shape.Named.{Named}
 use Rattle.verifier.specs.declared.fault.VerifyFault.{VerifyFault}
 
--- a text that ends in the verdict of the pass says the verdict on the program
+-- a text that ends with the verdict of the pass has the verdict on the program
 pub says_verdict : (code : List Insn) (named : List Named) (known : List KnownFacts) (fault : Option VerifyFault) (is_accepted : Bool) (text : List ℕ) → is_some fault ≡ not is_accepted
     → IsJudged code named known fault → EndsInVerdict fault text → SaysVerdict code named is_accepted text
 says_verdict code named known None true text is judged ends = ends

@@ -70,7 +70,7 @@ module _ {K : Type 0} (es : List (K × ℕ)) (indices : List ℕ) where
     next_in_order None = sym (first_in_order order.places h.placed)
     next_in_order (Some p) = sym (behind_in_order p order.places h.placed)
 
-    -- if its key is known, the entry is
+    -- an entry with a known key has the place at which it is
     pub with_its_place : (p : ℕ) (k : K) → 0 < occurrences p order.places → option_map (λ (e : K × ℕ). e.0) (entry_of es indices p) ≡ Some k → entry_of es indices p ≡ Some (k, p)
     with_its_place p k m is =
         let found = entry_at es indices order.places p h.placed m in

@@ -111,7 +111,7 @@ module _ (ls : List Link) (u v : ℕ) (x y : Link) where
             ];
       }
 
--- ---- the ring stays one
+-- ---- the links are still a ring
 
 pub single : (q p : ℕ) → occurrences q (p ∷ []) ≤ 1
 single q p = by (nat_eq q p)
@@ -208,7 +208,7 @@ module _ {o : Inside} (h : IsRing o) where
 
 -- ---- the code's steps
 
--- what is read at an index
+-- the link that is read at an index
 pub read : (o : Inside) (p : ℕ) (x : Link) → x ≡ get_or o.links.items p x → p < vec_len o.links → x ≡ link_at o.links.items p
 read o p x e l = get_or_read_under o.links.items p o.links.len x (lone_link 0) e l o.links.ok.0
 

@@ -1,4 +1,4 @@
--- What is found in a table is found in the order of its places; the table and the order after an insertion and a removal.
+-- A look-up in the table is one in the order of its places; the table and the order after an insertion and a removal.
 use Rattle.std.proofs.Common.{◌≡◌, ◌≢◌, ℕ, zero, suc, ◌+◌, ◌<◌, ◌⊎◌, inl, inr, Bool, true, false, cond, List, [], ◌∷◌, ◌++◌, length, Option, Some, None, is_some, slice_get, slice_index_or, option_map, option_to_list, IfSome, refl, sym, ap, subst, ◌∙◌, nat_eq, if◌then◌else◌, true≢false, arith, eqb-true, eq-eqb}
 use Rattle.std.specs.List.{IsDistinct, AllByRecursion}
 use Rattle.std.specs.Map.{lookup, remove_entry, keys_of, values_of}
@@ -165,7 +165,7 @@ pub members_within : (n bound : ℕ) (ps : List ℕ) (o : Option ℕ) → n ≡ 
 members_within n bound ps None e w h = tt
 members_within n bound ps (Some p) e w h = let l = within_at bound p ps w h in omega arith
 
--- ---- what the table finds
+-- ---- look-ups in the table
 
 module _ {K : Type 0} (es : List (K × ℕ)) (indices : List ℕ) (order : Order) (h : IsIndexed es indices order) (test : K → Bool) where
   abbrev pub entries : List (K × ℕ)
@@ -177,7 +177,7 @@ module _ {K : Type 0} (es : List (K × ℕ)) (indices : List ℕ) (order : Order
   pub absent_in_order : lookup test es ≡ None → lookup test entries ≡ None
   absent_in_order none = none_shown es indices test order.places (absent_marked none)
 
-  -- what the order doesn't have, the table doesn't have
+  -- a key that is absent in the order is absent in the table
   pub absent_in_table : lookup test entries ≡ None → lookup test es ≡ None
   absent_in_table none = passes_none test es (λ i e at. let l = h.listed i e at in
       entry_fails order.places h.placed none e (omega arith) (ap (slice_get es) l.1 ∙ at))
@@ -234,7 +234,7 @@ module _ {K : Type 0} (es : List (K × ℕ)) (indices : List ℕ) (order : Order
   pub following_absent : lookup test es ≡ None → key_following test entries ≡ first_key_of entries
   following_absent none = ap (λ (o : Option ℕ). if is_some o then key_behind_passing test entries else first_key_of entries) (absent_in_order none)
 
-  -- the table and the order find the same
+  -- a look-up in the table and one in the order have the same result
   pub same_found : (eq : K → K → Bool) → IsSole eq test → IsDistinct eq (keys_of es) → lookup test es ≡ lookup test entries
   same_found eq sole distinct = by (lookup test es) refl
     where

@@ -1,4 +1,4 @@
--- A ring of links: what follows a place, a place put last, and a place taken out.
+-- A ring of links: the place after another, a place that is put last, and a place that is taken out.
 use Rattle.std.proofs.Common.{◌≡◌, ◌≢◌, ℕ, zero, suc, ◌+◌, ◌<◌, ◌≤◌, ◌⊎◌, inl, inr, Bool, true, false, List, [], ◌∷◌, ◌++◌, length, Option, Some, None, refl, sym, ap, subst, ◌∙◌, nat_eq, if◌then◌else◌, arith, eqb-true, eq-eqb}
 use Rattle.ordered_keys.specs.Orders.{occurrences, first_place, following, taken_out}
 use Rattle.ordered_keys.specs.inside.Links.{chain, IsPath, AreWithin}
@@ -42,7 +42,7 @@ bound_outside bound xs w = by (occurrences bound xs) refl
     by zero e = refl
     by (suc n) e = let l = within_at bound bound xs w (omega arith) in absurd (omega arith)
 
--- ---- what a path leads to
+-- ---- the places of a path
 
 module _ (after before : ℕ → ℕ) where
   pub chain_of_path : (a : ℕ) (xs : List ℕ) (b : ℕ) → IsPath after before a xs b → chain after (length xs) a ≡ xs
@@ -68,7 +68,7 @@ module _ (after before : ℕ → ℕ) where
     | inr g ↦ inr (omega arith)
   ]
 
-  -- what follows the start of a path
+  -- the place after the start of a path is on the path or at its end
   after_start : (a : ℕ) (xs : List ℕ) (b : ℕ) → IsPath after before a xs b → (after a ≡ b) ⊎ (0 < occurrences (after a) xs)
   after_start a [] b h = inl h.0
   after_start a (x ∷ xs) b h = inr (subst (λ q. 0 < occurrences q (x ∷ xs)) (sym h.0) (times_head x xs))
@@ -122,7 +122,7 @@ path_stays f g f' g' a (x ∷ xs) b h fa fs gs gb =
 
 -- ---- a place put last
 
--- what the links are after it
+-- the links after the place is put last
 pub record IsPushed (f g f' g' : ℕ → ℕ) (p b : ℕ) : Type 0 where
   pub last : f' (g b) ≡ p
   pub after : f' p ≡ b
@@ -206,7 +206,7 @@ path_unlinked f g f' g' a (x ∷ xs) b p k h m na nb once = elim (here_or_later 
           rest,
         )
 
--- ---- what is left
+-- ---- the places that are left
 
 pub taken_length : (p : ℕ) (xs : List ℕ) → 0 < occurrences p xs → length (taken_out p xs) + 1 ≡ length xs
 taken_length p [] m = absurd (omega arith)

@@ -13,7 +13,7 @@ use Rattle.ordered_keys.proofs.Rings.{times_head, times-append, within_at, taken
 use Rattle.ordered_keys.proofs.Links.{decided, single, none}
 use Rattle.ordered_keys.proofs.Ordered.{entry_at}
 
--- ---- entries that stay
+-- ---- entries that are not changed
 
 -- the entries of these places are in the other table as well
 module _ {K : Type 0} (es fs : List (K × ℕ)) (is js : List ℕ) where
@@ -292,7 +292,7 @@ module _ {K : Type 0} (es : List (K × ℕ)) (is : List ℕ) (order : Order) (h 
           ]) in
           (kept e.1 e_p k.0, unwritten is moved e.1 i e_moved ∙ k.1)
 
--- ---- what the table's index says
+-- ---- the index of a look-up in the table
 
 pub found_at : {K : Type 0} (es : List (K × ℕ)) (test : K → Bool) (i : ℕ) (key : K) (p : ℕ) → slice_get es i ≡ Some (key, p) → slice_get (values_of es) i ≡ lookup test es → lookup test es ≡ Some p
 found_at es test i key p at value = sym value ∙ slice_get-map (λ e. e.1) es i ∙ ap (option_map (λ e. e.1)) at

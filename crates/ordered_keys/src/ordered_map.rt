@@ -68,7 +68,7 @@ impl<K: Eq + Hash, S: BuildHasher> OrderedMap<K, S> {
         requires { IsSole K.eq (Q.equivalent key) }
         ensures { result ≡ lookup (Q.equivalent key) self.now.entries }
     {
-        // The table's keys differ: its length says so.
+        // The keys of the table are distinct: this is in the contract of `len`.
         let _len = self.table.len();
         self.table.get(key).copied()
     }

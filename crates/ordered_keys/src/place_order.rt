@@ -13,8 +13,8 @@ pub struct Link {
     pub(crate) after: u32,
 }
 
-/// Places less than a bound, each at most once, in an order. They are a ring of links, in which the bound is where the order
-/// begins and ends.
+/// Places less than a bound, each at most once, in an order. They are a ring of links, in which the order begins and ends at
+/// the bound.
 #[derive(Drop)]
 pub struct PlaceOrder {
     // The link of each place, and of the bound.

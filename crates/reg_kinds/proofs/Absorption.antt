@@ -33,7 +33,7 @@ same_range lo hi lo' hi' p q e f =
     let moved : (h : lo' ≤ hi) → made lo hi p ≡ made lo' hi h = subst (λ (x : ℕ). (h : x ≤ hi) → made lo hi p ≡ made x hi h) e same in
     subst (λ (y : ℕ). (h : lo' ≤ y) → made lo hi p ≡ made lo' y h) f moved q
 
--- the hull of a range and one that it holds
+-- the hull of a range and a range that it includes
 pub hull_holds : (a b : Range) → a.lo ≤ b.lo → b.hi ≤ a.hi → hull a b ≡ a
 hull_holds a b low high = same_range (hull a b).lo (hull a b).hi a.lo a.hi (hull a b).ordered a.ordered (omega (arith, low)) (omega (arith, high))
 

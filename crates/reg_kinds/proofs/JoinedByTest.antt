@@ -1,4 +1,4 @@
--- Kinds that join to one where a test of what they carry holds.
+-- Kinds that have a join only if a test of their contents holds.
 use Rattle.std.proofs.Common.{◌≡◌, ℕ, ℤ, Bool, true, false, ◌==◌, ◌&&◌, if◌then◌else◌, refl, sym, ap, ap₂, ◌∙◌, inl, inr, arith}
 use Rattle.std.proofs.lemmas.Bool.{cond-true, cond-false, cases_Bool, and_parts, eqb-true}
 use Rattle.std.proofs.lemmas.Bool.Decides.{Decides-int_eq}
@@ -13,7 +13,7 @@ use Rattle.reg_kinds.specs.Pointers.{offsets_hull}
 use Rattle.reg_kinds.specs.Join.{kind_join}
 use Rattle.reg_kinds.proofs.PointerLemmas.{same_pointer}
 
--- a test that is an equivalence, and what it tells
+-- a test that is an equivalence, and the relation that it implies
 pub record Test (X : Type 0) (Same : X → X → Type 0) : Type 0 where
   pub test : X → X → Bool
   pub laws : IsEquivalence test
@@ -37,7 +37,7 @@ module _ {X : Type 0} {Same : X → X → Type 0} (C : X → Kind) (by : Test X 
   no x y t = cond-false (by.test x y) (C (merge x y)) Unreadable t
 
   module _ (kj : (x y : X) → kind_join (C x) (C y) ≡ joined C by.test merge x y) (ul : (z : X) → kind_join Unreadable (C z) ≡ Unreadable) (ur : (x : X) → kind_join (C x) Unreadable ≡ Unreadable) (ml : (x y z : X) → by.test (merge x y) z ≡ by.test x z) (mr : (x y z : X) → by.test x (merge y z) ≡ by.test x y) where
-    -- the first two, joined, and a third
+    -- the join of the first two with a third
     left_yes : (x y z : X) → by.test x y ≡ true → kind_join (joined C by.test merge x y) (C z) ≡ joined C by.test merge (merge x y) z
     left_yes x y z t = ap (λ i. kind_join i (C z)) (yes x y t) ∙ kj (merge x y) z
 

@@ -1,4 +1,4 @@
--- The join of three kinds is the same in either grouping.
+-- The join of kinds is associative.
 use Rattle.std.proofs.Common.{◌≡◌, ℕ, Bool, true, not, ◌==◌, ◌&&◌, refl, sym, ap, ◌∙◌}
 use Rattle.std.proofs.lemmas.Bool.{cond_both}
 use Rattle.std.specs.Ordering.{int_eq}
@@ -27,7 +27,7 @@ pub nothing_last : (i : Kind) → kind_join i Unreadable ≡ Unreadable
 nothing_last Unreadable = refl
 nothing_last _ = refl
 
--- kinds of different constructors have nothing in common
+-- the join of kinds with different constructors is unreadable
 different : (i j : Kind) → differ i j ≡ true → kind_join i j ≡ Unreadable
 different Unreadable j d = refl
 different (Scalar a) (Scalar b) d = absurd (cc)
@@ -38,7 +38,7 @@ different (Value p) (Value q) d = absurd (cc)
 different (MaybeValue m s) (MaybeValue n t) d = absurd (cc)
 different _ _ d = refl
 
--- a join of two is of the first one's constructor, if anything is known of it
+-- if i and j have different constructors, the join of i with a join of j is unreadable
 different_from_join : (i j k : Kind) → differ i j ≡ true → kind_join i (kind_join j k) ≡ Unreadable
 different_from_join i (Scalar a) (Scalar b) d = different i (Scalar (hull a b)) d
 different_from_join i (MapRef m) (MapRef n) d = cond_both (m == n) (MapRef m) Unreadable (λ x. kind_join i x ≡ Unreadable) (λ _. different i (MapRef m) d) (λ _. nothing_last i)
@@ -51,7 +51,7 @@ different_from_join i _ _ d = nothing_last i
 first_differs : (i j k : Kind) → differ i j ≡ true → kind_join (kind_join i j) k ≡ kind_join i (kind_join j k)
 first_differs i j k d = ap (λ x. kind_join x k) (different i j d) ∙ sym (different_from_join i j k d)
 
--- what is so for three kinds is so for them in the other order
+-- the same for the other order of the three kinds, by commutativity
 last_differs : HullCommutes → (i j k : Kind) → differ k j ≡ true → kind_join (kind_join i j) k ≡ kind_join i (kind_join j k)
 last_differs h i j k d =
     kinds_commute h (kind_join i j) k

@@ -1,4 +1,4 @@
--- The join of two kinds is the same in either order.
+-- The join of kinds is commutative.
 use Rattle.std.proofs.Common.{◌≡◌, ℕ, refl, ap}
 use Rattle.interval.specs.Laws.{HullCommutes}
 use Rattle.reg_kinds.specs.declared.kind.Kind.{Kind}

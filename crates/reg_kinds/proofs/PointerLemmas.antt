@@ -1,4 +1,4 @@
--- Pointers into values are their fields.
+-- Pointers into values are determined by their fields.
 use Rattle.std.proofs.Common.{◌≡◌, ℕ, ℤ, ◌≤ℤ◌, FitsSigned, w32, refl, ap, ap₂, subst, ◌∙◌, arith}
 use Rattle.std.proofs.lemmas.Int.{ints, clamps, to_z-of_z}
 use Rattle.std.specs.Int.{int_min, int_max, cast_signed, cast_unsigned}

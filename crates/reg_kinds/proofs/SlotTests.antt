@@ -1,4 +1,4 @@
--- Tests of each slot, and bits that stand for bytes.
+-- Tests of all slots, and bits that represent bytes.
 use Rattle.std.proofs.Common.{◌≡◌, ℕ, zero, suc, ◌+◌, ◌-◌, ◌*◌, ◌%◌, ◌^◌, ◌<◌, ◌≤◌, Bool, true, false, refl, sym, ap, subst, ◌∙◌, ⊎_elim, inl, inr, arith}
 use Rattle.std.specs.Prelude.{if◌then◌else◌, not, nat_lt, min, ◌&&◌, ◌==◌, ◌⊎◌, ℤ, Result, Ok, Err, Some, None}
 use Rattle.std.proofs.lemmas.Bool.{cases_lt, le-ltb, or_from, or_left, or_right}
@@ -40,7 +40,7 @@ unfolding any_below
 none_below zero test none = refl
 none_below (suc n) test none = or_from (test n) (any_below n test) (none n (omega arith)) (none_below n test (λ i lt. none i (omega (arith, lt))))
 
--- ---- slots that are not touched
+-- ---- slots that an access does not touch
 
 apart : (p n i : ℕ) → (8 * i + 8 ≤ p) ⊎ (p + n ≤ 8 * i) → touches p n i ≡ false
 apart p n i (inl le) = ap (λ b. b && nat_lt (8 * i) (p + n)) (le-ltb p (8 * i + 8) le)
@@ -68,7 +68,7 @@ spill_apart f p n i h = unspilled (slot_at f i) (touches p n i) (apart p n i h)
 pub lacks_apart : (f : Facts) (p n i : ℕ) → (8 * i + 8 ≤ p) ⊎ (p + n ≤ 8 * i) → lacks (slot_at f i) (bits_in p n i) ≡ false
 lacks_apart f p n i h = ap (lacks (slot_at f i)) (no_bits p n i h) ∙ lacks_none (slot_at f i)
 
--- ---- what may be read
+-- ---- reads that are permitted
 
 abbrev pub spill_at : Facts → ℕ → ℕ → Bool
 spill_at f n p = any_below 64 (λ i. is_touched_spill (slot_at f i) (touches p n i))

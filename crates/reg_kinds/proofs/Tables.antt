@@ -11,22 +11,22 @@ pub filled : {X : Type 0} (f : ℕ → X) (xs : List X) (n : ℕ) (d : X) → le
 unfolding tabulate
 filled f xs n d l h = fill_by_all f xs n d l h
 
--- tables of functions that agree
+-- tables of equal functions are equal
 pub same_table : {X : Type 0} (f g : ℕ → X) (n : ℕ) (d : X) → ((k : ℕ) → k < n → f k ≡ g k) → tabulate n f ≡ tabulate n g
 same_table f g n d h = filled g (tabulate n f) n d (length-tabulate f n) (λ k l. tabulate-at f n k d l ∙ h k l)
 
--- one more is written
+-- one more element is written
 pub fill_more : {X : Type 0} (f : ℕ → X) (xs : List X) (i : ℕ) (v d : X) → i < length xs → v ≡ f i → ((k : ℕ) → k < i → get_or xs k d ≡ f k) → (k : ℕ) → k < i + 1 → get_or (set xs i v) k d ≡ f k
 fill_more f xs i v d l e h =
     below_more _ _
     (λ k lt. get_or-set_other xs i k v d (omega arith) ∙ h k lt)
     (get_or-set_same xs i v d l ∙ e)
 
--- and what lies above stays
+-- elements above it are not changed
 pub rest_more : {X : Type 0} (xs ys : List X) (i : ℕ) (v d : X) → ((k : ℕ) → i ≤ k → get_or xs k d ≡ get_or ys k d) → (k : ℕ) → i + 1 ≤ k → get_or (set xs i v) k d ≡ get_or ys k d
 rest_more xs ys i v d h k l = get_or-set_other xs i k v d (omega arith) ∙ h k (omega arith)
 
--- facts are their registers and their slots
+-- facts are determined by their registers and their slots
 pub same_facts : (f g : Facts) → f.registers ≡ g.registers → f.slots ≡ g.slots → f ≡ g
 same_facts f g p q =
     ap (λ (r : List Kind). let h : Facts = record { registers = r; slots = f.slots } in h) p

@@ -1,4 +1,4 @@
--- Known answers: joins, loads and stores of the stack, null tests, and the numbers of reasons.
+-- Worked cases: joins, loads and stores of the stack, null tests, and the numbers of reasons.
 use Rattle.std.proofs.Common.{◌≡◌, ℕ, true, false, ℤ, pos, neg_ℤ, [], ◌∷◌, map, Option, Some, None, Result, Ok, Err, refl}
 use Rattle.words.specs.declared.stack.AccessSize.TheVariants.{Byte, Half, Word, Double}
 use Rattle.interval.specs.Ranges.{span, constant}
@@ -103,7 +103,7 @@ part_of_pointer :
 unfolding tabulate
 part_of_pointer = (refl, refl, refl, refl)
 
--- ---- stores out of place: above the stack, below it, across slots; and at the lowest slot, and of nothing
+-- ---- stores that are rejected: above the stack, below it, across slots; and stores at the lowest slot, and of an unreadable register
 
 stores_out_of_place :
     (stack_write entry (pos 0) Double (Scalar (constant 1)) ≡ Err OutsideStack)

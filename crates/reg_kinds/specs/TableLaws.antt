@@ -1,6 +1,6 @@
--- Laws of lists made of a function (`tabulate` of `Kinds`), and of lists with one element written, as facts have them of kinds
--- and slots. Proved here for the proofs of the crates above; this project's own. No contract cites them, so there is nothing in
--- them to believe.
+-- Laws of lists made of a function (`tabulate` of `Kinds`), and of lists with one element written, as the lists of facts are.
+-- Proved here for the proofs of the crates above. This project's own. No contract cites them, so they are not part of what has to be
+-- trusted.
 use Rattle.std.proofs.Common.{◌≡◌, ℕ, ◌<◌, ◌≤◌, ◌==◌, if◌then◌else◌, List, length, get_or, set, sym, subst, ⊎_elim, arith, get_or-set_same, get_or-set_other}
 use Rattle.std.proofs.Math.ListN.{length-set}
 use Rattle.std.proofs.lemmas.Bool.{cases_lt, cond_both, eqb-true, eqb-false}

@@ -1,2 +1,2 @@
--- What the definitions need to be made. No public contract names it.
+-- Lemmas that the definitions use. No public contract names them.
 pub mod Offsets

@@ -38,7 +38,7 @@ impl Kind {
 }
 
 impl Slot {
-    /// The join of two stack slots: the bytes that are written in both, or the join of two spilled values. Where that is
+    /// The join of two stack slots: the bytes that are written in both, or the join of two spilled values. If that is
     /// `Unreadable`, or only one side is a spill, no byte counts as written.
     pub fn join(self, other: Slot) -> Slot
         ensures { result ≡ slot_join self other }
@@ -51,7 +51,7 @@ impl Slot {
     }
 }
 
-/// The least range of offsets that holds both.
+/// The least range of offsets that includes both.
 fn offsets_hull(p: ValuePointer, q: ValuePointer) -> ValuePointer
     ensures { result ≡ offsets_hull p q }
 {
@@ -85,7 +85,7 @@ pub fn join_into(facts: &mut Facts, edge: &Facts)
     join_stack(facts, edge);
 }
 
-/// Whether the range `a` holds `b`.
+/// Whether the range `a` includes `b`.
 #[tactic(auto, using(crate::proofs::Absorption::hull_holds))]
 #[inline(always)]
 fn holds_range(a: &Range, b: &Range) -> bool
@@ -108,7 +108,7 @@ fn join_other_kind(known: &mut Kind, edge: &Kind)
     }
 }
 
-/// Joins the kind `edge` into `known` in place. Nothing is written if `known` is unreadable, or is a range that holds that of `edge`.
+/// Joins the kind `edge` into `known` in place. Nothing is written if `known` is unreadable, or a range that includes that of `edge`.
 #[inline(always)]
 fn join_kind(known: &mut Kind, edge: &Kind)
     ensures { known.new ≡ kind_join known.old edge.now }
@@ -130,7 +130,7 @@ pub fn join_registers(facts: &mut Facts, edge: &Facts)
     }
 }
 
-/// Whether the range of offsets of `p` holds that of `q`.
+/// Whether the range of offsets of `p` includes that of `q`.
 #[inline(always)]
 fn holds_offsets(p: &ValuePointer, q: &ValuePointer) -> bool
     ensures { result ≡ true → offsets_hull p.now q.now ≡ p.now }

@@ -131,7 +131,7 @@ pub fn read_many(facts: &Facts, offset: i32, count: u32) -> Result<(), Reason>
 
 /// The facts after a write of at least `least` and at most `most` bytes at `offset` of the stack: the first `least` count as
 /// written, and of a spill that may be touched no other byte does. `OutsideStack`, and nothing changes, if `most` bytes
-/// don't all lie in the stack. Where `least` is above `most`, no write has such a length, and the facts describe no run.
+/// don't all lie in the stack. If `least` is above `most`, no write has such a length, and the facts describe no run.
 pub fn fill_stack(facts: &mut Facts, offset: i32, least: u32, most: u32) -> Result<(), Reason>
     ensures { MatchResult (stack_filled facts.old offset least most)
         (λ after. (result ≡ Ok tt) × (facts.new ≡ after))

@@ -1,4 +1,4 @@
--- Each command keeps the order of births.
+-- Each command preserves the order of births.
 use Rattle.std.proofs.Common.{◌≡◌, ◌≢◌, ℕ, zero, suc, ◌+◌, ◌-◌, ◌≤◌, ◌<◌, Bool, true, false, List, [], ◌∷◌, length, set, get_or, take, drop, replicate, filter, Option, Some, None, Result, Ok, Err, IsSome, is_some, refl, sym, ap, ap₂, subst, ◌∙◌, inl, inr, arith, true≢false, get_or-set_same, get_or-set_other}
 use Rattle.std.specs.Prelude.{◌⊎◌, ◌==◌, ◌||◌, pos, nat_lt, is_none, position, option_map, slice_get, if◌then◌else◌, MatchBool}
 use Rattle.std.specs.List.{list_any, AllByRecursion}
@@ -35,7 +35,7 @@ use Rattle.saving.proofs.Closes.{closed_fewer, closed_length, fewer_held}
 use Rattle.saving.proofs.FewBirths.{few_births}
 use Rattle.saving.proofs.Tables.{IsDescriptor}
 
--- ---- what stands in a list of births
+-- ---- members of a list of births
 
 module _ (s : TenantState) where
   born_map_lives : (bs : List Birth) (place : ℕ) → AreInOrder s bs → list_any (is_of_map place) bs ≡ true → IsSome (live s place)
@@ -70,9 +70,9 @@ abbrev bind : Option ℕ → ℕ → List (ℕ × ℕ) → List (ℕ × ℕ)
 bind None fd rest = rest
 bind (Some place) fd rest = (fd, place) ∷ rest
 
--- ---- the same births in another state
+-- ---- the same births in a different state
 
--- what was live or a program is so still
+-- the maps that were live and the programs that were open are still so
 pub record KeepsBorn (s t : TenantState) : Type 0 where
   pub maps : (place : ℕ) → IsSome (live s place) → IsSome (live t place)
   pub programs : (fd : ℕ) (l : LoadedProgram) → table.named s.objects fd ≡ Some (object.Program l) → table.named t.objects fd ≡ Some (object.Program l)
@@ -117,7 +117,7 @@ named_low objects fd o e = by (nat_lt fd table.first_descriptor) refl e
     by true is e = absurd (none-some o e)
     by false is e = ltb-false fd table.first_descriptor is
 
--- what stands there after it, at it and elsewhere
+-- the object of a descriptor after one is opened: this one, and others
 opened_here : (objects : List (Option OpenObject)) (fd : ℕ) (o : OpenObject) → table.first_descriptor ≤ fd → fd - table.first_descriptor < length objects → table.named (table.with_open objects fd o) fd ≡ Some o
 opened_here objects fd o low within = named_is (table.with_open objects fd o) fd low ∙ get_or-set_same objects (fd - table.first_descriptor) (Some o) None within
 
@@ -127,7 +127,7 @@ opened_there objects fd other o low low_too apart =
     ∙ get_or-set_other objects (fd - table.first_descriptor) (other - table.first_descriptor) (Some o) None (λ e. apart (omega arith))
     ∙ sym (named_is objects other low_too)
 
--- a program that is open after it was open before, or is the new object
+-- a program that is open after it was open before or is the new object
 pub opened_program : (objects : List (Option OpenObject)) (fd n : ℕ) (o : OpenObject) (l : LoadedProgram) → table.lowest objects ≡ Some fd → table.named (table.with_open objects fd o) n ≡ Some (object.Program l)
     → (o ≡ object.Program l) ⊎ (table.named objects n ≡ Some (object.Program l))
 opened_program objects fd n o l low there = by (cases_eq n fd)
@@ -137,7 +137,7 @@ opened_program objects fd n o l low there = by (cases_eq n fd)
     by (inr other) = inr (sym (opened_there objects fd n o (lowest_low objects fd low) (named_low (table.with_open objects fd o) n (object.Program l) there) other) ∙ there)
 
 module _ {s : TenantState} (h : HoldsItsMaps s) (bs : List Birth) (are : AreBirths s bs) where
-  -- a new object, where no other map is gone
+  -- a new object is opened, and no map is removed
   module _ (fd : ℕ) (o : OpenObject) (low : table.lowest s.objects ≡ Some fd) where
     free : table.named s.objects fd ≡ None
     free = named_is s.objects fd (lowest_low s.objects fd low) ∙ (descriptor_free s.objects fd low).1
@@ -182,7 +182,7 @@ module _ {s : TenantState} (h : HoldsItsMaps s) (bs : List Birth) (are : AreBirt
     after_opening : (t : TenantState) → t.objects ≡ table.with_open s.objects fd o → AreBirths t (birth_of fd o ∷ bs) → AreBirths t (with_opened (pos fd) t bs)
     after_opening t objects are_so = subst (λ (x : Option OpenObject). AreBirths t (with_birth fd x bs)) (sym (ap (λ (os : List (Option OpenObject)). table.named os fd) objects ∙ here)) are_so
 
-  -- a refusal
+  -- a rejection
   refused_births : (errno : Errno) (t : TenantState) → AreBirths t bs → AreBirths t (with_opened (status_of errno) t bs)
   refused_births NotPermitted t is = is
   refused_births NoEntry t is = is
@@ -235,7 +235,7 @@ module _ {s : TenantState} (h : HoldsItsMaps s) (bs : List Birth) (are : AreBirt
 
   -- ---- PROG_LOAD
 
-  -- each map of a new program is the latest at its descriptor
+  -- each map of a new program has the latest birth at its descriptor
   maps_born : (fd : ℕ) → table.lowest s.objects ≡ Some fd → (fds : List ℕ) → AllByRecursion (λ m. (m.0 ≢ fd) × (latest_at bs m.0 ≡ Some (OfMap m.1 m.0))) (places_from s.objects fds)
   unfolding places_from
   maps_born fd low [] = tt
@@ -272,7 +272,7 @@ module _ {s : TenantState} (h : HoldsItsMaps s) (bs : List Birth) (are : AreBirt
       by true e = under (table.lowest s.objects) refl e
       by false e = as_born (refuses Invalid s) e are
 
--- each lives
+-- the object of each birth is live
 birth_lives : (s : TenantState) (older : List Birth) (b : Birth) → IsBorn s older b → lives s b ≡ true
 birth_lives s older (OfMap place fd) is = is.0
 birth_lives s older (OfProgram fd) (l, there, maps) = ap is_open_program there
@@ -304,7 +304,7 @@ any_filter p q (x ∷ older) e = by (p x) (q x) refl e (any_filter p q older)
     by true false h e rest = ap (λ (c : Bool). c || list_any q (filter p older)) h ∙ rest e
     by false false h e rest = rest e
 
--- what is not gone is what it was
+-- an element that is not removed is not changed
 unset : (xs : List (Option OpenObject)) (n i : ℕ) → (get_or (set xs n None) i None ≡ None) ⊎ (get_or (set xs n None) i None ≡ get_or xs i None)
 unset [] n i = inr refl
 unset (x ∷ xs) zero zero = inl refl
@@ -348,7 +348,7 @@ program_of None e = absurd (true≢false (sym e))
 program_of (Some (object.Map place)) e = absurd (true≢false (sym e))
 program_of (Some (object.Program l)) e = (l, refl)
 
--- what is left after a descriptor is closed
+-- the state after a descriptor is closed
 abbrev left_by : TenantState → ℕ → TenantState
 left_by s fd = with_objects s (table.with_closed s.objects fd)
 
@@ -356,7 +356,7 @@ module _ (s : TenantState) (h : HoldsItsMaps s) (fd : ℕ) where
   left_held : HoldsItsMaps (left_by s fd)
   left_held = fewer_held h (table.with_closed s.objects fd) (closed_length s.objects fd) (closed_fewer s.objects fd)
 
-  -- the maps of a program that is still open live
+  -- the maps of a program that is still open are live
   maps_live : (other : ℕ) (l : LoadedProgram) → table.named (table.with_closed s.objects fd) other ≡ Some (object.Program l) → (place : ℕ) → list_any (λ m. m.1 == place) l.maps ≡ true → IsSome (live (left_by s fd) place)
   maps_live other l there place e =
       left_held.live_if_named place (named_by (table.with_closed s.objects fd) (other - table.first_descriptor) (object.Program l) place (stands_at (table.with_closed s.objects fd) other (object.Program l) there) e)
@@ -394,7 +394,7 @@ module _ (s : TenantState) (h : HoldsItsMaps s) (fd : ℕ) where
       lives_now other (object.Map place) there = left_held.live_if_named place (named_by (table.with_closed s.objects fd) (other - table.first_descriptor) (object.Map place) place (stands_at (table.with_closed s.objects fd) other (object.Map place) there) (eq-eqb place place refl))
       lives_now other (object.Program l) there = ap is_open_program there
 
--- ---- commands that open and close nothing
+-- ---- commands that neither open nor close an object
 
 module _ (s : TenantState) where
   on_map_same : (fd : ℕ) (f : ℕ → Map → Answer) → ((place : ℕ) (m : Map) → (f place m).after.objects ≡ s.objects) → (on_map s fd f).after.objects ≡ s.objects
@@ -442,7 +442,7 @@ module _ (s : TenantState) where
 births_kept : MapsAreHeld → (refusals : List Bool) (s : TenantState) (command : Command) (a : Answer) (births : List Birth) → HoldsItsMaps s → AreBirths s births → Answers refusals s command a → AreBirths a.after (births_after command a births)
 births_kept held refusals s command a births h are is = by command is (held.kept refusals s command a h is)
   where
-    -- the same objects name the same maps
+    -- a command that does not change the open objects keeps the births
     quiet : (b : Answer) → a ≡ b → b.after.objects ≡ s.objects → HoldsItsMaps a.after → AreBirths a.after births
     quiet b e objects now =
         let same = ap (λ (x : Answer). x.after.objects) e ∙ objects in
@@ -464,7 +464,7 @@ births_kept held refusals s command a births h are is = by command is (held.kept
     by (map_next_key fd key) is now = quiet _ is (on_map_same s fd _ (λ place m. if_same s (length key == 0 || length key == m.shape.key_size) _ _ (found_same s (next_of m key)) refl)) now
     by (prog_test_run fd words packet) is now = quiet _ is (run_same s refusals words packet (table.named s.objects fd)) now
 
--- a new tenant has none
+-- a new tenant has no open objects
 nothing_named : (n fd : ℕ) → get_or (replicate n (let none : Option OpenObject = None in none)) fd None ≡ None
 nothing_named zero fd = refl
 nothing_named (suc n) zero = refl

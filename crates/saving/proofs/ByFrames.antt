@@ -1,4 +1,4 @@
--- The walk by frames.
+-- The commands of a walk, sent as frames.
 use Rattle.std.proofs.Common.{◌≡◌, ℕ, zero, suc, ◌+◌, ◌^◌, ◌<◌, ◌≤◌, Bool, true, false, List, [], ◌∷◌, ◌++◌, length, map, Option, Some, Result, Ok, refl, sym, ap, subst, arith, length-append}
 use Rattle.std.specs.Prelude.{ℤ, is_none, if◌then◌else◌}
 use Rattle.std.specs.List.{AllByRecursion}
@@ -26,7 +26,7 @@ use Rattle.saving.proofs.Limits.{limited}
 use Rattle.saving.proofs.Spelled.{create_parsed, update_parsed, load_parsed, close_parsed}
 
 module _ (tenant : ℕ) where
-  -- a frame carries each of these commands
+  -- each of these commands is read from its frame
   abbrev IsCarried : Command → Type 0
   IsCarried c = parsed (frame_of tenant c) ≡ Ok c
 
@@ -102,7 +102,7 @@ module _ (tenant : ℕ) where
       both_carried (filled most) (born s births ++ closings s.objects first_descriptor most) (filled_carried fine most)
       (both_carried (born s births) (closings s.objects first_descriptor most) (born_carried s whole births order) (closings_carried s.objects first_descriptor most (omega arith)))
 
-  -- ---- its replies
+  -- ---- the replies to the walk
 
   record Told (s : TenantState) (cs : List Command) (t : TenantState) : Type 0 where
     replies : List (List ℕ)

@@ -1,4 +1,4 @@
--- What closing leaves, and how often a place is named.
+-- The state after a close, and the places that are named.
 use Rattle.std.proofs.Common.{◌≡◌, ℕ, zero, suc, ◌+◌, ◌-◌, ◌<◌, Bool, true, false, List, [], ◌∷◌, length, set, get_or, Option, Some, None, IsSome, is_some, refl, sym, ap, ◌∙◌, inl, inr, arith, length-set}
 use Rattle.std.specs.Prelude.{◌⊎◌, ◌||◌, nat_lt, if◌then◌else◌}
 use Rattle.fd_table.specs.Table.{first_descriptor, with_closed}
@@ -28,7 +28,7 @@ named_get objects place (suc i) (m ∷ ms) =
     let e : place + 1 + i ≡ place + suc i = omega arith in
     named_get objects (place + 1) i ms ∙ ap (λ (p : ℕ). if is_named objects p then get_or ms i None else None) e
 
--- what is live with these open objects
+-- the map that is live at a place with these open objects
 pub live_with : (s : TenantState) (objects : List (Option OpenObject)) (place : ℕ) → live (with_objects s objects) place ≡ (if is_named objects place then live s place else None)
 live_with s objects place =
     let e : 0 + place ≡ place = omega arith in
@@ -37,7 +37,7 @@ live_with s objects place =
 pub live_if : (s : TenantState) (objects : List (Option OpenObject)) (place : ℕ) → is_named objects place ≡ true → live (with_objects s objects) place ≡ live s place
 live_if s objects place e = live_with s objects place ∙ ap (λ (b : Bool). if b then live s place else None) e
 
--- both that it was live, and that it is named
+-- a map that is live with fewer open objects is named and was live
 pub live_parts : (s : TenantState) (objects : List (Option OpenObject)) (place : ℕ) → IsSome (live (with_objects s objects) place) → (is_named objects place ≡ true) × IsSome (live s place)
 live_parts s objects place some = by (is_named objects place) refl
   where
@@ -47,7 +47,7 @@ live_parts s objects place some = by (is_named objects place) refl
 
 -- ---- fewer open objects
 
--- each place that is named was named
+-- each place that is named now was named before
 abbrev pub NamesFewer : List (Option OpenObject) → List (Option OpenObject) → Type 0
 NamesFewer fewer objects = (place : ℕ) → is_named fewer place ≡ true → is_named objects place ≡ true
 

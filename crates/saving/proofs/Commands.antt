@@ -1,4 +1,4 @@
--- Alike states give each command the same reply, and stay alike.
+-- Two states that are alike give the same reply to each command, and are alike after it.
 use Rattle.std.proofs.Common.{◌≡◌, ℕ, ◌+◌, ◌-◌, Bool, true, false, List, [], ◌∷◌, length, take, drop, Option, Some, None, Result, Ok, Err, is_some, refl, sym, ap, ap₂, subst, ◌∙◌, inl, inr}
 use Rattle.std.specs.Prelude.{◌==◌, ◌||◌, pos, nat_lt, option_map, if◌then◌else◌, MatchBool}
 use Rattle.std.specs.List.{list_any}
@@ -37,11 +37,11 @@ use Rattle.saving.proofs.RunMaps.{left_same}
 use Rattle.saving.proofs.Left.{AreLeft, program_left, left_places, left_moved}
 use Rattle.saving.proofs.Closes.{closed_fewer, fewer_pair}
 
--- the maps of a program are named in a state
+-- the state names the maps of a program
 abbrev IsIn : TenantState → LoadedProgram → Type 0
 IsIn s l = (place : ℕ) → list_any (λ m. m.1 == place) l.maps ≡ true → is_named s.objects place ≡ true
 
--- those of each of its programs are
+-- the state names the maps of each of its programs
 program_in : (s : TenantState) (fd : ℕ) (l : LoadedProgram) → table.named s.objects fd ≡ Some (object.Program l) → IsIn s l
 program_in s fd l is place e = named_by s.objects (fd - table.first_descriptor) (object.Program l) place (stands_at s.objects fd (object.Program l) is) e
 
@@ -176,7 +176,7 @@ module _ {move : ℕ → ℕ} {s t : TenantState} (h : ArePair move s t) where
       by fd None is = refl
       by fd (Some place) is = same_named h place (named place (lookup_names l.maps fd place is))
 
-  -- the answer to a run that leaves these maps
+  -- the reply to a run that leaves these maps
   abbrev came_to : Outcome → TenantState → MapsByDescriptor → Bool → LoadedProgram → Answer
   came_to o u left refused l = outcome_answer o (record u { maps = maps_left left l.maps u.maps; refused = u.refused || refused })
 
@@ -241,7 +241,7 @@ module _ {move : ℕ → ℕ} {s t : TenantState} (h : ArePair move s t) where
   moved_named : (fd : ℕ) → option_map (moved_object move) (table.named s.objects fd) ≡ table.named t.objects fd
   moved_named fd = sym (ap (λ (os : List (Option OpenObject)). table.named os fd) h.by.objects ∙ named_moved move s.objects fd)
 
-  -- an answer that is a function of the state
+  -- a reply that is a function of the state
   as_told : (a x y : Answer) → a ≡ x → IsAlikeAnswer x y → (b : Answer) × (b ≡ y) × IsAlikeAnswer a b
   as_told a x y is alike = (y, refl, subst (λ (z : Answer). IsAlikeAnswer z y) (sym is) alike)
 

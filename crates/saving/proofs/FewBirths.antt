@@ -1,4 +1,4 @@
--- There are no more births than descriptors and places.
+-- There are at most as many births as descriptors and places.
 use Rattle.std.proofs.Common.{◌≡◌, ℕ, zero, suc, ◌+◌, ◌-◌, ◌≤◌, ◌<◌, Bool, true, false, List, [], ◌∷◌, length, set, get_or, replicate, Option, Some, None, refl, sym, ap, subst, ◌∙◌, inl, inr, arith, true≢false}
 use Rattle.std.specs.Prelude.{◌⊎◌, nat_lt, if◌then◌else◌}
 use Rattle.std.specs.List.{list_any}
@@ -13,7 +13,7 @@ use Rattle.saving.specs.Births.{Birth, OfMap, OfProgram, number, is_of_map, is_o
 use Rattle.saving.proofs.Lists.{total_out, there_within}
 use Rattle.saving.proofs.Wholes.{none_of}
 
--- n marks, of which those of these births are taken away
+-- a list of n marks, without the marks of these births
 abbrev Mark : Type 0
 Mark = Option (Unit {0})
 
@@ -32,12 +32,12 @@ abbrev counted : Option ℕ → ℕ
 counted None = 0
 counted (Some k) = 1
 
--- the births that have a mark
+-- the number of births that have a mark
 abbrev count_of : (Birth → Option ℕ) → List Birth → ℕ
 count_of mark [] = 0
 count_of mark (b ∷ older) = counted (mark b) + count_of mark older
 
--- each mark is below n, and taken once
+-- the mark of each birth is below n, and no older birth has it
 abbrev AreTaken : (Birth → Option ℕ) → ℕ → List Birth → Type 0
 AreTaken mark n [] = Unit {0}
 AreTaken mark n (b ∷ older) = ((k : ℕ) → mark b ≡ Some k → get_or (marks_of mark n older) k None ≡ marked) × AreTaken mark n older
@@ -55,7 +55,7 @@ few_of mark n (b ∷ older) h = by (mark b) refl (few_of mark n older h.1)
     by None e rest = omega arith
     by (Some k) e rest = let out = total_out (λ (u : Unit {0}). 1) (marks_of mark n older) k tt (h.0 k e) in omega arith
 
--- a mark that no birth takes is there
+-- a mark that no birth has is in the list
 mark_there : (n k : ℕ) → k < n → get_or (replicate n marked) k None ≡ marked
 mark_there zero k lt = absurd (omega arith)
 mark_there (suc n) zero lt = refl
@@ -77,7 +77,7 @@ map_mark : Birth → Option ℕ
 map_mark (OfMap place fd) = Some place
 map_mark (OfProgram fd) = None
 
--- the place of a descriptor in the table; a number below the first one has a place behind it
+-- the index of a descriptor in the table; a number below the first descriptor has an index after the table
 slot_of : ℕ → ℕ
 slot_of fd = if nat_lt fd first_descriptor then most + fd else fd - first_descriptor
 

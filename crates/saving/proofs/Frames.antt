@@ -1,4 +1,4 @@
--- Alike states give lists of frames the same replies.
+-- Two states that are alike give the same replies to a list of frames.
 use Rattle.std.proofs.Common.{◌≡◌, ℕ, Bool, List, [], ◌∷◌, Option, Some, Result, Ok, Err, refl, sym, ap₂, subst, ◌∙◌}
 use Rattle.std.specs.Prelude.{ℤ}
 use Rattle.command_frames.specs.declared.command.BadFrame.{BadFrame}
@@ -11,14 +11,14 @@ use Rattle.tenant.specs.Laws.{OneAlone}
 use Rattle.saving.specs.Alike.{IsAlike, HoldsItsMaps}
 use Rattle.saving.specs.Laws.{MapsAreHeld, AlikeIsBisimulation, AlikeStatesReplyAlike}
 
--- two states that hold their maps, and are alike
+-- two states that hold their maps and are alike
 record AreAlike (s t : TenantState) : Type 0 where
   one : HoldsItsMaps s
   two : HoldsItsMaps t
   alike : IsAlike s t
 
 module _ (one_alone : OneAlone) (held : MapsAreHeld) (bisimulation : AlikeIsBisimulation) where
-  -- what a frame comes to in the other state
+  -- the reply to a frame in the other state, and the state after it
   record FrameToo (refusals : List Bool) (t : TenantState) (p : Result Command BadFrame) (a : Answer) : Type 0 where
     b : Answer
     answers : AnswersFrame refusals t p b
@@ -38,11 +38,11 @@ module _ (one_alone : OneAlone) (held : MapsAreHeld) (bisimulation : AlikeIsBisi
         after = record { one = held.kept refusals s command a h.one is; two = held.kept refusals t command b h.two answers; alike = alike.after };
       }
 
-  -- a state that the frames lead to, if they lead to one
+  -- the frames have these replies and lead to some state
   abbrev Reaches : (List ℕ → List ℕ → Option TenantState → Option TenantState → Type 0) → TenantState → List (List ℕ) → List (List ℕ) → Type 0
   Reaches tells t frames replies = (end : Option TenantState) × RepliesInOrder tells (Some t) frames replies end
 
-  -- one reply of a tenant with this state, and a state alike to that after it
+  -- the reply in the other state, and a state after it that is alike
   record ReplyToo (tells : List ℕ → List ℕ → Option TenantState → Option TenantState → Type 0) (t : TenantState) (frame reply : List ℕ) (after : Option TenantState) : Type 0 where
     left : TenantState
     right : TenantState

@@ -1,4 +1,4 @@
--- How many bytes a command brings: no more than its frame has.
+-- The number of bytes that a command has after its numbers; it is at most the length of its frame.
 use Rattle.std.proofs.Common.{Result, Ok, Err, ◌≡◌, ℕ, ◌≤◌, Bool, true, false, List, length, drop, refl, subst, arith}
 use Rattle.std.specs.Prelude.{◌==◌, nat_lt, nat_le, if◌then◌else◌}
 use Rattle.std.proofs.lemmas.Bool.{ltb-false}

@@ -9,14 +9,14 @@ use Rattle.tenant.specs.Kept.{KeptTenant, state_in}
 use Rattle.saving.specs.Births.{Birth}
 use Rattle.saving.specs.inside.Frames.{AnswersCommand}
 
--- the part of a tenant was lent, and came back with other bytes
+-- the part of a tenant was borrowed and written
 pub record IsLent (m : Memory) (t : ℕ) (old new : List ℕ) : Type 0 where
   pub parts : size_of m ≡ m.parts * m.part
   pub served : (t < m.parts) × (m.part ≡ PART)
   pub bytes : old ≡ part_bytes m t
   pub whole : length new ≡ PART
 
--- what a reply is for the borrowed bytes, it is for the part
+-- a reply to a command on the borrowed bytes is the reply to it on the part
 pub lent_told : PartsAreApart → {m : Memory} {t : ℕ} {old new : List ℕ} {command : Command} {h : Head} {reply : List ℕ} {births later : List Birth} (k l : KeptTenant) → IsLent m t old new
     → AnswersCommand command h reply (state_in old k) (state_in new l) births later
     → AnswersCommand command h reply (state_in (part_bytes m t) k) (state_in (part_bytes (with_part m t new) t) l) births later

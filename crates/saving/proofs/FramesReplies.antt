@@ -45,7 +45,7 @@ may_record frame command h reply before after births later headed is t = record 
 pub no_fault_told : (frame : List ℕ) (h : Head) (reply : List ℕ) → head_of frame ≡ Some h → reply ≢ reply_bytes h.tenant h.command (status_of BadAddress) [] → reply ≢ reply_to frame (status_of BadAddress) []
 no_fault_told frame h reply headed apart e = apart (e ∙ sym (by_head frame h headed (status_of BadAddress) []))
 
--- ---- a frame that carries no command
+-- ---- a frame without a command
 
 pub refused_frame : (frame reply : List ℕ) (s : TenantState) (fault : BadFrame) (errno : Errno) (h : Head) → head_of frame ≡ Some h → parsed frame ≡ Err fault → errno ≡ frame_errno fault
     → reply ≡ reply_bytes h.tenant h.command (status_of errno) [] → MayReply frame reply (Some s) (Some s)

@@ -1,4 +1,4 @@
--- A reply that may be written is not that to a run which faults.
+-- A reply that may be written is not the reply to a run that faults.
 use Rattle.std.proofs.Common.{Result, Ok, Err, ◌≡◌, ◌≢◌, ℕ, ◌<◌, ◌%◌, List, [], refl, sym, ap, ◌∙◌, arith, get_or}
 use Rattle.std.specs.Prelude.{ℤ, pos}
 use Rattle.std.specs.Int.{w32, cast_unsigned}
@@ -18,7 +18,7 @@ use Rattle.tenant.specs.State.{TenantState}
 abbrev low : ℤ → ℕ
 low status = get_or (little_bytes 4 (cast_unsigned w32 status)) 0 0
 
--- that of a fault is 242, and no other error has it
+-- the lowest byte of the status of a fault is 242, and no other error has it
 abbrev IsOther : ℤ → Type 0
 IsOther status = low status ≢ 242
 
@@ -51,6 +51,6 @@ no_fault_written h bytes (Ok (reply.Value value)) s writable written = apart h b
 no_fault_written h bytes (Ok (reply.Key key)) s writable written = apart h bytes (shown_answer (Ok (reply.Key key)) s) written no_zero
 no_fault_written h bytes (Ok (reply.Number number)) s writable written = apart h bytes (shown_answer (Ok (reply.Number number)) s) written no_zero
 no_fault_written h bytes (Ok (reply.Refused refusal)) s writable written =
-    -- it is longer
+    -- a reply with a payload is longer
     λ e. let wrong : 14 ≡ 8 = ap (λ (b : List ℕ). get_or b 0 0) (sym written ∙ e) in absurd (omega (arith, wrong))
 no_fault_written h bytes (Err errno) s writable written = apart h bytes (shown_answer (Err errno) s) written (other_errno errno writable)

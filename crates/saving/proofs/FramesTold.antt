@@ -1,4 +1,4 @@
--- The replies to commands.
+-- Replies to commands.
 use Rattle.std.proofs.Common.{Result, Ok, Err, ◌≡◌, Bool, List, ℕ, refl, sym, subst}
 use Rattle.command_frames.specs.declared.command.Head.{Head}
 use Rattle.command_frames.specs.declared.command.Command.{Command as CodeCommand}
@@ -18,7 +18,7 @@ shown_after (Err errno) s = refl
 shown_after (Ok reply.Done) s = refl
 shown_after (Ok other) s = refl
 
--- the reply is that to the command, which is known in the code as this one
+-- the reply to the command, from the command that the code has parsed
 pub told : {command known : CodeCommand} {h : Head} {bytes : List ℕ} {before after : TenantState} {births later : List Birth} (refusals : List Bool) (r : Result Reply Errno) → command ≡ known
     → Answers refusals before (shown_command known) (shown_answer r after) → IsWritable r → ((s : TenantState) → Writes h bytes (shown_answer r s)) → later ≡ births_after (shown_command known) (shown_answer r after) births
     → AnswersCommand (shown_command command) h bytes before after births later

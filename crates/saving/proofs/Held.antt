@@ -1,4 +1,4 @@
--- Each command leaves just the maps that an open object names.
+-- After each command exactly the maps that an open object names are live.
 use Rattle.std.proofs.Common.{◌≡◌, ℕ, zero, suc, ◌+◌, ◌-◌, ◌<◌, Bool, true, false, List, ◌∷◌, length, set, get_or, take, drop, replicate, Option, Some, None, Result, Ok, Err, IsSome, is_some, refl, sym, ap, subst, ◌∙◌, inl, inr, arith, true≢false, length-set}
 use Rattle.std.specs.Prelude.{◌⊎◌, ◌==◌, ◌||◌, nat_lt, is_none, position, option_map, if◌then◌else◌, MatchBool}
 use Rattle.std.specs.List.{list_any}
@@ -77,7 +77,7 @@ new_held = record {
   named_if_live = λ place some. absurd (not_none some (no_map most_maps place));
 }
 
--- ---- other contents
+-- ---- changed contents of maps
 
 module _ {s : TenantState} (h : HoldsItsMaps s) where
   flag_held : (b : Bool) → HoldsItsMaps (record s { refused = b })
@@ -170,7 +170,7 @@ module _ {s : TenantState} (h : HoldsItsMaps s) where
 
   -- ---- PROG_LOAD
 
-  -- a program whose maps are named
+  -- a program whose maps are named is opened
   pub opened_held : (fd : ℕ) (l : LoadedProgram) → table.lowest s.objects ≡ Some fd → ((p : ℕ) → list_any (λ m. m.1 == p) l.maps ≡ true → is_named s.objects p ≡ true)
       → HoldsItsMaps (record s { objects = table.with_open s.objects fd (object.Program l) })
   opened_held fd l low named = record {

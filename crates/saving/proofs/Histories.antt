@@ -1,4 +1,4 @@
--- Each state that a tenant comes to is restored.
+-- Each state that a tenant can reach is restored by its save.
 use Rattle.std.proofs.Common.{List, [], ◌∷◌, sym, subst}
 use Rattle.command_frames.specs.Command.{Command}
 use Rattle.tenant.specs.State.{TenantState, new_tenant}

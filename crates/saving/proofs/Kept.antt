@@ -1,4 +1,4 @@
--- What can be restored is so after each command.
+-- Each command preserves the invariant of states that can be restored.
 use Rattle.std.proofs.Common.{◌≡◌, ◌≢◌, ℕ, zero, suc, ◌+◌, ◌-◌, ◌≤◌, ◌<◌, Bool, true, false, List, [], ◌∷◌, ◌++◌, length, set, get_or, slice_get, Option, Some, None, IsSome, is_some, refl, sym, ap, ap₂, subst, ◌∙◌, inl, inr, arith, true≢false, length-set}
 use Rattle.std.specs.Prelude.{◌⊎◌, ◌==◌, ◌||◌, not, option_map, if◌then◌else◌}
 use Rattle.std.specs.List.{list_any, AllByRecursion}
@@ -69,7 +69,7 @@ program_kept s t l whole h = record {
 pub program_names : (s : TenantState) (n : ℕ) (l : LoadedProgram) → table.named s.objects n ≡ Some (object.Program l) → (fd place : ℕ) → lookup (λ m. m == fd) l.maps ≡ Some place → is_named s.objects place ≡ true
 program_names s n l there fd place e = named_by s.objects (n - table.first_descriptor) (object.Program l) place (stands_at s.objects n (object.Program l) there) (lookup_names l.maps fd place e)
 
--- ---- other contents of the same maps
+-- ---- changed contents of the same maps
 
 leaves_shape : (o p : Option Map) → LeavesMap o p → shape_of p ≡ shape_of o
 unfolding shape_of
@@ -101,7 +101,7 @@ sums_same [] (y ∷ ys) h = let rest = sums_same [] ys (λ i. h (suc i)) in let 
 sums_same (x ∷ xs) [] h = let rest = sums_same xs [] (λ i. h (suc i)) in let here = h zero in omega arith
 sums_same (x ∷ xs) (y ∷ ys) h = let rest = sums_same xs ys (λ i. h (suc i)) in let here = h zero in omega arith
 
--- each map is left as it was, or with other contents
+-- each map is the same as before or has changed contents
 pub contents_kept : {s : TenantState} → IsRestorable s → (ms : List (Option Map)) (b : Bool) → HoldsItsMaps (record s { maps = ms; refused = b }) → ((place : ℕ) → LeavesMap (live s place) (get_or ms place None)) → IsRestorable (record s { maps = ms; refused = b })
 contents_kept {s} can ms b holds each = record {
   held = holds;
@@ -110,7 +110,7 @@ contents_kept {s} can ms b holds each = record {
   programs = λ fd l there. program_kept s (record s { maps = ms; refused = b }) l (can.programs fd l there) (λ other place e. leaves_shape (live s place) (get_or ms place None) (each place));
 }
 
--- one map has other contents
+-- one map has changed contents
 pub one_left : (xs : List (Option Map)) (place : ℕ) (t u : Map) → get_or xs place None ≡ Some t → IsLeftOf t u → (p : ℕ) → LeavesMap (get_or xs p None) (get_or (set xs place (Some u)) p None)
 one_left xs place t u there left p = by (set_by_place xs place p (Some u) (there_within xs place (there_is there)))
   where
@@ -120,12 +120,12 @@ one_left xs place t u there left p = by (set_by_place xs place p (Some u) (there
 
 -- ---- a test run
 
--- each of these maps is left at its place
+-- each of these maps is at its place after the run
 unfoldable pub AreLeftOf : MapsByDescriptor → List (ℕ × ℕ) → List (Option Map) → Type 0
 AreLeftOf left [] xs = Unit {0}
 AreLeftOf left (m ∷ ms) xs = LeavesMap (get_or xs m.1 None) (left m.0) × AreLeftOf left ms xs
 
--- of maps that were already left
+-- the maps after the run of a program
 pub run_left : (left : MapsByDescriptor) (ms : List (ℕ × ℕ)) (xs ys : List (Option Map)) → AreLeftOf left ms xs → length ys ≡ length xs → ((p : ℕ) → LeavesMap (get_or xs p None) (get_or ys p None)) → (p : ℕ) → LeavesMap (get_or xs p None) (get_or (maps_left left ms ys) p None)
 unfolding maps_left AreLeftOf
 run_left left [] xs ys all long each p = each p
@@ -145,7 +145,7 @@ run_left left (m ∷ ms) xs ys all long each p =
         set_past (z ∷ zs) zero x le = absurd (omega arith)
         set_past (z ∷ zs) (suc n) x le = ap (λ (ws : List (Option Map)). z ∷ ws) (set_past zs n x (omega arith))
 
--- a list of descriptors with none twice finds each of its places
+-- a list of descriptors without duplicates
 unfoldable pub AreOnce : List ℕ → Type 0
 AreOnce [] = Unit {0}
 AreOnce (x ∷ xs) = (list_any (λ y. y == x) xs ≡ false) × AreOnce xs
@@ -207,7 +207,7 @@ distinct_once (fd ∷ fds) = (gone fd (distinct fds), once_left fd (distinct fds
 
 -- ---- PROG_LOAD
 
--- the object of a descriptor, as the verifier sees it
+-- the target of a descriptor, as the verifier reads it
 targets_below : (s : TenantState) (from fd : ℕ) (xs : List (Option OpenObject)) → fd < from → target_of (targets_from s from xs) fd ≡ None
 unfolding targets_from target_of
 targets_below s from fd [] low = refl
@@ -235,7 +235,7 @@ named_get : (objects : List (Option OpenObject)) (fd : ℕ) → table.first_desc
 named_get objects fd low =
     ap (λ (b : Bool). if b then None else table.flattened (slice_get objects (fd - table.first_descriptor))) (le-ltb fd table.first_descriptor low) ∙ flattened-get objects (fd - table.first_descriptor)
 
--- what has a shape is an open map
+-- a descriptor that has a shape names an open map
 shaped_is_map : (s : TenantState) (fd : ℕ) → length s.objects ≡ table.most → IsSome (shapes_named (targets s) fd) → IsDescriptor fd × (place : ℕ) × (table.named s.objects fd ≡ Some (object.Map place))
 shaped_is_map s fd long some = by_low (cases_lt fd table.first_descriptor)
   where
@@ -255,7 +255,7 @@ abbrev bind : Option ℕ → ℕ → List (ℕ × ℕ) → List (ℕ × ℕ)
 bind None fd rest = rest
 bind (Some place) fd rest = (fd, place) ∷ rest
 
--- so each map that an accepted program loads is bound to its place
+-- each map that an accepted program loads is bound to its place
 record AreBound (s : TenantState) (fds : List ℕ) (ms : List (ℕ × ℕ)) : Type 0 where
   keys : keys_of ms ≡ fds
   opened : AreOpen (table.named s.objects) ms
@@ -272,7 +272,7 @@ all_bound s long (fd ∷ fds) h =
         subst (λ (o : Option OpenObject). AreBound s (fd ∷ fds) (bind (named_place o) fd (places_from s.objects fds))) (sym there)
         (record { keys = ap (λ (ks : List ℕ). fd ∷ ks) rest.keys; opened = ((descriptor, there), rest.opened) })
 
--- what is loaded is whole
+-- a program that is loaded is whole
 pub loaded_whole : LoadedMapsHaveShapes → (s : TenantState) → length s.objects ≡ table.most → (insns : List Insn) → IsProgram insns → IsAccepted insns (targets s) → IsWholeProgram s (loaded_program s insns)
 loaded_whole law s long insns program accepted =
     let is = all_bound s long (maps_of insns) (recursion_from_All (λ fd. IsSome (shapes_named (targets s) fd)) (maps_of insns) (law.named insns (targets s) accepted)) in

@@ -1,4 +1,4 @@
--- Each command keeps what can be restored.
+-- Each command preserves the invariant of states that can be restored.
 use Rattle.std.proofs.Common.{◌≡◌, ℕ, zero, suc, ◌+◌, ◌-◌, ◌≤◌, Bool, true, false, cond, List, [], ◌∷◌, length, set, get_or, take, drop, replicate, Option, Some, None, Result, Ok, Err, refl, sym, ap, subst, ◌∙◌, inl, inr, arith, length-drop, length-take-le}
 use Rattle.std.specs.Prelude.{◌⊎◌, ◌==◌, ◌||◌, nat_lt, if◌then◌else◌, MatchBool}
 use Rattle.std.specs.List.{AllByRecursion}
@@ -54,7 +54,7 @@ all_set test size (e ∷ es) value h long = by (test e.0) (all_set test size es 
     by true rest = (long, h.1)
     by false rest = (h.0, rest)
 
--- after an update, and after a deletion
+-- the map after an update, and after a deletion
 new_left : (t : Map) (key value : List ℕ) (flags : ℕ) → length key ≡ t.shape.key_size → length value ≡ t.shape.value_size → verdict t key flags ≡ call.New → IsLeftOf t (with_new t key value)
 new_left t key value flags key_size value_size e = record {
   shape = refl;
@@ -133,7 +133,7 @@ new_map_whole shape = by shape.kind refl
     })
 
 module _ {s : TenantState} (can : IsRestorable s) where
-  -- an answer after which the maps are held keeps the rest
+  -- if exactly the named maps are live after the reply, the whole invariant holds
   abbrev Keeps : Answer → Type 0
   Keeps a = HoldsItsMaps a.after → IsRestorable a.after
 
@@ -328,7 +328,7 @@ answer_kept held law refusals s command a can is = by command is (held.kept refu
     by (prog_test_run fd words packet) is = told _ is (run_kept can refusals words packet fd (table.named s.objects fd) refl)
     by (close fd) is = told _ is (close_kept can fd (table.named s.objects fd))
 
--- a new tenant has nothing to restore
+-- a new tenant can be restored
 none_at : {A : Type 0} (n i : ℕ) → let none : Option A = None in get_or (replicate n none) i none ≡ none
 none_at zero i = refl
 none_at (suc n) zero = refl

@@ -13,7 +13,7 @@ use Rattle.saving.specs.Alike.{moved_maps, HoldsItsMaps}
 use Rattle.saving.proofs.Lists.{set_by_place, there_within}
 use Rattle.saving.proofs.Moved.{or_left, or_right, lookup_names}
 
--- each of these maps is left, and was live at its place
+-- each of these maps is in the result of the run, and was live at its place
 abbrev pub AreLeft : MapsByDescriptor → List (ℕ × ℕ) → List (Option Map) → Type 0
 AreLeft left [] xs = Unit {0}
 AreLeft left (m ∷ ms) xs = IsSome (left m.0) × IsSome (get_or xs m.1 None) × AreLeft left ms xs
@@ -23,7 +23,7 @@ unfolding maps_left
 length_left left [] xs = refl
 length_left left (m ∷ ms) xs = length_left left ms (set xs m.1 (left m.0)) ∙ length-set {A = Option Map} xs m.1 (left m.0)
 
--- elements at the same places
+-- the same places have elements
 abbrev pub SamePlaces : List (Option Map) → List (Option Map) → Type 0
 SamePlaces xs ys = (p : ℕ) → is_some (get_or ys p None) ≡ is_some (get_or xs p None)
 
@@ -58,7 +58,7 @@ set_moved move xs ys n x p there here apart same = by (set_by_place xs n p x (th
     by (inr (other, e)) (inl (at, f)) = absurd (other (sym (apart (sym at))))
     by (inr (other, e)) (inr (too, f)) = f ∙ same ∙ sym e
 
--- at another place the same map is left
+-- after a run the map at a moved place is the same
 pub left_moved : (move : ℕ → ℕ) (left : MapsByDescriptor) (ms : List (ℕ × ℕ)) (xs ys : List (Option Map)) (p : ℕ) → AreLeft left ms xs → AreLeft left (moved_maps move ms) ys
     → ((q : ℕ) → list_any (λ m. m.1 == q) ms ≡ true → move q ≡ move p → q ≡ p) → get_or ys (move p) None ≡ get_or xs p None
     → get_or (maps_left left (moved_maps move ms) ys) (move p) None ≡ get_or (maps_left left ms xs) p None
@@ -71,7 +71,7 @@ left_moved move left (m ∷ ms) xs ys p h k apart same =
     (λ q e. apart q (or_right (m.1 == q) (list_any (λ n. n.1 == q) ms) e))
     (set_moved move xs ys m.1 (left m.0) p h.1 k.1 (apart m.1 (or_left (m.1 == m.1) (list_any (λ n. n.1 == m.1) ms) (eq-eqb m.1 m.1 refl))) same)
 
--- ---- of a program that holds its maps
+-- ---- a program that holds its maps
 
 each_left : (left : MapsByDescriptor) (ms : List (ℕ × ℕ)) (xs : List (Option Map)) → ((fd : ℕ) → list_any (λ m. m.0 == fd) ms ≡ true → IsSome (left fd)) → ((p : ℕ) → list_any (λ m. m.1 == p) ms ≡ true → IsSome (get_or xs p None))
     → AreLeft left ms xs

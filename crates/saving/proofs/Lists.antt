@@ -1,4 +1,4 @@
--- Lists of which some elements are absent.
+-- Lists with absent elements.
 use Rattle.std.proofs.Common.{◌≡◌, ◌≢◌, ℕ, zero, suc, ◌+◌, ◌≤◌, ◌<◌, Bool, cond, List, [], ◌∷◌, length, map, set, get_or, Option, Some, None, IsSome, is_some, refl, sym, ap, ◌∙◌, inl, inr, arith, get_or-set_same, get_or-set_other, true≢false}
 use Rattle.std.specs.Prelude.{◌⊎◌, is_none, position, option_map, not}
 use Rattle.std.specs.List.{prefix_len}
@@ -32,13 +32,13 @@ set_by_place xs n i x within = by (cases_eq i n)
     by (inl same) = inl (same, ap (λ (j : ℕ). get_or (set xs n x) j None) same ∙ get_or-set_same xs n x None within)
     by (inr other) = inr (other, get_or-set_other xs n i x None other)
 
--- what is there is within the list
+-- the index of an element that is present is in the list
 pub there_within : {A : Type 0} (xs : List (Option A)) (n : ℕ) → IsSome (get_or xs n None) → n < length xs
 there_within [] n some = absurd (true≢false (sym some))
 there_within (x ∷ xs) zero some = omega arith
 there_within (x ∷ xs) (suc n) some = let rest = there_within xs n some in omega arith
 
--- ---- the first absent one
+-- ---- the first absent element
 
 module _ {A B : Type 0} (f : A → B) where
   none_map : (o : Option A) → is_none (option_map f o) ≡ is_none o
@@ -62,18 +62,18 @@ module _ {A B : Type 0} (f : A → B) where
 abbrev pub one : {A : Type 0} → A → ℕ
 one x = 1
 
--- the elements that are there
+-- the number of elements that are present
 abbrev pub present : {A : Type 0} → List (Option A) → ℕ
 present xs = total one xs
 
--- with one element absent
+-- the sum after one element is removed
 pub total_out : {A : Type 0} (f : A → ℕ) (xs : List (Option A)) (n : ℕ) (x : A) → get_or xs n None ≡ Some x → total f xs ≡ f x + total f (set xs n None)
 unfolding total
 total_out f [] n x there = absurd (none-some x there)
 total_out f (o ∷ os) zero x there = let here : weight f o ≡ f x = ap (weight f) there in omega arith
 total_out f (o ∷ os) (suc n) x there = let rest = total_out f os n x there in omega arith
 
--- with one more
+-- the sum after one element is added
 pub total_in : {A : Type 0} (f : A → ℕ) (xs : List (Option A)) (n : ℕ) (x : A) → n < length xs → get_or xs n None ≡ None → total f (set xs n (Some x)) ≡ total f xs + f x
 unfolding total
 total_in f [] n x within free = absurd (omega arith)
@@ -88,7 +88,7 @@ total_nothing f (o ∷ os) h =
     let here : weight f o ≡ 0 = ap (weight f) (h zero) in
     omega arith
 
--- a second list that has just the elements of the first, each at another place
+-- a second list with exactly the elements of the first, at other places
 pub record IsShuffled {A : Type 0} (move : ℕ → ℕ) (xs ys : List (Option A)) : Type 0 where
   pub same : (i : ℕ) → IsSome (get_or xs i None) → get_or ys (move i) None ≡ get_or xs i None
   pub apart : (i j : ℕ) → IsSome (get_or xs i None) → IsSome (get_or xs j None) → move i ≡ move j → i ≡ j
@@ -101,7 +101,7 @@ set_none (y ∷ ys) zero (suc k) some = (λ e. absurd (omega arith), some)
 set_none (y ∷ ys) (suc n) zero some = (λ e. absurd (omega arith), some)
 set_none (y ∷ ys) (suc n) (suc k) some = let (apart, there) = set_none ys n k some in (λ e. apart (omega arith), there)
 
--- without the first
+-- the same without the first element
 rest_shuffled : {A : Type 0} (move : ℕ → ℕ) (x : A) (xs ys : List (Option A)) → IsShuffled move (Some x ∷ xs) ys → IsShuffled (λ i. move (suc i)) xs (set ys (move zero) None)
 rest_shuffled {A} move x xs ys h = record {
   same = λ i some. get_or-set_other ys (move zero) (move (suc i)) None None (λ e. absurd (let wrong : suc i ≡ zero = h.apart (suc i) zero some refl e in omega arith)) ∙ h.same (suc i) some;
@@ -124,7 +124,7 @@ rest_none {A} move xs ys h = record {
     by k (zero, some, at) = absurd (true≢false (sym some))
     by k (suc i, some, at) = (i, some, at)
 
--- a sum doesn't depend on the places
+-- a sum does not depend on the places
 pub total_shuffled : {A : Type 0} (f : A → ℕ) (move : ℕ → ℕ) (xs ys : List (Option A)) → IsShuffled move xs ys → total f ys ≡ total f xs
 unfolding total
 total_shuffled f move [] ys h = total_nothing f ys (λ k. by k (some_or_none (get_or ys k None)))
@@ -138,7 +138,7 @@ total_shuffled f move (Some x ∷ xs) ys h =
     let out = total_out f ys (move zero) x (h.same zero refl) in
     omega arith
 
--- ---- room for one more
+-- ---- room for one more element
 
 prefix_all : {A : Type 0} (xs : List (Option A)) → prefix_len (λ o. not (is_none o)) xs ≡ length xs → present xs ≡ length xs
 unfolding total
@@ -163,7 +163,7 @@ prefix_less [] lt = absurd (omega arith)
 prefix_less (None ∷ xs) lt = let rest = prefix_few xs in omega arith
 prefix_less (Some x ∷ xs) lt = let rest = prefix_less xs (omega arith) in omega arith
 
--- where as many are there, there is room in both or in none
+-- two lists of one length with the same number of elements are both full or both have room
 pub same_room : {A B : Type 0} (xs : List (Option A)) (ys : List (Option B)) → length xs ≡ length ys → present xs ≡ present ys
     → ((position is_none xs ≡ None) × (position is_none ys ≡ None))
     ⊎ ((p : ℕ) × (q : ℕ) × (position is_none xs ≡ Some p) × (position is_none ys ≡ Some q))

@@ -32,11 +32,11 @@ use Rattle.saving.proofs.States.{state_of, same_state, opened_names}
 abbrev pub SameEntriesSameVerdict : Type 0
 SameEntriesSameVerdict = (code : List Insn) (a b : List Named) → entries_of (maps_of code) a ≡ entries_of (maps_of code) b → IsAccepted code a → IsAccepted code b
 
--- the maps of a program are open at the descriptors by which it names them
+-- each map of the program is open at the descriptor by which the program names it
 abbrev pub AreOpen : Opened → List (ℕ × ℕ) → Type 0
 AreOpen f ms = AllByRecursion (λ m. IsDescriptor m.0 × (f m.0 ≡ Some (object.Map m.1))) ms
 
--- ---- its places
+-- ---- the places of its maps
 
 abbrev bind : Option ℕ → ℕ → List (ℕ × ℕ) → List (ℕ × ℕ)
 bind None fd rest = rest
@@ -57,7 +57,7 @@ open_at f (m ∷ ms) fd place h e = by (m.0 == fd) refl (open_at f ms fd place h
     by true is rest e = ap f (sym (eqb-true m.0 fd is)) ∙ h.0.1 ∙ ap (λ (p : ℕ). Some (object.Map p)) (same_Some m.1 place e)
     by false is rest e = rest e
 
--- ---- what it sees
+-- ---- the targets that the verifier reads
 
 filter_entry : (p : ℕ → Bool) (fd : ℕ) (o : Option Target) (rest : List Named) → filter (λ n. p n.fd) (entry_of fd o ++ rest) ≡ (if p fd then entry_of fd o else []) ++ filter (λ n. p n.fd) rest
 filter_entry p fd None rest = by (p fd)
@@ -75,11 +75,11 @@ filter_entry p fd (Some t) rest = by (p fd)
     by false = refl
 
 module _ (x s : TenantState) (f : Opened) (ms : List (ℕ × ℕ)) (are_open : AreOpen f ms) (agree : (place : ℕ) → is_named (table f) place ≡ true → live x place ≡ live s place) where
-  -- the shape of the map that the program names so
+  -- the target of the program's map with this descriptor
   abbrev shape_at : ℕ → Option Target
   shape_at fd = option_map (λ t. target.Map t.shape) (and_then (lookup (λ m. m == fd) ms) (live s))
 
-  -- the places are named
+  -- the places of these maps are named
   named_too : (fd place : ℕ) → IsDescriptor fd → f fd ≡ Some (object.Map place) → is_named (table f) place ≡ true
   named_too fd place is there = named_from_at f place (record { fd = fd; descriptor = is; o = object.Map place; at = there; named = eq-eqb place place refl })
 
@@ -129,7 +129,7 @@ module _ (s : TenantState) (f : Opened) (l : LoadedProgram) (whole : IsWholeProg
   accepted_again : SameEntriesSameVerdict → IsAccepted l.insns (targets (state_of s f))
   accepted_again same = same l.insns whole.named (targets (state_of s f)) (sym whole.picked ∙ sym entries) whole.accepted
 
-  -- its names are no news
+  -- the places that the program names were named before
   names_old : (place : ℕ) → names place (object.Program l) ≡ true → is_named (table f) place ≡ true
   names_old place e = open_named f l.maps place are_open e
 

@@ -1,4 +1,4 @@
--- A map is created again, and gets its keys in order.
+-- A map is created again and gets its keys in order.
 use Rattle.std.proofs.Common.{◌≡◌, ℕ, zero, suc, ◌+◌, ◌≤◌, ◌<◌, Bool, true, false, cond, List, [], ◌∷◌, ◌++◌, length, map, set, get_or, take, drop, replicate, Option, Some, None, Result, Ok, Err, refl, sym, ap, ap₂, subst, ◌∙◌, inl, inr, arith, true≢false, length-set, get_or-set_same, append_assoc, append-nil, IsTrue, length-append}
 use Rattle.std.specs.Prelude.{◌⊎◌, ◌==◌, ◌||◌, ◌&&◌, pos, is_none, not, if◌then◌else◌}
 use Rattle.std.specs.List.{AllByRecursion, prefix_len}
@@ -38,7 +38,7 @@ use Rattle.saving.proofs.Held.{created_held}
 use Rattle.saving.proofs.Tables.{Opened, table, IsOnlyFree, named-table, table-open, lowest-table, set_same}
 use Rattle.saving.proofs.States.{Follows, follows, state_of, same_state, opened_names}
 
--- ---- the shape that is asked for
+-- ---- the shape of the command
 
 IsTrue-prop : (b : Bool) → IsProp (IsTrue b)
 IsTrue-prop b = hlevel props
@@ -88,7 +88,7 @@ set_behind key old value (e ∷ es) rest none = by (is_key key e.0) none (set_be
     by true none later = absurd (none-some e.1 (sym none))
     by false none later = ap (λ (xs : List Pair). e ∷ xs) (later none)
 
--- none of these keys is among those before it
+-- no key of the second list is in the first, or twice in the second
 abbrev AreNew : List Pair → List Pair → Type 0
 AreNew before [] = Unit {0}
 AreNew before (e ∷ es) = (found e.0 before ≡ None) × AreNew (before ++ e ∷ []) es
@@ -117,13 +117,13 @@ module _ (shape : MapShape) where
   abbrev holding : List Pair → Map
   holding es = record { shape = shape; entries = es; deleted = 0 }
 
-  -- one more is done
+  -- one more pair is put
   regroup : (done : List Pair) (e : Pair) (rest es : List Pair) → ArePut (holding ((done ++ e ∷ []) ++ rest)) es (holding ((done ++ e ∷ []) ++ es)) → ArePut (holding (done ++ e ∷ rest)) es (holding (done ++ e ∷ es))
   regroup done e rest es h =
       subst (λ (xs : List Pair). ArePut (holding xs) es (holding (done ++ e ∷ es))) (append_assoc done (e ∷ []) rest)
       (subst (λ (xs : List Pair). ArePut (holding ((done ++ e ∷ []) ++ rest)) es (holding xs)) (append_assoc done (e ∷ []) es) h)
 
-  -- one absent key after another
+  -- keys that are absent, one after another
   put_new : shape.kind ≡ Hash → (done es : List Pair) → length done + length es ≤ shape.max_entries → AreNew done es → ArePut (holding done) es (holding (done ++ es))
   put_new hash done [] few new = ap holding (append-nil done)
   put_new hash done (e ∷ es) few new = (
@@ -143,7 +143,7 @@ module _ (shape : MapShape) where
           ∙ ap (λ (k : MapKind). call.of_absent {A = List ℕ} k ((length done + 0) == shape.max_entries) 0) hash
           ∙ ap (λ (b : Bool). if b then call.Refused TooBig else call.New) not_full
 
-  -- one present key after another
+  -- keys that are present, one after another
   abbrev zeroed : List ℕ → List Pair → List Pair
   zeroed zeros es = map (λ e. pair_with zeros e.0) es
 
@@ -214,9 +214,9 @@ put_answer x fd place t u e opened there put key_size value_size =
     by (inl (new, is)) = ap (element_put false x place t e.0 e.1) new ∙ ap (λ (m : Map). gives [] (with_map_at x place m)) (sym is)
     by (inr (old, present, is)) = ap (element_put false x place t e.0 e.1) present ∙ ap (λ (m : Map). gives [] (with_map_at x place m)) (sym is)
 
--- ---- room for it
+-- ---- room for the map
 
--- the sums without what is not named, and with one more
+-- the bytes of the named maps are at most those of all maps
 pub area_left : (objects : List (Option OpenObject)) (from : ℕ) (ms : List (Option Map)) → total map_area (named_from objects from ms) ≤ total map_area ms
 unfolding named_from total
 area_left objects from [] = omega arith
@@ -245,7 +245,7 @@ area_more objects from (suc i) (m ∷ ms) t there unnamed =
     fewer true o = omega arith
     fewer false o = omega arith
 
--- where one place is free there is a lowest one
+-- if some place is free, there is a lowest free place
 free_prefix : (xs : List (Option Map)) (n : ℕ) → n < length xs → get_or xs n None ≡ None → prefix_len (λ o. not (is_none o)) xs < length xs
 free_prefix [] n within free = absurd (omega arith)
 free_prefix (None ∷ xs) n within free = omega arith
@@ -262,7 +262,7 @@ room_of x place size free fits =
 
 -- ---- the whole map
 
--- the other state follows to this one by these commands
+-- the commands lead to a state that is alike to this one
 pub record LeadsTo (t : TenantState) (commands : List Command) (x : TenantState) : Type 0 where
   pub end : TenantState
   pub leads : Leads t commands end
@@ -290,7 +290,7 @@ module _ (held : MapsAreHeld) (bisimulation : AlikeIsBisimulation) where
         after = subst (λ (ms : List (Option Map)). Follows (record x { maps = ms }) later.end) (set-set x.maps place (Some v) (Some u)) later.after;
       }
 
-  -- a new map comes to any free place of each
+  -- a new map is created at a free place of each state
   create_leads : (x t : TenantState) (fd place : ℕ) (shape : MapShape) → Follows x t → lowest x.objects ≡ Some fd → IsFree x place → maps_area x.maps + shape_area shape ≤ most_bytes
       → (b : Answer) × Answers [] t (create_of shape) b × (b.status ≡ pos fd) × Follows (with_new_map x fd place (new_map shape)) b.after
   create_leads x t fd place shape h low free fits = by (room_of x place (shape_area shape) free fits) (same_room_for h.pair (shape_area shape))

@@ -45,9 +45,9 @@ closed_moved move objects fd = by (nat_lt fd first_descriptor)
     by true = refl
     by false = map-set (option_map (moved_object move)) objects (fd - first_descriptor) None
 
--- ---- names
+-- ---- names of places
 
--- by one of them
+-- one of two tests holds
 pub or_parts : (a b : Bool) → (a || b) ≡ true → (a ≡ true) ⊎ (b ≡ true)
 or_parts true b e = inl refl
 or_parts false b e = inr e
@@ -58,7 +58,7 @@ or_left a b e = ap (λ (x : Bool). x || b) e ∙ true-or b
 pub or_right : (a b : Bool) → b ≡ true → (a || b) ≡ true
 or_right a b e = ap (λ (x : Bool). a || x) e ∙ or-true a
 
--- the first object names the place, or one of the rest
+-- the first object names the place
 abbrev pub first_names : Option OpenObject → ℕ → Bool
 first_names o place = option_map_or (names place) o false
 
@@ -68,7 +68,7 @@ names_here o os place e = or_left (first_names o place) (is_named os place) e
 pub names_later : (o : Option OpenObject) (os : List (Option OpenObject)) (place : ℕ) → is_named os place ≡ true → is_named (o ∷ os) place ≡ true
 names_later o os place e = or_right (first_names o place) (is_named os place) e
 
--- an object at a place of the table names what it names
+-- a place that an object in the table names is named
 pub named_by : (objects : List (Option OpenObject)) (n : ℕ) (o : OpenObject) (place : ℕ) → get_or objects n None ≡ Some o → names place o ≡ true → is_named objects place ≡ true
 named_by [] n o place there e = absurd (none-some o there)
 named_by (x ∷ xs) zero o place there e = names_here x xs place (ap (λ (y : Option OpenObject). first_names y place) there ∙ e)
@@ -79,7 +79,7 @@ flattened-get [] n = refl
 flattened-get (x ∷ xs) zero = refl
 flattened-get (x ∷ xs) (suc n) = flattened-get xs n
 
--- what a descriptor names stands at its place
+-- the object of a descriptor is at the descriptor's index
 pub stands_at : (objects : List (Option OpenObject)) (fd : ℕ) (o : OpenObject) → named objects fd ≡ Some o → get_or objects (fd - first_descriptor) None ≡ Some o
 stands_at objects fd o e = by (nat_lt fd first_descriptor) e
   where
@@ -125,10 +125,10 @@ same_objects f g (o ∷ os) h =
     (same_first f g o (λ place e. h place (names_here o os place e)))
     (same_objects f g os (λ place e. h place (names_later o os place e)))
 
--- ---- a place is named at its new place
+-- ---- a place that is named is named at its new place
 
 module _ (move : ℕ → ℕ) (place : ℕ) where
-  -- no other place is moved there
+  -- only this place is moved to its new place
   abbrev Alone : ℕ → Type 0
   Alone p = move p ≡ move place → p ≡ place
 
@@ -161,7 +161,7 @@ module _ (move : ℕ → ℕ) (place : ℕ) where
       (first_moved o (λ p e. h p (names_here o os p e)))
       (is_named_moved os (λ p e. h p (names_later o os p e)))
 
--- ---- what a load sees
+-- ---- the targets that a load reads
 
 -- each map that is named is the same at its new place
 abbrev pub AreSame : (ℕ → ℕ) → TenantState → TenantState → List (Option OpenObject) → Type 0
@@ -180,7 +180,7 @@ targets_moved move s t fd (o ∷ os) h =
     by (Some (object.Map place)) h = ap (option_map (λ (m : Map). target.Map m.shape)) (h place (eq-eqb place place refl))
     by (Some (object.Program l)) h = refl
 
--- a place in front of the others
+-- one more entry before the others
 abbrev bind : Option ℕ → ℕ → List (ℕ × ℕ) → List (ℕ × ℕ)
 bind None fd rest = rest
 bind (Some place) fd rest = (fd, place) ∷ rest
@@ -202,7 +202,7 @@ places_moved move objects (fd ∷ fds) =
     by None rest = rest
     by (Some place) rest = ap (λ (ms : List (ℕ × ℕ)). (fd, move place) ∷ ms) rest
 
--- and they are named by what was named
+-- the places of the entries are named
 pub places_named : (objects : List (Option OpenObject)) (fds : List ℕ) (place : ℕ) → list_any (λ m. m.1 == place) (places_from objects fds) ≡ true → is_named objects place ≡ true
 unfolding places_from
 places_named objects [] place e = absurd (true≢false (sym e))

@@ -22,16 +22,16 @@ pub record ArePair (move : ℕ → ℕ) (s t : TenantState) : Type 0 where
 pub same_named : {move : ℕ → ℕ} {s t : TenantState} → ArePair move s t → (place : ℕ) → is_named s.objects place ≡ true → live t (move place) ≡ live s place
 same_named h place e = h.by.same place (h.one.live_if_named place e)
 
--- ---- answers that change nothing, or the flag alone
+-- ---- replies that change nothing, or only the flag
 
 pub unchanged : {move : ℕ → ℕ} {s t : TenantState} → ArePair move s t → (status : ℤ) (payload : List ℕ) → IsAlikeAnswer (record { status = status; payload = payload; after = s }) (record { status = status; payload = payload; after = t })
 unchanged {move} h status payload = record { status = refl; payload = refl; after = (move, h.by) }
 
--- the flag is no part of what is alike
+-- the relation does not depend on the flag
 pub any_flag : {move : ℕ → ℕ} {s t : TenantState} → IsMovedBy move s t → (a b : Bool) → IsMovedBy move (record s { refused = a }) (record t { refused = b })
 any_flag h a b = record { objects = h.objects; same = h.same; apart = h.apart; only = h.only }
 
--- ---- other contents
+-- ---- changed contents of maps
 
 pub changed : {move : ℕ → ℕ} {s t : TenantState} → ArePair move s t → (ms ns : List (Option Map)) (a b : Bool)
     → ((p : ℕ) → is_some (get_or ms p None) ≡ is_some (live s p)) → ((q : ℕ) → is_some (get_or ns q None) ≡ is_some (live t q))
@@ -47,11 +47,11 @@ changed {move} {s} {t} h ms ns a b first second each = record {
     was : (p : ℕ) → IsSome (get_or ms p None) → IsSome (live s p)
     was p some = sym (first p) ∙ some
 
--- the elements of a list with one that was set
+-- the element at each place after one is set
 abbrev pub SetAt : List (Option Map) → ℕ → Map → ℕ → Type 0
 SetAt xs n m i = ((i ≡ n) × (get_or (set xs n (Some m)) i None ≡ Some m)) ⊎ ((i ≢ n) × (get_or (set xs n (Some m)) i None ≡ get_or xs i None))
 
--- the contents of one map
+-- changed contents of one map
 pub changed_one : {move : ℕ → ℕ} {s t : TenantState} → ArePair move s t → (place : ℕ) (m : Map) → is_named s.objects place ≡ true → IsMovedBy move (with_map_at s place m) (with_map_at t (move place) m)
 changed_one {move} {s} {t} h place m named =
     changed h (set s.maps place (Some m)) (set t.maps (move place) (Some m)) s.refused t.refused
@@ -96,12 +96,12 @@ set_there f i x k other = ap (λ (b : Bool). if b then x else f k) (ne_eqb k i o
 abbrev pub with_new_map : TenantState → ℕ → ℕ → Map → TenantState
 with_new_map s fd place m = record s { objects = with_open s.objects fd (object.Map place); maps = set s.maps place (Some m) }
 
--- a place that is free
+-- a place without a map
 pub record IsFree (s : TenantState) (place : ℕ) : Type 0 where
   pub within : place < length s.maps
   pub none : live s place ≡ None
 
--- it may come to any free place of each
+-- the new map may be at any free place of each state
 pub created_pair : {move : ℕ → ℕ} {s t : TenantState} → ArePair move s t → (fd p q : ℕ) (m : Map) → IsFree s p → IsFree t q → IsMovedBy (set_at move p q) (with_new_map s fd p m) (with_new_map t fd q m)
 created_pair {move} {s} {t} h fd p q m free_p free_q = record {
   objects = objects;
@@ -110,7 +110,7 @@ created_pair {move} {s} {t} h fd p q m free_p free_q = record {
   only = λ k some. only k some (set_by_place t.maps q k (Some m) free_q.within);
 }
   where
-    -- no live map is where the new one comes
+    -- no live map is at the place of the new one
     other_place : (i : ℕ) → IsSome (live s i) → i ≢ p
     other_place i some e = not_none some (ap (live s) e ∙ free_p.none)
 
@@ -127,7 +127,7 @@ created_pair {move} {s} {t} h fd p q m free_p free_q = record {
         (sym (set_here move p q))
         ∙ sym (open_moved (set_at move p q) s.objects fd (object.Map p))
 
-    -- at the target of an older map
+    -- the map at the target of an older map is the same
     older : (i : ℕ) → IsSome (live s i) → get_or (set t.maps q (Some m)) (move i) None ≡ live s i
     older i some = by (set_by_place t.maps q (move i) (Some m) free_q.within)
       where
@@ -181,7 +181,7 @@ created_pair {move} {s} {t} h fd p q m free_p free_q = record {
     only k some (inl (at, _)) = (p, here, set_here move p q ∙ sym at)
     only k some (inr (other, e)) = let (i, there, at) = h.by.only k (sym (ap is_some e) ∙ some) in (i, still i there, moved_as i there ∙ at)
 
--- ---- room for one
+-- ---- room for one more map
 
 shuffled : {move : ℕ → ℕ} {s t : TenantState} → IsMovedBy move s t → IsShuffled move s.maps t.maps
 shuffled h = record { same = h.same; apart = h.apart; only = h.only }

@@ -1,4 +1,4 @@
--- What is kept of a tenant holds of each of its parts, and each command keeps it.
+-- The invariant of a tenant holds for all bytes of its part, and each command preserves it.
 use Rattle.std.proofs.Common.{◌≡◌, ℕ, ◌+◌, ◌≤◌, Bool, List, [], ◌∷◌, ◌++◌, true, false, length, reverse, filter, get_or, Option, Some, None, IsSome, is_some, Result, Ok, Err, OnOk, OnErr, refl, sym, ap, subst, ◌∙◌}
 use Rattle.byteorder.specs.Endian.{little_bytes}
 use Rattle.std.specs.Prelude.{if◌then◌else◌}
@@ -57,7 +57,7 @@ module _ (maps : MapsAreHeld) (law : BirthsAreKept) where
   )
 
   module _ (k : KeptTenant) (births : List Birth) (is : IsRecorded (record { kept = k; births = births })) (p : List ℕ) where
-    -- after a command there are no more than there is room for
+    -- after a command there are at most as many births as there is room for
     pub few_after : (refusals : List Bool) (command : Command) (a : Answer) → Answers refusals (state_in p k) command a → length (births_after command a births) ≤ most + most_maps
     few_after refusals command a answers =
         let (held, are) = is p in
@@ -72,7 +72,7 @@ module _ (maps : MapsAreHeld) (law : BirthsAreKept) where
         (subst (λ (bs : List Birth). AreBirths (state_in q l) bs) (sym t.recorded)
         (subst (λ (s : TenantState). AreBirths s (births_after command t.answer births)) (sym t.left) (law.kept t.refusals (state_in p k) command t.answer births held are t.answers)))
 
-  -- ---- test runs one after another
+  -- ---- a list of test runs
 
   runs_keep : (births : List Birth) (fd : ℕ) (words : List ℕ) (s t : TenantState) (packets : List (List ℕ)) (results : List ℕ) → HoldsItsMaps s → AreBirths s births → RunsInOrder fd words s packets results t
       → HoldsItsMaps t × AreBirths t births
@@ -85,7 +85,7 @@ module _ (maps : MapsAreHeld) (law : BirthsAreKept) where
       let a = gives (little_bytes 4 r) between in
       runs_keep births fd words between t ps rs (maps.kept refusals s command a held answers) (law.kept refusals s command a births held are answers) rest
 
-  -- packets are run, or nothing changes
+  -- packets are run, or nothing is changed
   pub recorded_runs : {U E : Type 0} (r : Result U E) (k l : KeptTenant) (births : List Birth) (p q : List ℕ) (fd : ℕ) (words : List ℕ) (packets : List (List ℕ)) (room written : List ℕ)
       → IsRecorded (record { kept = k; births = births }) → OnOk r (RunsBatch fd words (state_in p k) packets room written (state_in q l)) → OnErr r (l ≡ k) → IsRecorded (record { kept = l; births = births })
   recorded_runs (Ok done) k l births p q fd words packets room written is runs same =
@@ -95,12 +95,12 @@ module _ (maps : MapsAreHeld) (law : BirthsAreKept) where
   recorded_runs (Err e) k l births p q fd words packets room written is runs same =
       subst (λ (x : KeptTenant). IsRecorded (record { kept = x; births = births })) (sym same) is
 
--- a part of what an error brings with it
+-- an implication in the error of a result
 pub with_err : {U E : Type 0} {P Q : Type 0} (r : Result U E) → (P → Q) → OnErr r P → OnErr r Q
 with_err (Ok x) f p = tt
 with_err (Err e) f p = f p
 
--- ---- what the code records of a reply
+-- ---- the births that the code records after a reply
 
 no_birth : (errno : Errno) (s : TenantState) (births : List Birth) → births ≡ with_opened (status_of errno) s births
 no_birth NotPermitted s births = refl
@@ -124,7 +124,7 @@ told_is_opened (Ok (reply.Number number)) s births = refl
 told_is_opened (Ok (reply.Refused refusal)) s births = no_birth (cause_errno refusal.cause) s births
 told_is_opened (Err errno) s births = no_birth errno s births
 
--- ---- the latest first
+-- ---- births with the latest first
 
 pub filter-reverse : {A : Type 0} (test : A → Bool) (xs : List A) → reverse (filter test xs) ≡ filter test (reverse xs)
 filter-reverse test [] = refl

@@ -1,4 +1,4 @@
--- A new tenant that is given the commands of a state is alike to it.
+-- A new tenant that executes the commands of a save is alike to the saved tenant.
 use Rattle.std.proofs.Common.{◌≡◌, ◌≢◌, ℕ, zero, suc, ◌+◌, ◌≤◌, ◌<◌, Bool, true, false, List, [], ◌∷◌, ◌++◌, get_or, replicate, Option, Some, None, IsSome, is_some, refl, sym, ap, ap₂, subst, ◌∙◌, inl, inr, arith, true≢false, Ok}
 use Rattle.std.specs.Prelude.{◌⊎◌, is_none, nat_lt, if◌then◌else◌}
 use Rattle.std.proofs.Math.Path.{fun_ext}
@@ -36,7 +36,7 @@ FillerIsAccepted = IsProgram filler × ((named : List Named) → IsAccepted fill
 
 -- ---- the descriptors are filled
 
--- those below k have a filler
+-- the descriptors below k have the filler
 abbrev filled_to : ℕ → Opened
 filled_to k fd = if nat_lt fd k then Some (object.Program filler_program) else None
 
@@ -50,7 +50,7 @@ no_entries : (named : List Named) → entries_of [] named ≡ []
 no_entries [] = refl
 no_entries (n ∷ ns) = no_entries ns
 
--- it loads no map
+-- the filler loads no map
 no_places : (objects : List (Option OpenObject)) → places_from objects (maps_of filler) ≡ []
 unfolding places_from distinct
 no_places objects = refl
@@ -117,7 +117,7 @@ module _ (held : MapsAreHeld) (bisimulation : AlikeIsBisimulation) (s : TenantSt
   above : (k fd : ℕ) → k ≤ fd → closed_to s births k fd ≡ at_births s births fd
   above k fd le = ap (λ (b : Bool). if b then named s.objects fd else at_births s births fd) (le-ltb fd k le)
 
-  -- elsewhere one more changes nothing
+  -- closing k does not change other descriptors
   other_closed : (k fd : ℕ) → fd ≢ k → closed_to s births k fd ≡ closed_to s births (k + 1) fd
   other_closed k fd other = by (cases_lt fd k)
     where
@@ -132,7 +132,7 @@ module _ (held : MapsAreHeld) (bisimulation : AlikeIsBisimulation) (s : TenantSt
       by (inl same) = ap (set_at (closed_to s births k) k None) same ∙ set_same (closed_to s births k) k None ∙ sym none ∙ sym (below (k + 1) k (omega arith)) ∙ ap (closed_to s births (k + 1)) (sym same)
       by (inr other) = set_other (closed_to s births k) k None fd other ∙ other_closed k fd other
 
-  -- what is open was born last
+  -- the object of an open descriptor is the one of its latest birth
   still_open : (k : ℕ) (o : OpenObject) → named s.objects k ≡ Some o → at_births s births k ≡ Some o
   still_open k o is = ap (λ (b : Option Birth). Some (object_of s b)) (are.latest k o is) ∙ ap (λ (x : OpenObject). Some x) (by o is)
     where
@@ -167,7 +167,7 @@ module _ (held : MapsAreHeld) (bisimulation : AlikeIsBisimulation) (s : TenantSt
           let later = rest one.b.after (subst (λ (f : Opened). Follows (state_of s f) one.b.after) (fun_ext (λ fd. next_closed k fd none)) one.after) in
           record { end = later.end; leads = (one.b, one.answers, (0, one.status), later.leads); after = later.after }
 
-  -- the end is the state, but for its flag
+  -- the last state is the saved state with a clear flag
   end_is : HoldsItsMaps s → record s { refused = false } ≡ state_of s (closed_to s births (first_descriptor + most))
   end_is holds =
       same_state s (closed_to s births (first_descriptor + most)) (record s { refused = false }) (sym objects) refl
@@ -184,7 +184,7 @@ module _ (held : MapsAreHeld) (bisimulation : AlikeIsBisimulation) (s : TenantSt
       by place (inl some) = sym (ap (λ (b : Bool). if b then live s place else None) (holds.named_if_live place some))
       by place (inr none) = none ∙ either (is_named s.objects place) ∙ ap (λ (o : Option Map). if is_named s.objects place then o else None) (sym none)
 
--- ---- the beginning
+-- ---- the state before the first birth
 
 none_born : (s : TenantState) (place : ℕ) → NamesAt (at_births s []) place → ⊥
 none_born s place h = true≢false (sym h.named ∙ ap (names place) (sym (same_Some (object.Program filler_program) h.o h.at)))
@@ -236,7 +236,7 @@ none_filled (suc n) fd low =
 empty_is : filling first_descriptor ≡ new_tenant
 empty_is = ap (λ (os : List (Option OpenObject)). record { objects = os; maps = no_maps; refused = false }) (none_filled most first_descriptor (omega arith))
 
--- before the first is closed
+-- the state before the first descriptor is closed
 first_closed : (s : TenantState) (births : List Birth) → state_of s (at_births s births) ≡ state_of s (closed_to s births first_descriptor)
 first_closed s births =
     ap (λ (os : List (Option OpenObject)). record { objects = os; maps = named_from os 0 s.maps; refused = false })

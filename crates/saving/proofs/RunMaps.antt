@@ -1,4 +1,4 @@
--- A run leaves a map where there was one, of the same shape and whole, and nowhere else.
+-- A run leaves exactly the maps that it was given, with the same shapes, and each is whole.
 use Rattle.std.proofs.Common.{◌≡◌, ℕ, zero, suc, ◌+◌, ◌/◌, ◌%◌, Bool, true, false, List, [], ◌∷◌, length, Option, Some, None, is_some, refl, sym, ap, subst, ◌∙◌, inl, inr}
 use Rattle.std.specs.Prelude.{ℤ, ◌⊎◌, ◌==◌, pos, negsuc, ◌+ℤ◌, ◌<◌, nat_le, map, slice_index_or, option_map, if◌then◌else◌, Result, Ok, Err}
 use Rattle.std.specs.List.{AllByRecursion}
@@ -37,18 +37,18 @@ use Rattle.tagged_model.specs.Step.{Step, goes, ends, faults, or_fault, assigned
 
 -- ---- a map of a run
 
--- its keys have objects of the size of a value
+-- the table is whole, each key has an object, and each object has the size of a value
 pub record IsWholeRunMap (t : RunMap) : Type 0 where
   pub table : IsWholeTable t.table
   pub owns : KeysHaveObjects t.count t.table.entries
   pub sized : (number : ℕ) → number < t.count → length (t.values number) ≡ t.table.shape.value_size
 
--- a later map: of the same shape, and whole if the earlier one is
+-- the map has the same shape later, and is whole if it was whole before
 pub record IsLater (t u : RunMap) : Type 0 where
   pub shape : u.table.shape ≡ t.table.shape
   pub whole : IsWholeRunMap t → IsWholeRunMap u
 
--- there is a later map, or none in both
+-- both are absent, or the second is the first at a later time
 abbrev pub IsSameMap : Option RunMap → Option RunMap → Type 0
 IsSameMap None None = Unit {0}
 IsSameMap None (Some u) = ⊥
@@ -114,7 +114,7 @@ set_same s m old new there later k = by (cases_eq k m)
         (subst (λ (o : Option RunMap). IsSameMap o (Some new)) (sym (ap s.maps same ∙ there)) later)
     by (inr other) = subst (λ (b : Bool). IsSameMap (s.maps k) (if b then Some new else s.maps k)) (sym (ne_eqb k m other)) (same_self (s.maps k))
 
--- bytes written in a value keep its length
+-- a write in a value does not change its length
 written_long : (value : List ℕ) (y : ℤ) (bs after : List ℕ) → value_written value y bs ≡ Some after → length after ≡ length value
 written_long value (pos y) bs after e = by (nat_le (y + length bs) (length value)) refl e
   where
@@ -182,7 +182,7 @@ given_there s r g e = by (argument s r map_given) e
 reply_same : (s : RunState) (r : ℕ) (g : GivenMap) (reply : MapReply) → map_argument s r ≡ Some g → IsLater g.map reply.map → HasSame s (replies s g.descriptor reply)
 reply_same s r g reply e later m = set_same s g.descriptor g.map reply.map (given_there s r g e) later m
 
--- the bytes that a helper reads are as many as it asks for
+-- a helper reads as many bytes as it requests
 gathered_long : (byte : ℕ → Option ℕ) (p n : ℕ) (bs : List ℕ) → gathered byte p n ≡ Some bs → length bs ≡ n
 unfolding gathered
 gathered_long byte p zero bs e = ap length (sym (same_Some [] bs e))
@@ -248,7 +248,7 @@ later_taken t key (Ok number) is = record { shape = refl; whole = λ whole. reco
 returns_same : (s : RunState) (v : Tagged) → StateHasSame s (Some (returns s v))
 returns_same s v m = same_self (s.maps m)
 
--- what is written before the call returns
+-- bytes are written before the call returns
 after_output : (s : RunState) (p : Tagged) (bs : List ℕ) (v : Tagged) → StateHasSame s (and_then (output s p bs) (λ t. Some (returns t v)))
 after_output s p bs v = by (output s p bs) (output_same s p bs)
   where
@@ -333,9 +333,9 @@ unfolding run
 run_same code zero refusals s m = same_self (s.maps m)
 run_same code (suc n) refusals s m = ending_same s (step (refused_at_first refusals) code s) (run code n (refused_later refusals)) (step_same (refused_at_first refusals) code s) (λ t. run_same code n (refused_later refusals) t) m
 
--- ---- what a run leaves
+-- ---- the maps after a run
 
--- of a map that was given
+-- the map after a run, from the map before it
 pub record IsLeftOf (given left : Table (List ℕ)) : Type 0 where
   pub shape : left.shape ≡ given.shape
   pub whole : IsWholeMap given → IsWholeMap left
@@ -392,7 +392,7 @@ leaves_maps refusals code maps words packet m = by (maps m) ((run_with refusals 
     by (Some t) None h = h
     by (Some t) (Some u) h = record { shape = h.shape; whole = λ whole. ends_whole u (h.whole (begins_whole t whole)) }
 
--- a map is left for each that was given
+-- the run leaves a map if and only if it was given one
 pub left_same : (refusals : List Bool) (code : List Insn) (maps : MapsByDescriptor) (words packet : List ℕ) (m : ℕ) → is_some (left_with refusals code maps words packet m) ≡ is_some (maps m)
 left_same refusals code maps words packet m = by (maps m) (left_with refusals code maps words packet m) (leaves_maps refusals code maps words packet m)
   where

@@ -1,4 +1,4 @@
--- The loops that write a part of a save: what is written, and what is left.
+-- The loops that write a part of a save: the frames so far and the frames that are left.
 use Rattle.std.proofs.Common.{◌≡◌, ℕ, ◌+◌, ◌-◌, ◌<◌, ◌≤◌, List, [], ◌∷◌, ◌++◌, map, length, Option, Some, None, Result, Ok, Err, OnOk, refl, sym, ap, ◌∙◌, arith}
 use Rattle.std.specs.Map.{values_of}
 use Rattle.std.proofs.lemmas.Grind.{flat_map-append}
@@ -19,14 +19,14 @@ use Rattle.saving.proofs.Saves.{then_more, one_less, nothing_left, filled_next, 
 frames_append : (n : ℕ) (cs ds : List Command) → frames_of n (cs ++ ds) ≡ frames_of n cs ++ frames_of n ds
 frames_append n cs ds = flat_map-append (λ (c : Command). framed (frame_of n c)) cs ds
 
--- one command is written, of those that are left
+-- one command is written, the first of those that are left
 pub one_command : (before : List ℕ) {all after : List ℕ} (n m : ℕ) (c : Command) (left rest : List Command) → left ≡ c ∷ rest → m ≡ n → before ++ frames_of n left ≡ all → after ≡ before ++ framed (frame_of n c)
     → after ++ frames_of m rest ≡ all
 one_command before {all} {after} n m c left rest is same was written =
     ap (λ (k : ℕ). after ++ frames_of k rest) same
     ∙ one_less before (framed (frame_of n c)) (frames_of n rest) (ap (λ (cs : List Command). before ++ frames_of n cs) (sym is) ∙ was) written
 
--- some are written
+-- several commands are written
 pub some_commands : (before : List ℕ) {all after : List ℕ} (n m : ℕ) (cs left rest : List Command) → left ≡ cs ++ rest → m ≡ n → before ++ frames_of n left ≡ all → after ≡ before ++ frames_of n cs
     → after ++ frames_of m rest ≡ all
 some_commands before {all} {after} n m cs left rest is same was written =
@@ -58,7 +58,7 @@ same_puts fd v (e ∷ es) = ap (λ (cs : List Command). put_of fd (e.0, v e.1) �
 pub map_puts : (part : List ℕ) (t : LiveMaps) (k fd : ℕ) → map (put_of fd) (map_in part t k).entries ≡ puts fd (placed_entries part t k)
 map_puts part t k fd = same_puts fd (value_in part t k) (places_at t k).entries
 
--- a result brings what was written after a frame
+-- the frames of a result, if a frame was written before
 pub ok_more : {U E : Type 0} (r : Result U E) (old : List ℕ) {mid : List ℕ} (new : List ℕ) (n m : ℕ) (c : Command) (rest all : List Command) → all ≡ c ∷ rest → m ≡ n → mid ≡ old ++ framed (frame_of n c)
     → OnOk r (new ≡ mid ++ frames_of m rest) → OnOk r (new ≡ old ++ frames_of n all)
 ok_more (Ok x) old {mid} new n m c rest all is same one more =

@@ -1,4 +1,4 @@
--- The parts of a save, and the frames that are written so far.
+-- The parts of a save, and the frames of a part so far.
 use Rattle.std.proofs.Common.{◌≡◌, ◌≢◌, ℕ, zero, suc, ◌+◌, ◌-◌, ◌<◌, ◌≤◌, Bool, true, false, List, [], ◌∷◌, ◌++◌, map, length, reverse, Option, Some, None, option_map, refl, sym, ap, ◌∙◌, nat_eq, if◌then◌else◌, arith, eqb-true, eq-eqb}
 use Rattle.std.specs.Prelude.{slice_get}
 use Rattle.std.specs.List.{flat_map}
@@ -21,7 +21,7 @@ use Rattle.saving.specs.Restored.{load_of, filled, born, closings, restored}
 use Rattle.saving.specs.SaveParts.{birth_commands, parts, frames_of, PartsAreWhole}
 use Rattle.saving.specs.inside.Puts.{closing, rest_behind, rest_after}
 
--- ---- the parts together
+-- ---- all parts
 
 born_in_order : (s : TenantState) (births : List Birth) → born s births ≡ flat_map (birth_commands s) (reverse births)
 born_in_order s [] = refl
@@ -85,11 +85,11 @@ module _ (s : TenantState) (births : List Birth) where
 
 -- ---- frames
 
--- what is written after a frame
+-- the frames after one more frame
 pub then_more : {A : Type 0} (old : List A) {mid new : List A} (frame rest : List A) → mid ≡ old ++ frame → new ≡ mid ++ rest → new ≡ old ++ (frame ++ rest)
 then_more {A} old frame rest one more = more ∙ ap (λ (xs : List A). xs ++ rest) one ∙ append_assoc old frame rest
 
--- if a frame is written, that much less is left
+-- a frame that is written is no longer left
 pub one_less : {A : Type 0} (before : List A) {all after : List A} (frame rest : List A) → before ++ (frame ++ rest) ≡ all → after ≡ before ++ frame → after ++ rest ≡ all
 one_less {A} before frame rest left written = ap (λ (xs : List A). xs ++ rest) written ∙ append_assoc before frame rest ∙ left
 
@@ -165,7 +165,7 @@ module _ {K : Type 0} where
   later_once : (x : K × ℕ) (es : List (K × ℕ)) → AreOnce (x ∷ es) → AreOnce es
   later_once x es once p = fewer (nat_eq p x.1) (occurrences p (values_of es)) (once p)
 
-  -- an entry of the rest is another than the first
+  -- a later entry has another place than the first
   head_other : (x : K × ℕ) (es : List (K × ℕ)) (p : ℕ) → AreOnce (x ∷ es) → 1 ≤ occurrences p (values_of es) → nat_eq p x.1 ≡ false
   head_other x es p once some = by (nat_eq p x.1) refl (once p)
     where

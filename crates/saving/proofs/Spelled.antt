@@ -1,4 +1,4 @@
--- The frame of a command carries it.
+-- The frame of a command is read as this command.
 use Rattle.std.proofs.Common.{◌≡◌, ℕ, ◌+◌, ◌^◌, ◌<◌, ◌≤◌, Bool, List, [], ◌++◌, length, drop, Result, Ok, Err, refl, ap, ◌∙◌, arith}
 use Rattle.std.specs.Prelude.{if◌then◌else◌}
 use Rattle.std.proofs.lemmas.Bool.{le-leb, le-ltb}
@@ -64,7 +64,7 @@ load_parsed tenant slots short =
 pub close_parsed : (tenant fd : ℕ) → fd < 2 ^ 32 → parsed (frame_of tenant (close fd)) ≡ Ok (close fd)
 close_parsed tenant fd a = ap (λ (n : ℕ). Ok (close n)) (number_of_bytes fd [] a)
 
--- ---- whose frames they are
+-- ---- the owners of the frames
 
 pub frames_have_owners : FramesHaveOwners
 frames_have_owners tenant c small =

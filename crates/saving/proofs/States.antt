@@ -1,4 +1,4 @@
--- States given by what is open at each descriptor, with the maps of another state at their places.
+-- States that are given by the object of each descriptor, with the maps of another state at their places.
 use Rattle.std.proofs.Common.{◌≡◌, ℕ, ◌-◌, ◌<◌, Bool, true, false, List, [], ◌∷◌, ◌++◌, length, Option, Some, None, IsSome, is_some, refl, sym, ap, ap₂, subst, ◌∙◌, arith}
 use Rattle.std.specs.Prelude.{◌||◌, if◌then◌else◌}
 use Rattle.std.proofs.lemmas.List.{ext_get_or}
@@ -21,13 +21,13 @@ pub leads_then : (cs ds : List Command) (s t u : TenantState) → Leads s cs t �
 leads_then [] ds s t u h k = subst (λ (x : TenantState). Leads x ds u) h k
 leads_then (c ∷ cs) ds s t u (a, answers, well, rest) k = (a, answers, well, leads_then cs ds a.after t u rest k)
 
--- ---- a state that another one is alike to
+-- ---- a state that is alike to another
 
 pub record Follows (x t : TenantState) : Type 0 where
   pub move : ℕ → ℕ
   pub pair : ArePair move x t
 
--- what the other state comes to by the same command
+-- the reply of the other state to the same command, and the state after it
 pub record FollowsTo (t : TenantState) (c : Command) (a : Answer) : Type 0 where
   pub b : Answer
   pub answers : Answers [] t c b
@@ -45,7 +45,7 @@ module _ (held : MapsAreHeld) (bisimulation : AlikeIsBisimulation) where
         after = record { move = alike.after.0; pair = record { one = held.kept [] x c a h.pair.one is; two = held.kept [] t c b h.pair.two answers; by = alike.after.1 } };
       }
 
--- ---- states by what is open
+-- ---- states by their open objects
 
 abbrev pub state_of : TenantState → Opened → TenantState
 state_of s f = record { objects = table f; maps = named_from (table f) 0 s.maps; refused = false }
@@ -75,7 +75,7 @@ twice : (a b : Bool) (o : Option Map) → (a ≡ true → b ≡ true) → (if a 
 twice true b o h = ap (λ (x : Bool). if x then o else None) (h refl)
 twice false b o h = refl
 
--- fewer are open
+-- a state with fewer open objects
 pub narrowed : (s : TenantState) (f g : Opened) → NamesFewer (table g) (table f) → with_objects (state_of s f) (table g) ≡ state_of s g
 narrowed s f g fewer =
     same_state s g (with_objects (state_of s f) (table g)) refl (length_named (table g) 0 (named_from (table f) 0 s.maps) ∙ length_named (table f) 0 s.maps)

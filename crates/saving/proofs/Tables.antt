@@ -1,4 +1,4 @@
--- Tables of descriptors, given by what is open at each.
+-- Tables of descriptors that are given by the object of each descriptor.
 use Rattle.std.proofs.Common.{◌≡◌, ◌≢◌, ℕ, zero, suc, ◌+◌, ◌-◌, ◌≤◌, ◌<◌, Bool, true, false, cond, List, [], ◌∷◌, length, set, get_or, Option, Some, None, IsSome, is_some, refl, sym, ap, ap₂, ◌∙◌, inl, inr, arith, true≢false, length-set}
 use Rattle.std.specs.Prelude.{◌⊎◌, not, nat_lt, is_none, position, option_map, slice_get, if◌then◌else◌}
 use Rattle.std.specs.List.{prefix_len}
@@ -12,7 +12,7 @@ use Rattle.saving.specs.Alike.{moved_object, moved_objects}
 use Rattle.saving.proofs.Lists.{set_by_place}
 use Rattle.saving.proofs.Moved.{flattened-get, first_names, named_by, or_parts}
 
--- what is open at each descriptor
+-- the object of each descriptor
 abbrev pub Opened : Type 0
 Opened = ℕ → Option OpenObject
 
@@ -78,7 +78,7 @@ named-table f fd is =
     let no : nat_lt fd first_descriptor ≡ false = le-ltb fd first_descriptor low in
     ap (λ (b : Bool). if b then None else flattened (slice_get (table f) (fd - first_descriptor))) no ∙ flattened-get (table f) (fd - first_descriptor) ∙ table-get f fd is
 
--- each table is that of what it names
+-- each table is given by its objects
 pub table_of : (xs : List (Option OpenObject)) → length xs ≡ most → table (named xs) ≡ xs
 table_of xs long =
     ext_get_or None (table (named xs)) xs (table-length (named xs) ∙ sym long)
@@ -124,7 +124,7 @@ table-closed f fd is =
     let no : nat_lt fd first_descriptor ≡ false = le-ltb fd first_descriptor low in
     ap (λ (b : Bool). if b then table f else set (table f) (fd - first_descriptor) None) no ∙ table-set f fd None is
 
--- ---- the lowest one that is free
+-- ---- the lowest free descriptor
 
 prefix_to : (f : Opened) (fd n k : ℕ) → k < n → ((i : ℕ) → i < k → IsSome (f (fd + i))) → f (fd + k) ≡ None → prefix_len (λ o. not (is_none o)) (tabled f fd n) ≡ k
 unfolding tabled
@@ -142,7 +142,7 @@ prefix_to f fd (suc n) (suc k) lt below free =
     some_not None some = absurd (true≢false (sym some))
     some_not (Some o) some = refl
 
--- one below which none is free
+-- a free descriptor, with no free one below it
 pub record IsLowestFree (f : Opened) (fd : ℕ) : Type 0 where
   pub descriptor : IsDescriptor fd
   pub free : f fd ≡ None
@@ -160,7 +160,7 @@ lowest-is f fd is =
     ap₂ (λ (m n : ℕ). cond (nat_lt m n) (Some m) None) prefix size ∙ ap (λ (b : Bool). cond b (Some k) None) (lt-ltb k most (omega arith)) in
     ap (option_map (λ place. first_descriptor + place)) found ∙ ap (λ (m : ℕ). Some m) back
 
--- the only one that is free
+-- the only free descriptor
 pub record IsOnlyFree (f : Opened) (fd : ℕ) : Type 0 where
   pub descriptor : IsDescriptor fd
   pub free : f fd ≡ None
@@ -177,7 +177,7 @@ lowest-table f fd is =
 
 -- ---- names
 
--- what is named is named by an object of the table
+-- a place that is named is named by an object of the table
 tabled-named : (f : Opened) (fd n place : ℕ) → is_named (tabled f fd n) place ≡ true → (i : ℕ) × (i < n) × (o : OpenObject) × (f (fd + i) ≡ Some o) × (names place o ≡ true)
 unfolding tabled
 tabled-named f fd zero place e = absurd (true≢false (sym e))
@@ -192,7 +192,7 @@ tabled-named f fd (suc n) place e = by (f fd) refl (tabled-named f (fd + 1) n pl
     by o is rest (inl here) = first (f fd) refl here
     by o is rest (inr later) = let (i, lt, x, at, named) = rest later in let same : fd + suc i ≡ fd + 1 + i = omega arith in (suc i, omega (arith, lt), x, ap f same ∙ at, named)
 
--- the object of a descriptor that names a place
+-- a descriptor whose object names the place
 pub record NamesAt (f : Opened) (place : ℕ) : Type 0 where
   pub fd : ℕ
   pub descriptor : IsDescriptor fd
@@ -208,7 +208,7 @@ names_at f place e =
 pub named_from_at : (f : Opened) (place : ℕ) → NamesAt f place → is_named (table f) place ≡ true
 named_from_at f place h = named_by (table f) (h.fd - first_descriptor) h.o place (table-get f h.fd h.descriptor ∙ h.at) h.named
 
--- ---- with the maps of each object at other places
+-- ---- the maps of each object are at other places
 
 pub table-moved : (move : ℕ → ℕ) (f : Opened) (fd n : ℕ) → moved_objects move (tabled f fd n) ≡ tabled (λ k. option_map (moved_object move) (f k)) fd n
 unfolding tabled

@@ -1,4 +1,4 @@
--- A verdict sees of the open descriptors only those of the maps that the program loads.
+-- A verdict depends only on the targets of the descriptors that the program loads.
 use Rattle.std.proofs.Common.{◌≡◌, ℕ, zero, suc, Bool, true, false, not, List, [], ◌∷◌, filter, slice_get, Option, Some, None, is_some, refl, sym, ap, ap₂, ◌∙◌, arith, true≢false}
 use Rattle.std.proofs.Common.{rules}
 use Rattle.std.specs.Prelude.{◌==◌, ◌||◌, ◌&&◌, nat_le, if◌then◌else◌}
@@ -30,7 +30,7 @@ use Rattle.verifier.specs.Shape.{is_map, is_not_open, is_not_map, is_no_value, c
 use Rattle.verifier.specs.Verdict.{HasNoFault, IsAccepted, reason_of, safety_fault}
 use Rattle.saving.specs.Filler.{filler}
 
--- ---- entries that are picked by their descriptors
+-- ---- entries that are selected by their descriptors
 
 picked : (p : ℕ → Bool) (ns : List Named) (fd : ℕ) → p fd ≡ true → target_of (filter (λ n. p n.fd) ns) fd ≡ target_of ns fd
 unfolding target_of

@@ -1,4 +1,4 @@
--- The walk in the order of birth.
+-- The commands of the births in order, one after another (the walk).
 use Rattle.std.proofs.Common.{◌≡◌, ◌≢◌, ℕ, Bool, true, false, List, [], ◌∷◌, Option, Some, None, is_some, refl, sym, ap, subst, ◌∙◌, inl, inr, arith, true≢false}
 use Rattle.std.specs.Prelude.{◌⊎◌, ◌==◌, ◌||◌, if◌then◌else◌}
 use Rattle.std.specs.List.{list_any, AllByRecursion}
@@ -25,7 +25,7 @@ use Rattle.saving.proofs.States.{leads_then, Follows, follows, state_of, close_a
 use Rattle.saving.proofs.Loads.{SameEntriesSameVerdict, AreOpen, load_answer}
 use Rattle.saving.proofs.Makes.{LeadsTo, map_leads}
 
--- ---- what is open after some births
+-- ---- the open objects after some births
 
 abbrev pub filler_program : LoadedProgram
 filler_program = record { insns = filler; named = []; maps = [] }
@@ -55,7 +55,7 @@ next_birth s b older = fun_ext (λ fd. by fd (cases_eq fd (number b)))
         ∙ set_other (at_births s older) (number b) None fd other
         ∙ sym (ap (λ (x : Bool). Some (object_of s (if x then Some b else latest_at older fd))) (ne_eqb (number b) fd (λ e. other (sym e))))
 
--- ---- of births in order
+-- ---- births in order
 
 latest_descriptor : (s : TenantState) (bs : List Birth) (fd : ℕ) (b : Birth) → AreInOrder s bs → latest_at bs fd ≡ Some b → IsDescriptor fd
 latest_descriptor s [] fd b order e = absurd (none-some b e)
@@ -73,7 +73,7 @@ latest_map (x ∷ older) fd place n e = by (number x == fd) (latest_map older fd
     by true rest e = or_left (is_of_map place x) (list_any (is_of_map place) older) (ap (is_of_map place) (same_Some x (OfMap place n) e) ∙ eq-eqb place place refl)
     by false rest e = or_right (is_of_map place x) (list_any (is_of_map place) older) (rest e)
 
--- each map of a program that was born was born before
+-- each map of a program that was born was itself born before
 each_born : (older : List Birth) (ms : List (ℕ × ℕ)) (fd place : ℕ) → AllByRecursion (λ m. (m.0 ≢ fd) × (latest_at older m.0 ≡ Some (OfMap m.1 m.0))) ms → list_any (λ m. m.1 == place) ms ≡ true → list_any (is_of_map place) older ≡ true
 each_born older [] fd place h e = absurd (true≢false (sym e))
 each_born older (m ∷ ms) fd place h e = by (or_parts (m.1 == place) (list_any (λ k. k.1 == place) ms) e) (each_born older ms fd place h.1)
@@ -96,7 +96,7 @@ program_maps s (x ∷ older) fd n place order e named_so = by (number x == fd) (
     by true rest e = or_right (is_of_map place x) (list_any (is_of_map place) older) (of_birth x (same_Some x (OfProgram n) e) order.3)
     by false rest e = or_right (is_of_map place x) (list_any (is_of_map place) older) (rest e)
 
--- what is named was born
+-- each map that an object names was born
 named_born : (s : TenantState) (bs : List Birth) (place : ℕ) → AreInOrder s bs → NamesAt (at_births s bs) place → list_any (is_of_map place) bs ≡ true
 named_born s bs place order h = by (latest_at bs h.fd) refl (ap (names place) (same_Some (object_of s (latest_at bs h.fd)) h.o h.at) ∙ h.named)
   where
@@ -119,7 +119,7 @@ module _ (held : MapsAreHeld) (bisimulation : AlikeIsBisimulation) (same_verdict
     others = λ other _ apart. ap is_some (set_other (at_births s older) (number b) None other apart);
   }
 
-  -- no object names a map before it is born
+  -- no object names a map before the map is born
   unnamed : (b : Birth) (older : List Birth) (place : ℕ) → AreInOrder s older → list_any (is_of_map place) older ≡ false → is_named (table (without b older)) place ≡ false
   unfolding without
   unnamed b older place order none = by (is_named (table (without b older)) place) refl
@@ -135,7 +135,7 @@ module _ (held : MapsAreHeld) (bisimulation : AlikeIsBisimulation) (same_verdict
       by true e = absurd (true≢false (sym (named_born s older place order (older_at (names_at (without b older) place e))) ∙ none))
       by false e = e
 
-  -- the maps of a program are open where it is loaded
+  -- the maps of a program are open when it is loaded
   are_open : (fd : ℕ) (older : List Birth) (ms : List (ℕ × ℕ)) → AreInOrder s older → AllByRecursion (λ m. (m.0 ≢ fd) × (latest_at older m.0 ≡ Some (OfMap m.1 m.0))) ms → AreOpen (without (OfProgram fd) older) ms
   unfolding without
   are_open fd older [] order h = tt

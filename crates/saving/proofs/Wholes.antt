@@ -1,4 +1,4 @@
--- Tables with distinct keys, and what the calls of a map leave of them.
+-- Tables with distinct keys, and the tables after calls of the map.
 use Rattle.std.proofs.Common.{◌≡◌, ◌≢◌, ℕ, zero, suc, ◌+◌, ◌^◌, ◌≤◌, ◌<◌, Bool, true, false, cond, List, [], ◌∷◌, ◌++◌, length, Option, Some, None, Result, Ok, Err, is_some, refl, sym, ap, ap₂, subst, ◌∙◌, inl, inr, arith, true≢false, length-append}
 use Rattle.std.specs.Prelude.{◌⊎◌, ◌==◌, ◌||◌, ◌&&◌, nat_le, if◌then◌else◌}
 use Rattle.std.specs.List.{list_any, AllByRecursion}
@@ -53,7 +53,7 @@ any_mid : (p : List ℕ → Bool) (xs ys : List (List ℕ)) (x : List ℕ) → l
 any_mid p [] ys x e = (none_of (p x) (list_any p ys) e).0
 any_mid p (z ∷ xs) ys x e = any_mid p xs ys x (none_of (p z) (list_any p (xs ++ x ∷ ys)) e).1
 
--- what is in the middle is not among what is before it
+-- the key in the middle is not among the keys before it
 pub mid_apart : (before : List (List ℕ)) (key : List ℕ) (after : List (List ℕ)) → AreDistinct (before ++ key ∷ after) → list_any (is_key key) before ≡ false
 mid_apart [] key after h = refl
 mid_apart (b ∷ bs) key after h = ap₂ (λ (x y : Bool). x || y) (key_either key b ∙ any_mid (is_key b) bs after key h.0) (mid_apart bs key after h.1)
@@ -107,7 +107,7 @@ module _ {A : Type 0} where
       by true e rest = omega arith
       by false e rest = let later = rest e in omega arith
 
-  -- what holds of each entry's key
+  -- a property of the key of each entry
   each_key : (P : List ℕ → Type 0) (es : List (List ℕ × A)) → AllByRecursion (λ e. P e.0) es → AllByRecursion P (keys_of es)
   each_key P [] h = tt
   each_key P (e ∷ es) h = (h.0, each_key P es h.1)
@@ -191,7 +191,7 @@ module _ {A : Type 0} (t : Table A) (key : List ℕ) where
           same_ok : (x a : A) → (let r : Result A MapFault = Ok x in r) ≡ Ok a → x ≡ a
           same_ok x a e = cc
 
--- ---- what the calls leave
+-- ---- the tables after calls
 
 module _ {A : Type 0} {t : Table A} (whole : IsWholeTable t) where
   pub whole_with_new : (key : List ℕ) (a : A) (flags : ℕ) → length key ≡ t.shape.key_size → verdict t key flags ≡ New → IsWholeTable (with_new t key a)
@@ -227,7 +227,7 @@ module _ {A : Type 0} {t : Table A} (whole : IsWholeTable t) where
   pub whole_after_run : IsWholeTable (after_run t)
   whole_after_run = record { keys = whole.keys; distinct = whole.distinct; few = let most = whole.few in omega arith; indices = whole.indices }
 
--- other objects of the same keys
+-- a table with the same keys and other objects
 pub whole_by_keys : {A B : Type 0} {t : Table A} → IsWholeTable t → (es : List (List ℕ × B)) → keys_of es ≡ keys_of t.entries → IsWholeTable (record { shape = t.shape; entries = es; deleted = t.deleted })
 whole_by_keys {A} {B} {t} whole es same = record {
   keys = from_keys (λ k. length k ≡ t.shape.key_size) es (subst (AllByRecursion (λ k. length k ≡ t.shape.key_size)) (sym same) (each_key (λ k. length k ≡ t.shape.key_size) t.entries whole.keys));

@@ -25,18 +25,18 @@ moved_objects move objects = map (option_map (moved_object move)) objects
 
 -- ---- alike states
 
--- the second state has the objects of the first, and just its live maps, no two of them at one place
+-- the second state has the objects of the first, with their places renamed, and exactly its live maps, no two of them at one place
 pub record IsMovedBy (move : ℕ → ℕ) (s t : TenantState) : Type 0 where
   pub objects : t.objects ≡ moved_objects move s.objects
   pub same : (place : ℕ) → IsSome (live s place) → live t (move place) ≡ live s place
   pub apart : (p q : ℕ) → IsSome (live s p) → IsSome (live s q) → move p ≡ move q → p ≡ q
   pub only : (q : ℕ) → IsSome (live t q) → (p : ℕ) × IsSome (live s p) × (move p ≡ q)
 
--- the same up to the places of maps
+-- equal up to the places of maps and the flag
 abbrev pub IsAlike : TenantState → TenantState → Type 0
 IsAlike s t = (move : ℕ → ℕ) × IsMovedBy move s t
 
--- the same reply, and alike states after it
+-- the same reply, and states after it that are alike
 pub record IsAlikeAnswer (a b : Answer) : Type 0 where
   pub status : b.status ≡ a.status
   pub payload : b.payload ≡ a.payload
@@ -44,7 +44,7 @@ pub record IsAlikeAnswer (a b : Answer) : Type 0 where
 
 -- ---- the invariant of the machine's states
 
--- just the maps that an open object names are live
+-- exactly the maps that an open object names are live
 pub record HoldsItsMaps (s : TenantState) : Type 0 where
   pub descriptors : length s.objects ≡ most
   pub places : length s.maps ≡ most_maps

@@ -1,4 +1,4 @@
--- The births of a tenant's objects, in their order. A state does not say in which order its objects were made, and a program names
+-- The births of a tenant's objects, in their order. A state does not record in which order its objects were created, and a program
 -- its maps by the descriptors that they had when it was loaded. This project's own.
 use Rattle.std.specs.Prelude.{◌≡◌, ◌≢◌, ℕ, ◌+◌, ◌<◌, ◌≤◌, ◌==◌, Bool, true, false, List, [], ◌∷◌, ℤ, pos, negsuc, Option, Some, None, IsSome, is_some, filter, if◌then◌else◌}
 use Rattle.std.specs.List.{list_any, AllByRecursion}
@@ -35,11 +35,11 @@ abbrev pub is_of_program : ℕ → Birth → Bool
 is_of_program fd (OfMap p n) = false
 is_of_program fd (OfProgram n) = n == fd
 
--- a map is live, and is born once
+-- the map is live and has no older birth
 abbrev pub IsMapBorn : TenantState → List Birth → ℕ → Type 0
 IsMapBorn s older place = IsSome (live s place) × (list_any (is_of_map place) older ≡ false)
 
--- a program is open, and each of its maps was the latest born at the descriptor by which the program names it
+-- the program is open, and the latest older birth at each descriptor by which it names a map is the birth of this map
 abbrev pub IsProgramBorn : TenantState → List Birth → ℕ → Type 0
 IsProgramBorn s older fd =
     (l : LoadedProgram) × (named s.objects fd ≡ Some (object.Program l))
@@ -49,7 +49,7 @@ abbrev pub IsBorn : TenantState → List Birth → Birth → Type 0
 IsBorn s older (OfMap place fd) = IsMapBorn s older place
 IsBorn s older (OfProgram fd) = IsProgramBorn s older fd
 
--- each was born after its maps, and where no open program is
+-- the births of an object's maps are older, and no older birth at the descriptor is of a program
 abbrev pub AreInOrder : TenantState → List Birth → Type 0
 AreInOrder s [] = Unit {0}
 AreInOrder s (b ∷ older) = (first_descriptor ≤ number b) × (number b < first_descriptor + most) × (list_any (is_of_program (number b)) older ≡ false) × IsBorn s older b × AreInOrder s older
@@ -59,7 +59,7 @@ pub record AreBirths (s : TenantState) (births : List Birth) : Type 0 where
   pub order : AreInOrder s births
   pub latest : (fd : ℕ) (o : OpenObject) → named s.objects fd ≡ Some o → latest_at births fd ≡ Some (birth_of fd o)
 
--- ---- how a command changes them
+-- ---- the births after a command
 
 abbrev pub is_open_program : Option OpenObject → Bool
 is_open_program None = false
@@ -74,7 +74,7 @@ abbrev pub with_birth : ℕ → Option OpenObject → List Birth → List Birth
 with_birth fd None births = births
 with_birth fd (Some o) births = birth_of fd o ∷ births
 
--- a new object's descriptor is the status of the answer
+-- the descriptor of a new object is the status of the answer
 abbrev pub with_opened : ℤ → TenantState → List Birth → List Birth
 with_opened (pos fd) s births = with_birth fd (named s.objects fd) births
 with_opened (negsuc n) s births = births

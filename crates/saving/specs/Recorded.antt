@@ -10,7 +10,7 @@ use Rattle.tenant.specs.Alone.{AnswersFrame}
 use Rattle.saving.specs.Alike.{HoldsItsMaps}
 use Rattle.saving.specs.Births.{Birth, AreBirths, births_after}
 
--- how a tenant is kept, and the births of its live maps and open programs, the latest first
+-- a tenant, and the births of its live maps and open programs, the latest first
 pub record RecordedTenant : Type 0 where
   pub kept : KeptTenant
   pub births : List Birth
@@ -19,7 +19,7 @@ pub record RecordedTenant : Type 0 where
 abbrev pub tenant_state : List ℕ → RecordedTenant → TenantState
 tenant_state part t = state_in part t.kept
 
--- what always holds: just the maps that an open object names are live, and the births are those of the state
+-- the invariant: exactly the maps that an open object names are live, and the births are those of the state
 abbrev pub IsRecorded : RecordedTenant → Type 0
 IsRecorded t = (part : List ℕ) → HoldsItsMaps (tenant_state part t) × AreBirths (tenant_state part t) t.births
 

@@ -1,4 +1,4 @@
--- What holds of the maps and the programs of a state, so that they can be made again. This project's own.
+-- The invariant of the maps and the programs of a state by which they can be created again. This project's own.
 use Rattle.std.specs.Prelude.{◌≡◌, false, ℕ, zero, suc, ◌+◌, ◌≤◌, ◌==◌, List, [], ◌∷◌, ◌++◌, length, Some, option_map}
 use Rattle.std.specs.List.{list_any, AllByRecursion}
 use Rattle.std.specs.Map.{lookup, keys_of}
@@ -18,25 +18,25 @@ use Rattle.tenant.specs.State.{Map, TenantState, live, maps_area}
 use Rattle.tenant.specs.Machine.{entry_of}
 use Rattle.saving.specs.Alike.{HoldsItsMaps}
 
--- no key twice
+-- no key occurs twice
 abbrev pub AreDistinct : List (List ℕ) → Type 0
 AreDistinct [] = Unit {0}
 AreDistinct (key ∷ keys) = (list_any (is_key key) keys ≡ false) × AreDistinct keys
 
--- keys have their size, none is there twice, no more are there than may be, and an array has its indices
+-- keys have the map's key size and none occurs twice; at most `max_entries` are present or deleted, and an array has its indices
 pub record IsWholeTable {A : Type 0} (t : Table A) : Type 0 where
   pub keys : AllByRecursion (λ e. length e.0 ≡ t.shape.key_size) t.entries
   pub distinct : AreDistinct (keys_of t.entries)
   pub few : length t.entries + t.deleted ≤ t.shape.max_entries
   pub indices : t.shape.kind ≡ Array → keys_of t.entries ≡ keys_of (indexed (λ i. i) 0 t.shape.max_entries)
 
--- values have their size, too, and no run goes on
+-- values have the map's value size, too, and no run is in progress
 pub record IsWholeMap (t : Map) : Type 0 where
   pub table : IsWholeTable t
   pub values : AllByRecursion (λ e. length e.1 ≡ t.shape.value_size) t.entries
   pub ended : t.deleted ≡ 0
 
--- the maps with these descriptors and places, as the verifier sees them, from descriptor fd on
+-- the maps with these descriptors and places, as the verifier reads them, from descriptor fd on
 unfoldable pub shapes_from : TenantState → List (ℕ × ℕ) → ℕ → ℕ → List Named
 shapes_from s maps fd zero = []
 shapes_from s maps fd (suc n) =

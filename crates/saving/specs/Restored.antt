@@ -1,5 +1,5 @@
--- The commands that restore a state: a walk in the order of birth. Each descriptor is open at all times, by a program of two
--- instructions where there is nothing else, so what is made next gets the descriptor that was closed before. This project's own.
+-- The commands that restore a state: a walk over the births in order. Each descriptor is open at all times, if to nothing else then to
+-- a program of two instructions, so a new object gets the descriptor that was closed last. This project's own.
 use Rattle.std.specs.Prelude.{◌≡◌, ℕ, zero, suc, ◌+◌, pos, List, [], ◌∷◌, ◌++◌, map, Option, Some, None, is_none, if◌then◌else◌}
 use Rattle.insn_set.specs.declared.insn.Insn.{Insn}
 use Rattle.insn_set.specs.Program.{program_bytes}
@@ -15,7 +15,7 @@ use Rattle.tenant.specs.Machine.{Answer, Answers}
 use Rattle.saving.specs.Filler.{filler}
 use Rattle.saving.specs.Births.{Birth, OfMap, OfProgram, number}
 
--- ---- what is made
+-- ---- the commands that create an object
 
 abbrev pub load_of : List Insn → Command
 load_of insns = prog_load 1 (program_bytes insns)
@@ -53,7 +53,7 @@ abbrev pub born : TenantState → List Birth → List Command
 born s [] = []
 born s (b ∷ older) = born s older ++ (close (number b) ∷ made s b)
 
--- the descriptors from fd on that are not open
+-- the commands that close the descriptors from fd on, if they are not open in the state
 unfoldable pub closings : List (Option OpenObject) → ℕ → ℕ → List Command
 closings objects fd zero = []
 closings objects fd (suc n) = (if is_none (named objects fd) then close fd ∷ [] else []) ++ closings objects (fd + 1) n
@@ -63,7 +63,7 @@ restored s births = filled most ++ (born s births ++ closings s.objects first_de
 
 -- ---- commands one after another
 
--- no memory is refused, and each succeeds
+-- each command succeeds, without refusals of memory
 abbrev pub Leads : TenantState → List Command → TenantState → Type 0
 Leads s [] t = t ≡ s
 Leads s (c ∷ cs) t = (a : Answer) × Answers [] s c a × ((n : ℕ) × (a.status ≡ pos n)) × Leads a.after cs t

@@ -1,5 +1,5 @@
--- A tenant is saved in parts: the frames that fill all descriptors, those that make each thing that was born, and those that close
--- what is not open. This project's own.
+-- A tenant is saved in parts: the frames that open all descriptors, those that create each object that was born, and those that close
+-- the descriptors that are not open. This project's own.
 use Rattle.std.specs.Prelude.{◌≡◌, ℕ, List, [], ◌∷◌, ◌++◌, map, reverse}
 use Rattle.std.specs.List.{flat_map}
 use Rattle.command_frames.specs.Command.{Command, close}
@@ -10,7 +10,7 @@ use Rattle.saving.specs.Births.{Birth, number}
 use Rattle.saving.specs.Restored.{made, filled, closings, restored}
 use Rattle.saving.specs.Frames.{frame_of}
 
--- what makes what was born, at its descriptor
+-- the commands that create the object of a birth at its descriptor
 abbrev pub birth_commands : TenantState → Birth → List Command
 birth_commands s b = close (number b) ∷ made s b
 
@@ -22,6 +22,6 @@ parts s births = filled most ∷ (map (birth_commands s) (reverse births) ++ clo
 abbrev pub frames_of : ℕ → List Command → List ℕ
 frames_of tenant commands = flat_map (λ c. framed (frame_of tenant c)) commands
 
--- the parts together are what restores a tenant
+-- all parts together are the commands that restore the tenant
 abbrev pub PartsAreWhole : Type 0
 PartsAreWhole = (s : TenantState) (births : List Birth) → flat_map (λ part. part) (parts s births) ≡ restored s births

@@ -1,4 +1,4 @@
-//! The order in which the objects of a tenant were made.
+//! The order in which the objects of a tenant were created.
 
 ghost use Rattle.std.specs.Prelude.{◌≡◌, ◌<◌, ◌≤◌, ℕ, List, [], ◌∷◌, length, filter, reverse, slice_get, IfOk};
 ghost use Rattle.tenant.specs.Kept.{state_in};
@@ -41,7 +41,7 @@ impl Model for Births {
     ghost invariant = { λ b. MOST_BIRTHS ≤ vec_capacity b.oldest_first };
 }
 
-/// Whether what was born still lives: the map is live, or the descriptor names a program.
+/// Whether the object of a birth is still live: the map is live, or the descriptor names a program.
 fn lives(tenant: &Tenant, birth: &Birth) -> bool
     ensures { (part : List ℕ) → result ≡ lives_in (state_in part tenant.now) birth.now }
 {
@@ -61,7 +61,7 @@ impl Births {
         })
     }
 
-    /// How many there are.
+    /// The number of births.
     pub(crate) fn len(&self) -> usize
         ensures { result ≡ length self.now }
     {
@@ -97,7 +97,7 @@ impl Births {
         }
     }
 
-    /// Forgets the births of what lives no more.
+    /// Removes the births of objects that are no longer live.
     pub(crate) fn keep_living(&mut self, tenant: &Tenant)
         ensures { (part : List ℕ)
             → self.new ≡ filter (lives_in (state_in part tenant.now)) self.old }

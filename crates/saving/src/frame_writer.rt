@@ -1,4 +1,4 @@
-//! The frames that make what was born.
+//! The frames that create the objects of births.
 
 ghost use Rattle.std.specs.Prelude.{◌≡◌, ◌++◌, [], length, IsSome, OnOk};
 ghost use Rattle.bpf_maps.specs.declared.part.TheConstants.{PART};
@@ -189,7 +189,7 @@ impl FrameWriter {
         self.load(&slots)
     }
 
-    /// Closes the descriptor of what was born, and makes it there. The part has `PART` bytes.
+    /// Closes the descriptor of a birth, and creates its object there. The part has `PART` bytes.
     pub(crate) fn make(
         &mut self,
         tenant: &Tenant,

@@ -1,20 +1,20 @@
-//! Laws of alike states, of the order of births, and of what restores a state. Each law is the contract of a function that does
-//! nothing.
+//! Laws of states that are alike, of the order of births, and of the commands that restore a state. Each law is the contract of a
+//! function that does nothing.
 
 ghost use Rattle.saving.specs.SaveParts.{PartsAreWhole};
 ghost use Rattle.saving.specs.Laws.{MapsAreHeld, AlikeIsBisimulation, AlikeStatesReplyAlike, BirthsAreKept, RestorableIsKept, RestoredIsAlike, FramesHaveOwners, RestoredByFrames, HistoriesAreRestored};
 
-/// Just the maps that an open object names are live, at each time.
+/// Exactly the maps that an open object names are live, in a new tenant and after each command.
 pub fn maps_are_held()
     ensures { MapsAreHeld }
 {}
 
-/// Alike states give each command the same reply, and stay alike.
+/// States that are alike give each command the same reply, and are alike after it.
 pub fn alike_is_bisimulation()
     ensures { AlikeIsBisimulation }
 {}
 
-/// Alike states give each list of frames the same replies.
+/// States that are alike give each list of frames the same replies.
 pub fn alike_states_reply_alike()
     ensures { AlikeStatesReplyAlike }
 {
@@ -23,14 +23,14 @@ pub fn alike_states_reply_alike()
     alike_is_bisimulation();
 }
 
-/// The order of births holds of a new tenant, and each command keeps it.
+/// A new tenant has no births; after each command they are those of its live maps and open programs; there are at most 80.
 pub fn births_are_kept()
     ensures { BirthsAreKept }
 {
     maps_are_held();
 }
 
-/// What can be restored is so for a new tenant, and after each command.
+/// A new tenant can be restored, and each command preserves this.
 pub fn restorable_is_kept()
     ensures { RestorableIsKept }
 {
@@ -38,7 +38,7 @@ pub fn restorable_is_kept()
     verifier::laws::loaded_maps_have_shapes();
 }
 
-/// A new tenant that gets the commands of a state succeeds at each, and is then alike.
+/// A new tenant that gets the commands of a save succeeds at each, and is then alike to the saved state.
 pub fn restored_is_alike()
     ensures { RestoredIsAlike }
 {
@@ -47,19 +47,19 @@ pub fn restored_is_alike()
     verifier::laws::maps_are_listed();
 }
 
-/// A frame is its tenant's.
+/// The owner of a frame is its tenant.
 pub fn frames_have_owners()
     ensures { FramesHaveOwners }
 {}
 
-/// The same by frames.
+/// The same for the commands as frames.
 pub fn restored_by_frames()
     ensures { RestoredByFrames }
 {
     restored_is_alike();
 }
 
-/// Whatever a tenant did, the frames that restore it make one that replies as it does.
+/// After any history of a tenant, the frames of its save make a new tenant that replies as it does.
 pub fn histories_are_restored()
     ensures { HistoriesAreRestored }
 {
@@ -69,7 +69,7 @@ pub fn histories_are_restored()
     alike_states_reply_alike();
 }
 
-/// The parts of a save together are what restores a tenant.
+/// All parts of a save together are the commands that restore the tenant.
 pub fn parts_are_whole()
     ensures { PartsAreWhole }
 {}

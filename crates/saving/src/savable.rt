@@ -21,7 +21,7 @@ use std::alloc::{AllocError, Global};
 use std::marker::Model;
 use tenant::{Errno, Tenant};
 
-/// A tenant, and the order in which its objects were made, from which it can be saved.
+/// A tenant, and the order in which its objects were created, from which it can be saved.
 #[derive(Drop)]
 pub struct SavableTenant {
     pub(crate) tenant: Tenant,
@@ -64,9 +64,9 @@ impl SavableTenant {
     /// The frames of one part of a save, which are frames of tenant `number`, each with its length before it; `None` after the
     /// last part. The tenant's part of the memory has `PART` bytes.
     ///
-    /// A new tenant that is given the frames of all parts in their order is then as this one. Between two parts nothing may change
-    /// in this tenant, and other tenants may be served. Part 0 opens a program at each descriptor, the parts after it make one map
-    /// or program each, in the order in which they were made, and the last part closes what is not open.
+    /// A new tenant that is given the frames of all parts in their order then replies as this one does. Between two parts nothing may
+    /// change in this tenant, but other tenants may be served. Part 0 opens a program at each descriptor, the parts after it create one map
+    /// or program each, in the order of their births, and the last part closes the descriptors that are not open.
     ///
     /// # Errors
     ///

@@ -1,4 +1,4 @@
--- What the seeded hash function computes. No contract of a map speaks of it. This project's own.
+-- The result of the seeded hash function. No contract of a map mentions it. This project's own.
 use Rattle.std.specs.Prelude.{ℕ, zero, suc, ◌+◌, ◌-◌, ◌*◌, ◌/◌, ◌%◌, ◌^◌, List, length, if◌then◌else◌, nat_le, nat_lt, slice_index, bit_and, bit_or, bit_xor}
 use Rattle.std.specs.Int.{w64, rotate_left}
 use Rattle.seeded_hash.specs.declared.HashSeed.{HashSeed}
@@ -49,6 +49,6 @@ written h bs =
     let long = folded_product (mixed h.factor bs (blocks_mixed h.factor bs state ((n - 1) / 16)) (n - 16) (n - 8)) h.factor in
     record { state = if nat_le n 8 then short else long; factor = h.factor }
 
--- what it returns at the end
+-- the hash at the end
 abbrev pub finished : SeededHasher → ℕ
 finished h = h.state

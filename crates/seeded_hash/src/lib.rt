@@ -18,13 +18,13 @@
 //! - The function is a folded product of 128 bits with the seed in both factors, as in wyhash and foldhash. It is not
 //!   cryptographic: the README of foldhash (https://github.com/orlp/foldhash) says that such a function resists an attacker who
 //!   sees no hash values, but not one who does. Here nobody sees one. SipHash (Aumasson and Bernstein, "SipHash: a fast
-//!   short-input PRF", 2012) resists both, and would take some 75 machine instructions more for a key of four bytes, where a
+//!   short-input PRF", 2012) resists both, and would take some 75 machine instructions more for a key of four bytes; a
 //!   whole look-up by the helper takes 103. `OrderedMap` of `ordered_keys` accepts any hash function, so one place would
 //!   change.
 //! - A short key is in both factors, and a longer one has a second product, since one product is linear in the key and so has
 //!   weak seeds: keys that differ by equal steps are a line modulo 2^64, which some factors map into few groups of the table.
 //!   Depending on the family of keys, 0.1 to 3.5% of 2,000 seeds put more than 30 keys into one of 512 groups, the worst 300 to
-//!   420, where random keys put at most 26; this happened with plain counters too. Now one of 110,000 tries did (eleven
+//!   420, while random keys put at most 26; this happened with plain counters too. Now one of 110,000 tries did (eleven
 //!   families, five sizes, 2,000 seeds), and the mean number of entries before an entry is that of random keys within 0.3%.
 //!   Machine instructions of a helper's look-up (builds without proofs), without a seed, with one product, and as it is: 100,
 //!   101, 103 for a key of 4 bytes; 98, 98, 101 for 8; 190, 190, 194 for 16; 213, 213, 214 for 64.
@@ -37,7 +37,7 @@ use std::hash::{BuildHasher, Hasher};
 use std::io;
 use std::random::RandomSource;
 
-/// The seed of the hash function, which makes its hashers. No contract of a map speaks of it: what a map returns does not depend
+/// The seed of the hash function, which makes its hashers. No contract of a map mentions it: what a map returns does not depend
 /// on its seed, only the time that it takes does. It has no `Debug`, so that it is not printed.
 #[derive(Clone, Copy, Drop)]
 pub struct HashSeed {

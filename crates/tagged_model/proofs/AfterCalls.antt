@@ -1,4 +1,4 @@
--- What is known after a call.
+-- The facts after a call.
 use Rattle.std.proofs.Common.{◌≡◌, inl, inr, ℕ, ◌<◌, ◌≤◌, ◌==◌, nat_le, Bool, true, false, if◌then◌else◌, Option, Some, None, refl, sym, ap, subst, ◌∙◌, arith}
 use Rattle.std.proofs.lemmas.Bool.{cond_both, cond-false, eqb-true, ne_eqb}
 use Rattle.std.proofs.lemmas.Option.{same_Some}
@@ -38,7 +38,7 @@ map_change_admits witness f shapes s m shape t u still is shaped keeps =
       maps = λ k. maps_after shapes s m shape u shaped keeps.is k (still.maps k);
     }
 
--- ---- a call gives a value
+-- ---- the result of a call
 
 call_kinds : (witness : Witness) (f : Facts) (s : RunState) (k : Kind) (v : Tagged) → AdmitsBy witness f s → IsOfKind witness k v → (r : ℕ) → HasKind witness (call_kind f k r) (after_call s.registers v r)
 call_kinds witness f s k v admits is r = by (r == 0) (nat_le r 5)

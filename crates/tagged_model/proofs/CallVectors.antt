@@ -1,4 +1,4 @@
--- Known answers of runs with maps and calls, worked out by hand from the kernel's documentation of helpers and maps and from
+-- Worked cases of runs with maps and calls, by hand from the kernel's documentation of helpers and maps and from
 -- this project's rules. The comments spell the programs.
 use Rattle.std.proofs.Common.{◌≡◌, ℕ, ◌==◌, pos, if◌then◌else◌, Bool, true, false, replicate, List, [], ◌∷◌, ◌++◌, Some, None, refl}
 use Rattle.words.specs.declared.operator.AluOp.TheVariants.{Add}
@@ -136,7 +136,7 @@ past_the_end :
 unfolding run begins_at gathered known_helpers
 past_the_end = (refl, refl, refl)
 
--- ---- the grace period, in a hash map of one entry: the deleted value stays until the run ends, and counts
+-- ---- the grace period, in a hash map of one entry: the deleted value exists until the run ends, and counts
 
 abbrev hash : List (List ℕ × List ℕ) → Table (List ℕ)
 hash entries = record {
@@ -175,7 +175,7 @@ key_is_put : left_with [] puts_a_key (only (hash [])) (context 0) [] 3 ≡ Some 
 unfolding run begins_at gathered known_helpers numbered
 key_is_put = refl
 
--- -12, out of memory, at the ninth step; the refusal is noted, and the map stays
+-- -12, out of memory, at the ninth step; the refusal is noted, and the map is not changed
 abbrev at_the_call : List Bool
 at_the_call = replicate 8 false ++ (true ∷ [])
 

@@ -1,19 +1,19 @@
--- Bytes that are there, as they are read.
+-- Bytes of a cell that are present, and numbers that are read from them.
 use Rattle.std.proofs.Common.{◌≡◌, ℕ, zero, suc, ◌+◌, ◌*◌, ◌^◌, ◌<◌, List, [], ◌∷◌, length, Option, Some, refl, ap, ◌∙◌, arith}
 use Rattle.std.proofs.Math.Nat.{pow-suc}
 use Rattle.std.specs.List.{All}
 use Rattle.words.specs.Bytes.{number_of}
 use Rattle.tagged_model.specs.Cells.{Cell, and_then, byte_at, gathered}
 
--- all that the cell has is a byte
+-- each byte of the cell is below 256
 abbrev pub AreBytes : Cell → Type 0
 AreBytes c = (i b : ℕ) → byte_at c i ≡ Some b → b < 256
 
--- all that is there is a byte
+-- each byte that is present is below 256
 abbrev pub IsSmall : (ℕ → Option ℕ) → Type 0
 IsSmall byte = (i b : ℕ) → byte i ≡ Some b → b < 256
 
--- the n bytes from place p on are present, and their number is small
+-- the n bytes from place p on are present: the list of them has n bytes below 256
 pub record AreRead (byte : ℕ → Option ℕ) (p n : ℕ) : Type 0 where
   pub list : List ℕ
   pub read : gathered byte p n ≡ Some list

@@ -21,7 +21,7 @@ one_index : keys_of (indexed (λ (i : ℕ). i) 0 1) ≡ index_key 0 ∷ []
 unfolding indexed
 one_index = refl
 
--- if index 0 is the one key there is, it has an object
+-- if index 0 is the only key, it has an object
 first_found : (count : ℕ) (es : List (List ℕ × ℕ)) → keys_of es ≡ index_key 0 ∷ [] → KeysHaveObjects count es → (number : ℕ) × (found (index_key 0) es ≡ Some number) × (number < count)
 first_found count [] e owns = absurd (let z : ⊥ = cc in z)
 first_found count (x ∷ []) e owns =

@@ -1,4 +1,4 @@
--- Known answers of helpers, worked out by hand from the kernel's documentation of them and from this project's rules.
+-- Worked cases of helpers, by hand from the kernel's documentation of them and from this project's rules.
 use Rattle.std.proofs.Common.{◌≡◌, ℕ, ◌-◌, ◌^◌, false, true, List, [], ◌∷◌, refl}
 use Rattle.std.specs.Prelude.{Some}
 use Rattle.tagged_model.specs.declared.shape.MapKind.TheVariants.{Hash}

@@ -1,4 +1,4 @@
--- What either side admits, the join admits.
+-- A join admits each state that one of its two sides admits.
 use Rattle.std.proofs.Common.{◌≡◌, ℕ, ◌<◌, min, ◌==◌, ◌&&◌, ℤ, ◌≤ℤ◌, Bool, if◌then◌else◌, bit_and, Option, inl, inr, arith}
 use Rattle.std.specs.Int.{bit_at, int_min, int_max}
 use Rattle.std.specs.Ordering.{int_eq}
@@ -49,7 +49,7 @@ module _ (witness : Witness) (holds_both : HullHoldsBoth) where
   register_joined Unreadable k o h = tt
   register_joined j k o h = has_kind witness (kind_join j k) o h.0 h.1 (value_joined j k h.0 h.2)
 
-  -- a value that is kept whole stays, unless nothing is known of it
+  -- a value that the slot holds whole is still known to be held, unless nothing is known of it
   whole_spilled : (k : Kind) (c : Cell) → HoldsWhole witness k c → HasSlot witness (spilled k) c
   whole_spilled Unreadable c h = no_bytes c
   whole_spilled k c h = inl h
@@ -69,7 +69,7 @@ module _ (witness : Witness) (holds_both : HullHoldsBoth) where
   slot_joined (Spill j) (Spill k) c (inr h) = null_joined j k c h
   slot_joined t u c h = no_bytes c
 
-  -- what the first side admits, the join admits
+  -- a state that the first side admits is admitted by the join
   pub first_joined : (a b : Facts) (s : RunState) → AdmitsBy witness a s → AdmitsBy witness (facts_join a b) s
   first_joined a b s h =
       admitted_by witness (λ r. kind_join (kind_at a r) (kind_at b r)) (λ i. slot_join (slot_at a i) (slot_at b i)) s

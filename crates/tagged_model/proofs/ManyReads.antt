@@ -1,4 +1,4 @@
--- Bytes that are read across slots of the stack, if the facts say that they are written.
+-- Reads of bytes across slots of the stack, if the facts say that these bytes are written.
 use Rattle.std.proofs.Common.{◌≡◌, ℕ, zero, suc, ◌+◌, ◌*◌, ◌/◌, ◌%◌, ◌<◌, ◌≤◌, ltb, ◌==◌, bit_and, ℤ, Bool, true, false, not, if◌then◌else◌, List, length, Some, None, Result, Ok, Err, refl, sym, subst, ◌∙◌, ⊎_elim, arith}
 use Rattle.std.specs.Int.{bit_at}
 use Rattle.std.proofs.lemmas.Bool.{cond-true, and_from, eqb-true, lt-ltb, cases_lt, false≢true, or_parts, not-false}
@@ -28,7 +28,7 @@ none_below (suc n) test e i lt =
     let h = or_parts (test n) (any_below n test) e in
     ⊎_elim (λ below. none_below n test h.1 i below) (λ le. let same : n ≡ i = omega arith in subst (λ k. test k ≡ false) same h.0) (cases_lt i n)
 
--- ---- what the facts say
+-- ---- the conditions of a read
 
 record MayRead (f : Facts) (x : ℤ) (n : ℕ) : Type 0 where
   within : is_in_stack x n ≡ true
@@ -46,7 +46,7 @@ may_read f x n e =
     passed true true c e = absurd (refused PartOfSpill tt e)
     passed false b c e = absurd (refused OutsideStack tt e)
 
--- a bit that is set in the mask, and the byte
+-- if all bits of an access are set in the mask, and bit j is one of them, it is set in the mask
 set_there : (mask bits j : ℕ) → not (bit_and mask bits == bits) ≡ false → bit_at bits j ≡ 1 → bit_at mask j ≡ 1
 set_there mask bits j e one = each_in_mask mask bits j (eqb-true (bit_and mask bits) bits (not-false (bit_and mask bits == bits) e)) one
 

@@ -1,4 +1,4 @@
--- Bytes that are written across slots of the stack leave a state that the facts after them admit.
+-- After a write of bytes across slots of the stack, the facts after it admit the state.
 use Rattle.std.proofs.Common.{◌≡◌, ℕ, ◌+◌, ◌-◌, ◌*◌, ◌<◌, ◌≤◌, ◌&&◌, ltb, leb, int_le, ℤ, pos, negsuc, ◌+ℤ◌, ◌≤ℤ◌, Bool, true, false, if◌then◌else◌, List, length, get_or, slice_get, Option, Some, None, Ok, refl, sym, subst, ◌∙◌, ⊎_elim, arith}
 use Rattle.std.proofs.lemmas.Bool.{cond_both, cond-true, cond-false, and_parts, and_cases, and_from, ltb-true, ltb-false, leb-true, lt-ltb, le-leb, false≢true, cases_Bool}
 use Rattle.std.proofs.lemmas.Int.{ints}
@@ -25,7 +25,7 @@ use Rattle.tagged_model.proofs.Places.{chosen}
 -- ---- a byte of a slot, touched or not
 
 module _ (i : ℕ) (c : Cell) (p : ℕ) (new : List ℕ) where
-  -- it is among those that are written
+  -- the byte is one of those that are written
   abbrev IsNew : ℕ → Bool
   IsNew j = leb p (8 * i + j) && ltb (8 * i + j) (p + length new)
 
@@ -75,7 +75,7 @@ module _ (i : ℕ) (c : Cell) (p : ℕ) (new : List ℕ) where
           same_some : (x y : ℕ) → Some x ≡ Some y → x ≡ y
           same_some x y e = cc
 
-  -- ---- what is known of the slot
+  -- ---- the facts about the slot
 
   bits_there : (lo : ℕ) → lo ≤ length new → HasBytes (bits_in p lo i) (cell_over i c p new)
   bits_there lo le j few one = let h = only_in p lo i j one in let to = h.1 in new_there j few h.0 (omega arith)
@@ -85,7 +85,7 @@ module _ (i : ℕ) (c : Cell) (p : ℕ) (new : List ℕ) where
       ⊎_elim (λ old. let b = has j few old in old_there j b.0 few b.1) (λ fresh. bits_there lo le j few fresh) (of_either mask (bits_in p lo i) j one)
   slot_over witness (slot.Spill k) lo le has = bits_there lo le
 
-  -- more bytes touch more slots
+  -- an access of more bytes touches at least the same slots
   untouched : (hi : ℕ) → length new ≤ hi → touches p hi i ≡ false → touches p (length new) i ≡ false
   untouched hi le e =
       ⊎_elim (λ t. absurd (false≢true (sym e ∙ more t))) (λ f. f) (cases_Bool (touches p (length new) i))

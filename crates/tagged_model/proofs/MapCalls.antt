@@ -1,4 +1,4 @@
--- What the calls of a map keep.
+-- Invariants of a map that its calls preserve.
 use Rattle.std.proofs.Common.{◌≡◌, ℕ, ◌+◌, ◌<◌, Bool, true, false, if◌then◌else◌, nat_le, List, length, Option, Some, None, Result, Ok, Err, refl, sym, ap, ◌∙◌, arith, ◌==◌}
 use Rattle.tagged_model.specs.declared.shape.MapKind.{MapKind}
 use Rattle.tagged_model.specs.declared.shape.MapKind.TheVariants.{Hash, Array}
@@ -14,7 +14,7 @@ use Rattle.tagged_model.specs.StateLaws.{owns_more, owns_with, owns_without}
 use Rattle.tagged_model.proofs.Objects.{values_small}
 use Rattle.std.proofs.lemmas.Bool.{cond_both, eqb-false}
 
--- ---- only a hash map gets a new key, and only it loses one
+-- ---- only a hash map gets a new key, and only a hash map loses one
 
 new_of_hash : (t : Table ℕ) (key : List ℕ) (flags : ℕ) → verdict t key flags ≡ New → t.shape.kind ≡ Hash
 new_of_hash t key flags e = of_object (look_up t key) (known (nat_le flags exist) (of_found t flags (look_up t key)) e)
@@ -42,7 +42,7 @@ removed_of_hash Array o number e = absurd (let z : ⊥ = cc in z)
 no_array : (k : MapKind) → k ≡ Hash → k ≡ Array → ⊥
 no_array k e f = let same : Hash ≡ Array = sym e ∙ f in cc
 
--- ---- what they keep
+-- ---- the invariants
 
 module _ (shape : MapShape) (t : RunMap) (is : IsMapOf shape t) (bytes : (number : ℕ) → AreBytes (t.values number)) where
   unchanged : KeepsShape shape t t

@@ -1,4 +1,4 @@
--- What the verdict on an update determines of its key.
+-- Consequences of the verdict on an update for its key.
 use Rattle.std.proofs.Common.{◌≡◌, ℕ, ◌==◌, nat_le, if◌then◌else◌, List, Option, Some, None, refl, sym, ◌∙◌}
 use Rattle.std.proofs.lemmas.Bool.{cond_both}
 use Rattle.tagged_model.specs.declared.shape.MapKind.{MapKind}
@@ -8,7 +8,7 @@ use Rattle.tagged_model.specs.declared.fault.MapFault.TheVariants.{NoEntry, TooB
 use Rattle.tagged_model.specs.Table.{Table, Verdict, Refused, Present, New, no_exist, exist, look_up, is_full, of_absent, of_found, verdict}
 use Rattle.tagged_model.specs.MapLaws.{MapVerdictsMatchLookUps}
 
--- a fact that holds of each verdict that there may be
+-- a property of each possible verdict
 module _ {A : Type 0} (t : Table A) (key : List ℕ) (flags : ℕ) (P : Verdict A → Type 0) (refused : P (Refused Invalid) × P (Refused NoEntry) × P (Refused TooBig) × P (Refused Exists))
     (present : (a : A) → look_up t key ≡ Some a → P (Present a)) (new : look_up t key ≡ None → P New) where
   of_kind : look_up t key ≡ None → (k : MapKind) → P (of_absent k (is_full t) flags)

@@ -7,7 +7,7 @@ use Rattle.std.proofs.lemmas.Nat.Bits.{bit_at_and, bit_at_or, bit_at-lt, bit_at-
 use Rattle.reg_kinds.specs.Stack.{byte_bits}
 use Rattle.reg_kinds.specs.Many.{bits_in}
 
--- ---- a number that is moved up by k bits
+-- ---- a number that is shifted left by k bits
 
 and_nothing : (n : ℕ) → n ≡ n + 0
 and_nothing n = omega arith
@@ -80,11 +80,11 @@ in_mask mask p n i h e =
 one_set : (x y z : ℕ) → z ≡ max x y → z ≡ 1 → x < 2 → y < 2 → (x ≡ 1) ⊎ (y ≡ 1)
 one_set x y z e f g h = grind arith
 
--- a bit of two masks is one of either
+-- a bit that is set in the union of two masks is set in one of them
 pub of_either : (x y i : ℕ) → bit_at (bit_or x y) i ≡ 1 → (bit_at x i ≡ 1) ⊎ (bit_at y i ≡ 1)
 of_either x y i e = one_set (bit_at x i) (bit_at y i) (bit_at (bit_or x y) i) (bit_at_or x y i) e (bit_at-lt x i) (bit_at-lt y i)
 
--- if all of these bits are in a mask, so is each of them
+-- if all of these bits are in a mask, each of them is
 pub each_in_mask : (mask bits j : ℕ) → bit_and mask bits ≡ bits → bit_at bits j ≡ 1 → bit_at mask j ≡ 1
 each_in_mask mask bits j e one =
     both_set (bit_at mask j) (bit_at bits j) (bit_at (bit_and mask bits) j) (bit_at_and mask bits j) (ap (λ m. bit_at m j) e) one (bit_at-lt mask j)

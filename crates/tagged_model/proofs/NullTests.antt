@@ -18,7 +18,7 @@ use Rattle.tagged_model.specs.State.{RunState}
 use Rattle.tagged_model.specs.Admits.{Witness, IsOfKind, IsLookup, IsKeptWhole, HasKind, HasSlot, AdmitsBy}
 use Rattle.tagged_model.proofs.Unknown.{has_kind, admitted_by}
 
--- what a null test of a site determines of its value, and of a slot that keeps it
+-- after a null test of a site, its value has the settled kind, and a slot that holds it has the settled slot
 record Tells (witness : Witness) (site : ℕ) (null : Bool) : Type 0 where
   of_value : (m : ℕ) (v : Tagged) → v ≡ witness.gave site → IsLookup witness m v → IsOfKind witness (settled_value null m) v
   of_slot : (m : ℕ) (c : Cell) → HasSlot witness (Spill (kind.MaybeValue m site)) c → HasSlot witness (settled_spill null m) c
@@ -51,7 +51,7 @@ zero_of : (witness : Witness) (v : Tagged) → v ≡ Scalar 0 → IsOfKind witne
 zero_of witness v e = (0, e, record { from = omega arith; to = omega arith }, omega arith)
 
 module _ (witness : Witness) (site : ℕ) (is_null : witness.gave site ≡ Scalar 0) where
-  -- what is kept whole is no null, so there are eight bytes
+  -- a pointer that is held whole is not null, so the slot holds eight zero bytes
   null_slot : (m : ℕ) (c : Cell) → HasSlot witness (Spill (kind.MaybeValue m site)) c → HasSlot witness (Bytes 0xff) c
   null_slot m c (inl h) = absurd (subst IsKeptWhole (h.2.0 ∙ is_null) h.3)
   null_slot m c (inr h) = λ j lt _. (0, h.1 j lt)

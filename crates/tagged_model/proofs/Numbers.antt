@@ -17,7 +17,7 @@ in_full x y w h g = (omega arith, omega arith, omega arith)
 pub full_scalar : (k x : ℕ) → x < 2 ^ k → 2 ^ k ≤ 2 ^ 64 → IsScalarOf (full k) (Scalar x)
 full_scalar k x h g = let p = in_full x (2 ^ k) (2 ^ 64) h g in (x, refl, record { from = p.0; to = p.1 }, p.2)
 
--- a number of so many bytes, with its sign or with zeros above
+-- a number of this many bytes, sign-extended or zero-extended
 pub widened_is : (witness : Witness) (size : AccessSize) (signed : Bool) (x : ℕ) → x < 256 ^ bytes_of size → IsOfKind witness (loaded size signed) (Scalar (widened size signed x))
 widened_is witness size true x h = full_scalar 64 (widened size true x) (unsigned_small (signed (8 * bytes_of size) (x % 2 ^ (8 * bytes_of size)))) (omega arith)
 widened_is witness Byte false x h = full_scalar 8 x h (omega arith)

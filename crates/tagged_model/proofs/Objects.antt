@@ -1,4 +1,4 @@
--- The bytes of a map's values as they are read and written, and what stays known of a state whose map changes.
+-- Reads and writes of the bytes of a map's values, and the facts about a state whose map changes.
 use Rattle.std.proofs.Common.{◌≡◌, ℕ, ◌+◌, ◌<◌, ◌≤◌, ◌==◌, leb, ℤ, pos, negsuc, ◌+ℤ◌, ◌≤ℤ◌, List, ◌++◌, length, take, drop, Option, Some, None, refl, sym, ap, subst, ◌∙◌, arith}
 use Rattle.std.proofs.lemmas.Bool.{cond_both, cond-true, le-leb, eqb-true}
 use Rattle.std.proofs.lemmas.Int.{ints}
@@ -70,7 +70,7 @@ module _ (s : RunState) (m : ℕ) (t u : RunMap) (is : s.maps m ≡ Some t) wher
       (u, refl, keeps shape (subst (IsMapOf shape) (sym same) there.2)))
       h
 
-  -- an object has other bytes, as many as before
+  -- the bytes of an object are replaced by as many others
   pub value_kept : (number : ℕ) (new : List ℕ) (shape : MapShape) → (number < t.count → length new ≡ shape.value_size) → u ≡ with_value t number new → IsMapOf shape t → IsMapOf shape u
   value_kept number new shape size e h = subst (IsMapOf shape) (sym e) (record { shaped = h.shaped; indices = h.indices; owns = h.owns; sized = sized })
     where

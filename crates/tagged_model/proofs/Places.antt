@@ -1,4 +1,4 @@
--- Accesses that facts let go ahead lie in the stack, in one slot.
+-- An access that the facts permit lies in the stack, in one slot.
 use Rattle.std.proofs.Common.{◌≡◌, ℕ, ◌/◌, ◌%◌, ◌<◌, ◌&&◌, not, ℤ, Bool, true, false, if◌then◌else◌, Result, Ok, Err, Some, None, refl, arith}
 use Rattle.std.proofs.lemmas.Bool.{cond-true, and_from, eqb-true}
 use Rattle.reg_kinds.specs.declared.reason.Reason.{Reason}
@@ -18,12 +18,12 @@ refused r y e = cc
 pub same_ok : {A : Type 0} (x y : A) → ◌≡◌ {A = Result A Reason} (Ok x) (Ok y) → x ≡ y
 same_ok x y e = cc
 
--- the result goes ahead if a test holds
+-- a result after a test is Ok only if the test holds
 pub chosen : {A : Type 0} (b : Bool) (x y : A) (r : Reason) → (if b then Ok x else Err r) ≡ Ok y → (b ≡ true) × (x ≡ y)
 chosen true x y r e = (refl, same_ok x y e)
 chosen false x y r e = absurd (refused r y e)
 
--- what goes ahead after a step has gone ahead
+-- if two steps in sequence are Ok, so is each of them
 pub given_ok : {A B : Type 0} (r : Result A Reason) (f : A → Result B Reason) (y : B) → and_then_ok r f ≡ Ok y → (x : A) × (r ≡ Ok x) × (f x ≡ Ok y)
 given_ok (Ok x) f y e = (x, refl, e)
 given_ok (Err r) f y e = absurd (refused r y e)
@@ -35,7 +35,7 @@ after_tests true true t f y e = (refl, refl, e)
 after_tests true false t f y e = absurd (refused UnalignedStack y e)
 after_tests false b t f y e = absurd (refused OutsideStack y e)
 
--- the place of the access, that it is aligned, and what goes ahead there
+-- the place of an access that is permitted, its alignment, and the result of what follows
 pub at_place : {B : Type 0} (offset : ℤ) (size : AccessSize) (f : ℕ × ℕ → Result B Reason) (y : B) → and_then_ok (touched offset size) f ≡ Ok y → (stack_place offset size ≡ Some (place offset)) × (place offset % bytes_of size ≡ 0) × (f (place offset / 8, byte_bits (place offset) (bytes_of size)) ≡ Ok y)
 at_place offset size f y e =
     let n = bytes_of size in

@@ -35,8 +35,8 @@ all_none : {A B : Type 0} (o : Option A) (f : A → Option B) → ((x : A) → f
 all_none None f h = refl
 all_none (Some x) f h = h x
 
--- what is known of a step from s to t: whether memory was refused at it, which needs a refusal, and is noted; if it was not,
--- the step is the one without refusals; and it is refused none without a map, and makes none
+-- a step from s to t: `now` says whether memory was refused at this step. This is noted in t, and only possible if the step may be
+-- refused memory. If `now` is false, t is the result of the step without refusals. Without maps it is false, and t has no maps.
 record IsTold (refused : Bool) (s t : RunState) (Same : Type 0) : Type 0 where
   now : Bool
   noted : t.refused ≡ (s.refused || now)
@@ -68,7 +68,7 @@ module _ (refused : Bool) (s : RunState) where
   with_same_maps : (t : RunState) → t.refused ≡ s.refused → t.maps ≡ s.maps → IsLike t
   with_same_maps t flag maps = record { flag = flag; bare = λ none m. ap (λ (f : ℕ → Option RunMap). f m) maps ∙ none m }
 
-  -- ---- how parts make a step
+  -- ---- steps from their parts
 
   alike : (t : RunState) (Same : Type 0) → IsLike t → Same → IsTold refused s t Same
   alike t Same like same = record { now = false; noted = like.flag ∙ sym (or-false s.refused); same = λ _. same; needed = λ _. refl; bare = λ none. (refl, like.bare none) }
@@ -88,7 +88,7 @@ module _ (refused : Bool) (s : RunState) where
   also_like None f h = tt
   also_like (Some x) f h = h x
 
-  -- what needs a map is not there without one
+  -- a state that depends on a map exists only if the run has that map
   mapped_like : (m : ℕ) (f : RunMap → Option RunState) → ((t : RunMap) → (HasNoMap s → ⊥) → AreLike (f t)) → AreLike (and_then (s.maps m) f)
   mapped_like m f h = by (s.maps m) refl
     where
@@ -114,7 +114,7 @@ module _ (refused : Bool) (s : RunState) where
   next_like None h = refl
   next_like (Some t) h = alike (advanced 1 t) (goes (advanced 1 t) ≡ goes (advanced 1 t)) (record { flag = h.flag; bare = h.bare }) refl
 
-  -- ---- what is written
+  -- ---- writes
 
   stack_written_like : (x : ℤ) (bs : List ℕ) → AreLike (stack_written s x bs)
   stack_written_like x bs =

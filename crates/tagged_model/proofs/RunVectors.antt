@@ -1,4 +1,4 @@
--- Known answers of runs: the results of small programs, and the instructions at which they fault (RFC 9669, sections 4 and
+-- Worked cases of runs: the results of small programs, and the instructions at which they fault (RFC 9669, sections 4 and
 -- 5). The comments spell the programs; each ends with `exit`, unless it says otherwise.
 use Rattle.std.proofs.Common.{◌≡◌, ℕ, ℤ, pos, neg_ℤ, true, false, List, [], ◌∷◌, ◌++◌, map, None, refl}
 use Rattle.words.specs.declared.operator.AluOp.TheVariants.{Add, Sub, Div, SignedDiv, Mod, SignedMod, Mov, ShiftLeft, ShiftRight}
@@ -16,11 +16,11 @@ use Rattle.tagged_model.specs.declared.value.Outcome.TheVariants.{Value, Fault}
 use Rattle.tagged_model.specs.Cells.{gathered}
 use Rattle.tagged_model.specs.Step.{MapsByDescriptor, run, start_of_run, result_of}
 
--- minus n
+-- -n
 abbrev pub minus : ℕ → ℤ
 minus n = neg_ℤ (pos n)
 
--- the context of a packet of so many bytes
+-- the context of a packet with this many bytes
 abbrev pub context : ℕ → List ℕ
 context len = len ∷ 0 ∷ 0 ∷ 0 ∷ 0 ∷ 0 ∷ 0 ∷ 0 ∷ 0 ∷ 0 ∷ 0 ∷ []
 

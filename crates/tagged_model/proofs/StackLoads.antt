@@ -26,7 +26,7 @@ use Rattle.tagged_model.proofs.MaskBits.{in_mask}
 use Rattle.tagged_model.proofs.Numbers.{widened_is}
 use Rattle.tagged_model.proofs.Places.{refused, same_ok, chosen, at_place, some_bytes}
 
--- ---- what a load of a cell gives
+-- ---- the value of a load of a cell
 
 abbrev Gives : Witness → Cell → ℕ → AccessSize → Bool → Kind → Type 0
 Gives witness c j size signed k = (v : Tagged) × (read_cell c j size signed ≡ Some v) × IsOfKind witness k v

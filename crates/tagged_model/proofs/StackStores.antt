@@ -77,7 +77,7 @@ pointer_written witness (kind.MaybeValue m s) c j v t z small h =
     h.1
 pointer_written witness k c j v t z small h = whole_written witness k c j v (subst IsKeptWhole (sym h) tt) h
 
--- ---- what a store leaves
+-- ---- the facts after a store
 
 -- something is known of the value
 abbrev IsKnown : Kind → Type 0
@@ -95,7 +95,7 @@ cell_written witness t u c p size (kind.Scalar r) v known even small has h e =
     subst (λ u. IsWritten witness u c (p % 8) size v) (same_ok (bytes_over t (byte_bits p (bytes_of size))) u e) (number_written witness t c p size v h.0 h.1 small has)
 cell_written witness t u c p size k v known even small has h e = spill_written witness u c p size k v refl even small h e
 
--- of a register that may not be read nothing is stored
+-- a store of an unreadable register is rejected
 known_stored : (f g : Facts) (offset : ℤ) (size : AccessSize) (k : Kind) → stack_write f offset size k ≡ Ok g → IsKnown k × (and_then_ok (touched offset size) (facts_written f size k) ≡ Ok g)
 known_stored f g offset size kind.Unreadable e = absurd (refused UnreadableRegister g e)
 known_stored f g offset size k e = (tt, e)

@@ -1,4 +1,4 @@
--- Kinds and slots of which nothing is known, and facts made of what is known of each register and slot.
+-- Kinds and slots without facts, and facts built from functions of registers and slots.
 use Rattle.std.proofs.Common.{◌≡◌, ℕ, ◌≤◌, Option, Some}
 use Rattle.reg_kinds.specs.declared.kind.Kind.{Kind}
 use Rattle.reg_kinds.specs.declared.kind.Kind.TheVariants.{Unreadable}
@@ -11,12 +11,12 @@ use Rattle.tagged_model.specs.State.{RunState}
 use Rattle.tagged_model.specs.Admits.{Witness, IsOfKind, HasKind, HasSlot, AdmitsBy, objects_of}
 use Rattle.tagged_model.specs.AdmitsLaws.{no_bytes}
 
--- of a register that may not be read nothing is asked
+-- a value of a kind has this kind in a register; an unreadable register has no condition
 pub has_kind : (witness : Witness) (k : Kind) (o : Option Tagged) (v : Tagged) → o ≡ Some v → IsOfKind witness k v → HasKind witness k o
 has_kind witness Unreadable o v e h = tt
 has_kind witness k o v e h = (v, e, h)
 
--- such facts admit a state if each of them holds of it
+-- facts built from kinds and slots admit a state if each kind and each slot holds of it
 pub admitted_by : (witness : Witness) (kinds : ℕ → Kind) (slots : ℕ → Slot) (s : RunState) → ((r : ℕ) → HasKind witness (kinds r) (s.registers r)) → ((i : ℕ) → HasSlot witness (slots i) (s.cells i)) → ((m : ℕ) → witness.objects m ≤ objects_of (s.maps m)) → AdmitsBy witness (facts_of kinds slots) s
 admitted_by witness kinds slots s of_registers of_slots of_objects =
     record {

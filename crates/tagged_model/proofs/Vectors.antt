@@ -1,4 +1,4 @@
--- Shapes at the edges of their limits, and what is wrong with those beyond. The limits are this project's own.
+-- Shapes at the limits, and the faults of shapes beyond them. The limits are this project's own.
 use Rattle.std.specs.Prelude.{◌≡◌, ℕ, List, [], ◌∷◌, map, Option, Some, None, refl}
 use Rattle.tagged_model.specs.Shape.{shape_fault}
 use Rattle.tagged_model.specs.declared.shape.MapKind.{MapKind}
@@ -6,7 +6,7 @@ use Rattle.tagged_model.specs.declared.shape.MapKind.TheVariants.{Hash, Array}
 use Rattle.tagged_model.specs.declared.shape.ShapeFault.{ShapeFault}
 use Rattle.tagged_model.specs.declared.shape.ShapeFault.TheVariants.{Invalid, TooBig}
 
--- the kind of a map, the sizes of its keys and values, how many entries it may have, its flags, and what is wrong
+-- the kind of a map, the sizes of its keys and values, its number of entries, its flags, and its fault
 abbrev Row : Type 0
 Row = MapKind × ℕ × ℕ × ℕ × ℕ × Option ShapeFault
 
@@ -30,7 +30,7 @@ values_entries_and_flags_out_of_limits : AreRows (
     ∷ [])
 values_entries_and_flags_out_of_limits = refl
 
--- values that take more than 65,536 bytes, and values that just fit; each size is rounded up to a multiple of 8
+-- values that take more than 65,536 bytes, and values of exactly this size; each size is rounded up to a multiple of 8
 too_big : AreRows (
     (Array, 4, 4096, 16, 0, None)
     ∷ (Array, 4, 4096, 17, 0, Some TooBig)

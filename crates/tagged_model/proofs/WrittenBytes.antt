@@ -18,7 +18,7 @@ low_byte_small zero x k b e = absurd (none-some b e)
 low_byte_small (suc n) x zero b e = let h : x % 256 ≡ b = cc in omega arith
 low_byte_small (suc n) x (suc k) b e = low_byte_small n (x / 256) k b e
 
--- a byte that was there still is, perhaps another one
+-- a byte that is present is present after a write, possibly with another value
 still_there : (c : Cell) (j k b : ℕ) (bs : List ℕ) → byte_at c k ≡ Some b → (d : ℕ) × (byte_at (written_over c j bs) k ≡ Some d)
 still_there c j k b bs e =
     cond_both (leb j k && ltb k (j + length bs)) (slice_get bs (k - j)) (byte_at c k) (λ o. (d : ℕ) × (o ≡ Some d))
@@ -28,7 +28,7 @@ still_there c j k b bs e =
     (get_or bs (k - j) 0, slice_get-get_or bs (k - j) 0 (omega arith)))
     (λ _. (b, e))
 
--- what is at the place of a byte that was written
+-- the byte at a place that was written
 new_byte : (c : Cell) (j k : ℕ) (bs : List ℕ) → j ≤ k → k < j + length bs → byte_at (written_over c j bs) k ≡ Some (get_or bs (k - j) 0)
 new_byte c j k bs from to =
     cond-true (leb j k && ltb k (j + length bs)) (slice_get bs (k - j)) (byte_at c k) (and_from (leb j k) (ltb k (j + length bs)) (le-leb j k from) (lt-ltb k (j + length bs) to))
@@ -40,7 +40,7 @@ over_small c j n x small i b =
     (λ _ e. low_byte_small n x (i - j) b e)
     (λ _ e. small i b e)
 
--- the bytes of an access are there once it is written
+-- the bytes of an access are present after it is written
 pub touched_there : (c : Cell) (p n x : ℕ) → HasBytes (byte_bits p n) (written_over c (p % 8) (low_bytes n x))
 touched_there c p n x k lt e =
     let bs = low_bytes n x in

@@ -101,7 +101,7 @@ pub record MapCallsKeep : Type 0 where
       → KeepsShape shape t (helpers.updated refused t key value flags).map
   pub removed : (shape : MapShape) (t : RunMap) (key : List ℕ) → IsMapOf shape t → ((number : ℕ) → AreBytes (t.values number)) → KeepsShape shape t (helpers.removed t key).map
 
--- if a map changes to one that keeps its shape and its objects, what described the state still does
+-- if a map changes to one that keeps its shape and its objects, the facts still describe the state
 abbrev pub MapChangeAdmits : Type 0
 MapChangeAdmits =
     (witness : Witness) (f : Facts) (shapes : ℕ → Option MapShape) (s : RunState) (m : ℕ) (shape : MapShape) (t u : RunMap) → Describes witness f shapes s → s.maps m ≡ Some t → shapes m ≡ Some shape → KeepsShape shape t u

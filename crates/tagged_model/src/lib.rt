@@ -9,10 +9,10 @@
 //!
 //! `act` defines the step of each instruction, by the equations of `words`, and `called` that of each of the four helpers. If
 //! they are undefined, the run faults: on reading an empty register, on an access outside its object, an absent byte, a part of
-//! a pointer, a stack access that is not aligned, or a pointer where a number is needed, and on a pointer that is stored
+//! a pointer, a stack access that is not aligned, or a pointer instead of a number, and on a pointer that is stored
 //! outside the stack, truncated, or moved farther than 2^29 bytes. `run` is one recursion with the outcome, the steps and the
-//! final state; it takes at most as many steps as the program has slots. Its argument is a list of refusals of memory: if the
-//! list says so, a new key of a hash map is refused with the result -12, and the run goes on.
+//! final state; it takes at most as many steps as the program has slots. Its argument is a list of refusals of memory: if it
+//! has one for a step, a new key of a hash map is refused with the result -12, and the run continues.
 //!
 //! `AdmitsBy` says which states facts admit: each register and each cell is what its kind says, and the result of a look-up is
 //! one value in all its copies.
@@ -27,7 +27,7 @@
 //!   `object_read_admits`, `object_write_admits`, `value_load_admits`, `value_store_admits`, `map_calls_keep`,
 //!   `map_change_admits`, `call_admits`, `site_admits`.
 //! - After a null test of a look-up's result, the settled facts admit the state: `null_test_admits`.
-//! - A run in which memory was refused to a new key says so in its final state; any other run is the run without refusals:
+//! - A run in which memory was refused to a new key records this in its final state; any other run is the run without refusals:
 //!   `refusals_are_told`.
 //! - Whatever the objects of a map represent, as their places or their bytes, the replies are those of the map of what they
 //!   represent, which changes as the definition says: `calls_refine_values`.

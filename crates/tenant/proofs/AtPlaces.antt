@@ -1,4 +1,4 @@
--- The maps at their places.
+-- The list of a tenant's maps by place.
 use Rattle.std.proofs.Common.{◌≡◌, ◌≢◌, ℕ, ◌<◌, ◌≤◌, List, length, take, drop, set, get_or, Option, Some, None, IsSome, is_some, refl, sym, ap, subst, ◌∙◌, inl, inr, arith, length-set, get_or-set_same, get_or-set_other, true≢false}
 use Rattle.std.specs.Prelude.{◌⊎◌, is_none, position, option_map}
 use Rattle.std.proofs.Math.Path.{fun_ext}
@@ -16,7 +16,7 @@ use Rattle.tenant.specs.KeptLaws.{is_some-mapped}
 
 -- ---- places
 
--- what holds at one place and at each other holds at all
+-- a property that holds at one place and at all others holds at each place
 pub at_each : (P : ℕ → Type 0) (m : ℕ) → P m → ((other : ℕ) → other ≢ m → P other) → (place : ℕ) → P place
 at_each P m here others place = by (cases_eq place m)
   where
@@ -27,7 +27,7 @@ at_each P m here others place = by (cases_eq place m)
 pub same_at : (f g : ℕ → Option Map) → ((i : ℕ) → f i ≡ g i) → at_places f ≡ at_places g
 same_at f g h = ap at_places (fun_ext h)
 
--- where one is set, and the others are the same
+-- if one place is set and the others are the same
 pub set_at : (f g : ℕ → Option Map) (n : ℕ) (x : Option Map) → n < most_maps → f n ≡ x → ((i : ℕ) → i ≢ n → f i ≡ g i) → at_places f ≡ set (at_places g) n x
 set_at f g n x within here others =
     ext_get_or None (at_places f) (set (at_places g) n x) (length-at f ∙ sym (length-at g) ∙ sym (length-set {A = Option Map} (at_places g) n x))
@@ -40,7 +40,7 @@ set_at f g n x within here others =
     by i lt (inl same) = at-within f i lt ∙ ap f same ∙ here ∙ sym (get_or-set_same (at_places g) n x None room) ∙ ap (λ (j : ℕ). get_or (set (at_places g) n x) j None) (sym same)
     by i lt (inr other) = at-within f i lt ∙ others i other ∙ sym (at-within g i lt) ∙ sym (get_or-set_other (at_places g) n i x None other)
 
--- a map is at each place where there is one in a list with as many places
+-- if f has maps at the same places as a list, so has the list of f at all places
 pub some_at : (f : ℕ → Option Map) (xs : List (Option LiveMap)) → length xs ≡ most_maps → ((i : ℕ) → is_some (f i) ≡ is_some (get_or xs i None)) → (i : ℕ) → is_some (get_or (at_places f) i None) ≡ is_some (get_or xs i None)
 some_at f xs long same i = by (cases_lt i most_maps)
   where
@@ -51,7 +51,7 @@ some_at f xs long same i = by (cases_lt i most_maps)
     by (inl lt) = ap (λ (o : Option Map). is_some o) (at-within f i lt) ∙ same i
     by (inr past) = ap (λ (o : Option Map). is_some o) (at-past f i past) ∙ sym (ap (λ (o : Option LiveMap). is_some o) (none past))
 
--- the same place is free in a list with as many places where the same are free
+-- if f has maps at the same places as a list, the lowest free place is the same
 pub free_at : (f : ℕ → Option Map) (xs : List (Option LiveMap)) → length xs ≡ most_maps → ((i : ℕ) → is_some (f i) ≡ is_some (get_or xs i None)) → position is_none (at_places f) ≡ position is_none xs
 free_at f xs long same = same_lowest (at_places f) xs (length-at f ∙ sym long) (some_at f xs long same)
 
@@ -70,7 +70,7 @@ live_or_not (Some l) = inl refl
 pub not_live : (o : Option LiveMap) → IsSome o → o ≡ None → ⊥
 not_live o some none = true≢false (sym some ∙ ap (λ (x : Option LiveMap). is_some x) none)
 
--- a map that has a reference is live
+-- a map that has a hold is live
 pub held_is_live : (t : LiveMaps) (place : ℕ) → 1 ≤ holds_at t place → IsSome (live_at t place)
 held_is_live t place some = by (live_or_not (live_at t place))
   where
@@ -91,12 +91,12 @@ none_there part t place e = ap (map_if part) e
 pub same_live : (part : List ℕ) (old new : LiveMaps) (place : ℕ) → live_at new place ≡ live_at old place → map_at part new place ≡ map_at part old place
 same_live part old new place e = ap (map_if part) e
 
--- a map that is live before and after, with the same pairs
+-- a map that is live before and after has the same pairs
 pub same_map_at : (part later : List ℕ) (old new : LiveMaps) (place : ℕ) → IsSome (live_at old place) → IsSome (live_at new place) → map_in later new place ≡ map_in part old place
     → map_at later new place ≡ map_at part old place
 same_map_at part later old new place was now e = map_there later new place now ∙ ap (λ (t : Map). Some t) e ∙ sym (map_there part old place was)
 
--- a place whose map is the same, with the same pairs if it is live
+-- a place with the same live map has the same map, if its pairs are the same
 pub other_at : (part later : List ℕ) (old new : LiveMaps) (place : ℕ) → live_at new place ≡ live_at old place → (IsSome (live_at new place) → map_in later new place ≡ map_in part old place)
     → map_at later new place ≡ map_at part old place
 other_at part later old new place same pairs = by (live_or_not (live_at new place))
@@ -105,6 +105,6 @@ other_at part later old new place same pairs = by (live_or_not (live_at new plac
     by (inl now) = same_map_at part later old new place (sym (ap (λ (o : Option LiveMap). is_some o) same) ∙ now) now (pairs now)
     by (inr none) = none_there later new place none ∙ sym (none_there part old place (sym same ∙ none))
 
--- the map at a place is live just where the list has one
+-- the list has a map at a place if and only if a map is live there
 pub live_is : (part : List ℕ) (t : LiveMaps) → length t.maps ≡ most_maps → (place : ℕ) → is_some (get_or (at_places (map_at part t)) place None) ≡ is_some (live_at t place)
 live_is part t long place = some_at (map_at part t) t.maps long (λ i. is_some-mapped (λ l. map_in part t i) (live_at t i)) place

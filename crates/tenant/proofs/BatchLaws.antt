@@ -1,4 +1,4 @@
--- A batch is its frames.
+-- A batch gives the same replies and the same state as its frames, one after another.
 use Rattle.std.proofs.Common.{◌≡◌, ℕ, suc, Bool, true, false, List, [], ◌∷◌, length, Option, Some, None, refl, sym, ap, subst}
 use Rattle.std.specs.Prelude.{nat_lt, if◌then◌else◌, Result}
 use Rattle.byteorder.specs.Endian.{little_bytes}

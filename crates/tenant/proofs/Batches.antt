@@ -1,4 +1,4 @@
--- Batches: why they are refused, and their runs.
+-- Batches: why they are rejected, and their runs.
 use Rattle.std.proofs.Common.{◌≡◌, ℕ, suc, ◌<◌, ◌≤◌, Bool, true, false, List, [], ◌∷◌, length, Option, Some, None, refl, ap, ◌∙◌, arith}
 use Rattle.std.specs.Prelude.{nat_lt, option_map, if◌then◌else◌}
 use Rattle.std.specs.List.{All}
@@ -22,9 +22,9 @@ use Rattle.tenant.proofs.StillKept.{with_live}
 use Rattle.tenant.proofs.TestRunEnds.{told_of}
 use Rattle.tenant.proofs.TestRunKept.{kept_after}
 
--- ---- refusals
+-- ---- rejections
 
--- a program, with room for all results, is refused for its packets alone
+-- if there is room for all results, a batch on a program is rejected only for its packets
 pub with_room : (o : Option OpenObject) (many : ℕ) (ends : List ℕ) (room : ℕ) → object_refusal o ≡ None → length ends ≤ room → batch_refusal o many ends room ≡ option_map packet_errno (packets_fault many 0 ends)
 with_room o many ends room program enough =
     let no_fewer : nat_lt room (length ends) ≡ false = grind (arith, nat_tests) in
@@ -37,18 +37,18 @@ without_room o many ends room program less =
     ap (λ (first : Option Errno). else_refusal first (packets_refusal many ends room)) program
     ∙ ap (λ (b : Bool). if b then Some Invalid else option_map packet_errno (packets_fault many 0 ends)) fewer
 
--- an object that is refused
+-- the object is rejected
 pub refused_first : {o p : Option OpenObject} {errno : Errno} (later : Option Errno) → o ≡ p → Some errno ≡ object_refusal o → Some errno ≡ else_refusal (object_refusal p) later
 refused_first later same is = ap (λ (first : Option Errno). else_refusal first later) is ∙ ap (λ (o : Option OpenObject). else_refusal (object_refusal o) later) same
 
 -- ---- the runs of the machine of words and bytes
 
 module _ (listed : MapsAreListed) (fd : ℕ) (words : List ℕ) (k : KeptTenant) (l : LoadedProgram) (opened : named k.objects fd ≡ Some (object.Program l)) (code : List Insn) (bind : List ℕ) (places : bind ≡ map_places l) (same : code ≡ l.insns) where
-  -- the state that a standing represents
+  -- the tenant state that the words, bytes and live maps represent
   abbrev stood_for : Standing → TenantState
   stood_for s = state_in s.part (with_live k s.maps)
 
-  -- are the test runs of the machine of tagged values
+  -- the runs are the test runs of the machine of tagged values
   pub runs_in_order : (packets : List (List ℕ)) (results : List ℕ) (before after : Standing) → IsWellFormedTenant (with_live k before.maps) → All (λ packet. length packet ≤ longest_packet) packets → RunsOnEach code bind words before packets results after
       → RunsInOrder fd words (stood_for before) packets results (stood_for after)
   unfolding RunsInOrder RunsOnEach

@@ -1,4 +1,4 @@
--- What closing a descriptor leaves.
+-- The state after a descriptor is closed.
 use Rattle.std.proofs.Common.{◌≡◌, ℕ, zero, suc, ◌+◌, ◌-◌, ◌≤◌, ◌<◌, IsSome, map, Bool, true, false, List, [], ◌∷◌, length, set, get_or, Option, Some, None, refl, sym, ap, ap₂, subst, ◌∙◌, inl, inr, arith, length-set}
 use Rattle.std.specs.Prelude.{◌==◌, ◌||◌, ◌⊎◌, nat_lt, slice_get, if◌then◌else◌}
 use Rattle.std.specs.Map.{lookup}
@@ -24,7 +24,7 @@ use Rattle.tenant.proofs.Sums.{total-unset, total-part}
 use Rattle.tenant.proofs.Opened.{unset_cases}
 use Rattle.tenant.proofs.StillKept.{with_both}
 
--- ---- a test that is true where a number is not 0
+-- ---- a test that is true if a number is not 0
 
 abbrev Tells : Bool → ℕ → Type 0
 Tells b n = ((b ≡ true) × (1 ≤ n)) ⊎ ((b ≡ false) × (n ≡ 0))
@@ -52,7 +52,7 @@ tells_first : (place : ℕ) (o : Option OpenObject) → Tells (option_map_or (na
 tells_first place None = inr (refl, refl)
 tells_first place (Some o) = tells_names place o
 
--- a map is named where some hold it
+-- a map is named if and only if it has a holder
 tells_named : (place : ℕ) (objects : List (Option OpenObject)) → Tells (is_named objects place) (holders place objects)
 unfolding total
 tells_named place [] = inr (refl, refl)
@@ -78,7 +78,7 @@ get_or-named objects place (suc i) (m ∷ ms) =
     let e : place + 1 + i ≡ place + suc i = omega arith in
     get_or-named objects (place + 1) i ms ∙ ap (λ (p : ℕ). if is_named objects p then get_or ms i None else None) e
 
--- what is left are the maps that something names
+-- the maps that are still live are those that an open object names
 still_named : (objects : List (Option OpenObject)) (old t : LiveMaps) (part later : List ℕ) → LeavesHeldMaps (record { live = old; part = part }) (record { live = t; part = later })
     → ((q : ℕ) → holds_at t q ≡ holders q objects) → at_places (map_at later t) ≡ named_from objects 0 (at_places (map_at part old))
 still_named objects old t part later left held =
@@ -102,7 +102,7 @@ still_named objects old t part later left held =
 
 -- ---- a descriptor that is closed
 
--- what it named stood at its place
+-- the object of the descriptor is at the descriptor's index
 pub closed_at : (objects : List (Option OpenObject)) (fd : ℕ) (o : OpenObject) → named objects fd ≡ Some o
     → (with_closed objects fd ≡ set objects (fd - first_descriptor) None) × (get_or objects (fd - first_descriptor) None ≡ Some o) × (first_descriptor ≤ fd)
 closed_at objects fd o opened = by_test (nat_lt fd first_descriptor) refl opened
@@ -136,7 +136,7 @@ bound_times (m ∷ ms) fd p e = by_test (m.0 == fd) (λ found. bound_times ms fd
     by_test true later e = begins (if m.1 == p then 1 else 0) (times_listed p (map (λ m. m.1) ms)) (one_if (m.1 == p) (eq-eqb m.1 p (same_Some m.1 p e)))
     by_test false later e = rest (if m.1 == p then 1 else 0) (times_listed p (map (λ m. m.1) ms)) (later e)
 
--- the descriptor that named an object is closed, and what the object held is released
+-- the descriptor of an object is closed, and the holds of the object are released
 pub record IsClosed (k : KeptTenant) (objects : List (Option OpenObject)) (t : LiveMaps) (part later : List ℕ) (fd : ℕ) (o : OpenObject) : Type 0 where
   pub opened : named k.objects fd ≡ Some o
   pub closed : objects ≡ with_closed k.objects fd
@@ -177,7 +177,7 @@ closed_kept {k} {objects} {t} {part} {later} {fd} {o} is c =
           (now, shaped ∙ ap (λ (m : Map). Some m.shape) (sym same));
     }
 
--- the answer of the machine
+-- the reply and the state are those of the machine
 pub closed_is : {k old : KeptTenant} {objects : List (Option OpenObject)} {t : LiveMaps} {part later : List ℕ} {fd : ℕ} {o : OpenObject} → k ≡ old → IsWellFormedTenant k → IsClosed k objects t part later fd o
     → gives [] (state_in later (with_both k objects t)) ≡ closed (state_in part old) fd (named old.objects fd)
 closed_is {k} {old} {objects} {t} {part} {later} {fd} {o} same is c =

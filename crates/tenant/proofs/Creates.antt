@@ -1,4 +1,4 @@
--- What a new map leaves.
+-- The state after a map is created.
 use Rattle.std.proofs.Common.{◌≡◌, ◌≢◌, ℕ, ◌+◌, ◌-◌, ◌≤◌, ◌<◌, Bool, true, false, List, [], length, get_or, Option, Some, None, IsSome, is_some, Result, Ok, Err, refl, sym, ap, ap₂, subst, ◌∙◌, inl, inr, arith, length-set}
 use Rattle.std.specs.Prelude.{◌||◌, ◌⊎◌, nat_lt, is_none, if◌then◌else◌}
 use Rattle.std.proofs.Math.Bool.{or-true}
@@ -35,7 +35,7 @@ weigh : (part : List ℕ) (o : Option LiveMap) → weight map_area (map_if part 
 weigh part None = refl
 weigh part (Some l) = refl
 
--- the machine counts the bytes of the maps at their places, which are those of all live maps
+-- the bytes that the machine counts at the places are the bytes of all live maps
 areas_are : (part : List ℕ) (k : KeptTenant) → AreHeld k.live → state.maps_area (state_in part k).maps ≡ areas k.live
 areas_are part k is = total-each map_area area_of (at_places (map_at part k.live)) k.live.maps (λ j. by j (cases_lt j most_maps))
   where
@@ -62,7 +62,7 @@ room_is : (part : List ℕ) (k : KeptTenant) (shape : MapShape) → AreHeld k.li
 room_is part k shape is all =
     ap₂ (λ (bytes : ℕ) (place : Option ℕ). if nat_lt most_bytes (bytes + shape_area shape) then None else place) (areas_are part k is) (free_is part k all)
 
--- there is no room where the call says so, and there is where it says nothing
+-- a fault is reported only if there is no room, and then it is NoSpace
 lost : (o : Option ℕ) (large : Bool) (f : MapFault) → fault_if o large ≡ Some f → (f ≡ fault.NoSpace) × ((if large then None else o) ≡ None)
 lost None true f e = (sym (same_Some fault.NoSpace f e), refl)
 lost None false f e = (sym (same_Some fault.NoSpace f e), refl)
@@ -74,13 +74,13 @@ room None large e = absurd (none-some fault.NoSpace (sym e))
 room (Some p) true e = absurd (none-some fault.NoSpace (sym e))
 room (Some p) false e = (p, refl, refl)
 
--- ---- a creation that is refused
+-- ---- a creation that is rejected
 
 pub created_ok : (o : Option MapFault) (old : LiveMaps) (shape : MapShape) (key : ℕ) (new : LiveMaps) → Creates o old shape (Ok key) new → (o ≡ None) × IsCreated old shape key new
 created_ok None old shape key new is = (refl, is)
 created_ok (Some f) old shape key new (is, same) = absurd (let wrong : Ok key ≡ Err f = is in cc wrong)
 
--- it is for want of room, or of memory
+-- it is rejected for lack of room or of memory
 pub created_err : (o : Option MapFault) (old : LiveMaps) (shape : MapShape) (f : MapFault) (new : LiveMaps) → Creates o old shape (Err f) new
     → ((o ≡ Some f) × (new ≡ old)) ⊎ ((o ≡ None) × (f ≡ fault.Memory) × (new ≡ record { maps = old.maps; refused = true }))
 created_err (Some g) old shape f new (is, same) = inl (ap Some (same_fault f g is), same)
@@ -125,7 +125,7 @@ created_kept {k} {t} {shape} {m} {fd} is all low new = record {
   bound = λ n l there. bound_of n l (set_cases k.objects (fd - first_descriptor) n (object.Map m) (object.Program l) (descriptor_free k.objects fd low).0 there);
 }
   where
-    -- nothing named the place
+    -- no object named the place
     unnamed : holders m k.objects ≡ 0
     unnamed = sym (is.held m) ∙ ap (λ (o : Option LiveMap). (live_or o).holds) new.was
 
@@ -183,7 +183,7 @@ created_is refused part k shape {place} {fd} is all low none free =
     ap (λ (o : Option ℕ). created_under refused (state_in part k) shape o) low
     ∙ ap (λ (o : Option ℕ). created_as refused (state_in part k) shape fd o) (room_is part k shape is all ∙ room_there ∙ sym lowest_is ∙ free)
 
--- where there is no room, or no memory
+-- if there is no room or no memory
 pub create_refused : (part : List ℕ) (k : KeptTenant) (t : LiveMaps) (shape : MapShape) (f : MapFault) {fd : ℕ} → AreHeld k.live → length k.live.maps ≡ MAPS → lowest k.objects ≡ Some fd → Creates (create_fault k.live shape) k.live shape (Err f) t
     → (refused : Bool) × (refuses (map_errno f) (state_in part (with_live k t)) ≡ created refused (state_in part k) (Ok shape))
 create_refused part k t shape f {fd} is all low made = by_cause (created_err (create_fault k.live shape) k.live shape f t made)

@@ -1,4 +1,4 @@
--- What a delete leaves.
+-- The state after a deletion.
 use Rattle.std.proofs.Common.{◌≡◌, ◌≢◌, ℕ, List, [], length, Result, Ok, Err, refl, sym, ap, ◌∙◌}
 use Rattle.std.specs.Result.{result_map_both}
 use Rattle.bpf_maps.specs.Live.{LiveMaps, places_at, shape_at, map_in, value_in, OnlyKeysChange}
@@ -19,7 +19,7 @@ use Rattle.tenant.proofs.LookUps.{on_map_is, has_size, same_size}
 use Rattle.tenant.proofs.OneMap.{one_map, no_map, each_same}
 use Rattle.tenant.proofs.StillKept.{with_live, keys_kept}
 
--- ---- what the call leaves
+-- ---- the result of the call
 
 abbrev Done : Type 0
 Done = Result (Unit {0}) MapFault
@@ -30,19 +30,19 @@ no_ok fault e = cc
 same_fault : (a b : MapFault) → let x : Done = Err a in let y : Done = Err b in x ≡ y → a ≡ b
 same_fault a b e = cc
 
--- a refused delete
+-- a deletion that is rejected
 refused_delete : (fault : MapFault) (r : Result ℕ MapFault) (key : List ℕ) (old new : PlaceTable) → Removes r key old (Err fault) new → (r ≡ Err fault) × (new ≡ old)
 refused_delete fault (Err other) key old new (is, same) = (ap Err (same_fault other fault (sym is)), same)
 refused_delete fault (Ok p) key old new (is, same) = absurd (no_ok fault is)
 
--- and one that took the key out
+-- a deletion that removed the key
 done_delete : (r : Result ℕ MapFault) (key : List ℕ) (old new : PlaceTable) → Removes r key old (Ok tt) new → (p : ℕ) × (r ≡ Ok p) × (new ≡ with_kept old key p)
 done_delete (Err other) key old new (is, same) = absurd (no_ok other (sym is))
 done_delete (Ok p) key old new (is, same) = (p, refl, same)
 
 -- ---- the whole command
 
--- the key was to be taken out of the map that the descriptor names
+-- the key was removed from the map that the descriptor names, or this was rejected
 pub record IsRemoved (k : KeptTenant) (t : LiveMaps) (fd m : ℕ) (key : List ℕ) (r : Done) : Type 0 where
   pub found : IsMapOf k fd m
   pub size : length key ≡ (shape_at k.live m).key_size
@@ -50,7 +50,7 @@ pub record IsRemoved (k : KeptTenant) (t : LiveMaps) (fd m : ℕ) (key : List �
   pub rest : OnlyKeysChange m k.live t
   pub refused : t.refused ≡ k.live.refused
 
--- and then no place of the map is kept apart
+-- after that the run on the map is ended: no place of it is kept apart
 pub record IsEnded (m : ℕ) (old new : LiveMaps) : Type 0 where
   pub ended : places_at new m ≡ after_run (places_at old m)
   pub rest : OnlyKeysChange m old new
@@ -64,7 +64,7 @@ unremoved_kept {k} {t} {fd} {m} {key} {f} is c =
 pub removed_kept : {k : KeptTenant} {t u : LiveMaps} {fd m : ℕ} {key : List ℕ} {r : Done} → IsWellFormedTenant k → IsRemoved k t fd m key r → IsEnded m t u → IsWellFormedTenant (with_live k u)
 removed_kept {k} {t} {u} {fd} {m} is c e = keys_kept is c.found.live (keys_along m k.live t u c.rest e.rest) (ap (λ (p : PlaceTable). p.kept) e.ended)
 
--- the answer, by what became of the key
+-- the reply, by the result of the removal
 abbrev taken_out : List ℕ → KeptTenant → ℕ → List ℕ → Result ℕ MapFault → Answer
 taken_out part k m key r = element_taken_out (state_in part k) m (map_in part k.live m) key (result_map_both (value_in part k.live m) (λ fault. fault) r)
 

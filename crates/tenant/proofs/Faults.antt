@@ -1,4 +1,4 @@
--- An answer with the status of a fault has no payload: a test run that faults is the only command so answered.
+-- A reply with the status of a fault has no payload; only a test run that faults has this status.
 use Rattle.std.proofs.Common.{Result, Ok, Err, ◌≡◌, ◌≢◌, ℕ, Bool, true, false, List, [], ◌++◌, length, Option, Some, None, refl, sym, ap, subst, ◌∙◌, arith, get_or}
 use Rattle.std.specs.Prelude.{ℤ, pos, ◌==◌, nat_lt, if◌then◌else◌, MatchBool}
 use Rattle.std.specs.Int.{w32, cast_unsigned}
@@ -40,7 +40,7 @@ use Rattle.tenant.specs.Laws.{FaultsHaveNoPayload}
 abbrev low : ℤ → ℕ
 low status = get_or (little_bytes 4 (cast_unsigned w32 status)) 0 0
 
--- its own is 242
+-- the lowest byte of the status of a fault is 242; such a reply has no payload
 abbrev IsBare : Answer → Type 0
 IsBare a = low a.status ≡ 242 → a.payload ≡ []
 
@@ -116,7 +116,7 @@ bare_if : (right : Bool) (errno : Errno) (s : TenantState) (a : Answer) → IsBa
 bare_if true errno s a bare = bare
 bare_if false errno s a bare = λ e. refl
 
--- a command on a map, of which the sizes are tested
+-- a command on a map that tests sizes
 bare_tested : (s : TenantState) (fd : ℕ) (fits : Map → Bool) (f : ℕ → Map → Answer) → ((place : ℕ) (t : Map) → IsBare (f place t)) → IsBare (on_map s fd (λ p t. if fits t then f p t else refuses Invalid s))
 bare_tested s fd fits f each = bare_on_map s fd _ (λ place t. bare_if (fits t) Invalid s (f place t) (each place t))
 
@@ -185,7 +185,7 @@ bare_frame refusals s (Ok command) a h = bare_answer refusals s command a h
 
 -- ---- replies
 
--- the refusal of a frame that belongs to no tenant is none
+-- the rejection of a frame of a tenant that is not served is not a fault
 unserved : (short : Bool) (frame : List ℕ) → ¬ IsFault (reply_to frame (status_of (if short then Invalid else NotPermitted)) [])
 unserved true frame e = invalid (ap (λ (b : List ℕ). get_or b 0 0) e)
 unserved false frame e = let wrong : 255 ≡ 242 = ap (λ (b : List ℕ). get_or b 0 0) e in absurd (omega (arith, wrong))

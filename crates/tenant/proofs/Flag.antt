@@ -1,4 +1,4 @@
--- Where a tenant's flag is clear no refusal was taken.
+-- If the flag of a tenant is clear, no refusal of memory took effect.
 use Rattle.std.proofs.Common.{Result, Ok, Err, subst, ◌≡◌, ℕ, Bool, true, false, List, [], ◌∷◌, length, Option, Some, None, refl, sym, ap, ◌∙◌}
 use Rattle.std.specs.Prelude.{option_map, ◌==◌, ◌||◌, nat_lt, if◌then◌else◌, MatchBool}
 use Rattle.command_frames.specs.Command.{Command, map_create, map_lookup, map_update, map_delete, map_next_key, prog_load, prog_test_run, close, parsed}
@@ -28,7 +28,7 @@ use Rattle.tenant.proofs.NextKeys.{is_empty_or_fits}
 use Rattle.tenant.proofs.Updates.{has_sizes, key_of, value_of, put_of}
 use Rattle.tenant.specs.Laws.{ClearFlagMeansAlone, AloneUntilRefused}
 
--- an answer with these refusals, and the one without: where the flag is clear after the first, they are one, and it was clear
+-- if the flag is clear after the reply with these refusals, this is the reply without refusals, and the flag was clear before
 abbrev pub Clear : TenantState → Answer → Answer → Type 0
 Clear s a b = a.after.refused ≡ false → (a ≡ b) × (s.refused ≡ false)
 
@@ -88,7 +88,7 @@ ended_after Fault s = refl
 abbrev with_run : TenantState → List (Option Map) → Bool → TenantState
 with_run s maps refused = record s { maps = maps; refused = s.refused || refused }
 
--- the answer to a run that ends so
+-- the reply to a run with this ending
 abbrev came_to : TenantState → LoadedProgram → Ending → Answer
 came_to s l e =
     outcome_answer e.outcome (with_run s (maps_left (λ m. option_map last_map (e.state.maps m)) l.maps s.maps) e.state.refused)
@@ -146,7 +146,7 @@ clear_closed : (s : TenantState) (fd : ℕ) (o : Option OpenObject) → Clear s 
 clear_closed s fd None e = (refl, e)
 clear_closed s fd (Some o) e = (refl, e)
 
--- a command on a map, of which the sizes are tested
+-- a command on a map that tests sizes
 clear_tested : (s : TenantState) (fd : ℕ) (fits : Map → Bool) (f g : ℕ → Map → Answer) → ((place : ℕ) (t : Map) → Clear s (f place t) (g place t))
     → Clear s (on_map s fd (λ p t. if fits t then f p t else refuses Invalid s)) (on_map s fd (λ p t. if fits t then g p t else refuses Invalid s))
 clear_tested s fd fits f g each = clear_on_map s fd _ _ (λ place t. clear_if (fits t) s (f place t) (g place t) (refuses Invalid s) (each place t) refl)
@@ -154,7 +154,7 @@ clear_tested s fd fits f g each = clear_on_map s fd _ _ (λ place t. clear_if (f
 told_by : (s : TenantState) (x y a : Answer) → Clear s x y → a ≡ x → a.after.refused ≡ false → (a ≡ y) × (s.refused ≡ false)
 told_by s x y a clear is e = let both = clear (sym (ap (λ (b : Answer). b.after.refused) is) ∙ e) in (is ∙ both.0, both.1)
 
--- where the flag is clear after a command, it is as if no memory might be refused, and it was clear before
+-- if the flag is clear after a command, the reply is the one without refusals, and the flag was clear before
 pub clear_answer : RefusalsAreTold → (r : List Bool) (s : TenantState) (command : Command) (a : Answer) → Answers r s command a → a.after.refused ≡ false → Answers [] s command a × (s.refused ≡ false)
 clear_answer tell r s (prog_load kind slots) a is e = loads_by (refused_at_first r) (kind == 1) s (table.lowest s.objects) slots a is e
 clear_answer tell r s (map_create kind key value max flags) a is e = told_by s _ _ a (clear_created (refused_at_first r) s (asked_shape (kind_of kind) key value max flags)) is e
@@ -194,13 +194,13 @@ clear_both tell before after (frame ∷ frames) (reply ∷ replies) (between, to
     let here = clear_told tell frame reply before between told later.1 in
     ((between, here.0, later.0), here.1)
 
--- if a tenant's flag is clear at the end, its replies are those of its machine without refusals
+-- if the flag of a tenant is clear at the end, its replies are those of its machine without refusals
 pub clear_flag_means_alone : RefusalsAreTold → ClearFlagMeansAlone
 clear_flag_means_alone tell before after frames replies h e = (clear_both tell before (Some after) frames replies h e).0
 
 -- ---- until the flag is set
 
--- one more reply before those that are the machine's without refusals
+-- one more reply before the replies that are the machine's without refusals
 told_one_more : (frame reply : List ℕ) (frames replies : List (List ℕ)) (before between : Option TenantState) → RepliesUnder [] frame reply before between → IsToldAloneUntilRefused between frames replies
     → IsToldAloneUntilRefused before (frame ∷ frames) (reply ∷ replies)
 told_one_more frame reply frames replies before between here later = record {
@@ -215,7 +215,7 @@ told_one_more frame reply frames replies before between here later = record {
   next = later.next;
 }
 
--- no reply is left that is the machine's without refusals
+-- the frames end here, or memory is refused to the next one
 told_no_more : (before : Option TenantState) (frames replies : List (List ℕ)) → EndsOrIsRefused before frames replies → IsToldAloneUntilRefused before frames replies
 told_no_more before frames replies next = record {
   first = [];

@@ -1,4 +1,4 @@
--- A program that is accepted has a place for each map that it loads.
+-- A program that is accepted has a live map for each descriptor that it loads.
 use Rattle.std.proofs.Common.{◌≡◌, ℕ, List, length, IsSome, sym, ap, subst, ◌∙◌}
 use Rattle.std.specs.List.{zip}
 use Rattle.std.specs.Map.{keys_of}
@@ -32,7 +32,7 @@ pub loaded_live : {k : KeptTenant} → IsWellFormedTenant k → (fds : List ℕ)
 loaded_live {k} is fds place some = let (i, fd, at, opened) = times_named k.objects fds place some in (named_is_live is fd opened).live
 
 module _ (have : LoadedMapsHaveShapes) (k : KeptTenant) (part : List ℕ) (insns : List Insn) (accepted : IsAccepted insns (targets (state_in part k))) where
-  -- it has one for each descriptor
+  -- the entries have the descriptors of the program's loads
   keys : keys_of (places_from k.objects (maps_of insns)) ≡ maps_of insns
   keys = places_keys k.objects (maps_of insns) (λ i fd at.
       shaped_map (state_in part k) fd (subst (λ (n : ℕ). IsSome (shapes_named (targets (state_in part k)) n)) (get_or_from_slice_get (maps_of insns) i fd 0 at) (have.named insns (targets (state_in part k)) accepted i 0 (slice_get_within (maps_of insns) i fd at))))
@@ -40,7 +40,7 @@ module _ (have : LoadedMapsHaveShapes) (k : KeptTenant) (part : List ℕ) (insns
   pub loaded_count : length (seconds (places_from k.objects (maps_of insns))) ≡ length (maps_of insns)
   loaded_count = let ms = places_from k.objects (maps_of insns) in length-seconds ms ∙ sym (length-firsts ms) ∙ ap length keys
 
-  -- so its descriptors and its maps, one by one, are the entries of the machine
+  -- the descriptors and the places, paired, are the entries of the machine
   pub loaded_pairs : zip (maps_of insns) (seconds (places_from k.objects (maps_of insns))) ≡ places_from k.objects (maps_of insns)
   loaded_pairs = let ms = places_from k.objects (maps_of insns) in ap (λ (fds : List ℕ). zip fds (seconds ms)) (sym keys) ∙ paired ms
 

@@ -1,4 +1,4 @@
--- What one more hold leaves.
+-- The live maps after one more hold.
 use Rattle.std.proofs.Common.{◌≡◌, ◌≢◌, ℕ, ◌+◌, List, Option, Some, None, IsSome, is_some, refl, sym, ap, ◌∙◌, arith}
 use Rattle.std.specs.Prelude.{option_map}
 use Rattle.bpf_maps.specs.Live.{LiveMaps, LiveMap, live_or, live_at, holds_at, places_at, offset, one_more}
@@ -8,7 +8,7 @@ use Rattle.tenant.specs.inside.Loading.{IsHeldMore}
 use Rattle.tenant.proofs.AtPlaces.{at_each, map_if, same_live}
 use Rattle.tenant.proofs.Releases.{one_at, here_one, none_one}
 
--- what a hold of the map at a place leaves
+-- the live maps after a hold of the map at a place
 pub record IsHeld (old new : LiveMaps) (place : ℕ) : Type 0 where
   pub more : live_at new place ≡ option_map one_more (live_at old place)
   pub live : IsSome (live_at new place)

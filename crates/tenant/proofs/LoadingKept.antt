@@ -1,4 +1,4 @@
--- What a load that opens a program leaves.
+-- The state after a load that opens a program.
 use Rattle.std.proofs.Common.{◌≡◌, ◌≢◌, ℕ, ◌+◌, ◌-◌, ◌≤◌, ◌<◌, Bool, true, false, List, get_or, Option, Some, None, sym, ap, ap₂, subst, ◌∙◌, inl, inr, arith, length-set}
 use Rattle.std.specs.Prelude.{◌==◌, ◌||◌, ◌⊎◌, if◌then◌else◌}
 use Rattle.bpf_maps.specs.Live.{LiveMaps, holds_at}
@@ -17,7 +17,7 @@ use Rattle.tenant.proofs.Sums.{total-most}
 abbrev pub kept_opened : KeptTenant → LiveMaps → ℕ → LoadedProgram → KeptTenant
 kept_opened k t fd l = with_both k (with_open k.objects fd (object.Program l)) t
 
--- ---- no more hold a map than there are descriptors
+-- ---- a map has at most as many holds as there are descriptors
 
 one_at_most : (b : Bool) → (if b then 1 else 0) ≤ 1
 one_at_most true = omega arith
@@ -35,7 +35,7 @@ few_hold {k} {l} is bound q =
     let once = bound.once q in
     omega arith
 
--- ---- what is kept
+-- ---- the invariant
 
 still_bound : {old t : LiveMaps} {m : LoadedProgram} → IsHeldMore old t → IsBound old m → IsBound t m
 still_bound more was = bound_along was more.live (λ place live. more.shape place)
@@ -57,12 +57,12 @@ opened_kept {k} {t} {fd} {l} is low bound more holds = record {
     bound_of m n (inl (here, same)) = subst (IsBound t) (same_program l m same) (still_bound more bound)
     bound_of m n (inr (other, there)) = still_bound more (is.bound n m there)
 
--- the state after it
+-- the state after the load
 pub state_opened : (part : List ℕ) (k : KeptTenant) {t : LiveMaps} (fd : ℕ) (l : LoadedProgram) → IsHeldMore k.live t → state_in part (kept_opened k t fd l) ≡ with_program (state_in part k) fd l
 state_opened part k {t} fd l more =
     ap₂ (λ (ms : List (Option Map)) (b : Bool). record { objects = with_open k.objects fd (object.Program l); maps = ms; refused = k.refused || b })
     (same_at (map_at part t) (map_at part k.live) (more.same part)) more.refused
 
--- what is kept where memory was refused
+-- the invariant after a refusal of memory
 pub flagged_kept : {k : KeptTenant} → IsWellFormedTenant k → IsWellFormedTenant (record { objects = k.objects; live = k.live; refused = true })
 flagged_kept is = record { all = is.all; maps = is.maps; held = is.held; single = is.single; bound = is.bound }

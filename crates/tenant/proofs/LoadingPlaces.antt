@@ -17,13 +17,13 @@ use Rattle.tenant.proofs.Opened.{set_there}
 use Rattle.tenant.proofs.Releases.{here_one}
 use Rattle.tenant.proofs.Sums.{total-unset, total-part}
 
--- what an object adds
+-- the entry of a descriptor whose object is a map
 abbrev pub place_at : Option OpenObject → ℕ → List (ℕ × ℕ)
 place_at None fd = []
 place_at (Some (object.Map place)) fd = (fd, place) ∷ []
 place_at (Some (object.Program l)) fd = []
 
--- of the place that it names
+-- the entry of a descriptor with this place
 abbrev pub listed : Option ℕ → ℕ → List (ℕ × ℕ)
 listed None fd = []
 listed (Some place) fd = (fd, place) ∷ []
@@ -43,7 +43,7 @@ pub places_none : (objects : List (Option OpenObject)) → places_from objects [
 unfolding places_from
 places_none objects = refl
 
--- one more of them
+-- the entries after one more descriptor
 places_next : (objects : List (Option OpenObject)) (fds : List ℕ) (i fd : ℕ) → i < length fds → get_or fds i 0 ≡ fd
     → places_from objects (take (suc i) fds) ≡ places_from objects (take i fds) ++ place_at (named objects fd) fd
 places_next objects [] i fd within at = absurd (omega arith)
@@ -62,7 +62,7 @@ pub places_more : (objects : List (Option OpenObject)) (fds : List ℕ) (i fd : 
     → places_from objects (take (i + 1) fds) ≡ places_from objects (take i fds) ++ place_at (named objects fd) fd
 places_more objects fds i fd within at = let e : i + 1 ≡ suc i = omega arith in ap (λ (n : ℕ). places_from objects (take n fds)) e ∙ places_next objects fds i fd within at
 
--- ---- where all of them name maps
+-- ---- if all descriptors name maps
 
 abbrev pub AreMaps : List (Option OpenObject) → List ℕ → Type 0
 AreMaps objects fds = (i fd : ℕ) → slice_get fds i ≡ Some fd → (place : ℕ) × (named objects fd ≡ Some (object.Map place))
@@ -74,9 +74,9 @@ places_keys objects (fd ∷ fds) maps =
     ap keys_of (places_cons objects fd fds (Some (object.Map place)) is)
     ∙ ap (λ (ns : List ℕ). fd ∷ ns) (places_keys objects fds (λ i other at. maps (suc i) other at))
 
--- ---- of the first of them
+-- ---- the entry of the first descriptor
 
--- its map's place comes first, or it adds nothing
+-- the entry of the first descriptor is the first, or there is none
 abbrev FirstPlace : List (Option OpenObject) → ℕ → List ℕ → Type 0
 FirstPlace objects fd fds =
     ((p : ℕ) × (named objects fd ≡ Some (object.Map p)) × (places_from objects (fd ∷ fds) ≡ (fd, p) ∷ places_from objects fds)) ⊎ (places_from objects (fd ∷ fds) ≡ places_from objects fds)
@@ -89,7 +89,7 @@ first_place objects fd fds = by_object (named objects fd) refl
     by_object (Some (object.Program l)) is = inr (places_cons objects fd fds (Some (object.Program l)) is)
     by_object (Some (object.Map p)) is = inl (p, is, places_cons objects fd fds (Some (object.Map p)) is)
 
--- what is listed is named
+-- a descriptor of the list names the map at the place
 abbrev IsListed : List (Option OpenObject) → List ℕ → ℕ → ℕ → Type 0
 IsListed objects fds fd place = (i : ℕ) × (slice_get fds i ≡ Some fd) × (named objects fd ≡ Some (object.Map place))
 
@@ -112,7 +112,7 @@ lookup_named objects (x ∷ fds) fd place found = by_first (λ e. lookup_named o
     by_first rest (inl (p, is, more)) = by_test rest p (x == fd) refl is (sym (ap (lookup (λ m. m == fd)) more) ∙ found)
     by_first rest (inr same) = later (rest (sym (ap (lookup (λ m. m == fd)) same) ∙ found))
 
--- the places of entries
+-- the places of the entries
 abbrev pub seconds : List (ℕ × ℕ) → List ℕ
 seconds ms = map (λ m. m.1) ms
 
@@ -123,7 +123,7 @@ times_of_none : (objects : List (Option OpenObject)) (place : ℕ) → times obj
 unfolding times_listed
 times_of_none objects place = ap (λ (ms : List (ℕ × ℕ)). times_listed place (seconds ms)) (places_none objects)
 
--- a place that stands among them is that of a map that one of them names
+-- a descriptor of the list names the map at the place
 abbrev IsAmong : List (Option OpenObject) → List ℕ → ℕ → Type 0
 IsAmong objects fds place = (i fd : ℕ) × (slice_get fds i ≡ Some fd) × (named objects fd ≡ Some (object.Map place))
 
@@ -145,7 +145,7 @@ times_named objects (x ∷ fds) place some = by_first (λ more. later (times_nam
     by_first rest (inl (p, is, more)) = by_test rest p (p == place) refl is (subst (λ (ms : List (ℕ × ℕ)). 1 ≤ times_listed place (seconds ms)) more some)
     by_first rest (inr same) = rest (subst (λ (ms : List (ℕ × ℕ)). 1 ≤ times_listed place (seconds ms)) same some)
 
--- ---- no place stands twice
+-- ---- no place occurs twice
 
 total-two : {A : Type 0} (f : A → ℕ) (xs : List (Option A)) (i j : ℕ) (x y : A) → j ≢ i → get_or xs i None ≡ Some x → get_or xs j None ≡ Some y → f x + f y ≤ total f xs
 total-two f xs i j x y apart a b =
@@ -153,7 +153,7 @@ total-two f xs i j x y apart a b =
     let part = total-part f (set xs i None) j y (set_there xs i j None apart ∙ b) in
     omega arith
 
--- one descriptor names it
+-- a map is named by at most one descriptor
 pub one_names : (objects : List (Option OpenObject)) (a b place : ℕ) → descriptors place objects ≤ 1 → named objects a ≡ Some (object.Map place) → named objects b ≡ Some (object.Map place) → b ≡ a
 one_names objects a b place single m n = by_place (cases_eq (b - first_descriptor) (a - first_descriptor))
   where
@@ -180,7 +180,7 @@ times_once objects [] single apart place = let none = times_of_none objects plac
 times_once objects (x ∷ fds) single apart place =
     by_first (times_once objects fds single (λ i j fd a b. let same = apart (suc i) (suc j) fd a b in omega arith) place) (first_place objects x fds)
   where
-    -- the first one is not among the others
+    -- the place of the first descriptor is not among the other places
     not_there : IsAmong objects fds place → named objects x ≡ Some (object.Map place) → ⊥
     not_there (i, fd, at, is) here =
         let same : fd ≡ x = one_names objects x fd place (single place) here is in

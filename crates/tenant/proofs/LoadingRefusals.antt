@@ -1,4 +1,4 @@
--- What a load answers.
+-- Replies to loads.
 use Rattle.std.proofs.Common.{◌≡◌, ℕ, Bool, true, false, List, Option, Some, Result, Ok, Err, IfOk, IfErr, refl, sym, ap, subst}
 use Rattle.std.specs.Prelude.{◌==◌, MatchBool}
 use Rattle.std.proofs.lemmas.Bool.{eq-eqb}
@@ -11,7 +11,7 @@ use Rattle.tenant.specs.inside.Loading.{with_program}
 use Rattle.tenant.specs.Machine.{Answer, refuses, refuses_load, opens, loaded_program, targets, LoadsAs, LoadsUnder, Loads}
 use Rattle.tenant.specs.State.{TenantState}
 
--- what holds of a result, of its value or its error
+-- a property of the value of a result, or of its error
 pub of_ok : {T E : Type 0} (r : Result T E) (x : T) (P : T → Type 0) → r ≡ Ok x → IfOk r P → P x
 of_ok r x P is holds = subst (λ s. IfOk s P) is holds
 

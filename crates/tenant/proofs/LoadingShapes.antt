@@ -21,7 +21,7 @@ use Rattle.tenant.specs.Machine.{object_target, entry_of, targets_from, targets}
 use Rattle.tenant.specs.State.{Map, TenantState, live}
 use Rattle.tenant.proofs.Targets.{named_at}
 
--- ---- of entries that are picked by their descriptors
+-- ---- entries that are selected by their descriptors
 
 picked : (p : ℕ → Bool) (ns : List Named) (fd : ℕ) → p fd ≡ true → at.target_of (filter (λ n. p n.fd) ns) fd ≡ at.target_of ns fd
 unfolding at.target_of
@@ -42,11 +42,11 @@ among [] i fd there = absurd (none-some fd there)
 among (x ∷ fds) zero fd there = let same : (x == fd) ≡ true = eq-eqb x fd (same_Some x fd there) in ap (λ (b : Bool). b || is_among fds fd) same
 among (x ∷ fds) (suc i) fd there = ap (λ (b : Bool). (x == fd) || b) (among fds i fd there) ∙ or-true (x == fd)
 
--- a descriptor that is picked names what it named
+-- a descriptor that is selected has the same shape
 pub shapes_picked : (fds : List ℕ) (ns : List Named) (i fd : ℕ) → slice_get fds i ≡ Some fd → shapes_named (entries_of fds ns) fd ≡ shapes_named ns fd
 shapes_picked fds ns i fd there = ap shape_in (picked (is_among fds) ns fd (among fds i fd there))
 
--- ---- of what the open descriptors name
+-- ---- the targets of the open descriptors
 
 pub entry_target : ℕ → Option Target → List Named → ℕ → Option Target
 entry_target fd None rest other = at.target_of rest other
@@ -67,7 +67,7 @@ unfolding entry_target
 this_entry fd None rest none = none
 this_entry fd (Some t) rest none = let yes : (fd == fd) ≡ true = eq-eqb fd fd refl in rw yes refl
 
--- none below the first
+-- a descriptor below the first one has no target
 below : (s : TenantState) (from fd : ℕ) (xs : List (Option OpenObject)) → fd < from → at.target_of (targets_from s from xs) fd ≡ None
 unfolding targets_from at.target_of
 below s from fd [] low = refl
@@ -106,7 +106,7 @@ pub shape_is : (s : TenantState) (fd place : ℕ) (t : Map) → named s.objects 
 shape_is s fd place t opened there =
     ap shape_in (targets_named s fd ∙ ap (λ (o : Option OpenObject). and_then o (object_target s)) opened ∙ ap (option_map (λ (u : Map). target.Map u.shape)) there)
 
--- what has a shape is a map
+-- a descriptor that has a shape names a map
 pub shaped_map : (s : TenantState) (fd : ℕ) → IsSome (shapes_named (targets s) fd) → (place : ℕ) × (named s.objects fd ≡ Some (object.Map place))
 shaped_map s fd some = by_object (named s.objects fd) refl
   where

@@ -1,4 +1,4 @@
--- What a look-up answers.
+-- Replies to look-ups.
 use Rattle.std.proofs.Common.{◌≡◌, ◌≢◌, ℕ, ◌<◌, Bool, true, false, List, length, Option, Some, sym, ap, ◌∙◌}
 use Rattle.std.specs.Prelude.{◌==◌, option_map, if◌then◌else◌}
 use Rattle.std.proofs.lemmas.Bool.{eq-eqb, ne_eqb}
@@ -22,7 +22,7 @@ live_is part k place within = at-within (map_at part k.live) place within
 pub live_named : (part : List ℕ) {k : KeptTenant} {fd place : ℕ} → IsMapOf k fd place → live (state_in part k) place ≡ Some (map_in part k.live place)
 live_named part {k} {fd} {place} found = live_is part k place found.within ∙ map_there part k.live place found.live
 
--- so a command on the map is that on these keys and values, if what it brings fits the map
+-- a command on the map is one on this map, if its key and its value have the map's sizes
 pub on_map_is : (part : List ℕ) {k : KeptTenant} {fd place : ℕ} (fits : Map → Bool) (f : ℕ → Map → Answer) {b : Bool} → IsMapOf k fd place → fits (map_in part k.live place) ≡ b
     → on_map (state_in part k) fd (λ p t. if fits t then f p t else refuses Invalid (state_in part k)) ≡ (if b then f place (map_in part k.live place) else refuses Invalid (state_in part k))
 on_map_is part {k} {fd} {place} fits f {b} found is =
@@ -38,11 +38,11 @@ has_size key t = length key == t.shape.key_size
 pub same_size : (n : ℕ) {m : ℕ} → n ≡ m → (n == m) ≡ true
 same_size n {m} same = eq-eqb n m same
 
--- or another, by what the code has for it
+-- a key of another size
 pub other_size : (n : ℕ) {a m : ℕ} → n ≢ a → a ≡ m → (n == m) ≡ false
 other_size n {a} {m} other same = ne_eqb n m (λ e. other (e ∙ sym same))
 
--- the value at the place that was found, if one was
+-- the value at the place that was found, if one was found
 pub found_at : CallsRefineValues ℕ (List ℕ) → (part : List ℕ) {k : KeptTenant} {fd place : ℕ} (key : List ℕ) {r : Option ℕ} → IsMapOf k fd place
     → length key ≡ (shape_at k.live place).key_size → r ≡ look_up (table_of (places_at k.live place)) key
     → gives_if_found (state_in part k) (option_map (value_in part k.live place) r) ≡ element_looked_up (state_in part k) fd key

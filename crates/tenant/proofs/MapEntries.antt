@@ -1,4 +1,4 @@
--- A live map in the state, and its entries one after another.
+-- A live map in the state, and its entries in order.
 use Rattle.std.proofs.Common.{◌≡◌, ℕ, ◌+◌, ◌≤◌, Bool, true, false, List, [], ◌∷◌, map, length, Option, Some, None, IsSome, is_some, option_map, refl, sym, ap, subst, ◌∙◌, nat_eq, nat_lt, if◌then◌else◌, true≢false, arith}
 use Rattle.std.specs.Map.{values_of}
 use Rattle.bpf_maps.specs.Limits.{most_maps}
@@ -11,11 +11,11 @@ use Rattle.tenant.specs.State.{Map, live}
 use Rattle.tenant.proofs.AtPlaces.{map_there, live_is as lives}
 use Rattle.tenant.proofs.LookUps.{live_is}
 
--- a live map stands in the state
+-- a live map is in the state
 pub live_in_state : (part : List ℕ) (k : KeptTenant) → AreHeld k.live → (place : ℕ) → IsSome (live_at k.live place) → live (state_in part k) place ≡ Some (map_in part k.live place)
 live_in_state part k held place some = live_is part k place (held.within place some) ∙ map_there part k.live place some
 
--- and one that is not live does not
+-- a map that is not live is not in the state
 pub gone_in_state : (part : List ℕ) (k : KeptTenant) → length k.live.maps ≡ most_maps → (place : ℕ) → is_some (live_at k.live place) ≡ false → live (state_in part k) place ≡ None
 gone_in_state part k long place none = by (live (state_in part k) place) refl
   where
@@ -23,7 +23,7 @@ gone_in_state part k long place none = by (live (state_in part k) place) refl
     by None e = e
     by (Some t) e = absurd (true≢false (sym (ap is_some e) ∙ lives part k.live long place ∙ none))
 
--- ---- entries with other contents at the same places
+-- ---- entries with other keys and the same places
 
 module _ {K : Type 0} {J : Type 0} (f : K × ℕ → J) where
   abbrev moved : K × ℕ → J × ℕ

@@ -45,7 +45,7 @@ no_maps : at_places (λ i. None) ≡ replicate most_maps None
 unfolding at_places
 no_maps = refl
 
--- and it is the machine's
+-- the state of a new tenant is the machine's
 pub empty_is_new : (part : List ℕ) (objects : List (Option OpenObject)) (live : LiveMaps) → objects ≡ nothing_open → live.maps ≡ replicate MAPS None → live.refused ≡ false
     → state_in part (record { objects = objects; live = live; refused = false }) ≡ new_tenant
 empty_is_new part objects live nothing none clear =

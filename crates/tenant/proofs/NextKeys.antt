@@ -1,4 +1,4 @@
--- What a request for the next key answers.
+-- Replies to requests for the next key.
 use Rattle.std.proofs.Common.{◌≡◌, ℕ, Bool, true, false, List, length, Option, refl, sym, ap, ap₂, ◌∙◌, inl, inr}
 use Rattle.std.specs.Prelude.{◌==◌, ◌||◌, ◌⊎◌}
 use Rattle.std.proofs.lemmas.Bool.{eq-eqb}
@@ -13,7 +13,7 @@ use Rattle.tenant.specs.Kept.{KeptTenant, state_in}
 use Rattle.tenant.specs.inside.Named.{IsMapOf}
 use Rattle.tenant.proofs.LookUps.{on_map_is, has_size}
 
--- an empty key fits each map
+-- the key is empty or has the map's key size
 abbrev pub is_empty_or_fits : List ℕ → Map → Bool
 is_empty_or_fits key t = length key == 0 || has_size key t
 
@@ -21,7 +21,7 @@ right_size : (n m size : ℕ) (empty : Bool) → empty ≡ (n == 0) → size ≡
 right_size n m size empty e is (inl (full, same)) = rw (sym e ∙ full) (eq-eqb n m (same ∙ is))
 right_size n m size empty e is (inr none) = rw (sym e ∙ none) refl
 
--- the answer is what was found in the map of places
+-- the reply is the next key in the table of places
 pub next_is : CallsRefineValues ℕ (List ℕ) → (part : List ℕ) {k : KeptTenant} {fd place : ℕ} (key : List ℕ) {size : ℕ} {empty : Bool} {r : Option (List ℕ)} → IsMapOf k fd place
     → size ≡ (shape_at k.live place).key_size → empty ≡ (length key == 0) → ((empty ≡ false) × (length key ≡ size)) ⊎ (empty ≡ true) → r ≡ next_of (table_of (places_at k.live place)) key
     → gives_if_found (state_in part k) r ≡ given_next (state_in part k) fd key

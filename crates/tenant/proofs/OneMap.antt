@@ -8,7 +8,7 @@ use Rattle.tenant.specs.Kept.{KeptTenant, map_at, state_in}
 use Rattle.tenant.proofs.AtPlaces.{at_each, set_at, same_at, same_live, same_map_at, map_there}
 use Rattle.tenant.proofs.StillKept.{with_live}
 
--- the state after it
+-- the state after a command that changes one map
 pub one_map : (part later : List ℕ) (k : KeptTenant) (t : LiveMaps) (place : ℕ) {changed : Map} → place < most_maps → IsSome (live_at t place)
     → ((other : ℕ) → other ≢ place → map_at later t other ≡ map_at part k.live other)
     → map_in later t place ≡ changed → t.refused ≡ k.live.refused
@@ -17,14 +17,14 @@ one_map part later k t place {changed} within live others here flag =
     let maps = set_at (map_at later t) (map_at part k.live) place (Some changed) within (map_there later t place live ∙ ap (λ (u : Map). Some u) here) others in
     ap₂ (λ (ms : List (Option Map)) (refused : Bool). record { objects = k.objects; maps = ms; refused = k.refused || refused }) maps flag
 
--- the state after a command that changes none
+-- the state after a command that changes no map
 pub no_map : (part later : List ℕ) (k : KeptTenant) (t : LiveMaps) → ((place : ℕ) → map_at later t place ≡ map_at part k.live place) → t.refused ≡ k.live.refused
     → state_in later (with_live k t) ≡ state_in part k
 no_map part later k t same flag =
     ap₂ (λ (ms : List (Option Map)) (refused : Bool). record { objects = k.objects; maps = ms; refused = k.refused || refused })
     (same_at (map_at later t) (map_at part k.live) same) flag
 
--- where one map has the same pairs and the others are the same, all are
+-- if one map has the same pairs and the others are the same, all maps are the same
 pub each_same : (part : List ℕ) (old new : LiveMaps) (m : ℕ) → IsSome (live_at old m) → IsSome (live_at new m) → map_in part new m ≡ map_in part old m → ((other : ℕ) → other ≢ m → live_at new other ≡ live_at old other)
     → (place : ℕ) → map_at part new place ≡ map_at part old place
 each_same part old new m was now here others =

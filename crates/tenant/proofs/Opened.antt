@@ -8,7 +8,7 @@ use Rattle.fd_table.specs.Table.{first_descriptor, lowest, with_open}
 use Rattle.bpf_maps.specs.Sum.{total}
 use Rattle.tenant.proofs.Sums.{total-set}
 
--- what is there once a place is filled
+-- the element at a place after one place is filled
 pub set_cases : {A : Type 0} (xs : List (Option A)) (n i : ℕ) (x y : A) → n < length xs → get_or (set xs n (Some x)) i None ≡ Some y
     → ((i ≡ n) × (y ≡ x)) ⊎ ((i ≢ n) × (get_or xs i None ≡ Some y))
 set_cases xs n i x y within there = by_place (cases_eq i n)
@@ -20,7 +20,7 @@ set_cases xs n i x y within there = by_place (cases_eq i n)
 pub set_there : {A : Type 0} (xs : List (Option A)) (n i : ℕ) (x : Option A) → i ≢ n → get_or (set xs n x) i None ≡ get_or xs i None
 set_there xs n i x other = get_or-set_other xs n i x None other
 
--- and once it is free
+-- a place that was freed
 pub unset_here : {A : Type 0} (xs : List (Option A)) (n : ℕ) → get_or (set xs n None) n None ≡ None
 unset_here [] n = refl
 unset_here (x ∷ xs) zero = refl
@@ -37,11 +37,11 @@ is_free : {A : Type 0} (o : Option A) → is_none o ≡ true → o ≡ None
 is_free None e = refl
 is_free (Some x) e = absurd (let wrong : false ≡ true = e in cc wrong)
 
--- a place that is free
+-- the lowest free place is free
 pub place_free : {A : Type 0} (xs : List (Option A)) (n : ℕ) → position is_none xs ≡ Some n → (n < length xs) × (get_or xs n None ≡ None)
 place_free xs n e = let (within, free, lower) = position-Some is_none xs n None e in (within, is_free (get_or xs n None) free)
 
--- and a descriptor that is
+-- the lowest free descriptor is free
 pub descriptor_free : {A : Type 0} (xs : List (Option A)) (fd : ℕ) → lowest xs ≡ Some fd → (fd - first_descriptor < length xs) × (get_or xs (fd - first_descriptor) None ≡ None)
 descriptor_free xs fd e = by_position (position is_none xs) refl e
   where

@@ -1,4 +1,4 @@
--- What a release leaves.
+-- The live maps after a release.
 use Rattle.std.proofs.Common.{◌≡◌, ◌≢◌, ℕ, ◌+◌, ◌-◌, ◌≤◌, ◌<◌, Bool, true, false, [], List, length, Option, Some, None, IsSome, is_some, refl, sym, ap, subst, ◌∙◌, inl, inr, arith}
 use Rattle.std.specs.Prelude.{◌==◌, ◌⊎◌, nat_le, option_map, if◌then◌else◌}
 use Rattle.std.proofs.lemmas.Bool.{eq-eqb, ne_eqb, cases_lt}
@@ -43,7 +43,7 @@ live_held (Some l) = refl
 was_live : (old new : LiveMaps) (place : ℕ) → held_at new place ≡ held_at old place → IsSome (live_at new place) → IsSome (live_at old place)
 was_live old new place e live = sym (live_held (live_at old place)) ∙ ap (λ (o : Option MapWithoutArea). is_some o) (sym e) ∙ live_held (live_at new place) ∙ live
 
--- ---- what a release of the map at a place leaves
+-- ---- a release of the map at a place
 
 pub record IsReleased (old new : LiveMaps) (part later : List ℕ) (place : ℕ) : Type 0 where
   pub less : held_at new place ≡ one_less (held_at old place)
@@ -70,7 +70,7 @@ one_fewer old new key less more =
       sym (places_held (live_at new key)) ∙ ap held_places less ∙ both.1 ∙ places_held (live_at old key),
     )
 
--- ---- how many hold each
+-- ---- the holds of each map
 
 abbrev pub one_at : ℕ → ℕ → ℕ
 one_at place q = if place == q then 1 else 0
@@ -82,7 +82,7 @@ pub none_one : (place q : ℕ) → q ≢ place → one_at place q ≡ 0
 none_one place q other = let no : (place == q) ≡ false = ne_eqb place q (λ e. other (sym e)) in rw no refl
 
 module _ {old new : LiveMaps} {part later : List ℕ} {place : ℕ} (is : AreHeld old) (there : IsSome (live_at old place)) (r : IsReleased old new part later place) where
-  -- the last one, or not
+  -- the hold was the last one, or not
   abbrev Either : Type 0
   Either = (1 < holds_at old place) ⊎ (holds_at old place ≤ 1)
 
@@ -101,7 +101,7 @@ module _ {old new : LiveMaps} {part later : List ℕ} {place : ℕ} (is : AreHel
   was_there : (q : ℕ) → IsSome (live_at new q) → IsSome (live_at old q)
   was_there = at_each (λ q. IsSome (live_at new q) → IsSome (live_at old q)) place (λ live. there) (λ q other. was_live old new q (r.others q other))
 
-  -- what is live at the place was held by more than one
+  -- a map that is still live had more than one hold
   more_held : IsSome (live_at new place) → Either → 1 < holds_at old place
   more_held live (inl more) = more
   more_held live (inr last) = absurd (not_live (live_at new place) live (r.gone last))

@@ -1,4 +1,4 @@
--- The shape that fields ask for.
+-- The shape with the fields of a command.
 use Rattle.std.proofs.Common.{◌≡◌, ℕ, Bool, true, false, Option, Some, None, IsTrue, Result, Ok, Err, refl, sym, ap, subst}
 use Rattle.std.specs.Prelude.{◌==◌, ◌&&◌, if◌then◌else◌}
 use Rattle.std.proofs.Props.{props}
@@ -14,7 +14,7 @@ use Rattle.tenant.specs.Machine.{shape_where, asked_shape}
 IsTrue-prop : (b : Bool) → IsProp (IsTrue b)
 IsTrue-prop b = hlevel props
 
--- a shape is its fields
+-- a shape is determined by its fields
 same_shape : (s : MapShape) (kind : MapKind) (key value max : ℕ) → s.kind ≡ kind → s.key_size ≡ key → s.value_size ≡ value → s.max_entries ≡ max → (listed : IsTrue (is_shape kind key value max))
     → record { kind = kind; key_size = key; value_size = value; max_entries = max; listed = listed } ≡ s
 same_shape s kind key value max kind_is key_is value_is max_is =

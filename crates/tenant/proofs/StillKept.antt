@@ -1,4 +1,4 @@
--- What is kept where the maps change and what names them stays.
+-- The invariant after a change of the maps that does not change the open objects.
 use Rattle.std.proofs.Common.{◌≡◌, ℕ, ◌≤◌, List, [], Option, Some, IsSome, is_some, sym, ap, subst, ◌∙◌}
 use Rattle.bpf_maps.specs.Live.{LiveMaps, LiveMap, live_or, live_at, holds_at, shape_at, places_at, OnlyKeysChange}
 use Rattle.tagged_model.specs.declared.shape.MapShape.{MapShape}
@@ -8,7 +8,7 @@ use Rattle.tenant.specs.declared.object.OpenObject.{OpenObject}
 use Rattle.tenant.specs.Kept.{KeptTenant, IsWellFormedTenant, IsBound}
 use Rattle.tenant.proofs.AtPlaces.{at_each}
 
--- what the fields of a tenant stand for
+-- the tenant that the fields represent
 abbrev pub kept_in : Inside → KeptTenant
 kept_in t = record { objects = t.objects; live = t.maps; refused = t.refused }
 
@@ -19,7 +19,7 @@ with_live k t = record { objects = k.objects; live = t; refused = k.refused }
 abbrev pub with_both : KeptTenant → List (Option OpenObject) → LiveMaps → KeptTenant
 with_both k objects t = record { objects = objects; live = t; refused = k.refused }
 
--- the same maps are live, of the shapes that they had, with as many that hold them, and no run goes on
+-- the same maps are live, with the same shapes and the same number of holds, and no run is in progress
 pub record IsStill (old new : LiveMaps) : Type 0 where
   pub was : (place : ℕ) → IsSome (live_at new place) → IsSome (live_at old place)
   pub stays : (place : ℕ) → IsSome (live_at old place) → IsSome (live_at new place)
@@ -48,7 +48,7 @@ still_kept {k} {t} is s = record {
   bound = λ n l there. bound_along (is.bound n l there) s.stays s.shape;
 }
 
--- where only the keys of one map change, and no place of it is kept apart
+-- if only the keys of one map change, and no place of it is kept apart
 pub keys_kept : {k : KeptTenant} {t : LiveMaps} {m : ℕ} → IsWellFormedTenant k → IsSome (live_at k.live m) → OnlyKeysChange m k.live t → (places_at t m).kept ≡ [] → IsWellFormedTenant (with_live k t)
 keys_kept {k} {t} {m} is live rest ended = still_kept is (record {
   was = at_each (λ q. IsSome (live_at t q) → IsSome (live_at k.live q)) m (λ now. live) (λ q other now. ap (λ (o : Option LiveMap). is_some o) (sym (rest.others q other)) ∙ now);

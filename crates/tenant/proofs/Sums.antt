@@ -1,4 +1,4 @@
--- Sums of a number over those that are there.
+-- Sums of a number over the elements that are present.
 use Rattle.std.proofs.Common.{◌≡◌, ℕ, zero, suc, ◌+◌, ◌≤◌, ◌<◌, List, [], ◌∷◌, length, set, get_or, replicate, Option, Some, None, refl, ap, ap₂, arith}
 use Rattle.std.specs.Option.{option_map_or}
 use Rattle.std.proofs.lemmas.Option.{none-some}
@@ -9,7 +9,7 @@ unfolding total
 total-none f zero = refl
 total-none f (suc n) = let rest = total-none f n in omega arith
 
--- where each place counts the same
+-- two lists with equal numbers at each place have equal sums
 pub total-each : {A B : Type 0} (f : A → ℕ) (g : B → ℕ) (xs : List (Option A)) (ys : List (Option B)) → ((j : ℕ) → weight f (get_or xs j None) ≡ weight g (get_or ys j None)) → total f xs ≡ total g ys
 unfolding total
 total-each f g [] [] h = refl
@@ -17,21 +17,21 @@ total-each f g [] (y ∷ ys) h = let rest = total-each f g [] ys (λ j. h (suc j
 total-each f g (x ∷ xs) [] h = let rest = total-each f g xs [] (λ j. h (suc j)) in let here = h 0 in omega arith
 total-each f g (x ∷ xs) (y ∷ ys) h = ap₂ (λ (m n : ℕ). m + n) (h 0) (total-each f g xs ys (λ j. h (suc j)))
 
--- a place that was free
+-- the sum after an empty place is filled
 pub total-set : {A : Type 0} (f : A → ℕ) (xs : List (Option A)) (n : ℕ) (x : A) → n < length xs → get_or xs n None ≡ None → total f (set xs n (Some x)) ≡ total f xs + f x
 unfolding total
 total-set f [] n x within free = absurd (omega arith)
 total-set f (o ∷ os) zero x within free = let nothing : option_map_or f o 0 ≡ 0 = ap (λ (p : Option _). option_map_or f p 0) free in omega arith
 total-set f (o ∷ os) (suc n) x within free = let rest = total-set f os n x (omega arith) free in omega arith
 
--- a place that is free from now on
+-- the sum after a place is emptied
 pub total-unset : {A : Type 0} (f : A → ℕ) (xs : List (Option A)) (n : ℕ) (x : A) → get_or xs n None ≡ Some x → total f xs ≡ total f (set xs n None) + f x
 unfolding total
 total-unset f [] n x there = absurd (none-some x there)
 total-unset f (o ∷ os) zero x there = let here : option_map_or f o 0 ≡ f x = ap (λ (p : Option _). option_map_or f p 0) there in omega arith
 total-unset f (o ∷ os) (suc n) x there = let rest = total-unset f os n x there in omega arith
 
--- each is a part of the sum
+-- the number of each element is at most the sum
 pub total-part : {A : Type 0} (f : A → ℕ) (xs : List (Option A)) (n : ℕ) (x : A) → get_or xs n None ≡ Some x → f x ≤ total f xs
 total-part f xs n x there = let e = total-unset f xs n x there in omega arith
 
@@ -47,7 +47,7 @@ total-most f (o ∷ os) h =
     let rest = total-most f os (λ i x is. h (suc i) x is) in
     omega arith
 
--- and no more than another sum of which each is a part
+-- if each number is at most another, so is the sum
 less_first : {A : Type 0} (f g : A → ℕ) (o : Option A) → ((x : A) → f x ≤ g x) → option_map_or f o 0 ≤ option_map_or g o 0
 less_first f g None h = omega arith
 less_first f g (Some x) h = h x

@@ -1,4 +1,4 @@
--- What the open descriptors name.
+-- The targets of the open descriptors.
 use Rattle.std.proofs.Common.{◌≡◌, ℕ, zero, suc, ◌+◌, ◌-◌, ◌≤◌, ◌<◌, Bool, false, List, [], ◌∷◌, ◌++◌, length, take, get_or, Option, None, refl, sym, ap, ap₂, ◌∙◌, arith, append_assoc}
 use Rattle.std.specs.Prelude.{nat_lt, slice_get, if◌then◌else◌}
 use Rattle.std.proofs.lemmas.Bool.Decides.{nat_tests}
@@ -15,13 +15,13 @@ flattened-get [] n = refl
 flattened-get (x ∷ xs) zero = refl
 flattened-get (x ∷ xs) (suc n) = flattened-get xs n
 
--- what a descriptor names stands at its place
+-- the object of a descriptor is at the descriptor's index
 pub named_at : (xs : List (Option OpenObject)) (fd : ℕ) → first_descriptor ≤ fd → named xs fd ≡ get_or xs (fd - first_descriptor) None
 named_at xs fd low =
     let no : nat_lt fd first_descriptor ≡ false = grind (arith, nat_tests) in
     ap (λ (b : Bool). if b then None else flattened (slice_get xs (fd - first_descriptor))) no ∙ flattened-get xs (fd - first_descriptor)
 
--- one more of them
+-- one more descriptor
 targets-next : (s : TenantState) (fd : ℕ) (xs : List (Option OpenObject)) (n : ℕ) → n < length xs
     → targets_from s fd (take (suc n) xs) ≡ targets_from s fd (take n xs) ++ entry_of (fd + n) (and_then (get_or xs n None) (object_target s))
 unfolding targets_from

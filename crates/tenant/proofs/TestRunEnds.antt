@@ -1,4 +1,4 @@
--- What a test run answers.
+-- Replies to test runs.
 use Rattle.std.proofs.Common.{◌≡◌, ℕ, ◌≤◌, Bool, true, false, List, ◌∷◌, length, Option, Some, refl, sym, ap, ap₂, subst, ◌∙◌, arith}
 use Rattle.std.specs.Prelude.{◌||◌, nat_lt, if◌then◌else◌}
 use Rattle.std.proofs.lemmas.Bool.Decides.{nat_tests}
@@ -29,7 +29,7 @@ fits_is refusals s l words packet fits =
     let within : nat_lt longest_packet (length packet) ≡ false = grind (arith, nat_tests) in
     ap (λ (b : Bool). if b then refuses TooBig s else ran refusals s l words packet) (sym within)
 
--- what is bound to a run, and what it left
+-- the premises on a run, and the state that it leaves
 pub record HasRun (k : KeptTenant) (l : LoadedProgram) (words packet : List ℕ) (part : List ℕ) (first : ℕ) (outcome : Outcome) (after : Standing) : Type 0 where
   pub kept : IsWellFormedTenant k
   pub bound : IsBound k.live l
@@ -55,12 +55,12 @@ ran_as listed {k} {l} {words} {packet} {part} {first} {outcome} {after} h =
       ap₂ outcome_answer r.value state,
     )
 
--- what a test run of an open program answers, and what it leaves
+-- the reply to a test run of an open program, and the state after it, for some refusals
 abbrev pub IsTold : (before : KeptTenant) (part : List ℕ) (fd : ℕ) (words packet : List ℕ) (outcome : Outcome) (later : List ℕ) (after : KeptTenant) → Type 0
 IsTold before part fd words packet outcome later after =
     (refusals : List Bool) × (outcome_answer outcome (state_in later after) ≡ run_of refusals (state_in part before) words packet (named before.objects fd))
 
--- the run of the code and the context of a program that is open
+-- from the run of the code to the reply, for an open program
 pub told_of : MapsAreListed → {part later words packet bind context : List ℕ} {k : KeptTenant} {l : LoadedProgram} {new : LiveMaps} {code : List Insn} {before steps : ℕ} {outcome : Outcome} (fd : ℕ)
     → IsWellFormedTenant k → named k.objects fd ≡ Some (object.Program l) → length packet ≤ longest_packet → bind ≡ map_places l → code ≡ l.insns → context ≡ length packet ∷ words
     → SimulatesRun (run_on code bind (stood k.live part before) context packet) (stood k.live part before) outcome (stood new later steps) → RunKeepsMaps bind k.live new → KeepsValues bind (stood k.live part before) (stood new later steps)

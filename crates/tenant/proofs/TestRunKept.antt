@@ -1,4 +1,4 @@
--- What is kept over a run.
+-- The invariant after a run.
 use Rattle.std.proofs.Common.{◌≡◌, ◌≢◌, ℕ, zero, suc, ◌<◌, List, [], ◌∷◌, length, Option, Some, None, IsSome, is_some, refl, sym, ap, subst, ◌∙◌, inl, inr, arith}
 use Rattle.std.specs.Prelude.{◌⊎◌, slice_index}
 use Rattle.std.proofs.lemmas.Bool.{cases_eq, true≢false}
@@ -8,7 +8,7 @@ use Rattle.flat_machine.specs.Runs.{RunKeepsMaps}
 use Rattle.tenant.specs.Kept.{KeptTenant, IsWellFormedTenant}
 use Rattle.tenant.proofs.StillKept.{with_live, still_kept}
 
--- ---- whether a key is bound
+-- ---- bound keys
 
 abbrev StandsIn : List ℕ → ℕ → Type 0
 StandsIn bind key = (i : ℕ) × (i < length bind) × (slice_index bind i ≡ key)
@@ -32,7 +32,7 @@ some_live : (o : Option LiveMap) → IsSome o → (l : LiveMap) × (o ≡ Some l
 some_live None h = absurd (true≢false (sym h))
 some_live (Some l) h = (l, refl)
 
--- it has the shape that it had
+-- it has the same shape as before
 same_shape : (old new : LiveMaps) (key : ℕ) → SameAreas old new → IsSome (live_at new key) → shape_at new key ≡ shape_at old key
 same_shape old new key areas live =
     let (l, now) = some_live (live_at new key) live in

@@ -41,13 +41,13 @@ lookup_at (m ∷ ms) once (suc i) lt = by (m.0 == descriptor_at ms i) refl (look
         absurd (let wrong = once 0 (suc i) (descriptor_at ms i) here there in omega arith)
     by false e rest = ap (λ (b : Bool). cond b (Some m.1) (lookup (λ k. k == descriptor_at ms i) ms)) e ∙ rest
 
--- ---- what a program's places lead to
+-- ---- the maps at the places of a program
 
 module _ {k : KeptTenant} {l : LoadedProgram} (is : IsWellFormedTenant k) (bound : IsBound k.live l) (listed : MapsAreListed) where
   once : AreApart (keys_of l.maps)
   once = subst (λ (fds : List ℕ). AreApart fds) (sym bound.each) (λ i j fd a b. listed.once l.insns i j fd a b)
 
-  -- a live map of the shape that was verified
+  -- a live map with the shape with which the program was verified
   pub entry : (i : ℕ) → i < length l.maps → IsSome (live_at k.live (listed_place l.maps i)) × (shapes_named l.named (descriptor_at l.maps i) ≡ Some (shape_at k.live (listed_place l.maps i)))
   entry i lt = bound.shaped (descriptor_at l.maps i) (listed_place l.maps i) (lookup_at l.maps once i lt)
 
@@ -60,7 +60,7 @@ module _ {k : KeptTenant} {l : LoadedProgram} (is : IsWellFormedTenant k) (bound
   live_there : (i : ℕ) → i < length (map_places l) → IsSome (live_at k.live (slice_index (map_places l) i))
   live_there i lt = let all = length-seconds l.maps in subst (λ (n : ℕ). IsSome (live_at k.live n)) (sym (place_at l.maps i)) (entry i (omega arith)).0
 
-  -- so its maps are bound to the program
+  -- the maps at these places are bound to the program
   pub are_bound : (a : Accepted) → a.code ≡ l.insns → a.entries ≡ l.named → AreBound a (map_places l) k.live
   are_bound a code entries = record {
     count = as_many ∙ ap (λ insns. length (maps_of insns)) (sym code);
@@ -75,6 +75,6 @@ module _ {k : KeptTenant} {l : LoadedProgram} (is : IsWellFormedTenant k) (bound
     free = λ i lt. is.maps.ended (slice_index (map_places l) i);
   }
 
--- a program that is open
+-- the maps of an open program are bound to it
 pub bound_of : {k : KeptTenant} {l : LoadedProgram} (fd : ℕ) → IsWellFormedTenant k → named k.objects fd ≡ Some (object.Program l) → IsBound k.live l
 bound_of {k} {l} fd is opened = is.bound (fd - first_descriptor) l (closed_at k.objects fd (object.Program l) opened).1

@@ -1,4 +1,4 @@
--- The maps that a run is given, and those that it leaves.
+-- The maps before and after a run.
 use Rattle.std.proofs.Common.{◌≡◌, ℕ, suc, ◌+◌, ◌<◌, ◌≤◌, Bool, true, false, cond, not, List, [], ◌∷◌, length, set, get_or, Option, Some, None, IsSome, refl, sym, ap, subst, ◌∙◌, inl, inr, arith, length-set, get_or-set_same, get_or-set_other}
 use Rattle.std.specs.Prelude.{◌⊎◌, ◌==◌, nat_lt, option_map, slice_index, if◌then◌else◌}
 use Rattle.std.specs.List.{position, position_or_len}
@@ -26,7 +26,7 @@ use Rattle.tenant.proofs.Releases.{one_at}
 use Rattle.tenant.proofs.TestRunPlaces.{listed_place, place_at, times_here}
 use Rattle.tenant.proofs.TestRunKeys.{descriptor_at, entry, place_within}
 
--- ---- the maps that it is given
+-- ---- the maps before the run
 
 module _ (p : ℕ → Bool) where
   found_first : (x : ℕ) (xs : List ℕ) → p x ≡ true → position p (x ∷ xs) ≡ Some 0
@@ -47,7 +47,7 @@ module _ (p : ℕ → Bool) where
       by true false e f = absurd (let lt = ltb-true (position_or_len p xs) (length xs) e in let ge = ltb-false (1 + position_or_len p xs) (length (x ∷ xs)) f in omega arith)
       by false true e f = absurd (let ge = ltb-false (position_or_len p xs) (length xs) e in let lt = ltb-true (1 + position_or_len p xs) (length (x ∷ xs)) f in omega arith)
 
--- the entry of a descriptor is at the place where it stands
+-- the place of a descriptor is that of its entry
 lookup_is : (maps : List (ℕ × ℕ)) (fd : ℕ) → lookup (λ m. m == fd) maps ≡ option_map (λ i. listed_place maps i) (position (λ m. m == fd) (keys_of maps))
 lookup_is [] fd = refl
 lookup_is (m ∷ ms) fd = by (m.0 == fd) refl (lookup_is ms fd)
@@ -81,16 +81,16 @@ module _ (part : List ℕ) {k : KeptTenant} {l : LoadedProgram} (is : IsWellForm
   stands_within : (fd i : ℕ) → position (λ m. m == fd) (keys_of l.maps) ≡ Some i → i < length l.maps
   stands_within fd i e = let there = position-Some (λ m. m == fd) (keys_of l.maps) i 0 e in let long = length-firsts l.maps in let within = there.0 in omega arith
 
-  -- the run is given the machine's
+  -- the maps before the run are the machine's
   pub given_is : given_maps l.insns (map_places l) k.live part ≡ maps_given (state_in part k) l
   given_is = fun_ext (λ fd.
       ap (λ (fds : List ℕ). option_map (λ key. map_in part k.live key) (bound_key fds (map_places l) fd)) (sym bound.each)
       ∙ given_at (position (λ m. m == fd) (keys_of l.maps)) (stands_within fd)
       ∙ ap (λ (o : Option ℕ). and_then o (λ place. live (state_in part k) place)) (sym (lookup_is l.maps fd)))
 
--- ---- the maps that it leaves
+-- ---- the maps after the run
 
--- where each map that is left is another list's at its place, and the other places are that list's, all are
+-- if the maps after the run are those of the target at the places of the program, and so are all others, the lists are equal
 left_all : (left : MapsByDescriptor) (target : List (Option Map)) (ms : List (ℕ × ℕ)) (maps : List (Option Map)) → length maps ≡ length target
     → ((i : ℕ) → i < length ms → (listed_place ms i < length target) × (left (descriptor_at ms i) ≡ get_or target (listed_place ms i) None))
     → ((place : ℕ) → times_listed place (seconds ms) ≡ 0 → get_or maps place None ≡ get_or target place None)
@@ -111,20 +111,20 @@ left_all left target (m ∷ ms) maps long h rest =
         let apart : one_at m.1 place ≡ 0 = ap (λ (b : Bool). if b then 1 else 0) (ne_eqb m.1 place (λ e. other (sym e))) in
         get_or-set_other maps m.1 place (left m.0) None other ∙ rest place (omega arith)
 
--- what stands round a run
+-- the live maps, the bytes of the part and the count of steps
 abbrev pub stood : LiveMaps → List ℕ → ℕ → Standing
 stood maps part steps = record { maps = maps; part = part; steps = steps }
 
 module _ {part later : List ℕ} {k : KeptTenant} {new : LiveMaps} {l : LoadedProgram} {first last : ℕ} (is : IsWellFormedTenant k) (bound : IsBound k.live l) (listed : MapsAreListed)
     (kept : RunKeepsMaps (map_places l) k.live new) (values : KeepsValues (map_places l) (stood k.live part first) (stood new later last)) where
-  -- a place that is not the program's
+  -- a place that is not the program's is elsewhere
   away : (place : ℕ) → times_listed place (map_places l) ≡ 0 → IsElsewhere (map_places l) place
   away place none i lt same =
       let here = times_here (map_places l) i lt in
       let same_times : times_listed (slice_index (map_places l) i) (map_places l) ≡ 0 = subst (λ (p : ℕ). times_listed p (map_places l) ≡ 0) (sym same) none in
       omega arith
 
-  -- has the map that it had
+  -- a place that is not the program's has the same map as before
   other_map : (place : ℕ) → times_listed place (map_places l) ≡ 0 → map_at later new place ≡ map_at part k.live place
   other_map place none = other_at part later k.live new place (kept.others place (away place none)) (λ now. values.pairs place (away place none) now)
 

@@ -32,7 +32,7 @@ times_twice (p ∷ ps) zero (suc j) less lt same =
 times_twice (p ∷ ps) (suc i) zero less lt same = absurd (omega arith)
 times_twice (p ∷ ps) (suc i) (suc j) less lt same = let rest = times_twice ps i j (omega arith) (omega arith) same in omega arith
 
--- so two entries with one place are one
+-- two entries with the same place are the same entry
 pub same_entry : (ps : List ℕ) → ((place : ℕ) → times_listed place ps ≤ 1) → (i j : ℕ) → i < length ps → j < length ps → get_or ps i 0 ≡ get_or ps j 0 → i ≡ j
 same_entry ps once i j i_within j_within same = by (nat_lt i j) (nat_lt j i) refl refl
   where

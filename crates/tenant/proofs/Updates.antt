@@ -1,4 +1,4 @@
--- What an update leaves.
+-- The state after an update.
 use Rattle.std.proofs.Common.{◌≡◌, ◌≢◌, ℕ, ◌+◌, Bool, true, false, List, [], length, take, drop, Option, Result, Ok, Err, refl, sym, ap, subst, ◌∙◌, arith, length-drop}
 use Rattle.std.specs.Prelude.{◌==◌, ◌||◌}
 use Rattle.std.proofs.Math.Bool.{or-false, or-true}
@@ -24,18 +24,18 @@ use Rattle.tenant.proofs.OneMap.{one_map, each_same}
 abbrev pub has_sizes : List ℕ → Map → Bool
 has_sizes bytes t = length bytes == t.shape.key_size + t.shape.value_size
 
--- the key that the bytes begin with, and the value behind it
+-- the key at the start of the bytes, and the value after it
 abbrev pub key_of : MapShape → List ℕ → List ℕ
 key_of shape bytes = take shape.key_size bytes
 
 abbrev pub value_of : MapShape → List ℕ → List ℕ
 value_of shape bytes = drop shape.key_size bytes
 
--- the answer to an update that brings a key and a value of the map
+-- the reply to an update with a key and a value of the map's sizes
 abbrev pub put_of : Bool → TenantState → ℕ → List ℕ → ℕ → Map → Answer
 put_of refused s flags bytes place t = element_put refused s place t (key_of t.shape bytes) (value_of t.shape bytes) (verdict t (key_of t.shape bytes) flags)
 
--- ---- the answer to a claim
+-- ---- the result of a claim
 
 abbrev Claim : Type 0
 Claim = Result ℕ MapFault
@@ -46,25 +46,25 @@ not_ok f p e = cc
 same_fault : (f g : MapFault) → let a : Claim = Err f in let b : Claim = Err g in a ≡ b → f ≡ g
 same_fault f g e = cc
 
--- where a key is new, memory alone is refused
+-- a claim of a new key is rejected only for lack of memory
 memory_alone : (key : List ℕ) (old : PlaceTable) (f : MapFault) (new : PlaceTable) → Claims New key old (Err f) new → (f ≡ fault.Memory) × (new ≡ old)
 memory_alone key old fault.Memory new same = (refl, same)
 memory_alone key old other new h = absurd h
 
--- a refused claim keeps all
+-- a rejected claim changes nothing
 refused_claim : (v : Verdict ℕ) (key : List ℕ) (old : PlaceTable) (f : MapFault) (new : PlaceTable) → Claims v key old (Err f) new → new ≡ old
 refused_claim (Refused g) key old f new (is, same) = same
 refused_claim (Present p) key old f new (is, same) = same
 refused_claim New key old f new h = (memory_alone key old f new h).1
 
--- and each claim what is kept apart
+-- a claim does not change the places that are kept apart
 claimed_kept : (v : Verdict ℕ) (key : List ℕ) (old : PlaceTable) (r : Claim) (new : PlaceTable) → Claims v key old r new → new.kept ≡ old.kept
 claimed_kept (Refused f) key old r new (is, same) = ap (λ (t : PlaceTable). t.kept) same
 claimed_kept (Present p) key old r new (is, same) = ap (λ (t : PlaceTable). t.kept) same
 claimed_kept New key old (Ok p) new (free, is) = ap (λ (t : PlaceTable). t.kept) is
 claimed_kept New key old (Err f) new h = ap (λ (t : PlaceTable). t.kept) (memory_alone key old f new h).1
 
--- a key that was claimed is put
+-- after a claim the update is done
 done_by : (v : Verdict ℕ) (key : List ℕ) (old : PlaceTable) (p : ℕ) (new : PlaceTable) → Claims v key old (Ok p) new → (f : ℕ → List ℕ) (s : TenantState) (place : ℕ) (T : Map) (value : List ℕ)
     → element_put false s place T key value (verdict_with f v) ≡ gives [] (with_map_at s place (change (verdict_with f v) T key value))
 done_by (Refused g) key old p new (is, same) f s place T value = absurd (not_ok g p (sym is))
@@ -76,14 +76,14 @@ done_put : (v : Verdict ℕ) (w : Verdict (List ℕ)) (key : List ℕ) (old : Pl
 done_put v w key old p new claimed f same s place T value =
     subst (λ (x : Verdict (List ℕ)). element_put false s place T key value x ≡ gives [] (with_map_at s place (change x T key value))) (sym same) (done_by v key old p new claimed f s place T value)
 
--- ---- a refused claim
+-- ---- a rejected claim
 
--- the state with the flag, where memory was refused
+-- the state, with the flag set if memory was refused
 abbrev flagged : Bool → TenantState → TenantState
 flagged true s = record s { refused = true }
 flagged false s = s
 
--- the refusal is memory's, or not
+-- the reply to an update that is rejected, with `refused` if it is for lack of memory
 abbrev Fails : Verdict (List ℕ) → MapFault → List ℕ → TenantState → ℕ → Map → List ℕ → Type 0
 Fails w f key s place T value = (refused : Bool) × (is_memory (Err f) ≡ refused) × (element_put refused s place T key value w ≡ refuses (map_errno f) (flagged refused s))
 
@@ -113,7 +113,7 @@ flag_of a b r t is s refused same was = by_choice refused same
 
 -- ---- the whole command
 
--- the key that the bytes of an update begin with was claimed in the map that the descriptor names
+-- the claim is of the key at the start of the bytes, in the map that the descriptor names
 pub record IsClaimed (k : KeptTenant) (t : LiveMaps) (fd m flags : ℕ) (bytes : List ℕ) (r : Claim) : Type 0 where
   pub found : IsMapOf k fd m
   pub size : length bytes ≡ (shape_at k.live m).key_size + (shape_at k.live m).value_size
@@ -121,7 +121,7 @@ pub record IsClaimed (k : KeptTenant) (t : LiveMaps) (fd m flags : ℕ) (bytes :
   pub rest : OnlyKeysChange m k.live t
   pub refused : t.refused ≡ (k.live.refused || is_memory r)
 
--- by what the code has for the shape and for the key
+-- from the shape and the key in the code
 pub claimed_by : {k : KeptTenant} {t : LiveMaps} {fd m flags : ℕ} {bytes key : List ℕ} {r : Claim} {shape : MapShape} → IsMapOf k fd m → shape ≡ shape_at k.live m → length bytes ≡ shape.key_size + shape.value_size → key ≡ key_of shape bytes
     → Claims (verdict (table_of (places_at k.live m)) key flags) key (places_at k.live m) r (places_at t m) → OnlyKeysChange m k.live t → t.refused ≡ (k.live.refused || is_memory r) → IsClaimed k t fd m flags bytes r
 claimed_by {k} {t} {fd} {m} {flags} {bytes} {key} {r} {shape} found same size key_is claimed rest refused = record {
@@ -145,7 +145,7 @@ value_fits {k} {t} {fd} {m} {flags} {bytes} {r} c =
     let long : length (value_of shape bytes) ≡ shape.value_size = omega (arith, length-drop shape.key_size bytes) in
     long ∙ sym (ap (λ (s : MapShape). s.value_size) c.rest.shape)
 
--- the answer is what the verdict comes to
+-- the reply is that to the machine's update of this map
 update_is : (refused : Bool) (part : List ℕ) {k : KeptTenant} {t : LiveMaps} {fd m flags : ℕ} {bytes : List ℕ} {r : Claim} → IsClaimed k t fd m flags bytes r
     → element_updated refused (state_in part k) fd flags bytes ≡ put_of refused (state_in part k) flags bytes m (map_in part k.live m)
 update_is refused part {k} {t} {fd} {m} {flags} {bytes} {r} c = on_map_is part (has_sizes bytes) (put_of refused (state_in part k) flags bytes) c.found (same_size (length bytes) c.size)

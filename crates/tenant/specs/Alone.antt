@@ -62,7 +62,7 @@ RepliesInOrder tells before (frame ∷ frames) (reply ∷ replies) after =
 RepliesInOrder tells before [] (reply ∷ replies) after = ⊥
 RepliesInOrder tells before (frame ∷ frames) [] after = ⊥
 
--- the tenant's machine if no memory is refused, and if some may be
+-- the replies are those of the tenant's machine, without refusals of memory and with some
 abbrev pub IsToldAlone : Option TenantState → List (List ℕ) → List (List ℕ) → Option TenantState → Type 0
 IsToldAlone before frames replies after = RepliesInOrder (RepliesUnder []) before frames replies after
 
@@ -71,7 +71,7 @@ AloneWithRefusals before frames replies after = RepliesInOrder MayReply before f
 
 -- ---- until memory is refused
 
--- nothing follows, or the flag of refused memory is set with the reply to the first of these frames
+-- there are no more frames, or the flag of refused memory is set with the reply to the first of these frames
 abbrev pub EndsOrIsRefused : Option TenantState → List (List ℕ) → List (List ℕ) → Type 0
 EndsOrIsRefused before [] [] = Unit {0}
 EndsOrIsRefused before (frame ∷ frames) (reply ∷ replies) = (s : TenantState) × MayReply frame reply before (Some s) × (s.refused ≡ true)

@@ -57,9 +57,9 @@ by_descriptor place (object.Program l) = 0
 abbrev pub descriptors : ℕ → List (Option OpenObject) → ℕ
 descriptors place objects = total (by_descriptor place) objects
 
--- ---- what always holds
+-- ---- the invariant
 
--- each live map is at one of the `most_maps` places and has a reference, and no run of it goes on
+-- each live map is at one of the `most_maps` places and has a reference, and no run is in progress
 pub record AreHeld (t : LiveMaps) : Type 0 where
   pub within : (place : ℕ) → IsSome (live_at t place) → place < most_maps
   pub some : (place : ℕ) → IsSome (live_at t place) → 1 ≤ holds_at t place

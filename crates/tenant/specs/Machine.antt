@@ -247,7 +247,7 @@ abbrev pub answer_of_judgement : TenantState → ℕ → Result (List Insn) Refu
 answer_of_judgement s fd (Err refusal) = refuses_load refusal s
 answer_of_judgement s fd (Ok insns) = opens fd (record s { objects = table.with_open s.objects fd (object.Program (loaded_program s insns)) })
 
--- if memory is refused, that is the answer whatever the slots are
+-- if memory is refused, this is the result, whatever the slots are
 abbrev pub LoadsAs : Bool → TenantState → ℕ → List ℕ → Answer → Type 0
 LoadsAs true s fd slots answer = answer ≡ refuses_for_memory s
 LoadsAs false s fd slots answer = (j : Result (List Insn) Refusal) × Judges (targets s) slots j × (answer ≡ answer_of_judgement s fd j)
@@ -297,8 +297,8 @@ closed s fd (Some o) = gives [] (with_objects s (table.with_closed s.objects fd)
 
 -- ---- every command
 
--- The answers that a command may have. Memory may be refused to it: if the first of the refusals says so, and in a test
--- run at the steps that they say.
+-- The answers that a command may have. Memory may be refused to it: by the first of the refusals, and in a test
+-- run at the steps that they name.
 abbrev pub Answers : List Bool → TenantState → Command → Answer → Type 0
 Answers refusals s (map_create kind key value max flags) a = a ≡ created (refused_at_first refusals) s (asked_shape (kind_of kind) key value max flags)
 Answers refusals s (map_lookup fd key) a = a ≡ element_looked_up s fd key

@@ -40,7 +40,7 @@ digit_graphic b h = grind (arith, nat_tests)
 
 -- ---- bytes that pass a test
 
--- each does
+-- each byte passes the test
 abbrev pub passes : (ℕ → Bool) → List ℕ → Bool
 passes test [] = true
 passes test (b ∷ bs) = test b && passes test bs
@@ -111,7 +111,7 @@ digit_no_symbol : (a : ℕ) (t : List ℕ) → is_ascii_digit a ≡ true → sym
 unfolding symbol_at
 digit_no_symbol a t p = none_found (λ z. starts_with nat_eq (a ∷ t) z) begins_no_digit symbols (λ z h. no_digit_begins a t z p h) symbols_no_digit
 
--- a byte with which a symbol goes on: `<`, `=` or `>`
+-- a byte that may continue a symbol: `<`, `=` or `>`
 abbrev pub prolongs : ℕ → Bool
 prolongs b = is_in_range 60 62 b
 
@@ -121,7 +121,7 @@ start_prolongs_none b h = grind (arith, nat_tests)
 pub digit_prolongs_none : (b : ℕ) → is_ascii_digit b ≡ true → prolongs b ≡ false
 digit_prolongs_none b h = grind (arith, nat_tests)
 
--- A text that begins with y, and goes on with no such byte, does not begin with z: the two differ, or z goes on with such a byte.
+-- A text that begins with y, if no such byte follows, does not begin with z: the two differ, or z has such a byte after y.
 abbrev tells_apart : List ℕ → List ℕ → Bool
 tells_apart [] [] = false
 tells_apart [] (b ∷ z) = prolongs b

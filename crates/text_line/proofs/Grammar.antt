@@ -1,4 +1,4 @@
--- What is read is spelled so.
+-- Soundness of the parser: the tokens of a line that is read are the line's spelling.
 use Rattle.std.proofs.Common.{◌≡◌, ℕ, ◌≤◌, Bool, true, false, cond, List, [], ◌∷◌, Option, Some, None, refl, ap, ◌∙◌, ◌⊎◌, inl, inr, subst, sym, eqb, leb, option_map}
 use Rattle.std.specs.Prelude.{codes, IsTrue, ◌||◌, ◌&&◌, not}
 use Rattle.std.specs.Str.{bytes_eq}
@@ -62,7 +62,7 @@ is_eq x y e = (bytes_eq-Decides x y).0 e
 register_is : (n : List ℕ) (r : Bool × ℕ) → named registers n ≡ Some r → (n ≡ register_name r.0 r.1) × (r.1 ≤ 10)
 register_is n r e = (sym (name_of (λ r. register_name r.0 r.1) registers n r refl e), leb-true r.1 10 (found_named (λ _ r. leb r.1 10) registers n r refl e))
 
--- ---- tokens: they begin with what is read first, and the reading continues after it
+-- ---- tokens: the list begins with the token that is read first, and reading continues after it
 
 symbol_then : {B P : Type 0} (ts : List Token) (k : List ℕ × List Token → Option B) (y : B) → (leading_symbol ts >>= k) ≡ Some y → ((s : List ℕ) (rest : List Token) → ts ≡ symbol s ∷ rest → k (s, rest) ≡ Some y → P) → P
 symbol_then (symbol s ∷ ts) k y e then = then s ts refl e
@@ -96,7 +96,7 @@ after_symbol_then s ts k y e then = option_and_then_some k (after_symbol s ts) y
 after_word_then : {B P : Type 0} (w : List ℕ) (ts : List Token) (k : List Token → Option B) (y : B) → (after_word w ts >>= k) ≡ Some y → ((rest : List Token) → ts ≡ name w ∷ rest → k rest ≡ Some y → P) → P
 after_word_then w ts k y e then = option_and_then_some k (after_word w ts) y e (λ rest found. then rest (after_word_is w ts rest found))
 
--- what holds after the symbol or without it, holds
+-- a property holds after an optional symbol if it holds with the symbol and without it
 symbol_or : {B : Type 0} (P : List Token → Type 0) (s : List ℕ) (ts : List Token) (d : Option B) (k : List Token → Option B) (y : B) → match_option (after_symbol s ts) d k ≡ Some y
     → ((rest : List Token) → k rest ≡ Some y → P (symbol s ∷ rest)) → (d ≡ Some y → P ts) → P ts
 symbol_or P s ts d k y e behind without = elim (either (after_symbol s ts) d k y e) [
@@ -207,7 +207,7 @@ address_read ts p e =
 
 -- ---- forms
 
--- the tokens are a form's, and the form is one
+-- the tokens spell the form, and the form is well formed
 abbrev Spelled : List Token → Form → Type 0
 Spelled ts f = (ts ≡ tokens_of (layout f [])) × IsForm f
 
@@ -464,7 +464,7 @@ label_is ts n e =
     let (end, same) = end_is b _ n e in
     subst (λ n. ts ≡ spelled (label n)) same cc))
 
--- What is read is spelled so.
+-- the tokens of a line that is read are its spelling, and the line is well formed
 pub line_is : (ts : List Token) (line : Line) → line_of ts ≡ Some line → (ts ≡ spelled line) × IsWellFormed line
 unfolding line_of
 line_is [] line e = subst (λ line. ([] ≡ spelled line) × IsWellFormed line) (same_Some blank line e) (refl, tt)

@@ -1,4 +1,4 @@
--- What is laid out is read as its tokens.
+-- A text that is laid out is read as its tokens.
 use Rattle.std.proofs.Common.{◌≡◌, ◌≢◌, ℕ, ◌<◌, ◌^◌, Bool, true, false, ◌&&◌, not, List, [], ◌∷◌, ◌++◌, length, get_or, Some, None, refl, sym, ap, ◌∙◌, arith, decimal, IsAscii}
 use Rattle.std.specs.List.{AllByRecursion}
 use Rattle.std.specs.Char.{is_ascii_digit, is_ascii_graphic}
@@ -15,12 +15,12 @@ use Rattle.text_line.specs.Written.{lexeme, laid_out}
 use Rattle.text_line.proofs.Fronts.{passes, passes-append, passes_more, is_long_name, is_picked, prolongs, start_in_name, start_prolongs_none, digit_prolongs_none, name_graphic, digit_graphic, decimal_digits, name_front, number_front, symbol_front}
 use Rattle.text_line.proofs.Longest.{taken}
 
--- ---- layouts whose tokens stay apart
+-- ---- layouts whose tokens are apart
 
 abbrev pub is_sign : List ℕ → Bool
 is_sign y = is_picked y symbols && passes is_ascii_graphic y
 
--- what follows does not prolong a name or a number
+-- the text after a name or a number does not prolong it
 abbrev pub ends_word : TokenLayout → Bool
 ends_word [] = true
 ends_word (None ∷ rest) = true
@@ -28,7 +28,7 @@ ends_word (Some (name n) ∷ rest) = false
 ends_word (Some (number v) ∷ rest) = false
 ends_word (Some (symbol y) ∷ rest) = not (is_name_byte (get_or y 0 0))
 
--- what follows does not prolong a symbol
+-- the text after a symbol does not prolong it
 abbrev pub ends_sign : TokenLayout → Bool
 ends_sign [] = true
 ends_sign (None ∷ rest) = true
@@ -75,12 +75,12 @@ graphic_first : (bs : List ℕ) → is_picked [] symbols ≡ false → is_picked
 graphic_first [] none h p = absurd (false≢true (sym none ∙ h))
 graphic_first (b ∷ bs) none h p = (and_parts (is_ascii_graphic b) (passes is_ascii_graphic bs) p).0
 
--- the first byte of what is more than nothing stays the first
+-- the first byte of a list that is not empty is the first byte of each longer list
 first_stays : (test : ℕ → Bool) (bs s : List ℕ) → test 0 ≡ false → test (get_or bs 0 0) ≡ true → get_or (bs ++ s) 0 0 ≡ get_or bs 0 0
 first_stays test [] s none h = absurd (false≢true (sym none ∙ h))
 first_stays test (b ∷ bs) s none h = refl
 
--- a token's bytes are graphic, and there is one
+-- the bytes of a token are graphic, and there is at least one
 record IsSeen (bs : List ℕ) : Type 0 where
   all : passes is_ascii_graphic bs ≡ true
   first : is_ascii_graphic (get_or bs 0 0) ≡ true
@@ -102,7 +102,7 @@ seen (symbol y) rest h =
 laid_first : (t : Token) (rest : TokenLayout) → IsApart (Some t ∷ rest) → get_or (laid_out (Some t ∷ rest)) 0 0 ≡ get_or (lexeme t) 0 0
 laid_first t rest h = first_stays is_ascii_graphic (lexeme t) (laid_out rest) refl (seen t rest h).first
 
--- ---- what follows a token
+-- ---- the text after a token
 
 word_ends : (rest : TokenLayout) → IsApart rest → ends_word rest ≡ true → is_name_byte (get_or (laid_out rest) 0 0) ≡ false
 word_ends [] h e = refl

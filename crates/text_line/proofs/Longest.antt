@@ -14,7 +14,7 @@ use Rattle.text_line.proofs.Fronts.{begins_itself, begins_no_name, symbols_no_na
 
 -- ---- bytes that pass a test
 
--- the front is no shorter than bytes that pass
+-- the longest front of bytes that pass is at least as long as any front of bytes that pass
 run_at_least : (test : ℕ → Bool) (bytes back : List ℕ) → list_all test bytes ≡ true → length bytes ≤ prefix_len test (bytes ++ back)
 run_at_least test [] back h = omega arith
 run_at_least test (b ∷ bs) back h =
@@ -25,7 +25,7 @@ run_at_least test (b ∷ bs) back h =
 run_covers : (test : ℕ → Bool) (text bytes back : List ℕ) → text ≡ bytes ++ back → list_all test bytes ≡ true → length bytes ≤ prefix_len test text
 run_covers test text bytes back e h = subst (λ (t : List ℕ). length bytes ≤ prefix_len test t) (sym e) (run_at_least test bytes back h)
 
--- and passes itself
+-- the bytes of the longest front pass the test
 abbrev one_more : (ℕ → Bool) → ℕ → List ℕ → Bool → List ℕ
 one_more test b bs here = take (cond here (1 + prefix_len test bs) 0) (b ∷ bs)
 
@@ -61,7 +61,7 @@ found_step : {A : Type 0} (Q : A → Type 0) (p : A → Bool) (x : A) (rest : Op
 found_step Q p x rest s true here q more e = let same : x ≡ s = cc in (subst Q same q, ap p (sym same) ∙ here)
 found_step Q p x rest s false here q more e = more e
 
--- what is found passes the test, and has what each element has
+-- an element that is found passes the test and has each property that all elements have
 pub found_is : {A : Type 0} (Q : A → Type 0) (p : A → Bool) (xs : List A) (s : A) → AllByRecursion Q xs → find p xs ≡ Some s → Q s × (p s ≡ true)
 found_is Q p [] s each e = absurd (let no : Some s ≡ None = sym e in cc no)
 found_is Q p (x ∷ xs) s each e = found_step Q p x (find p xs) s (p x) refl each.0 (found_is Q p xs s each.1) e
@@ -75,7 +75,7 @@ symbol_is text s e =
     let f = found_is (λ (s : List ℕ). 0 < length s) (λ s. starts_with nat_eq text s) symbols s symbols_some e in
     (f.0, sym ((bytes_eq-Decides s (take (length s) text)).0 f.1))
 
--- what each has, the one at a place has
+-- if all elements have a property, so has the element at a place
 at_place : {A : Type 0} (Q : A → Type 0) (xs : List A) (k : ℕ) (x : A) → AllByRecursion Q xs → k < length xs → get_or xs k x ≡ x → Q x
 at_place Q [] k x each lt e = absurd (omega arith)
 at_place Q (y ∷ ys) zero x each lt e = subst Q e each.0
@@ -132,7 +132,7 @@ symbol_contained text s e = contained (λ s. starts_with nat_eq text s) symbols 
 
 -- ---- a name or a number at the front of the bytes of a symbol
 
--- two ways to cut a text begin alike
+-- two lists with the same bytes have the same first byte
 same_byte : (a b : ℕ) (x y : List ℕ) → a ∷ x ≡ b ∷ y → a ≡ b
 same_byte a b x y e = ap (λ (t : List ℕ). get_or t 0 0) e
 
@@ -142,7 +142,7 @@ same_second a b c d x y e = ap (λ (t : List ℕ). get_or t 1 0) e
 pub name_bytes : (bytes : List ℕ) → is_name bytes ≡ true → (is_name_start (slice_index bytes 0) ≡ true) × (list_all is_name_byte bytes ≡ true)
 name_bytes bytes h = and_parts (is_name_start (slice_index bytes 0)) (list_all is_name_byte bytes) h
 
--- a name is no longer than a symbol there
+-- a name at the front is not longer than a symbol at the front
 name_in_symbol : (n z x y : List ℕ) → n ++ x ≡ z ++ y → is_name n ≡ true → begins_no_name z ≡ true → length n ≤ length z
 name_in_symbol [] z x y e h other = omega arith
 name_in_symbol (a ∷ []) [] x y e h other = absurd (false≢true other)
@@ -183,7 +183,7 @@ number_some : (bytes : List ℕ) (value : Option ℕ) → IsToken bytes (number 
 number_some [] value h = absurd (false≢true (number_first [] value h))
 number_some (b ∷ bs) value h = omega arith
 
--- ---- the token that is taken, by what is at the front
+-- ---- the token that is taken, by the bytes at the front
 
 whole_of : (text s : List ℕ) → take (length s) text ≡ s → text ≡ s ++ drop (length s) text
 whole_of text s h = sym (take-append-drop (length s) text) ∙ ap (λ (t : List ℕ). t ++ drop (length s) text) h

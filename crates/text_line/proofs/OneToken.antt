@@ -1,4 +1,4 @@
--- Bytes are one token at most, so that a text begins with one.
+-- Bytes are at most one token, and a text has at most one longest token at its front.
 use Rattle.std.proofs.Common.{◌≡◌, ℕ, Bool, true, false, not, ◌&&◌, cond, List, [], ◌∷◌, ◌++◌, length, take, drop, Option, Some, None, option_map, refl, sym, ap, ◌∙◌, arith, subst, inl, inr}
 use Rattle.std.specs.Prelude.{codes, slice_index}
 use Rattle.std.specs.List.{list_all, Contains}
@@ -74,7 +74,7 @@ same_begin text t u r s h k =
     let same = same_front_bytes text h.bytes k.bytes r s h.parts k.parts n in
     (one_token k.bytes t u (subst (λ (bytes : List ℕ). IsToken bytes t) same.0 h.is_token) k.is_token, same.1)
 
--- ---- if there is a token, one is taken
+-- ---- if a text begins with a token, `token_at` finds it
 
 record IsBare (text : List ℕ) : Type 0 where
   symbol_none : symbol_at text ≡ None

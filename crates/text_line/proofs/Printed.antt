@@ -76,7 +76,7 @@ register_word _ _ fits = refl
 
 -- ---- parts of a line
 
--- what follows is apart, and prolongs no word
+-- the rest of the layout is apart and prolongs no word
 abbrev Follows : TokenLayout → Type 0
 Follows rest = (ends_word rest ≡ true) × IsApart rest
 
@@ -104,7 +104,7 @@ operand_apart : (wide : Bool) (src : Operand) (rest : TokenLayout) → IsOperand
 operand_apart wide (Imm z) rest fits h = constant_apart z rest (fits_32 z fits) h
 operand_apart wide (Reg r) rest fits h = register_apart wide r rest fits h
 
--- a sign, the number, and what follows
+-- a sign, a number, and the rest
 signed_apart : (z : ℤ) (rest : TokenLayout) → Fits z → Follows rest → IsApart (sign (sign_name (number_of z).negative) ∷ Some (number (number_of z).magnitude) ∷ rest)
 signed_apart (pos n) rest fits h = (refl, refl, (fits, h.0, h.1))
 signed_apart (negsuc n) rest fits h = (refl, refl, (fits, h.0, h.1))

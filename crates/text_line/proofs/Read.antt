@@ -1,4 +1,4 @@
--- What a line is read as.
+-- A line has at most one reading.
 use Rattle.std.proofs.Common.{◌≡◌, ℕ, true, eqb, List, [], ◌∷◌, ◌++◌, length, take, drop, Option, Some, None, refl, sym, ap, ◌∙◌, arith, inl, inr, subst}
 use Rattle.std.specs.Prelude.{codes, nat_eq}
 use Rattle.std.specs.List.{starts_with}
@@ -41,7 +41,7 @@ over_none text e =
     length_zero [] h = refl
     length_zero (b ∷ bs) h = absurd (omega arith)
 
--- a line has one list of tokens
+-- a line has at most one list of tokens
 pub same_tokens : (text : List ℕ) (ts us : List Token) → HasTokens text ts → HasTokens text us → ts ≡ us
 same_tokens text [] [] h k = refl
 same_tokens text [] (u ∷ us) h k = absurd (none_front u k.0 (token_at (skip_blanks text)) (found (skip_blanks text) u k.0 k.1) (over_none (skip_blanks text) h))
@@ -63,7 +63,7 @@ read_as bytes ts None h e = λ line read.
 pub read_none : (bytes : List ℕ) → ((ts : List Token) → ¬ IsTokens bytes ts) → ReadAs bytes None
 read_none bytes none = λ line read. none (spelled line) read.1
 
--- a line is read in one way
+-- a line has at most one reading
 pub same_line : (bytes : List ℕ) (a b : Option Line) → ReadAs bytes a → ReadAs bytes b → a ≡ b
 same_line bytes None None h k = refl
 same_line bytes None (Some b) h k = absurd (h b k)

@@ -1,4 +1,4 @@
--- What is spelled is read so.
+-- Completeness of the parser: the spelling of a line is read as this line.
 use Rattle.std.proofs.Common.{◌≡◌, ℕ, suc, ◌≤◌, Bool, true, false, List, [], ◌∷◌, Option, Some, None, refl, sym, ap, arith}
 use Rattle.std.specs.Prelude.{codes, IsTrue, ◌||◌, ◌&&◌, not}
 use Rattle.std.specs.Str.{bytes_eq}
@@ -156,7 +156,7 @@ map_value_read : (dst : ℕ) (n : Number) (v : Option ℕ) → parsed_special_mo
 unfolding parsed_special_move parsed_wide_move parsed_map_value after_symbol after_word
 map_value_read dst n v = rw (constant_read n (space ∷ sign (codes "+") ∷ space ∷ Some (number v) ∷ space ∷ word (codes "ll") ∷ [])) refl
 
--- ---- what is assigned
+-- ---- assignments
 
 alu_read : (wide : Bool) (op : AluOp) (dst : ℕ) (src : SourceOperand) → IsSource src → parsed_assignment wide dst (symbol (alu_symbol op) ∷ tokens_of (operand_layout wide src [])) ≡ Some (form.Alu wide op dst src)
 unfolding parsed_assignment parsed_alu
@@ -205,7 +205,7 @@ no_label_destination w (target.Number m) n =
     ]
 no_label_destination w target.Label n = refl
 
--- a register and what is assigned to it
+-- an assignment to a register
 line_from_register : (wide : Bool) (r : ℕ) (s : List ℕ) (ts : List Token) {f : Form} {n : List ℕ} → r ≤ 10 → bytes_eq s (codes ":") ≡ false → n ≡ [] → parsed_assignment wide r (symbol s ∷ ts) ≡ Some f → line_of (name (register_name wide r) ∷ symbol s ∷ ts) ≡ Some (code f n)
 unfolding line_of parsed_label parsed_form parsed_assigned after_symbol after_word
 line_from_register true r s ts fits colon none e = rw (colon, named_register true r fits, e, none) refl
@@ -243,7 +243,7 @@ code_read (form.MapValue dst fd off) n fits none =
     let ts : List Token = tokens_of (constant fd (space ∷ sign (codes "+") ∷ space ∷ Some (number off) ∷ space ∷ word (codes "ll") ∷ [])) in
     line_from_move true dst (name (codes "map_value") ∷ ts) fits none (no_alu_name true Mov dst (codes "map_value") ts refl) (map_value_read dst fd off)
 
--- What is spelled is read so.
+-- the spelling of a well-formed line is read as this line
 pub line_read : (line : Line) → IsWellFormed line → line_of (spelled line) ≡ Some line
 unfolding line_of parsed_label after_symbol
 line_read blank h = refl

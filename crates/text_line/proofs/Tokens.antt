@@ -20,7 +20,7 @@ use Rattle.text_line.specs.inside.Tokens.{symbol_at, token_at}
 use Rattle.text_line.proofs.Longest.{symbol_is, taken}
 use Rattle.text_line.proofs.OneToken.{found}
 
--- skipping blanks is leaving out the run of them
+-- `skip_blanks` leaves out the longest front of blanks
 pub skip_blanks-run : (bs : List ℕ) → drop (prefix_len is_blank bs) bs ≡ skip_blanks bs
 skip_blanks-run [] = refl
 skip_blanks-run (b ∷ bs) =
@@ -103,7 +103,7 @@ no_digit Name radix d h = d
 no_digit Digit radix d h = false≢true h
 no_digit HexDigit radix d h = false≢true h
 
--- what the digits of a class give when they are parsed
+-- the value of the digits of a class when they are parsed
 pub value_is : {E : Type 0} (class : ByteClass) (radix : ℕ) (text digits : List ℕ) (r : Result ℕ E) → IsDigits class radix → in_class class (get_or text 0 0) ≡ true → digits ≡ take (prefix_len (in_class class) text) text → ParsesUnsigned 64 radix digits r → result_ok r ≡ value_of (digits_value radix (take (prefix_len (in_class class) text) text))
 value_is class radix [] digits r d first e h = absurd (no_digit class radix d first)
 value_is class radix (b ∷ bs) digits r d first e h =
@@ -125,19 +125,19 @@ same_front t u r s o e f = (ap (λ (x : Option (Token × List ℕ)). option_map_
 pub none_front : (t : Token) (r : List ℕ) (o : Option (Token × List ℕ)) → o ≡ Some (t, r) → o ≡ None → ⊥
 none_front t r o e f = cc
 
--- the tokens begin with the one at the front
+-- the first token of the list is the one at the front
 pub first_is : (text : List ℕ) (t : Token) (rest : List ℕ) (ts : List Token) → is_over (skip_blanks text) ≡ false → token_at (skip_blanks text) ≡ Some (t, rest) → HasTokens text ts → (us : List Token) × (ts ≡ t ∷ us) × HasTokens rest us
 first_is text t rest [] some at_front h = absurd (false≢true (sym some ∙ h))
 first_is text t rest (u ∷ us) some at_front h =
     let same = same_front u t h.0 rest (token_at (skip_blanks text)) (found (skip_blanks text) u h.0 h.1) at_front in
     (us, ap (λ (x : Token). x ∷ us) same.0, subst (λ (r : List ℕ). HasTokens r us) same.1 h.2)
 
--- if there is no token, and more than a comment, there are no tokens
+-- if a text is more than a comment and no token is at its front, it has no list of tokens
 pub no_tokens : (text : List ℕ) (ts : List Token) → is_over (skip_blanks text) ≡ false → token_at (skip_blanks text) ≡ None → HasTokens text ts → ⊥
 no_tokens text [] some none h = false≢true (sym some ∙ h)
 no_tokens text (t ∷ ts) some none h = none_front t h.0 (token_at (skip_blanks text)) (found (skip_blanks text) t h.0 h.1) none
 
--- one more token
+-- a list with one more token
 abbrev pub Whole : List ℕ → List ℕ → List Token → Type 0
 Whole line rest before = (ts : List Token) → HasTokens rest ts → HasTokens line (before ++ ts)
 

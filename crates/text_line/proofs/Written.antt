@@ -1,4 +1,4 @@
--- Instructions as they are written.
+-- The written form of instructions.
 use Rattle.std.proofs.Common.{◌≡◌, ℕ, zero, suc, Bool, true, false, ◌&&◌, ◌||◌, not, ℤ, pos, negsuc, Option, Some, None, IsTrue, refl, sym, ap, ◌∙◌}
 use Rattle.std.proofs.Props.{props}
 use Rattle.words.specs.declared.operator.ExtendedBits.{ExtendedBits}
@@ -21,7 +21,7 @@ use Rattle.text_line.specs.declared.form.Form.TheVariants as form
 use Rattle.text_line.specs.Written.{number_of, source_of, written}
 use Rattle.text_line.specs.Law.{OneInsn}
 
--- ---- an instruction is read back from how it is written
+-- ---- an instruction is read back from its written form
 
 integer : Bool → Option ℕ → ℤ
 integer negative None = pos 0

@@ -1,4 +1,4 @@
--- What private contracts and proofs cite. No public contract names it.
+-- Definitions for private contracts and proofs. No public contract names them.
 pub mod Class
 pub mod Tokens
 pub mod Reading

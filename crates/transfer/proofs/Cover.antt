@@ -1,4 +1,4 @@
--- Each instruction is covered.
+-- Each instruction is covered: its step exists, and the facts on the edge that it takes admit the next state.
 use Rattle.std.proofs.Common.{◌≡◌, ℕ, length, ◌+◌, ◌<◌, ◌≤ℤ◌, ℤ, pos, ◌+ℤ◌, Bool, true, false, Option, Some, None, Result, Ok, Err, if◌then◌else◌, refl, sym, ap, subst, ◌∙◌, arith}
 use Rattle.std.specs.Option.{IsSome, unwrap_or}
 use Rattle.std.proofs.lemmas.Int.{ints}
@@ -49,7 +49,7 @@ use Rattle.transfer.proofs.Values.{Results, by_number, number_agrees, arithmetic
 use Rattle.transfer.proofs.Memory.{Accesses, IsStored, load_agrees, store_agrees, changed_agrees}
 use Rattle.transfer.proofs.Jumps.{Comparisons, jump_covered, branch_covered}
 
--- the laws that the steps stand on
+-- the premises of the steps
 pub record Laws : Type 0 where
   pub results : Results
   pub comparisons : Comparisons
@@ -59,15 +59,15 @@ pub record Laws : Type 0 where
   pub site : SiteAdmits
 
 module _ (laws : Laws) (here : Here) (refused : Bool) (f : Facts) (s : RunState) (is_known : IsKnown here f s) (below : AreBelow s.at f) where
-  -- the slot to which a jump leads
+  -- the target slot of a jump
   abbrev target_of : View → Option ℕ
   target_of v = natural (pos (s.at + 1) +ℤ offset_by (profile_of v).successors)
 
-  -- the edge that an instruction of this many slots takes, by whether it jumps
+  -- the edge that an instruction of this many slots takes: the jump's, or the one to the next instruction
   abbrev OnTaken : View → ℕ → Bool → Edges → RunState → Type 0
   OnTaken v slots jumps = TakenEdgeAdmits jumps here.shapes (s.at + slots) (target_of v)
 
-  -- the instruction, where the facts let it be run
+  -- if the facts permit the instruction, it is covered
   abbrev CoveredBy : View → ℕ → Type 0
   CoveredBy v slots = IsCoveredIf (OnTaken v slots (jumps_in v s)) (effect_of here.shapes s.at v f) (act_of refused v s)
 
@@ -86,9 +86,9 @@ module _ (laws : Laws) (here : Here) (refused : Bool) (f : Facts) (s : RunState)
   operand_covered : (On : Edges → RunState → Type 0) (wide : Bool) (src : Operand) (go : Kind → Result Edges Reason) (on : Tagged → Step) → ((k : Kind) (v : Tagged) → IsFound here (operand_value s wide src) k v → IsCoveredIf On (go k) (on v)) → IsCoveredIf On (and_then_ok (check_readable (source_kind f wide src)) go) (or_fault (operand_value s wide src) on)
   operand_covered On wide src go on next = then_covered On (IsFound here (operand_value s wide src)) _ _ go on (source_found here is_known wide src) next
 
-  -- ---- what is left in a register
+  -- ---- results in a register
 
-  -- from an operand to a value, and to the register
+  -- from an operand to its value, and then to a register
   left_in : (dst : ℕ) (r : Result Kind Reason) (o : Option Tagged) → Gives here r o → IsCoveredIf Next (assigns f dst r) (or_fault o (assigned 1 s dst))
   left_in dst r o h = then_covered Next (IsKindOf here) r o (λ k. falls (with_kind f dst k)) (assigned 1 s dst) h (λ k v is. assigned_covered here 1 dst is_known is)
 
@@ -120,7 +120,7 @@ module _ (laws : Laws) (here : Here) (refused : Bool) (f : Facts) (s : RunState)
 
   -- ---- jumps, and the end
 
-  -- a conditional jump jumps where its comparison of the values holds
+  -- a conditional jump is taken if its comparison of the values holds
   jumps_if_compared : (wide : Bool) (cond : Condition) (dst : ℕ) (src : Operand) (off : ℤ) (v w : Tagged) → s.registers dst ≡ Some v → operand_value s wide src ≡ Some w → jumps_in (branch wide cond dst src off) s ≡ unwrap_or (compared wide cond src v w) false
   jumps_if_compared wide cond dst src off v w first second =
       ap (λ o. unwrap_or (and_then o (λ a. and_then (operand_value s wide src) (compared wide cond src a))) false) first ∙ ap (λ o. unwrap_or (and_then o (compared wide cond src v)) false) second
@@ -151,7 +151,7 @@ module _ (laws : Laws) (here : Here) (refused : Bool) (f : Facts) (s : RunState)
       subst (λ o. IsCoveredIf (OnFalling here (s.at + 2)) (assigns f dst (Ok (kind.MapRef m))) (or_fault o (λ t. assigned 2 s dst (Map m)))) (sym h.1)
       (assigned_covered here {k = kind.MapRef m} {v = Map m} 2 dst is_known (record { is = refl; words = tt }))
 
-  -- a load of a direct value, where the witness has the number of objects of each map
+  -- a load of a direct value, if the witness has the number of objects of each map
   value_covered : (dst m offset : ℕ) (o : Option MapShape) → here.shapes m ≡ o → IsCoveredIf (OnFalling here (s.at + 2)) (assigns f dst (value_of m offset o)) (or_fault (s.maps m) (λ t. or_fault (direct_object t.table offset) (λ number. assigned 2 s dst (Pointer (object.Value m number) (pos offset)))))
   unfolding value_of
   value_covered dst m offset None e = tt
@@ -183,7 +183,7 @@ module _ (laws : Laws) (here : Here) (refused : Bool) (f : Facts) (s : RunState)
   helper_covered None = tt
   helper_covered (Some h) = called_covered h
 
-  -- ---- all
+  -- ---- all instructions
 
   wide_covered : (dst : ℕ) (value : WideValue) → IsView (wide_load dst value) → Covered (wide_load dst value)
   wide_covered dst (immediate n) is = assigned_covered here 2 dst is_known (constant_of here n is)

@@ -1,4 +1,4 @@
--- Calls: where facts let one go ahead, the machine has one, and what it leaves is as they tell.
+-- Calls: if the facts permit a call, the machine has a result, and the facts after the call admit its state.
 use Rattle.std.proofs.Common.{◌≡◌, ℕ, ◌+◌, ◌-◌, ◌%◌, ◌<◌, ◌≤◌, ◌^◌, ◌==◌, leb, ℤ, pos, ◌≤ℤ◌, Bool, true, false, ◌||◌, List, length, replicate, inl, inr, eq-eqb, drop, Option, Some, None, Result, Ok, Err, refl, sym, ap, subst, ◌∙◌, arith}
 use Rattle.std.proofs.lemmas.Bool.{cond_both, cond-true, cond-false, and_parts, eqb-false, leb-true, ne_eqb}
 use Rattle.std.proofs.lemmas.Int.{ints}
@@ -41,19 +41,19 @@ use Rattle.transfer.specs.Sound.{CallIsAdmitted, CallsAreSound}
 use Rattle.transfer.proofs.Rooms.{owned, room_here}
 use Rattle.transfer.proofs.Parts.{Agree, by_law, refused, same_ok, still_noted, IsReadable}
 
--- ---- going together
+-- ---- steps in sequence
 
 also_agree : {A B C D : Type 0} (P : A → B → Type 0) (Q : C → D → Type 0) (r : Result A Reason) (o : Option B) (go : A → Result C Reason) (on : B → Option D) → Agree P r o → ((x : A) (y : B) → P x y → Agree Q (go x) (on y)) → Agree Q (and_then_ok r go) (and_then o on)
 also_agree P Q (Err e) o go on h further = tt
 also_agree P Q (Ok x) None go on h further = absurd h
 also_agree P Q (Ok x) (Some y) go on h further = further x y h
 
--- what may be read, without a step of the machine
+-- the facts test whether a register is readable; the machine has no such step
 readable_agree : {C D : Type 0} (Q : C → D → Type 0) (k : Kind) (go : Kind → Result C Reason) (o : Option D) → (IsReadable k → Agree Q (go k) o) → Agree Q (and_then_ok (check_readable k) go) o
 readable_agree Q kind.Unreadable go o h = tt
 readable_agree Q k go o h = h tt
 
--- of an argument, by its value
+-- an argument by its value
 at_argument : {A B : Type 0} (Q : A → B → Type 0) (r : Result A Reason) (s : RunState) (n : ℕ) (on : Tagged → Option B) (v w : Tagged) → s.registers n ≡ Some v → v ≡ w → Agree Q r (on w) → Agree Q r (argument s n on)
 at_argument Q r s n on v w e same h = subst (λ o. Agree Q r (and_then o on)) (sym (e ∙ ap (λ (x : Tagged). Some x) same)) h
 
@@ -62,7 +62,7 @@ from_agree P (Err e) o x h q = absurd (refused e x q)
 from_agree P (Ok y) None x h q = absurd h
 from_agree P (Ok y) (Some z) x h q = let same : y ≡ x = cc in (z, refl, subst (λ a. P a z) same h)
 
--- the laws that calls stand on
+-- the premises of the calls
 pub record Laws : Type 0 where
   pub stack_input : StackInputAdmits
   pub stack_output : StackOutputAdmits
@@ -76,7 +76,7 @@ pub record Laws : Type 0 where
 any_is : (witness : Witness) (n : ℕ) → n < 2 ^ 64 → IsOfKind witness any_number (Scalar n)
 any_is witness n h = (n, refl, record { from = omega arith; to = omega arith }, h)
 
--- ---- answers are words
+-- ---- results are words
 
 fault_small : (fault : MapFault) → negative (errno fault) < 2 ^ 64
 fault_small NoEntry = omega arith
@@ -154,7 +154,7 @@ module _ (laws : Laws) {witness : Witness} {shapes : Shapes} {f : Facts} {s : Ru
       (value_found p n v.0 v.1 (shapes p.map) refl v.3 v.4 v.5)
   input_agrees n r k _ h = tt
 
-  -- an input of the size that the map has
+  -- an input of the map's key or value size
   sized_agrees : (n m r : ℕ) (k : Kind) → n ≡ m → IsReadable k → HasKind witness k (s.registers r) → Agree (AreRead n) (input_kind shapes f n k) (argument s r (λ p. input s p m))
   sized_agrees n m r k e read h = subst (λ x. Agree (AreRead n) (input_kind shapes f n k) (argument s r (λ p. input s p x))) e (input_agrees n r k read h)
 
@@ -186,7 +186,7 @@ module _ (laws : Laws) {witness : Witness} {shapes : Shapes} {f : Facts} {s : Ru
   context_agrees r kind.Ctx _ h = at_argument Anything (Ok tt) s r context_given h.0 (Pointer object.Context (pos 0)) h.1 h.2 tt
   context_agrees r k _ h = tt
 
-  -- ---- what is written
+  -- ---- bytes that a helper writes
 
   record IsFilled (bs : List ℕ) (g : Facts) (u : RunState) : Type 0 where
     known : Describes witness g shapes u
@@ -248,7 +248,7 @@ module _ (laws : Laws) {witness : Witness} {shapes : Shapes} {f : Facts} {s : Ru
           at = refl;
         }
 
-    -- a map that has changed
+    -- the state with a changed map
     replied : (x : ShapedMap) (g : GivenMap) (reply : MapReply) → IsMap x g → KeepsShape x.shape g.map reply.map → reply.answer < 2 ^ 64 → CallIsAdmitted (called_facts f any_number) shapes s (replies s g.descriptor reply)
     replied x g reply is keeps small =
         let changed = with_map s g.descriptor reply.map in
@@ -274,14 +274,14 @@ module _ (laws : Laws) {witness : Witness} {shapes : Shapes} {f : Facts} {s : Ru
     abbrev Read : ℕ → Type 0
     Read r = IsReadable (kind_at f r)
 
-    -- the machine takes no step for what the facts read
+    -- the facts test whether registers are readable; the machine has no such step
     two_read : (go : Kind → Kind → Result Facts Reason) (o : Option RunState) → (Read 1 → Read 2 → Agree IsAdmitted (go (kind_at f 1) (kind_at f 2)) o) → Agree IsAdmitted (readable_two f go) o
     two_read go o h = readable_agree IsAdmitted (kind_at f 1) _ o (λ r1. readable_agree IsAdmitted (kind_at f 2) _ o (h r1))
 
     four_read : (go : Kind → Kind → Kind → Kind → Result Facts Reason) (o : Option RunState) → (Read 1 → Read 2 → Read 3 → Read 4 → Agree IsAdmitted (go (kind_at f 1) (kind_at f 2) (kind_at f 3) (kind_at f 4)) o) → Agree IsAdmitted (readable_four f go) o
     four_read go o h = two_read _ o (λ r1 r2. readable_agree IsAdmitted (kind_at f 3) _ o (λ r3. readable_agree IsAdmitted (kind_at f 4) _ o (h r1 r2 r3)))
 
-    -- a map, and a key of it
+    -- a map and one of its keys
     key_given : (go : ShapedMap → Result Facts Reason) (on : GivenMap → List ℕ → Option RunState) → Read 1 → Read 2 → ((x : ShapedMap) (g : GivenMap) (key : List ℕ) → IsMap x g → Agree IsAdmitted (go x) (on g key))
         → Agree IsAdmitted (and_then_ok (map_kind shapes (kind_at f 1)) (λ x. and_then_ok (input_kind shapes f x.shape.key_size (kind_at f 2)) (λ _. go x))) (and_then (map_argument s 1) (λ g. and_then (argument s 2 (λ p. input s p g.map.table.shape.key_size)) (on g)))
     key_given go on r1 r2 next =

@@ -38,7 +38,7 @@ use Rattle.transfer.proofs.States.{scalar_of, known_more, goes_to}
 use Rattle.transfer.proofs.Values.{by_number}
 use Rattle.transfer.proofs.Words.{settled_words}
 
--- laws of comparisons of words, and of tests of look-ups
+-- the laws of comparisons of words and of null tests of look-ups
 pub record Comparisons : Type 0 where
   pub members : AtBothWidths EdgesKeepMembers
   pub words : AtBothWidths EdgesAreWords
@@ -46,7 +46,7 @@ pub record Comparisons : Type 0 where
 
 -- ---- one edge
 
--- the edge is there, and its facts hold of the state
+-- the edge has facts, and these hold of the state
 abbrev IsKnownOn : Here → Option Facts → RunState → Type 0
 IsKnownOn here None s = ⊥
 IsKnownOn here (Some f) s = IsKnown here f s
@@ -63,11 +63,11 @@ module _ {here : Here} (laws : Comparisons) {f : Facts} {s : RunState} (known : 
   abbrev Target : Option ℕ
   Target = natural (pos (s.at + 1) +ℤ off)
 
-  -- the state after the jump, or after none, is on the edge that is taken
+  -- the facts on the edge that is taken admit the state after the jump
   abbrev Covered : Edges → Bool → Type 0
   Covered e taken = IsCovered (TakenEdgeAdmits taken here.shapes (s.at + 1) Target) e (branched s off taken)
 
-  -- where the facts let the jump be run
+  -- the same, if the facts permit the jump
   abbrev CoveredIf : Result Edges Reason → Option Bool → Type 0
   CoveredIf r o = IsCoveredIf (TakenEdgeAdmits (unwrap_or o false) here.shapes (s.at + 1) Target) r (or_fault o (branched s off))
 
@@ -104,7 +104,7 @@ module _ {here : Here} (laws : Comparisons) {f : Facts} {s : RunState} (known : 
   tested true e taken h = h
   tested false e taken h = tt
 
-  -- on the edge that a value takes which is not null
+  -- a pointer that is not null takes the edge of `value`
   value_covered : (taken : Bool) (null value : Option Facts) → IsKnownOn here value s → Covered (null_edges (not taken) null value) taken
   value_covered true null value h = by_edges (null_edges false null value) true (λ _. h) (λ e. absurd (false≢true (sym e)))
   value_covered false null value h = by_edges (null_edges true null value) false (λ e. absurd (false≢true e)) (λ _. h)
@@ -119,7 +119,7 @@ module _ {here : Here} (laws : Comparisons) {f : Facts} {s : RunState} (known : 
   zero_of : (z : ℤ) (w : Tagged) → int_eq z (pos 0) ≡ true → Some (Scalar (unsigned 64 z)) ≡ Some w → w ≡ Scalar 0
   zero_of z w t e = sym (same_Some _ _ e) ∙ ap (λ z. Scalar (unsigned 64 z)) ((Decides-int_eq z (pos 0)).0 t)
 
-  -- the edges of a test for null
+  -- the edges of a null test
   abbrev edges_if : Bool → Condition → Operand → Edges → Result Edges Reason
   edges_if wide cond src e = if is_null_test wide cond src then Ok e else Err PointerComparison
 
@@ -142,7 +142,7 @@ module _ {here : Here} (laws : Comparisons) {f : Facts} {s : RunState} (known : 
     abbrev Holds : Kind → Kind → Tagged → Tagged → Type 0
     Holds k l v w = CoveredIf (branch_edges wide cond f dst src k l) (compared wide cond src v w)
 
-    -- a test of what is not null, with the facts of where it is null, and of where it is not
+    -- a null test of a pointer that is not null
     pointer_covered : (null value : Option Facts) → IsKnownOn here value s → CoveredIf (edges_if wide cond src (null_edges (not (holds_of_pointers cond)) null value)) (if is_null_test wide cond src then Some (holds_of_pointers cond) else None)
     pointer_covered null value h =
         let taken = holds_of_pointers cond in tested (is_null_test wide cond src) (null_edges (not taken) null value) taken (value_covered taken null value h)

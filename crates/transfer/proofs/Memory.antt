@@ -1,4 +1,4 @@
--- Loads and stores: where facts let one go ahead, the machine does it, and what it leaves is as they tell.
+-- Loads and stores: if the facts permit one, the machine has a result, and the facts after it admit its state.
 use Rattle.std.proofs.Common.{◌≡◌, ℕ, ◌*◌, ◌/◌, ◌%◌, ◌<◌, ◌^◌, ◌==◌, ℤ, pos, negsuc, ◌+ℤ◌, ◌≤ℤ◌, Bool, true, false, ◌&&◌, length, get_or, Option, Some, None, Result, Ok, Err, refl, sym, ap, subst, ◌∙◌, arith, inl, inr}
 use Rattle.std.specs.Prelude.{◌≢◌, ◌⊎◌, if◌then◌else◌, nat_lt, slice_get, unsigned_abs}
 use Rattle.std.specs.Option.{option_map}
@@ -47,7 +47,7 @@ use Rattle.transfer.proofs.Words.{loaded_words, read_words, written_words}
 from_zero : (z : ℤ) → z ≡ pos 0 +ℤ z
 from_zero z = omega (arith, ints)
 
--- the laws of loads and stores
+-- the premises of loads and stores
 pub record Accesses : Type 0 where
   pub reads : StackReadAdmits
   pub writes : StackWriteAdmits
@@ -58,13 +58,13 @@ given_ok : {B : Type 0} (r : Result (Unit {0}) Reason) (x y : B) → and_then_ok
 given_ok (Ok u) x y e = (refl, cc)
 given_ok (Err reason) x y e = absurd (refused reason y e)
 
--- one after the other
+-- two steps in sequence
 then_agree : {A B C D : Type 0} (P : A → B → Type 0) (Q : C → D → Type 0) (r : Result A Reason) (o : Option B) (go : A → Result C Reason) (on : B → Option D) → Agree P r o → ((x : A) (y : B) → P x y → Agree Q (go x) (on y)) → Agree Q (and_then_ok r go) (and_then o on)
 then_agree P Q (Err e) o go on h further = tt
 then_agree P Q (Ok x) None go on h further = absurd h
 then_agree P Q (Ok x) (Some y) go on h further = further x y h
 
--- where nothing can be done, the facts say so
+-- if the machine has no result, the facts reject the instruction
 none_agrees : {A B C D : Type 0} (P : A → B → Type 0) (Q : C → D → Type 0) (r : Result A Reason) (go : A → Result C Reason) → Agree P r None → Agree Q (and_then_ok r go) None
 none_agrees P Q (Err e) go h = tt
 none_agrees P Q (Ok x) go h = absurd h
@@ -102,7 +102,7 @@ unaligned_place y size not_multiple = no_place (is_in_stack y (bytes_of size)) (
     no_place true aligned p e = ap (λ b. if b then Some p else None) e
     no_place false aligned p e = refl
 
--- what is known after a store, which does not go on by itself
+-- the facts after a store admit the state, which is still at the same slot
 pub record IsStored (here : Here) (s : RunState) (g : Facts) (t : RunState) : Type 0 where
   pub known : IsKnown here g t
   pub at : t.at ≡ s.at
@@ -160,7 +160,7 @@ module _ {here : Here} {f : Facts} {s : RunState} (known : IsKnown here f s) whe
 
   -- ---- stores
 
-  -- a store into the stack changes neither the slot nor the maps
+  -- a store to the stack changes neither the slot nor the maps
   abbrev Stays : RunState → Type 0
   Stays t = (t.at ≡ s.at) × HasMaps here.shapes t
 
@@ -195,7 +195,7 @@ module _ {here : Here} {f : Facts} {s : RunState} (known : IsKnown here f s) whe
       let h = law here.witness f here.shapes s p.map number shape (x +ℤ off) size n still (owned still p.map number shape e lt) room.low room.high in
       (h.0, h.1, subst (λ g. IsStored here s g h.0) c.1 (record { known = record { admits = h.2.admits; words = known.words; proper = h.2.proper; maps = h.2.maps }; at = h.3 })))
 
-  -- a number is stored, and nothing else
+  -- a number is stored; other values are rejected
   outside_agrees : ValueStoreAdmits → (size : AccessSize) (off : ℤ) (p : ValuePointer) (number : ℕ) (x : ℤ) (l : Kind) (v : Tagged) → IsKindOf here l v → IsReadable l → p.lo ≤ℤ x → x ≤ℤ p.hi → number < here.witness.objects p.map
       → Agree (IsStored here s) (and_then_ok (room_of p off (bytes_of size) (here.shapes p.map)) (λ _. stored_outside f l)) (object_stored s size p.map number (x +ℤ off) v)
   outside_agrees law size off p number x kind.Unreadable v is r from to lt = absurd r
@@ -217,12 +217,12 @@ module _ {here : Here} {f : Facts} {s : RunState} (known : IsKnown here f s) whe
 
   -- ---- atomic operations
 
-  -- with a number that is given
+  -- the operand is a number
   module _ (laws : Accesses) (results : Results) (wide : Bool) (op : Operator) (size : AccessSize) (b : Range) (w : Tagged) (given : IsKindOf here (kind.Scalar b) w) where
     abbrev made_from : (Tagged → Option RunState) → Tagged → Option RunState
     made_from put old = and_then (of_numbers wide op old w) put
 
-    -- where a number is loaded, one can be stored
+    -- if a number is loaded, the result is a number, which can be stored
     number_agrees : (a : Range) (old : Tagged) (r : Result Facts Reason) (put : Tagged → Option RunState) → IsKindOf here (kind.Scalar a) old → ((n : ℕ) → IsKindOf here any_number (Scalar n) → Agree (IsStored here s) r (put (Scalar n)))
         → Agree (IsStored here s) r (made_from put old)
     number_agrees a old r put is stores =
@@ -259,7 +259,7 @@ module _ {here : Here} {f : Facts} {s : RunState} (known : IsKnown here f s) whe
             number_agrees (full (8 * bytes_of size)) old (Ok f) put is
             (λ n _. subst (λ q. Agree (IsStored here s) (and_then_ok q (λ _. Ok f)) (put (Scalar n))) r (value_store_agrees laws.stores size off p number x n o e from to lt))
 
-        -- a pointer with one offset has it
+        -- a pointer with one known offset is aligned if this offset is
         aligned : is_known_multiple p off size ≡ true → is_multiple (x +ℤ off) (bytes_of size) ≡ true
         aligned h =
             let (one, multiple) = and_parts (int_eq p.lo p.hi) (is_multiple (p.lo +ℤ off) (bytes_of size)) h in

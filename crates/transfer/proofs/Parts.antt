@@ -1,4 +1,4 @@
--- What facts answer and what the machine does go together, one operator after the other.
+-- Results of the facts agree with results of the machine, operator by operator.
 use Rattle.std.proofs.Common.{◌≡◌, ℕ, ◌<◌, ◌^◌, Bool, true, false, Option, Some, None, Result, Ok, Err, refl, sym, subst}
 use Rattle.std.specs.Prelude.{◌||◌}
 use Rattle.words.specs.Widths.{width}
@@ -34,7 +34,7 @@ refused r y e = cc
 pub same_ok : {A : Type 0} (x y : A) → ◌≡◌ {A = Result A Reason} (Ok x) (Ok y) → x ≡ y
 same_ok x y e = cc
 
--- P holds of what is answered
+-- P holds of the value, if there is one
 abbrev pub OkIs : {A : Type 0} → (A → Type 0) → Result A Reason → Type 0
 OkIs P (Err r) = Unit {0}
 OkIs P (Ok x) = P x
@@ -47,24 +47,24 @@ pub ok_is : {A : Type 0} (P : A → Type 0) (r : Result A Reason) (x : A) → Ok
 ok_is P (Err e) x h q = absurd (refused e x q)
 ok_is P (Ok y) x h q = subst P (same_ok y x q) h
 
--- P holds of what is there
+-- P holds of the value, if there is one
 abbrev pub SomeIs : {A : Type 0} → (A → Type 0) → Option A → Type 0
 SomeIs P None = Unit {0}
 SomeIs P (Some x) = P x
 
--- ---- an answer of the facts, and what the machine finds: P holds of the two
+-- ---- agreement: if the facts have a result, the machine has one, and P holds of the two
 
 abbrev pub Agree : {A B : Type 0} → (A → B → Type 0) → Result A Reason → Option B → Type 0
 Agree P (Err r) o = Unit {0}
 Agree P (Ok x) None = ⊥
 Agree P (Ok x) (Some y) = P x y
 
--- from a law that starts from the answer
+-- agreement from a law that has the result of the facts as its premise
 pub by_law : {A B : Type 0} (P : A → B → Type 0) (r : Result A Reason) (o : Option B) → ((x : A) → r ≡ Ok x → (y : B) × (o ≡ Some y) × P x y) → Agree P r o
 by_law P (Err e) o h = tt
 by_law P (Ok x) o h = let found = h x refl in subst (Agree P (Ok x)) (sym found.1) found.2
 
--- ---- what holds where an instruction begins: the shapes of the maps, the witness, and the slot
+-- ---- the context of an instruction: the shapes of the maps, the witness, and the slot
 pub record Here : Type 0 where
   pub shapes : Shapes
   pub witness : Witness
@@ -72,12 +72,12 @@ pub record Here : Type 0 where
 
 -- ---- kinds of values
 
--- the value is of the kind, which speaks of words
+-- the value is of the kind, and the kind is well formed at the slot
 pub record IsKindOf (here : Here) (k : Kind) (v : Tagged) : Type 0 where
   pub is : IsOfKind here.witness k v
   pub words : IsKindAt here.slot k
 
--- if there is a kind, there is a value of it
+-- if the facts have a kind, the machine has a value of this kind
 abbrev pub Gives : Here → Result Kind Reason → Option Tagged → Type 0
 Gives here r o = Agree (IsKindOf here) r o
 
@@ -85,7 +85,7 @@ abbrev pub IsReadable : Kind → Type 0
 IsReadable kind.Unreadable = ⊥
 IsReadable k = Unit {0}
 
--- it was found there, and its kind may be read
+-- the machine has the value v of a readable kind
 pub record IsFound (here : Here) (o : Option Tagged) (k : Kind) (v : Tagged) : Type 0 where
   pub kind : IsKindOf here k v
   pub from : o ≡ Some v
@@ -93,7 +93,7 @@ pub record IsFound (here : Here) (o : Option Tagged) (k : Kind) (v : Tagged) : T
 
 -- ---- states
 
--- what is known of a state
+-- the facts are well formed and admit the state, which is in range and has the maps
 pub record IsKnown (here : Here) (f : Facts) (s : RunState) : Type 0 where
   pub admits : AdmitsBy here.witness f s
   pub words : AreWellFormedAt here.slot f
@@ -103,7 +103,7 @@ pub record IsKnown (here : Here) (f : Facts) (s : RunState) : Type 0 where
 pub still_of : {here : Here} {f : Facts} {s : RunState} → IsKnown here f s → Describes here.witness f here.shapes s
 still_of known = record { admits = known.admits; proper = known.proper; maps = known.maps }
 
--- all is known still at another slot, and where a refusal of memory is noted
+-- this still holds at another slot, and after a refusal of memory is noted
 module _ {witness : Witness} {f : Facts} {shapes : Shapes} {s : RunState} (still : Describes witness f shapes s) where
   still_after : (n : ℕ) (b : Bool) → Describes witness f shapes (record s { at = n; refused = b })
   still_after n b =
@@ -119,7 +119,7 @@ module _ {witness : Witness} {f : Facts} {shapes : Shapes} {s : RunState} (still
   pub still_noted : (b : Bool) → Describes witness f shapes (with_refusal s b)
   still_noted b = still_after s.at (s.refused || b)
 
--- ---- steps: the state after one is `On` an edge
+-- ---- steps: `On` relates the edges to the state after the step
 
 -- the edge to the next instruction
 abbrev pub OnFalling : Here → ℕ → Edges → RunState → Type 0
@@ -134,7 +134,7 @@ IsCovered On e (goes t) = On e t
 IsCovered On e (ends n) = n < 2 ^ 32
 IsCovered On e faults = ⊥
 
--- where the facts let it be run
+-- if the facts permit the step, it is covered
 abbrev pub IsCoveredIf : (Edges → RunState → Type 0) → Result Edges Reason → Step → Type 0
 IsCoveredIf On r step = OkIs (λ e. IsCovered On e step) r
 

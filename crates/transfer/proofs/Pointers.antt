@@ -29,9 +29,9 @@ abbrev pub shifted : Direction → ℤ → ℤ → ℤ
 shifted Forwards x d = x +ℤ d
 shifted Backwards x d = x -ℤ d
 
--- ---- how far a number of a range moves a pointer
+-- ---- the distance by which a number in a range moves a pointer
 
--- the number, read as signed, is one of those between the ends, and the least end is the least number
+-- the number, read as signed, is between the ends, and the lower end is the range's low end, read as signed
 record IsBetween (lo n : ℕ) (d : Distance) : Type 0 where
   from : d.0 ≤ℤ signed 64 n
   to : signed 64 n ≤ℤ d.1
@@ -57,7 +57,7 @@ distance_holds r n m =
     (λ e. high_between r.lo n r.hi m.from m.to (leb-true (2 ^ 63) r.lo e))
     (λ _. tt))
 
--- ---- what is near
+-- ---- offsets within the limit for pointers
 
 near_between : (x z y : ℤ) → is_near x ≡ true → is_near y ≡ true → x ≤ℤ z → z ≤ℤ y → is_near z ≡ true
 near_between x z y e f h g =
@@ -71,7 +71,7 @@ at_most_max a b z h = omega (arith, ints, clamps)
 
 -- ---- pointers into the stack, and into values
 
--- an offset, or a pointer, that may be too far, as a kind
+-- the kind of a pointer with this offset; rejected without one, since the offset exceeds the limit
 abbrev stack_kind : Option ℤ → Result Kind Reason
 stack_kind o = and_then_ok (near o) (λ y. Ok (kind.Stack y))
 
@@ -104,7 +104,7 @@ module _ (here : Here) where
       (λ e. stack_by way x (distance r) (signed 64 n) (least_is r.lo n (distance r) (same_number r.lo r.hi n m.from m.to (eqb-true r.lo r.hi e)) (distance_holds r n m)))
       (λ _. tt)
 
-  -- from a near offset to a near offset
+  -- an offset between two offsets within the limit
   span_agrees : (map number : ℕ) (a b z : ℤ) → number < here.witness.objects map → a ≤ℤ z → z ≤ℤ b → Gives here (value_kind (spanned map (near_offset a) (near_offset b))) (moved (object.Value map number) z)
   span_agrees map number a b z owned from to =
       cond_both (is_near a) (Some a) None (λ o. Gives here (value_kind (spanned map o (near_offset b))) (moved (object.Value map number) z))

@@ -14,7 +14,7 @@ use Rattle.tagged_model.specs.Laws.{IsObject, Describes}
 use Rattle.transfer.specs.Calls.{room_of}
 use Rattle.transfer.proofs.Parts.{refused}
 
--- an object that a pointer leads to
+-- an object to which a pointer points
 pub owned : {witness : Witness} {shapes : Shapes} {f : Facts} {s : RunState} → Describes witness f shapes s → (m number : ℕ) (shape : MapShape) → shapes m ≡ Some shape → number < witness.objects m → IsObject s m number shape
 owned {witness = witness} still m number shape e lt =
     let h = still.maps m shape e in
@@ -26,7 +26,7 @@ pub record HasRoom (n : ℕ) (y : ℤ) (shape : MapShape) : Type 0 where
   pub low : pos 0 ≤ℤ y
   pub high : (y +ℤ pos n) ≤ℤ pos shape.value_size
 
--- where they do behind each offset, they do behind this one
+-- if n bytes from each offset of the pointer lie in a value, so do n bytes from this one
 pub room_at : (p : ValuePointer) (off : ℤ) (n : ℕ) (x : ℤ) (shape : MapShape) → p.lo ≤ℤ x → x ≤ℤ p.hi → room_of p off n (Some shape) ≡ Ok tt → HasRoom n (x +ℤ off) shape
 room_at p off n x shape from to e =
     let c = passed (int_le (pos 0) (p.lo +ℤ off) && int_le ((p.hi +ℤ off) +ℤ pos n) (pos shape.value_size)) e in

@@ -1,4 +1,4 @@
--- Why an instruction may be refused.
+-- The reasons for which an instruction may be rejected.
 use Rattle.std.proofs.Common.{◌≡◌, ◌≢◌, ℕ, ◌==◌, ℤ, ◌+ℤ◌, Bool, true, false, not, Option, Some, None, Result, Ok, Err, refl, subst}
 use Rattle.std.specs.Prelude.{◌||◌, ◌&&◌, ◌^◌, pos, int_le, nat_le, bit_and}
 use Rattle.std.proofs.lemmas.Bool.{cond_both}
@@ -46,7 +46,7 @@ use Rattle.transfer.specs.declared.calls.ShapedMap.{ShapedMap}
 use Rattle.tagged_model.specs.Table.{has_direct_value}
 use Rattle.tagged_model.specs.Helpers.{helper_of}
 
--- what is refused is refused by a rule on operands
+-- the reason of a rejection is one of safety
 abbrev ByRule : {A : Type 0} → Result A Reason → Type 0
 ByRule (Ok x) = Unit {0}
 ByRule (Err reason) = IsSafetyReason reason
@@ -215,7 +215,7 @@ two_rule f go next = register_rule f 1 _ (λ a. register_rule f 2 _ (next a))
 four_rule : (f : Facts) (go : Kind → Kind → Kind → Kind → Result Facts Reason) → ((a b c d : Kind) → ByRule (go a b c d)) → ByRule (readable_four f go)
 four_rule f go next = two_rule f _ (λ a b. register_rule f 3 _ (λ c. register_rule f 4 _ (next a b c)))
 
--- a map, and a key of it
+-- a map and one of its keys
 key_rule : (shapes : Shapes) (f : Facts) (a b : Kind) (go : ShapedMap → Result Facts Reason) → ((m : ShapedMap) → ByRule (go m)) → ByRule (and_then_ok (map_kind shapes a) (λ m. and_then_ok (input_kind shapes f m.shape.key_size b) (λ _. go m)))
 key_rule shapes f a b go next =
     then_rule _ _ (map_kind_rule shapes a)

@@ -1,5 +1,5 @@
--- What is known of a state stays known: after a register is given a value, after a move, and where more is known of a
--- register.
+-- The facts still hold of the state after a register gets a value, after the next slot is entered, and if more is known
+-- of a register.
 use Rattle.std.proofs.Common.{◌≡◌, ℕ, ◌+◌, ◌<◌, ◌≤◌, ◌^◌, ◌==◌, ℤ, pos, negsuc, Bool, true, false, Option, Some, Ok, refl, sym, ap, subst, ◌∙◌, ⊎_elim, arith}
 use Rattle.std.proofs.lemmas.Bool.{cases_Bool, cond-true, cond-false, eqb-true}
 use Rattle.interval.specs.declared.range.Range.{Range}
@@ -53,7 +53,7 @@ module _ (here : Here) where
   some_kind kind.Unreadable v h = tt
   some_kind k v h = (v, refl, h)
 
-  -- of a kind that may be read the value is there
+  -- a register of a readable kind has a value
   there : (o : Option Tagged) (k : Kind) (v : Tagged) → o ≡ Some v → IsReadable k → IsOfKind here.witness k v → IsKindAt here.slot k → Agree (IsFound here o) (Ok k) o
   there o k v e r h w = subst (Agree (IsFound here o) (Ok k)) (sym e) (record { kind = record { is = h; words = w }; from = e; readable = r })
 
@@ -74,7 +74,7 @@ module _ (here : Here) where
     first_found alu.Mov r = let k = constant_of here 0 (omega arith) in record { kind = k; from = refl; readable = tt }
     first_found op r = register_found r
 
-    -- ---- a register is given a value
+    -- ---- a register gets a value
 
     pub given_value : (r : ℕ) (k : Kind) (v : Tagged) → IsKindOf here k v → IsKnown here (with_kind f r k) (with_register s r v)
     given_value r k v h =

@@ -1,4 +1,4 @@
--- The facts that an instruction leaves are facts before each later slot.
+-- The facts after an instruction are well formed at each later slot.
 use Rattle.std.proofs.Common.{ℕ, ◌<◌, ◌^◌, ℤ, pos, ◌+ℤ◌, Bool, true, false, not, Option, Result, Some, None, Ok, Err, arith}
 use Rattle.std.specs.Prelude.{◌||◌}
 use Rattle.std.specs.Option.{option_map}
@@ -52,7 +52,7 @@ use Rattle.transfer.proofs.Parts.{AtBothWidths, at_width, OkIs, then_ok, ok_is}
 use Rattle.transfer.proofs.Words.{kind_words, loaded_words, read_words, written_words, settled_words, filled_words, called_words}
 use Rattle.transfer.proofs.States.{word_of}
 
--- laws of the results of operators, and of the edges of comparisons
+-- the laws of results of operators, and of edges of comparisons
 pub record WordLaws : Type 0 where
   pub results : AtBothWidths ResultsAreWords
   pub edges : AtBothWidths EdgesAreWords
@@ -165,7 +165,7 @@ module _ (bound : ℕ) (shapes : Shapes) (at : ℕ) (lt : at < bound) where
   four_words : (f : Facts) (go : Kind → Kind → Kind → Kind → Result Facts Reason) → ((a b c d : Kind) → OkIs (AreWellFormedAt bound) (go a b c d)) → OkIs (AreWellFormedAt bound) (readable_four f go)
   four_words f go next = two_words f _ (λ a b. past _ (check_readable (kind_at f 3)) _ (λ c. past _ (check_readable (kind_at f 4)) _ (next a b c)))
 
-  -- a map, and a key of it
+  -- a map and one of its keys
   key_words : (f : Facts) (a b : Kind) (go : ShapedMap → Result Facts Reason) → ((m : ShapedMap) → OkIs (AreWellFormedAt bound) (go m)) → OkIs (AreWellFormedAt bound) (and_then_ok (map_kind shapes a) (λ m. and_then_ok (input_kind shapes f m.shape.key_size b) (λ _. go m)))
   key_words f a b go next = past _ (map_kind shapes a) _ (λ m. past _ (input_kind shapes f m.shape.key_size b) _ (λ _. next m))
 
@@ -232,7 +232,7 @@ module _ (bound : ℕ) (shapes : Shapes) (at : ℕ) (lt : at < bound) where
     assigns_words : (dst : ℕ) (r : Result Kind Reason) → OkIs (IsKindAt bound) r → OkIs AreFactsBoth (assigns f dst r)
     assigns_words dst r is = then_ok _ _ _ _ is (λ k small. falls_words (with_kind f dst k) (kind_words bound f dst k h small))
 
-    -- from the kind of a register that may be read
+    -- from the kind of a readable register
     register_words : (r : ℕ) (go : Kind → Result Edges Reason) → ((k : Kind) → IsKindAt bound k → OkIs AreFactsBoth (go k)) → OkIs AreFactsBoth (and_then_ok (check_readable (kind_at f r)) go)
     register_words r go next = then_ok _ _ _ _ (readable_words (kind_at f r) (h.registers r)) next
 
@@ -272,7 +272,7 @@ module _ (bound : ℕ) (shapes : Shapes) (at : ℕ) (lt : at < bound) where
     view_words (call id) is = past _ (known (helper_of id)) _ (λ w. then_ok _ _ _ _ (call_words w f h) falls_words)
     view_words exit is = register_words 0 exits_with (λ k _. ends_words k)
 
--- ---- what an instruction leaves
+-- ---- all instructions
 
 pub transfer_keeps_well_formed : WordLaws → TransferKeepsWellFormed
 transfer_keeps_well_formed laws shapes at n i f edges is h lt e =

@@ -30,7 +30,7 @@ use Rattle.transfer.proofs.Parts.{AtBothWidths, at_width, Here, Gives, IsKindOf}
 use Rattle.transfer.proofs.States.{scalar_of}
 use Rattle.transfer.proofs.Pointers.{shifted, stack_agrees, value_agrees}
 
--- laws of the results of operators on words
+-- the laws of results of operators on words
 pub record Results : Type 0 where
   pub members : AtBothWidths ResultsAreMembers
   pub words : AtBothWidths ResultsAreWords
@@ -48,7 +48,7 @@ module _ (here : Here) (laws : Results) where
   result_of wide op a b m n s t x y =
       scalar_of here (range_of (width wide) op a b) (operate (width wide) op m n) (at_width laws.members wide op a b m n s t x y) (at_width laws.words wide op a b s t)
 
-  -- two numbers make a number
+  -- the result of an operator on two numbers is a number
   pub number_made : (wide : Bool) (op : Operator) (a b : Range) (v w : Tagged) → IsKindOf here (kind.Scalar a) v → IsKindOf here (kind.Scalar b) w
       → (n : ℕ) × (of_numbers wide op v w ≡ Some (Scalar n)) × IsKindOf here (kind.Scalar (full 64)) (Scalar n)
   number_made wide op a b v w h g =
@@ -65,7 +65,7 @@ module _ (here : Here) (laws : Results) where
       by_numbers here a b v w (λ v w. Gives here (of_scalars wide op (kind.Scalar a) (kind.Scalar b)) (of_numbers wide op v w)) h.is g.is (λ m n x y. result_of wide op a b m n h.words g.words x y)
   numbers_agree wide op k l v w h g = tt
 
-  -- an operator of one number, on a function of it
+  -- the result of an operator on one number
   pub number_agrees : (wide : Bool) (op : Operator) (f : ℕ → ℕ) → ((n : ℕ) → operate (width wide) op n n ≡ f n) → (k : Kind) (v : Tagged) → IsKindOf here k v → Gives here (of_scalar wide op k) (of_number f v)
   number_agrees wide op f same (kind.Scalar a) v h =
       by_number here a v (λ v. Gives here (of_scalar wide op (kind.Scalar a)) (of_number f v)) h.is
@@ -74,7 +74,7 @@ module _ (here : Here) (laws : Results) where
 
   -- ---- sums and differences of 64 bits
 
-  -- a pointer that a number moves; `on` is the operator on values
+  -- a number is added to a pointer or subtracted from it; `on` is the operator on values
   pointer_agrees : (way : Direction) (on : Tagged → Tagged → Option Tagged) → ((o : Object) (x : ℤ) (n : ℕ) → on (Pointer o x) (Scalar n) ≡ moved o (shifted way x (signed 64 n))) → (k : Kind) (r : Range) (v w : Tagged) → IsKindOf here k v → IsKindOf here (kind.Scalar r) w → Gives here (pointer_moved way k r) (on v w)
   pointer_agrees way on same (kind.Stack x) r v w h g =
       by_number here r w (λ w. Gives here (pointer_moved way (kind.Stack x) r) (on v w)) g.is
@@ -98,7 +98,7 @@ module _ (here : Here) (laws : Results) where
   difference_agrees k (kind.Scalar b) v w h g = pointer_agrees Backwards difference (λ o x n. refl) k b v w h g
   difference_agrees k l v w h g = tt
 
-  -- ---- all
+  -- ---- all operators
 
   unless_agrees : (k l : Kind) (r : Result Kind Reason) (o : Option Tagged) → Gives here r o → Gives here (unless_maybe k l r) o
   unless_agrees k l r o h = cond_both (is_maybe k || is_maybe l) (Err MaybeNull) r (λ r. Gives here r o) (λ _. tt) (λ _. h)

@@ -1,4 +1,4 @@
--- Facts before a slot still are such after a load, a store, a call and a test.
+-- Facts are still well formed after a load, a store, a call and a null test.
 use Rattle.std.proofs.Common.{◌≡◌, ℕ, ◌%◌, ◌<◌, ◌≤◌, ◌^◌, ◌==◌, if◌then◌else◌, ℤ, Bool, true, false, not, bit_and, Ok, Err, arith}
 use Rattle.std.specs.Prelude.{nat_le}
 use Rattle.std.proofs.Math.Pow.{pow_mono}
@@ -35,7 +35,7 @@ module _ (bound : ℕ) where
   slot_words : (f : Facts) (i : ℕ) (t : Slot) → AreWellFormedAt bound f → IsSlotAt bound t → AreWellFormedAt bound (with_slot f i t)
   slot_words f i t h is = record { registers = h.registers; slots = in_set (IsSlotAt bound) f.slots i t (Bytes 0) is no_bytes h.slots }
 
-  -- ---- where an access is
+  -- ---- positions of accesses
 
   -- the bits of an aligned access are those of one slot
   bits_small : (size : AccessSize) (p : ℕ) → p % bytes_of size ≡ 0 → byte_bits p (bytes_of size) < 256

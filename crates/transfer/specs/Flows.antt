@@ -18,7 +18,7 @@ edges_of (Compares dst src falls jumps) f =
     record { falling = option_map (with_pair f dst src) falls; jumping = option_map (with_pair f dst src) jumps }
 edges_of (Settles site jumps_on_null) f = settled_edges jumps_on_null site f
 
--- the stack of facts g is that of facts f, but for what the flow tells that may have been written
+-- the stack of facts g is that of facts f, except for the slots that the flow says may have been written
 abbrev pub KeepsStack : Flow → Facts → Facts → Type 0
 KeepsStack (WritesSlot i) f g = ChangesAtMost (Some i) f g
 KeepsStack Writes f g = Unit {0}

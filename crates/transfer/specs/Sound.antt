@@ -1,4 +1,4 @@
--- Soundness: the facts on the edge that a step takes admit the state after it. Which edge a jump takes, and where it leads, is RFC
+-- Soundness: the facts on the edge that a step takes admit the state after it. The edge that a jump takes and its target are those of RFC
 -- 9669, section 4.3; the rest is this project's own.
 use Rattle.std.specs.Prelude.{◌≡◌, ℕ, ◌<◌, ◌^◌, Bool, true, false, Option, Some, None, IsSome, unwrap_or, Ok}
 use Rattle.insn_set.specs.declared.insn.Insn.{Insn}
@@ -86,8 +86,8 @@ TransferKeepsWellFormed = (shapes : Shapes) (at n : ℕ) (i : Insn) (f : Facts) 
 
 -- ---- calls
 
--- after a call the state is at the same slot, and these facts describe it, by a witness that may be another
--- one: a look-up has given something
+-- after a call the state is at the same slot, and these facts describe it, by a witness that may be different:
+-- it has the result of a new look-up
 pub record CallIsAdmitted (g : Facts) (shapes : Shapes) (s u : RunState) : Type 0 where
   pub witness : Witness
   pub still : Describes witness g shapes u

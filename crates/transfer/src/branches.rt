@@ -27,7 +27,7 @@ pub enum Flow {
     Jumps,
     /// Both edges, with the same facts.
     Either,
-    /// After a comparison of two numbers, each edge that can be taken, where both operands have these ranges.
+    /// After a comparison of two numbers, each edge that can be taken, on which both operands have these ranges.
     Compares {
         dst: Reg,
         src: Operand,

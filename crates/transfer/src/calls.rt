@@ -142,7 +142,7 @@ fn any_number() -> Kind
     Kind::Scalar(Range::full(true))
 }
 
-/// Updates the facts for a call at `slot`, if its arguments are right. Else the reason.
+/// Updates the facts for a call at `slot`, if its arguments are right; otherwise returns the reason.
 pub(crate) fn call(
     facts: &mut Facts,
     named: &[Named],

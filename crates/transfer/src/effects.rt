@@ -368,7 +368,7 @@ fn exit(facts: &Facts) -> Result<(), Reason>
 }
 
 /// Applies the transfer function of the instruction at `slot` to the facts before it, and returns the edges out of it (see `Flow`).
-/// `named` lists the objects that descriptors name. What a conditional jump tells on each edge is in the `Flow` alone.
+/// `named` lists the objects that descriptors name. What holds only on one edge of a conditional jump is only in the `Flow`.
 ///
 /// # Errors
 ///

@@ -1,4 +1,4 @@
--- What is sent to a slot is in the facts before it, and where there are facts before a slot, an instruction begins.
+-- The facts that are sent to a slot are in the facts before it; if a slot has facts, an instruction begins there.
 use Rattle.std.proofs.Common.{◌≡◌, ◌⊎◌, ℕ, zero, suc, ◌+◌, ◌-◌, ◌<◌, ◌==◌, Bool, true, List, Option, Some, None, Result, Ok, Err, refl, sym, ap, subst, ◌∙◌, ⊎_elim, inl, inr, arith}
 use Rattle.std.specs.Option.{IsSome}
 use Rattle.std.proofs.lemmas.Bool.{cond_both, cond-true, eqb-true}
@@ -22,7 +22,7 @@ use Rattle.verifier.specs.Verdict.{HasNoFault}
 use Rattle.verifier.proofs.Edges.{AreThere}
 use Rattle.verifier.proofs.Leads.{IsShaped, shaped, falls_begins, jumps_begins}
 
--- ---- where there are facts, an instruction begins
+-- ---- if a slot has facts, an instruction begins there
 
 either_there : (a b : Option Facts) → AreThere (joined a b) → AreThere a ⊎ AreThere b
 either_there None b h = inr h
@@ -67,7 +67,7 @@ module _ (shapes : Shapes) (code : List Insn) (named : List Named) (program : Is
   pub begins_before : (n : ℕ) (f : Facts) → facts_before shapes code n ≡ Some f → IsSome (begins_at code n)
   begins_before n f e = inflow_begin n n (subst AreThere (sym e) tt)
 
--- ---- facts that are there, and admit a state
+-- ---- facts that exist and admit a state
 
 abbrev pub AdmitOn : Witness → Option Facts → RunState → Type 0
 AdmitOn witness None s = ⊥
@@ -122,7 +122,7 @@ module _ (law : JoinAdmits) (witness : Witness) (s : RunState) where
         let e : suc (n + d) ≡ n + suc d = omega arith in
         subst (λ k. AdmitOn witness (facts_from_below shapes code m k) s) e (one_more (n + d) m (stays d n m h))
 
-    -- what a slot sends to a later one is in the facts before that one
+    -- the facts that a slot sends to a later slot are in the facts before that slot
     pub arrives : (n m : ℕ) (i : Insn) (f : Facts) (edges : Edges) → n < m → begins_at code n ≡ Some i → facts_before shapes code n ≡ Some f → effect shapes n i f ≡ Ok edges → AdmitOn witness (edges_into i n m (Ok edges)) s → AdmitOn witness (facts_before shapes code m) s
     arrives n m i f edges lt begins known e h =
         let come = sent_more n m (subst (λ o. AdmitOn witness o s) (sym (sent_is n m i f edges begins known e)) h) in

@@ -1,4 +1,4 @@
--- Facts are on an edge only where the instruction leads there.
+-- An edge has facts only if the instruction has this edge.
 use Rattle.std.proofs.Common.{◌≡◌, ℕ, ℤ, true, Option, Some, None, Result, Ok, Err, refl, subst}
 use Rattle.insn_set.specs.declared.insn.Insn.{Insn}
 use Rattle.insn_set.specs.View.{View, Access, binary, unary, jump, branch, access, wide_load, call, exit, loads, stores, changes, view}
@@ -19,13 +19,13 @@ use Rattle.tagged_model.specs.Named.{Shapes}
 use Rattle.tagged_model.specs.Helpers.{helper_of}
 use Rattle.insn_set.specs.Flow.{falls_by, jumps_by}
 
--- ---- facts are there
+-- ---- facts exist
 
 abbrev pub AreThere : Option Facts → Type 0
 AreThere None = ⊥
 AreThere (Some f) = Unit {0}
 
--- only where the instruction leads there
+-- an edge has facts only if the instruction has this edge
 pub record LeadOnly (v : View) (e : Edges) : Type 0 where
   pub falling : AreThere e.falling → falls_by (profile_of v).successors ≡ true
   pub jumping : AreThere e.jumping → jumps_by (profile_of v).successors ≡ true
@@ -42,7 +42,7 @@ if_ok : (P : Edges → Type 0) (r : Result Edges Reason) (e : Edges) → IfOk P 
 if_ok P (Err reason) e h q = absurd (let z : ⊥ = cc in z)
 if_ok P (Ok d) e h q = let same : d ≡ e = cc in subst P same h
 
--- what falls alone
+-- an instruction that only falls through
 falls_alone : (v : View) (f : Facts) → falls_by (profile_of v).successors ≡ true → LeadOnly v (record { falling = Some f; jumping = None })
 falls_alone v f h = record { falling = λ _. h; jumping = λ z. absurd z }
 

@@ -1,4 +1,4 @@
--- Boxed facts by slot, seen as a list of facts.
+-- Entries of boxed facts, as a list of facts.
 use Rattle.std.proofs.Common.{◌≡◌, ℕ, zero, suc, ◌<◌, ◌≤◌, List, [], ◌∷◌, ◌++◌, length, get_or, set, get_or-set_same, get_or-set_other, arith, false, Option, Some, None, refl, sym, ap, ◌∙◌, subst, Box, Global}
 use Rattle.std.specs.Prelude.{map, option_map, box_value}
 use Rattle.std.specs.Option.{is_some}
@@ -63,7 +63,7 @@ taken_some slot fresh es entries after e left y known here is within there value
           ∙ get_or-set_other entries slot i (option_map box_value left) None (omega (arith, above)),
     )
 
--- facts are put into an entry
+-- facts are joined into an entry
 pub put_is : (slot fresh : ℕ) (y : NumberedFacts) (es : List (Option (Box NumberedFacts Global))) (kept : List (Option NumberedFacts)) (e new : Option (Box NumberedFacts Global))
     → seen es ≡ kept → slot < length kept → e ≡ get_or es slot e → IsJoinedBy fresh (option_map box_value e) y (option_map box_value new) → IsPut slot fresh y kept (seen (set es slot new))
 put_is slot fresh y es kept e new is within there joins =
@@ -75,14 +75,14 @@ put_is slot fresh y es kept e new is within there joins =
       λ i other. ap (entry_of i) after ∙ get_or-set_other kept slot i (option_map box_value new) None other,
     )
 
--- into a list with more empty entries
+-- the same, if the list first gets more empty entries
 pub put_after : (slot fresh : ℕ) (y : NumberedFacts) (old middle new : List (Option NumberedFacts)) → ((i : ℕ) → entry_of i middle ≡ entry_of i old) → IsPut slot fresh y middle new → IsPut slot fresh y old new
 put_after slot fresh y old middle new same put = (
   subst (λ (o : Option NumberedFacts). IsJoinedBy fresh o y (entry_of slot new)) (same slot) put.0,
   λ i other. put.1 i other ∙ same i,
 )
 
--- an empty entry at the end is as none
+-- an empty entry at the end is the same as no entry
 pub pushed_none : (es : List (Option (Box NumberedFacts Global))) (i : ℕ) → entry_of i (seen (es ++ None ∷ [])) ≡ entry_of i (seen es)
 pushed_none [] zero = refl
 pushed_none [] (suc i) = refl

@@ -1,4 +1,4 @@
--- The pass over what is known, against the definition that asks the slots below.
+-- The forward pass has the same facts as the definition, which joins the edges from all slots below.
 use Rattle.std.proofs.Common.{◌≡◌, ℕ, ◌+◌, ◌<◌, ◌≤◌, inl, inr, Bool, true, false, ◌&&◌, ◌*◌, List, [], length, Option, Some, None, Result, Ok, Err, refl, sym, ap, subst, ◌∙◌, add-one, arith}
 use Rattle.std.specs.Prelude.{◌==◌, nat_lt, is_some, if◌then◌else◌}
 use Rattle.std.proofs.Math.Bool.{and-true}
@@ -35,7 +35,7 @@ use Rattle.verifier.specs.inside.Arriving.{brought_to, Brings, arriving_at}
 use Rattle.verifier.specs.inside.Edges.{falling_of, jumping_of, falling_from, jumping_from, reason_from}
 use Rattle.verifier.specs.Verdict.{reason_of, safety_fault, IsFirstFault}
 
--- ---- joins in another order
+-- ---- joins in a different order
 
 joined_swap : FactsCommute → FactsAssociate → (a b c : Option Facts) → joined a (joined b c) ≡ joined b (joined a c)
 joined_swap comm assoc None b c = refl
@@ -44,7 +44,7 @@ joined_swap comm assoc (Some f) (Some g) None = ap Some (comm f g)
 joined_swap comm assoc (Some f) (Some g) (Some h) =
     ap Some (sym (assoc f g h) ∙ ap (λ (x : Facts). facts_join x h) (comm f g) ∙ assoc g f h)
 
--- by the shapes of the maps
+-- for the shapes of the maps
 module _ (shapes : Shapes) where
   -- ---- the edges out of an instruction
 
@@ -59,14 +59,14 @@ module _ (shapes : Shapes) where
   given_end_falls (Ok k) = end_falls k
   given_end_falls (Err e) = refl
 
-  -- what does not fall has no falling edge
+  -- an instruction that does not fall through has no falling edge
   fall_is : (at : ℕ) (i : Insn) (f : Facts) (b : Bool) → only_if b (falling_of (effect shapes at i f)) ≡ only_if (falls i && b) (falling_of (effect shapes at i f))
   fall_is at (Ja off) f b = on_none b
   fall_is at (Jal off) f b = on_none b
   fall_is at Exit f b = no_fall b b (falling_of (effect shapes at Exit f)) (sym (given_end_falls (check_readable (kind_at f 0))))
   fall_is at i f b = refl
 
-  -- what does not jump has no target
+  -- an instruction that does not jump has no target
   target_is : (b : Bool) (o : Option ℕ) (n i : ℕ) → n < i → is_slot (if b then o else None) i ≡ (b && is_slot o i && nat_lt n i)
   target_is true o n i lt = sym (ap (λ (x : Bool). is_slot o i && x) (lt-ltb n i lt) ∙ and-true (is_slot o i))
   target_is false o n i lt = refl
@@ -86,9 +86,9 @@ module _ (shapes : Shapes) where
       ∙ ap (λ (b : Bool). joined (only_if (falls_into insn n i) (falling_of (effect shapes n insn f))) (only_if b (jumping_of (effect shapes n insn f)))) (target_is (jumps insn) (jumps_to insn n) n i lt)
       ∙ both_edges insn n i (effect shapes n insn f)
 
-  -- ---- what is in hand before a slot, and what is kept for those ahead
+  -- ---- the facts of the pass before a slot
 
-  -- the facts in hand are due at the next instruction; with them the entry of each slot ahead is what the slots below send
+  -- The current facts belong to the next instruction. With the entry of a later slot they are all that the slots below send to it.
   pub record IsBefore (code : List Insn) (slot : ℕ) (pass : Pass) : Type 0 where
     pub due : ℕ
     pub ahead : slot ≤ due
@@ -136,7 +136,7 @@ module _ (shapes : Shapes) where
             ∙ sym (inflow_first code i);
       }
 
-  -- where an instruction begins, the facts in hand are due
+  -- if an instruction begins at the slot, the current facts belong to it
   due_here : {code : List Insn} {slot : ℕ} {pass : Pass} {insn : Insn} (b : IsBefore code slot pass) → begins_at code slot ≡ Some insn → b.due ≡ slot
   due_here {slot = slot} {insn = insn} b begins =
       elim (cases_order b.due slot) [
@@ -145,7 +145,7 @@ module _ (shapes : Shapes) where
         | inr (inr above) ↦ absurd (none-some insn (sym (b.between slot (omega arith) above) ∙ begins))
       ]
 
-  -- what is known before the instruction
+  -- the facts before the instruction
   pub here_is : {code : List Insn} {slot : ℕ} {pass : Pass} {insn : Insn} → IsBefore code slot pass → begins_at code slot ≡ Some insn → slot < slot_count code → arriving_at slot pass ≡ facts_before shapes code slot
   here_is {slot = slot} {pass = pass} b begins lt =
       sym (ap (λ (t : Bool). joined (only_if t (facts_on pass.falling)) (brought_to slot pass.entries)) (eq-eqb b.due slot (due_here b begins)))
@@ -159,7 +159,7 @@ module _ (shapes : Shapes) where
   sent_is code n i insn None begins = refl
   sent_is code n i insn (Some f) begins = ap (λ (o : Option Insn). and_then o (λ insn. edges_into insn n i (effect shapes n insn f))) begins
 
-  -- past an instruction that may be run
+  -- after an instruction that may be run
   pub after_insn : {code : List Insn} {slot : ℕ} {old : Pass} {insn : Insn} → FactsCommute → FactsAssociate → (new : Pass) → IsBefore code slot old → begins_at code slot ≡ Some insn → slot < slot_count code
       → facts_on new.falling ≡ falling_from shapes slot insn (arriving_at slot old)
       → ((i : ℕ) → slot < i → Brings (jump_target insn slot) (jumping_from shapes slot insn (arriving_at slot old)) old.entries new.entries i)
@@ -198,7 +198,7 @@ module _ (shapes : Shapes) where
   not_first code slot (inl end) lt none = omega arith
   not_first code slot (inr more) lt none = false≢true (sym (ap is_some none) ∙ more.1)
 
-  -- past a slot where no instruction begins
+  -- after a slot at which no instruction begins
   pub after_none : {code : List Insn} {slot : ℕ} {pass : Pass} → IsBefore code slot pass → begins_at code slot ≡ None → slot < slot_count code → IsBefore code (slot + 1) pass
   after_none {code = code} {slot = slot} {pass = pass} b none lt =
       let later : b.due ≡ slot → ⊥ = λ e. not_first code slot (subst (λ (n : ℕ). Adjoins code n) e b.adjoins) lt none in

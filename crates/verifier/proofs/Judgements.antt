@@ -1,4 +1,4 @@
--- The judgement of slots: there is one, and the slot of a refusal is one of theirs.
+-- Slots have one judgement, and the slot of a rejection is one of them.
 use Rattle.std.proofs.Common.{◌≡◌, ◌⊎◌, ◌∙◌, ℕ, ◌*◌, ◌<◌, ◌≤◌, List, length, Option, Some, None, Ok, Err, refl, sym, ap, ap₂, subst, inl, inr, arith}
 use Rattle.std.proofs.lemmas.Bool.{cases_lt}
 use Rattle.std.proofs.lemmas.Option.{none-some}
@@ -23,7 +23,7 @@ use Rattle.verifier.specs.declared.refusal.Cause.{Cause}
 use Rattle.verifier.specs.declared.refusal.Cause.TheVariants.{Slots, Verdict}
 use Rattle.verifier.specs.declared.refusal.Refusal.{Refusal}
 
--- ---- the slot of a refusal
+-- ---- the slot of a rejection
 
 shape_begins : (code : List Insn) (named : List Named) (n : ℕ) (why : Reason) (o : Option Insn) → shape_of code named n o ≡ Some why → (i : Insn) × (o ≡ Some i)
 shape_begins code named n why None e = absurd (none-some why e)
@@ -34,13 +34,13 @@ safety_begins None None why f e = absurd (none-some why e)
 safety_begins None (Some k) why f e = absurd (none-some why e)
 safety_begins (Some i) known why f e = (i, refl)
 
--- an instruction begins there
+-- an instruction begins at the slot of a rejection
 refused_begins : (code : List Insn) (named : List Named) (slot : ℕ) (why : Reason) → IsRefused code named slot why → (i : Insn) × (begins_at code slot ≡ Some i)
 unfolding structure_fault safety_fault
 refused_begins code named slot why (inl shape) = shape_begins code named slot why (begins_at code slot) shape.here
 refused_begins code named slot why (inr safety) = safety_begins (begins_at code slot) (facts_before (shapes_of code named) code slot) why _ safety.1.here
 
--- so it is one of the program's slots
+-- the slot of a rejection is one of the program's slots
 refused_within : (code : List Insn) (named : List Named) (slot : ℕ) (why : Reason) → IsRefused code named slot why → 8 * slot ≤ length (program_bytes code)
 refused_within code named slot why is =
     let (i, begins) = refused_begins code named slot why is in
@@ -73,11 +73,11 @@ OneRefusal = (code : List Insn) (named : List Named) (m n : ℕ) (a b : Reason) 
 abbrev NotRefused : Type 0
 NotRefused = (code : List Insn) (named : List Named) (slot : ℕ) (reason : Reason) → IsAccepted code named → ¬ IsRefused code named slot reason
 
--- bytes that are a program's have no fault
+-- the bytes of a program have no fault
 spelled_no_fault : NoFault → (slots : List ℕ) (insns : List Insn) (fault : CodecFault) → IsProgram insns → slots ≡ program_bytes insns → ¬ IsProgramFault slots fault
 spelled_no_fault none slots insns fault program spelled has = none insns fault program (subst (λ (bytes : List ℕ). IsProgramFault bytes fault) spelled has)
 
--- and as many as a program may have
+-- the bytes of a program are at most as many as a program may have
 pub may_be_program : NoFault → (slots : List ℕ) (code : List Insn) → IsProgram code → slots ≡ program_bytes code → length_fault (length slots) ≡ None
 may_be_program none slots code program spelled = by_length (length_fault (length slots)) refl
   where

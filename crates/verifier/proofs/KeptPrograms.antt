@@ -1,4 +1,4 @@
--- What is kept of a program that was accepted.
+-- The invariant of an accepted program.
 use Rattle.std.proofs.Common.{◌≡◌, ℕ, List, subst, sym, ap, ◌∙◌}
 use Rattle.insn_set.specs.declared.insn.Insn.{Insn}
 use Rattle.tagged_model.specs.declared.shape.Named.{Named}
@@ -6,7 +6,7 @@ use Rattle.verifier.specs.Maps.{maps_of, entries_of}
 use Rattle.verifier.specs.Verdict.{IsAccepted}
 use Rattle.verifier.specs.Verified.{IsVerified}
 
--- a copy of it, with its maps
+-- a copy of the program and its maps
 pub copy_is_whole : (code copy : List Insn) (named entries : List Named) (maps : List ℕ) → copy ≡ code → IsAccepted code named → entries ≡ entries_of (maps_of code) named → maps ≡ maps_of code
     → IsVerified (record { code = copy; entries = entries }) × (maps ≡ maps_of copy)
 copy_is_whole code copy named entries maps was accepted shaped listed = (

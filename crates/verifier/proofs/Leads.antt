@@ -1,4 +1,4 @@
--- Where an instruction of an accepted program leads, another one begins.
+-- In an accepted program each edge goes to a slot at which an instruction begins.
 use Rattle.std.proofs.Common.{◌≡◌, ℕ, ◌<◌, ◌==◌, Bool, true, false, List, Option, Some, None, refl, sym, ap, subst, ◌∙◌, ⊎_elim}
 use Rattle.std.specs.Prelude.{◌&&◌, nat_le, nat_lt}
 use Rattle.std.specs.Option.{is_some, IsSome}
@@ -16,7 +16,7 @@ use Rattle.verifier.specs.Verified.{GoesAhead}
 
 -- ---- the shape of an instruction
 
--- its jump lands where an instruction begins, farther on, and it does not fall off the end
+-- the target of its jump is a later slot at which an instruction begins, and it does not fall off the end
 pub record IsShaped (code : List Insn) (i : Insn) (n : ℕ) : Type 0 where
   pub inside : (jumps i && leads_outside code (jumps_to i n)) ≡ false
   pub forward : (jumps i && leads_backward (jumps_to i n) n) ≡ false
@@ -25,7 +25,7 @@ pub record IsShaped (code : List Insn) (i : Insn) (n : ℕ) : Type 0 where
 pub shaped : (code : List Insn) (named : List Named) → HasNoFault (structure_fault code named) → (n : ℕ) (i : Insn) → begins_at code n ≡ Some i → IsShaped code i n
 shaped code named none n i begins = let fine = each_is_fine code named none n i begins in record { inside = fine.inside; forward = fine.forward; on = fine.goes_on }
 
--- ---- where its edges lead
+-- ---- the targets of its edges
 
 second_false : (a b : Bool) → (a && b) ≡ false → a ≡ true → b ≡ false
 second_false a b h e = ⊎_elim (λ z. absurd (both_ways a z e)) (λ z. z) (and_cases a b h)
@@ -45,7 +45,7 @@ lies_farther : (o : Option ℕ) (n m : ℕ) → o ≡ Some m → leads_backward 
 lies_farther o n m e h = leb-false m n (subst (λ o. leads_backward o n ≡ false) e h)
 
 module _ (code : List Insn) (n : ℕ) (i : Insn) (shape : IsShaped code i n) where
-  -- the target is a slot, also of an instruction that does not jump
+  -- the target of an instruction is a natural number, also if it does not jump
   pub target_is : IsSome (jumps_to i n)
   target_is = by_form i shape.inside
     where
@@ -73,7 +73,7 @@ module _ (code : List Insn) (n : ℕ) (i : Insn) (shape : IsShaped code i n) whe
       let at = and_parts (jumps i) (is_slot (jumps_to i n) m) h.0 in
       (jump_at m at.0 (slot_of (jumps_to i n) m at.1)).1
 
-  -- an edge that an instruction takes leads there
+  -- an edge that an instruction takes goes to that slot
   pub falls_lead : (m : ℕ) → falls i ≡ true → falls_to i n ≡ m → falls_into i n m ≡ true
   falls_lead m h e = and_from (falls i) (falls_to i n == m) h (eq-eqb (falls_to i n) m e)
 

@@ -9,7 +9,7 @@ use Rattle.verifier.specs.Maps.{without, distinct, maps_of, is_among, entries_of
 use Rattle.verifier.specs.Laws.{MapsAreListed}
 use Rattle.verifier.proofs.LoadedShapes.{among_maps}
 
--- ---- what is among a list has a place in it
+-- ---- an element of a list has a place in it
 
 among_at : (xs : List ℕ) (i m : ℕ) → slice_get xs i ≡ Some m → is_among xs m ≡ true
 among_at [] i m e = absurd (none-some m e)
@@ -24,13 +24,13 @@ place_of (x ∷ xs) m h = by (x == m) refl (place_of xs m)
     by true e rest = (0, ap (λ (k : ℕ). Some k) (eqb-true x m e))
     by false e rest = let r = rest (sym (ap (λ b. b || is_among xs m) e) ∙ h) in (suc r.0, r.1)
 
--- ---- a distinct list has nothing twice
+-- ---- a list without duplicates
 
 AreOnce : List ℕ → Type 0
 AreOnce [] = Unit {0}
 AreOnce (x ∷ xs) = (is_among xs x ≡ false) × AreOnce xs
 
--- what is not among a list is not among its others
+-- an element that is not in a list is not in the list without some others
 none_left : (x a : ℕ) (xs : List ℕ) → is_among xs x ≡ false → is_among (without a xs) x ≡ false
 none_left x a [] h = h
 none_left x a (y ∷ ys) h = by (y == x) (y == a) refl refl (none_left x a ys)
@@ -43,7 +43,7 @@ none_left x a (y ∷ ys) h = by (y == x) (y == a) refl refl (none_left x a ys)
         ∙ ap (λ b. b || is_among (without a ys) x) e
         ∙ rest (sym (ap (λ b. b || is_among ys x) e) ∙ h)
 
--- what is left out is not there
+-- an element that was left out is not in the list
 gone : (a : ℕ) (xs : List ℕ) → is_among (without a xs) a ≡ false
 gone a [] = refl
 gone a (y ∷ ys) = by (y == a) refl (gone a ys)
@@ -74,7 +74,7 @@ one_place (x ∷ xs) zero (suc j) m h e f = absurd (true≢false (sym (among_at 
 one_place (x ∷ xs) (suc i) zero m h e f = absurd (true≢false (sym (among_at xs i m e) ∙ ap (is_among xs) (sym (same_Some x m f)) ∙ h.0))
 one_place (x ∷ xs) (suc i) (suc j) m h e f = ap suc (one_place xs i j m h.1 e f)
 
--- ---- a shape is that of a map that is loaded
+-- ---- a shape belongs to a map that is loaded
 
 module _ (fds : List ℕ) (fd : ℕ) where
   shape_kept : (named : List Named) (shape : MapShape) → shape_in (target_of (entries_of fds named) fd) ≡ Some shape → is_among fds fd ≡ true

@@ -1,5 +1,5 @@
--- In a program without a fault of its shape each map that is loaded has a shape, and safety refuses for none of the reasons
--- that its shape has ruled out.
+-- In a program that the shape check accepts, each map that is loaded has a shape. So the safety check rejects the program for none
+-- of the reasons that the shape check excludes.
 use Rattle.std.proofs.Common.{◌≡◌, ℕ, ◌==◌, Bool, true, false, not, cond, ◌||◌, List, [], ◌∷◌, Option, Some, None, Result, Ok, Err, refl, sym, ap, subst, ◌∙◌, arith}
 use Rattle.std.specs.Option.{is_some, IsSome, option_map_or}
 use Rattle.std.specs.List.{All, AllByRecursion, list_any, filter_map, cons_option}
@@ -33,7 +33,7 @@ use Rattle.verifier.specs.Laws.{SafetyFollowsShape, LoadedMapsHaveShapes}
 use Rattle.verifier.specs.ShapeLaws.{each_is_fine}
 use Rattle.verifier.proofs.Loads.{still_there}
 
--- ---- the entries that are kept name the same
+-- ---- the entries that are kept have the same targets
 
 module _ (fds : List ℕ) (fd : ℕ) (among : is_among fds fd ≡ true) where
   other_name : (m : ℕ) → is_among fds m ≡ false → m ≡ fd → ⊥
@@ -117,7 +117,7 @@ maps_have_shapes = record {
 -- ---- the reasons of safety
 
 module _ (law : TransferReasons) (shapes : Shapes) (code : List Insn) (slot : ℕ) (reason : Reason) where
-  -- an instruction there is refused for this reason
+  -- the instruction at the slot is rejected for this reason
   record IsTold : Type 0 where
     insn : Insn
     begins : begins_at code slot ≡ Some insn
@@ -160,7 +160,7 @@ none_lacking shapes named (names.Value fd off) same has none =
     true≢false (sym (ap not none.2) ∙ sym (ap (λ o. not (option_map_or (λ shape. has_direct_value shape off) o true)) there) ∙ has)
 none_lacking shapes named r same has none = none
 
--- the shapes that are kept are those that all descriptors name
+-- the shapes by the kept entries are the shapes by all descriptors
 kept_shape : (code : List Insn) (named : List Named) (n : ℕ) (i : Insn) → begins_at code n ≡ Some i → (fd : ℕ) → descriptor i ≡ Some fd → shapes_of code named fd ≡ shapes_named named fd
 kept_shape code named n i begins fd e = ap shape_in (target_kept (maps_of code) fd (among_maps code n i begins fd e) named)
 

@@ -13,7 +13,7 @@ use Rattle.verifier.specs.inside.Descriptors.{with_descriptor}
 
 -- ---- one more at the end
 
--- what is left out is not the one that is looked for
+-- a descriptor other than the one that is left out is still found
 left_out : (x a b : ℕ) → (b == a) ≡ false → not (x == b) ≡ false → (x == a) ≡ false
 left_out x a b ne e = grind arith
 
@@ -26,7 +26,7 @@ still_there a b ne [] = refl
 still_there a b ne (x ∷ xs) = any_kept (λ o. o == a) (not (x == b)) x (without b xs) (left_out x a b ne) ∙ ap (λ t. (x == a) || t) (still_there a b ne xs)
 
 module _ (a fd : ℕ) (known : List ℕ) where
-  -- where it is the first one already, it is left out again
+  -- if it is the one that is left out, it is left out whether or not it was added
   left_out_again : (t : Bool) → (a == fd) ≡ true → without a (cond t known (known ++ fd ∷ [])) ≡ without a known
   left_out_again true e = refl
   left_out_again false e =
@@ -70,7 +70,7 @@ after_one is i = ap distinct (filter_map-append descriptor is (i ∷ [])) ∙ by
     by None e = ap (λ o. distinct (filter_map descriptor is ++ cons_option o [])) e ∙ ap distinct (append-nil (filter_map descriptor is))
     by (Some fd) e = ap (λ o. distinct (filter_map descriptor is ++ cons_option o [])) e ∙ one_more (filter_map descriptor is) fd
 
--- before the first one
+-- no instruction, no descriptor
 pub none_loaded : maps_of [] ≡ []
 unfolding distinct
 none_loaded = refl
@@ -87,12 +87,12 @@ loaded_nowhere before after o step none =
     ∙ ap (λ (p : Option Insn). maps_of (before ++ option_to_list p)) (sym none)
     ∙ ap maps_of (sym step)
 
--- what begins at the slot adds what it names
+-- the descriptors after the instruction at the slot, if one begins there
 pub loaded_at : (before after : List Insn) (o : Option Insn) → after ≡ before ++ option_to_list o → with_descriptor (maps_of before) (and_then o descriptor) ≡ maps_of after
 loaded_at before after None step = loaded_nowhere before after None step refl
 loaded_at before after (Some i) step = loaded_here before after (Some i) i step refl
 
--- where what begins at the slot names none, nothing is added
+-- if the instruction at the slot loads no map, the descriptors are the same
 pub loaded_silent : (before after entries : List Insn) (entry : Insn) (slot : ℕ) (o : Option Insn) → after ≡ before ++ option_to_list o → ((i : Insn) → o ≡ Some i → slice_get entries slot ≡ Some i) → slot < length entries → entry ≡ get_or entries slot entry → is_some (descriptor entry) ≡ false → maps_of before ≡ maps_of after
 loaded_silent before after entries entry slot None step entry_at within here silent = loaded_nowhere before after None step refl
 loaded_silent before after entries entry slot (Some i) step entry_at within here silent =

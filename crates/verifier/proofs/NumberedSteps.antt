@@ -103,7 +103,7 @@ in_stack Either f g keeps = tt
 in_stack (Compares dst src falls jumps) f g keeps = tt
 in_stack (Settles site null) f g keeps = tt
 
--- ---- their numbers
+-- ---- the numbers of the parts
 
 set_none : (xs : List ℕ) (i : ℕ) → get_or (set xs i 0) i 0 ≡ 0
 set_none [] i = get_or_past [] i 0 (omega arith)
@@ -183,7 +183,7 @@ module _ (stacks : Stacks) (n m : ℕ) (lt : n < m) (some : 0 < n) where
   falling_numbered (Compares dst src falls jumps) x h = ranged_numbered x dst src falls h
   falling_numbered (Settles site null) x h = numbered_fresh stacks n m (facts_settled site (not null) x.facts) some lt
 
--- ---- facts that are sent
+-- ---- sending facts
 
 abbrev entry_at : Option ℕ → List (Option NumberedFacts) → Option NumberedFacts
 entry_at None entries = None
@@ -229,7 +229,7 @@ module _ (absorb : SlotsAbsorb) (shapes : Shapes) (slot : ℕ) (insn : Insn) whe
     pub sent : (i : ℕ) → slot < i → Brings (jump_target insn slot) (jumping_from shapes slot insn here) old new i
     pub numbered : AreNumbered (slot + 1) (8 * slot + 10) falling new
 
-  -- what is in hand after the facts on both edges into the slot are joined
+  -- the current facts after the facts on both edges into the slot are joined
   pub record IsArrived (stacks : Stacks) (entries after : List (Option NumberedFacts)) (falling here : Option NumberedFacts) : Type 0 where
     pub facts : facts_on here ≡ joined (facts_on falling) (brought_to slot entries)
     pub in_hand : IsNumberedIf (with_stack stacks (8 * slot + 2) (stack_on here)) (8 * slot + 3) here
@@ -246,7 +246,7 @@ module _ (absorb : SlotsAbsorb) (shapes : Shapes) (slot : ℕ) (insn : Insn) whe
       let right = right_join absorb stacks (8 * slot + 2) (8 * slot + 3) lt (omega arith) falling y here h k is in
       (right.facts, right.numbered)
 
-  -- past an instruction
+  -- after an instruction
   pub past : (stacks : Stacks) (x : NumberedFacts) (old : List (Option NumberedFacts)) (falling : Option NumberedFacts) (new : List (Option NumberedFacts))
       → IsNumbered stacks (8 * slot + 3) x → ((i : ℕ) → slot + 1 ≤ i → IsNumberedIf stacks (8 * slot + 3) (entry_of i old))
       → IsPast shapes slot insn x old falling new → IsRightStep (Some x.facts) old falling new
@@ -321,7 +321,7 @@ module _ (absorb : SlotsAbsorb) (shapes : Shapes) (slot : ℕ) (insn : Insn) whe
       ∙ sym (joined_none (brought_to i old))
       ∙ sym (ap (joined (brought_to i old)) (on_none (is_slot (jump_target insn slot) i)))
 
-  -- past an instruction, if there are facts
+  -- after an instruction, if there are facts
   past_if : (stacks : Stacks) (here : Option NumberedFacts) (old : List (Option NumberedFacts)) (after : Option NumberedFacts) (new : List (Option NumberedFacts))
       → IsNumberedIf stacks (8 * slot + 3) here → ((i : ℕ) → slot + 1 ≤ i → IsNumberedIf stacks (8 * slot + 3) (entry_of i old))
       → IsPastIf shapes slot insn here old after new → IsRightStep (facts_on here) old after new
@@ -338,7 +338,7 @@ module _ (absorb : SlotsAbsorb) (shapes : Shapes) (slot : ℕ) (insn : Insn) whe
       }
   past_if stacks (Some x) old after new in_hand ahead p = past stacks x old after new in_hand ahead p
 
-  -- the facts that arrive, and past the instruction
+  -- the facts arrive, and the instruction is applied
   pub stepped : (entries middle new : List (Option NumberedFacts)) (falling here after : Option NumberedFacts)
       → AreNumbered slot (8 * slot + 2) falling entries → IsTaken slot (8 * slot + 2) entries middle falling here
       → IsPastIf shapes slot insn here middle after new → IsRightStep (joined (facts_on falling) (brought_to slot entries)) entries after new

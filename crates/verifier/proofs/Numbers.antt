@@ -1,4 +1,4 @@
--- Joins of facts whose parts of the stack have numbers are the joins of the definition, as long as each number means one part.
+-- Joins of facts whose parts of the stack have numbers are the joins of the definition, if each number means one part.
 use Rattle.std.proofs.Common.{◌≡◌, ◌⊎◌, ℕ, ◌<◌, ◌≤◌, ◌==◌, if◌then◌else◌, Bool, true, false, List, length, get_or, Option, Some, None, refl, sym, ap, subst, ◌∙◌, ⊎_elim, inl, inr, arith}
 use Rattle.std.proofs.lemmas.Bool.{cond-true, cond-false, eq-eqb, ne_eqb}
 use Rattle.std.proofs.lemmas.List.{length-replicate, get_or-replicate}
@@ -35,7 +35,7 @@ held_there held n s = cond-true (n == n) s (held n) (eq-eqb n n refl)
 pub held_below : (held : ℕ → Slot) (n k : ℕ) (s : Slot) → k < n → with_held held n s k ≡ held k
 held_below held n k s lt = cond-false (k == n) s (held k) (ne_eqb k n (λ e. omega (arith, e, lt)))
 
--- it says the same of what is numbered below it
+-- a slot with numbers below the new one keeps their meaning
 pub slot_more : (held : ℕ → Slot) (n m : ℕ) (new s : Slot) (a b : ℕ) → IsNumberedSlot held n s a b → n < m → IsNumberedSlot (with_held held n new) m s a b
 slot_more held n m new s a b h lt =
     record {
@@ -59,14 +59,14 @@ slot_raised held n m s a b le h =
       includes = λ some. let all = h.includes some in let low = all.0 in (omega (arith, low, le), all.1);
     }
 
--- the same slot and numbers
+-- the same for an equal slot with equal numbers
 pub slot_same : (held : ℕ → Slot) (n : ℕ) (s s' : Slot) (a b a' b' : ℕ) → IsNumberedSlot held n s a b → s' ≡ s → a' ≡ a → b' ≡ b → IsNumberedSlot held n s' a' b'
 slot_same held n s s' a b a' b' h slot number includes =
     subst (λ (t : Slot). IsNumberedSlot held n t a' b') (sym slot)
     (subst (λ (k : ℕ). IsNumberedSlot held n s k b') (sym number)
     (subst (λ (k : ℕ). IsNumberedSlot held n s a k) (sym includes) h))
 
--- a new number
+-- a slot with a new number
 pub slot_fresh : (held : ℕ → Slot) (n m : ℕ) (s : Slot) (a b : ℕ) → 0 < n → n < m → a ≡ n → b ≡ 0 → IsNumberedSlot (with_held held n s) m s a b
 slot_fresh held n m s a b some lt number includes =
     record {
@@ -147,7 +147,7 @@ raised_if stacks n m (Some x) le h =
       slots = λ i within. slot_raised (stacks i) n m (slot_at x.facts i) (number_of x i) (included_in x i) le (h.slots i within);
     }
 
--- from a later slot on, below a greater number
+-- the same from a later slot on, and with a greater bound
 pub raised : (slot later n m : ℕ) (falling : Option NumberedFacts) (entries : List (Option NumberedFacts)) → slot ≤ later → n ≤ m → AreNumbered slot n falling entries → AreNumbered later m falling entries
 raised slot later n m falling entries above le h =
     record {
@@ -200,7 +200,7 @@ entry_numbered =
 
 -- ---- joins
 
--- what has the number after a join
+-- the meaning of a number after a join
 abbrev pub stack_on : Option NumberedFacts → ℕ → Slot
 stack_on None i = Bytes 0
 stack_on (Some x) i = slot_at x.facts i

@@ -1,4 +1,4 @@
--- Facts are joined part by part of the stack.
+-- Facts are joined one part of the stack after another.
 use Rattle.std.proofs.Common.{◌≡◌, ◌≢◌, ℕ, ◌+◌, ◌<◌, ◌==◌, List, length, get_or, set, length-set, get_or-set_same, get_or-set_other, refl, sym, ap, subst, ◌∙◌, inl, inr, arith}
 use Rattle.std.proofs.lemmas.Bool.{cases_eq, cond-true, cond-false, eq-eqb, ne_eqb}
 use Rattle.words.specs.Stack.{stack_slots}
@@ -11,7 +11,7 @@ use Rattle.reg_kinds.specs.TableLaws.{tabulate-at}
 use Rattle.verifier.specs.declared.numbered_facts.NumberedFacts.{NumberedFacts}
 use Rattle.verifier.specs.inside.Numbers.{number_of, included_in, IsJoinedSlot, IsJoinedAt, IsSameAt, IsPartJoin, IsJoin, IsJoinedBelow}
 
--- a part that includes the other stays
+-- a part that includes the other is not changed
 pub part_kept : (fresh part : ℕ) (x y : NumberedFacts) → length x.numbers ≡ stack_parts → get_or x.includes part 0 ≡ get_or y.numbers part 0 → IsPartJoin fresh part x y x
 part_kept fresh part x y parts same =
     record {
@@ -22,7 +22,7 @@ part_kept fresh part x y parts same =
       others = λ i within other. (refl, refl, refl);
     }
 
--- the slots of the part, and those of another
+-- the slots of the part are joined; other slots are not changed
 joined_here : (part : ℕ) (a b : Facts) (i : ℕ) → i < stack_slots → part_of i ≡ part → slot_at (with_slots a (part_joined part a b)) i ≡ slot_join (slot_at a i) (slot_at b i)
 joined_here part a b i within at =
     tabulate-at (part_joined part a b) stack_slots i (Bytes 0) within
@@ -33,7 +33,7 @@ joined_elsewhere part a b i within other =
     tabulate-at (part_joined part a b) stack_slots i (Bytes 0) within
     ∙ cond-false (part_of i == part) (slot_join (slot_at a i) (slot_at b i)) (slot_at a i) (ne_eqb (part_of i) part other)
 
--- a number that is set, in the part and in another
+-- the number of the part is set; other numbers are not changed
 set_here : (xs : List ℕ) (part n i : ℕ) → part < length xs → part_of i ≡ part → get_or (set xs part n) (part_of i) 0 ≡ n
 set_here xs part n i within at = ap (λ (p : ℕ). get_or (set xs part n) p 0) at ∙ get_or-set_same xs part n 0 within
 
@@ -73,7 +73,7 @@ module _ (fresh part : ℕ) (x y z : NumberedFacts) (low : part < stack_parts) (
         );
       }
 
-  -- the part stays
+  -- the part is not changed
   pub part_unchanged : z.numbers ≡ x.numbers → z.facts.slots ≡ x.facts.slots → IsPartJoin fresh part x y z
   part_unchanged numbers slots =
       record {
@@ -94,7 +94,7 @@ module _ (fresh part : ℕ) (x y z : NumberedFacts) (low : part < stack_parts) (
 
 -- ---- all parts
 
--- only the registers are joined
+-- no part is joined, only the registers
 pub none_joined : (fresh : ℕ) (x y z : NumberedFacts) → z.facts ≡ with_registers x.facts (λ r. kind_join (kind_at x.facts r) (kind_at y.facts r)) → z.numbers ≡ x.numbers → z.includes ≡ x.includes → length x.numbers ≡ stack_parts → IsJoinedBelow fresh 0 x y z
 none_joined fresh x y z facts numbers includes parts =
     let slots : z.facts.slots ≡ x.facts.slots = ap (λ (f : Facts). f.slots) facts in
@@ -109,7 +109,7 @@ none_joined fresh x y z facts numbers includes parts =
       );
     }
 
--- from the same slot, and to the same slot
+-- an unchanged slot before or after a join of the slot
 joined_from : (fresh : ℕ) (x y z w : NumberedFacts) (i : ℕ) → IsSameAt x z i → IsJoinedAt fresh z y w i → IsJoinedAt fresh x y w i
 joined_from fresh x y z w i same joins =
     let at : Slot → ℕ → ℕ → Type 0 =
@@ -126,7 +126,7 @@ joined_to fresh x y z w i joins same =
     (subst (λ (n : ℕ). at (slot_at z.facts i) n (included_in w i)) (sym same.1)
     (subst (λ (m : ℕ). at (slot_at z.facts i) (number_of z i) m) (sym same.2) joins))
 
--- one part more
+-- one more part is joined
 pub one_joined : (fresh part : ℕ) (x y z w : NumberedFacts) → IsJoinedBelow fresh part x y z → IsPartJoin fresh part z y w → IsJoinedBelow fresh (part + 1) x y w
 one_joined fresh part x y z w h step =
     record {

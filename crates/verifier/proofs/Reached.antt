@@ -1,4 +1,4 @@
--- The pass over a program's shape, against the definitions: what can be reached, and what an instruction without a fault is.
+-- The pass of the shape check agrees with the definitions of reachable slots and of shape faults.
 use Rattle.std.proofs.Common.{◌≡◌, ℕ, ◌+◌, ◌<◌, Bool, true, false, ◌&&◌, ◌||◌, List, [], ◌∷◌, length, get_or, set, replicate, Option, Some, None, refl, sym, ap, ◌∙◌, add-one, arith, inl, inr}
 use Rattle.std.specs.Prelude.{IfSome, is_some, if◌then◌else◌}
 use Rattle.std.proofs.lemmas.Bool.{not-false, false≢true, cases_Bool, cond-true, cond-false, cases_eq, eq-eqb, ne_eqb}
@@ -14,12 +14,12 @@ use Rattle.verifier.specs.ShapeLaws.{IsFine, each_is_fine}
 use Rattle.verifier.specs.inside.Jumps.{JumpsLand}
 use Rattle.verifier.specs.Verdict.{HasNoFault}
 
--- ---- reasons against an instruction, and where one without any leads
+-- ---- reasons against an instruction, and the targets of an instruction without a fault
 
 no_reason : (reason : Reason) → Some reason ≡ None → ⊥
 no_reason reason e = cc
 
--- a reason that the first two lines tell is the first of them all
+-- if the first two conditions give a reason, it is the first of all
 pub told_early : (first second : Bool × Reason) (lines : List (Bool × Reason)) (r : Reason) → Some r ≡ first_reason (first ∷ second ∷ []) → Some r ≡ first_reason (first ∷ second ∷ lines)
 told_early first second lines r is =
     elim (cases_Bool first.0) [
@@ -49,13 +49,13 @@ within code false o inside = tt
 within code true None inside = tt
 within code true (Some n) inside = first_within code n (begins_at code n) refl (not-false (is_some (begins_at code n)) inside)
 
--- a jump leads to a slot of the program
+-- the target of a jump is a slot of the program
 pub jump_lands : (code : List Insn) (named : List Named) (i : Insn) (at : ℕ) → IsFine code named i at → IfSome (jump_target i at) (λ to. to < slot_count code)
 jump_lands code named i at is_fine = within code (jumps i) (jumps_to i at) is_fine.inside
 
--- ---- what can be reached
+-- ---- reachable slots
 
--- at the start slot 0 alone is marked
+-- at the start only slot 0 is marked
 pub marked_first : (code : List Insn) (flags : List Bool) (i : ℕ) → flags ≡ set (replicate (slot_count code) false) 0 true → i < slot_count code → get_or flags i false ≡ reached_from code i 0
 unfolding reached_from
 marked_first code flags i is lt =
@@ -76,7 +76,7 @@ reached_next : (code : List Insn) (i n : ℕ) → reached_from code i (n + 1) �
 unfolding reached_from
 reached_next code i n = ap (λ (k : ℕ). reached_from code i k) (add-one n)
 
--- an instruction that can be reached marks what it leads to
+-- a reachable instruction marks the targets of its edges
 pub marked_next : (code : List Insn) (i n : ℕ) (insn : Insn) (old new : Bool) → begins_at code n ≡ Some insn → is_reachable code n ≡ true → old ≡ reached_from code i n → new ≡ (old || leads_into (Some insn) n i) → new ≡ reached_from code i (n + 1)
 marked_next code i n insn old new begins reached was is =
     is
@@ -91,7 +91,7 @@ or_neither true false = refl
 or_neither false true = refl
 or_neither false false = refl
 
--- a slot where no instruction begins marks nothing
+-- a slot at which no instruction begins marks nothing
 pub marked_past : (code : List Insn) (i n : ℕ) (old : Bool) → begins_at code n ≡ None → old ≡ reached_from code i n → old ≡ reached_from code i (n + 1)
 marked_past code i n old begins was =
     was
@@ -105,8 +105,8 @@ pub shape_is : (code : List Insn) (named : List Named) (at : ℕ) (o : Option In
 unfolding structure_fault
 shape_is code named at o r begins is = sym (is ∙ ap (shape_of code named at) begins)
 
--- where no slot has a fault
+-- if no slot has a fault
 module _ (code : List Insn) (named : List Named) (none : HasNoFault (structure_fault code named)) where
-  -- each jump leads to a slot of the program
+  -- each jump has a target in the program
   pub each_lands : JumpsLand code
   each_lands n i begins = jump_lands code named i n (each_is_fine code named none n i begins)

@@ -1,4 +1,4 @@
--- Each refusal is by a rule, and none because memory runs out.
+-- Each rejection has a rule as its reason; no reason of a verdict is that memory runs out.
 use Rattle.std.proofs.Common.{◌≡◌, ◌≢◌, ℕ, inl, inr, Bool, List, Option, Some, None, Result, Ok, Err, subst, refl}
 use Rattle.std.specs.Prelude.{if◌then◌else◌}
 use Rattle.std.proofs.lemmas.Bool.{cond_both}
@@ -26,7 +26,7 @@ IsRule reason = Unit {0}
 abbrev ByRule : Option Reason → Type 0
 ByRule told = (reason : Reason) → told ≡ Some reason → reason ≢ Memory
 
--- what the transfer of facts says of itself
+-- the premise about the transfer function
 abbrev EffectsNeedNone : Type 0
 EffectsNeedNone = (shapes : Shapes) (at : ℕ) (i : Insn) (f : Facts) (reason : Reason) → effect shapes at i f ≡ Err reason → reason ≢ Memory
 

@@ -82,13 +82,13 @@ after_step shapes code s (ends n) go h rest = value_no_fault n
 after_step shapes code s faults go h rest = absurd h
 
 module _ (law : StepsGoOn) (code : List Insn) (named : List Named) (program : IsProgram code) (accepted : IsAccepted code named) where
-  -- a state that facts admit lies in the program
+  -- the slot of a state that facts admit is in the program
   within : (s : RunState) → IsAdmitted (shapes_of code named) code s → s.at < slot_count code
   within s here =
       let begun = some_insn (begins_at code s.at) (begins_before (shapes_of code named) code named program accepted.0 s.at here.facts here.known) in
       begins_within code s.at begun.0 begun.1
 
-  -- each step lies farther on, so there are steps enough
+  -- each step goes to a later slot, so the number of steps is enough
   no_fault : (n : ℕ) (refusals : List Bool) (s : RunState) → slot_count code ≤ s.at + n → IsAdmitted (shapes_of code named) code s → (run code n refusals s).outcome ≢ Fault
   unfolding run
   no_fault zero refusals s enough here = absurd (let inside = within s here in omega arith)

@@ -1,4 +1,4 @@
--- Each step of an accepted program goes on.
+-- No step of an accepted program faults.
 use Rattle.std.proofs.Common.{◌≡◌, ℕ, ◌+◌, ◌<◌, Bool, true, false, List, length, Option, Some, None, Result, Ok, Err, refl, sym, ap, subst, ◌∙◌, arith}
 use Rattle.std.specs.Option.{IsSome}
 use Rattle.std.proofs.lemmas.Bool.{false≢true}
@@ -41,7 +41,7 @@ slots_covered cover stay code named witness refused s i f edges program fine beg
     let shape = shape_at shapes code named program fine s.at i begins in
     cover witness shapes refused i f s edges (begun_is_insn code s.at i begins program.each) (target_is code s.at i shape) (well_formed_before stay shapes code program s.at f known) still e
 
--- the laws that a step stands on
+-- the premises of a step
 pub record Laws : Type 0 where
   pub cover : TransferIsSound
   pub stay : TransferKeepsWellFormed
@@ -53,7 +53,7 @@ admitted : (witness : Witness) (shapes : Shapes) (code : List Insn) (s : RunStat
 admitted witness shapes code s None e h proper maps = absurd h
 admitted witness shapes code s (Some f) e h proper maps = record { witness = witness; facts = f; known = e; still = record { admits = h; proper = proper; maps = maps } }
 
--- the state on an edge
+-- the facts on an edge admit the state after the step
 record Arrives (shapes : Shapes) (o : Option Facts) (slot : Option ℕ) (t : RunState) : Type 0 where
   at : slot ≡ Some t.at
   witness : Witness

@@ -1,4 +1,4 @@
--- What the pass tells its watcher, against the definition.
+-- The facts that the pass gives to its watcher are those of the definition.
 use Rattle.std.proofs.Common.{◌≡◌, ℕ, ◌+◌, subst, List, [], ◌++◌, Option, Some, None, refl, sym, ap, ◌∙◌, ◌⊎◌, add-one, append-nil, append_assoc, inl, inr}
 use Rattle.insn_set.specs.declared.insn.Insn.{Insn}
 use Rattle.insn_set.specs.Program.{begins_at}
@@ -22,7 +22,7 @@ more_none : (told : Option (List (ℕ × Facts))) → told ≡ with_more told []
 more_none None = refl
 more_none (Some notes) = ap Some (sym (append-nil notes))
 
--- by the shapes of the maps, of a program
+-- for the shapes of the maps and a program
 module _ (shapes : Shapes) (code : List Insn) where
   reached_next : (n : ℕ) → reached shapes code (n + 1) ≡ reached shapes code n ++ known_at n (and_then (begins_at code n) (λ insn. facts_before shapes code n))
   unfolding reached
@@ -52,13 +52,13 @@ module _ (shapes : Shapes) (code : List Insn) where
       ∙ sym (ap (λ (o : Option Insn). with_more old (reached shapes code n ++ known_at n (and_then o (λ insn. facts_before shapes code n)))) begins)
       ∙ sym (ap (with_more old) (reached_next n))
 
-  -- if memory runs out at an instruction, it was passed or not
+  -- if memory runs out at an instruction, the watcher may or may not have received its facts
   pub told_or_not : (n : ℕ) (insn : Insn) (here : Option Facts) (old mid new : Option (List (ℕ × Facts))) → begins_at code n ≡ Some insn → here ≡ facts_before shapes code n → IsToldBelow n shapes code old mid
       → (new ≡ mid) ⊎ (new ≡ with_more mid (known_at n here)) → (k : ℕ) × IsToldBelow k shapes code old new
   told_or_not n insn here old mid new begins known below (inl same) = (n, same ∙ below)
   told_or_not n insn here old mid new begins known below (inr more) = (n + 1, told_next n insn here old mid new begins known below more)
 
--- before the pass the watcher has received nothing, whatever ends the verification
+-- before the pass the watcher has received nothing, also if the verification ends there
 pub none_told_at_memory : (code : List Insn) (named : List Named) (told : Option (List (ℕ × Facts))) (fault : VerifyFault) → fault ≡ memory_fault → IsToldRefused code named told told fault
 none_told_at_memory code named told fault memory = inl (memory, 0, told_first (shapes_of code named) code told)
 
@@ -66,7 +66,7 @@ pub none_told_of_shape : (code : List Insn) (named : List Named) (told : Option 
 none_told_of_shape code named told fault (inl memory) = none_told_at_memory code named told fault memory
 none_told_of_shape code named told fault (inr first) = inr (inl (first, refl))
 
--- what the watcher received with the shapes of the maps that the program loads
+-- the facts that the watcher receives with the shapes of the maps that the program loads
 pub told_of_safety : (code : List Insn) (named : List Named) (entries : List Named) (old new : Option (List (ℕ × Facts))) (fault : VerifyFault) → entries ≡ entries_of (maps_of code) named → HasNoFault (structure_fault code named) → IsFirstTold (shapes_named entries) code old new fault
     → IsToldRefused code named old new fault
 told_of_safety code named entries old new fault is sound first =

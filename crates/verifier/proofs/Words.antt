@@ -1,4 +1,4 @@
--- The facts before each slot are facts before it: ranges of words, and look-ups at slots below.
+-- The facts before each slot are well formed: their ranges are of words, and their look-ups are at lower slots.
 use Rattle.std.proofs.Common.{◌≡◌, ℕ, zero, suc, ◌<◌, ◌==◌, Bool, List, Option, Some, None, Result, Ok, Err, if◌then◌else◌, refl, arith}
 use Rattle.std.specs.Prelude.{◌&&◌}
 use Rattle.std.specs.List.{AllByRecursion}
@@ -27,7 +27,7 @@ use Rattle.transfer.specs.FactLaws.{facts_of_later_slots}
 use Rattle.verifier.specs.Shape.{falls_into, jumps_into}
 use Rattle.verifier.specs.Before.{joined, only_if, edges_into, facts_sent, facts_from_below}
 
--- above the slots of the look-ups
+-- a bound above the slots of the look-ups
 module _ (bound : ℕ) where
   no_bytes : IsSlotAt bound (Bytes 0)
   no_bytes = omega arith
@@ -47,7 +47,7 @@ module _ (bound : ℕ) where
       (λ r. cond_both (r == 1) Ctx _ (IsKindAt bound) (λ _. tt) (λ _. cond_both (r == 10) _ Unreadable (IsKindAt bound) (λ _. tt) (λ _. tt)))
       (λ i. no_bytes)
 
-  -- ---- where two edges meet
+  -- ---- joins of two edges
 
   either_kind : (b : Bool) (k : Kind) → IsKindAt bound k → IsKindAt bound (if b then k else Unreadable)
   either_kind b k h = cond_both b k Unreadable (IsKindAt bound) (λ _. h) (λ _. tt)
@@ -86,7 +86,7 @@ module _ (bound : ℕ) where
   on_words : (leads : Bool) (o : Option Facts) → AreWellFormedOn bound o → AreWellFormedOn bound (only_if leads o)
   on_words leads o h = cond_both leads o None (AreWellFormedOn bound) (λ _. h) (λ _. tt)
 
--- ---- facts before a slot are facts before the next one
+-- ---- facts that are well formed at a slot are well formed at the next one
 
 on_raised : (n : ℕ) (o : Option Facts) → AreWellFormedOn n o → AreWellFormedOn (suc n) o
 on_raised n None h = tt

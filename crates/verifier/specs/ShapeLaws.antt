@@ -1,5 +1,5 @@
 -- Laws of the instructions of a program without a fault of its shape, of the definitions of `Shape`, proved here for the proofs of
--- this crate and of those above. This project's own. No contract cites them, so there is nothing in them to believe.
+-- this crate and of those above. This project's own. No contract cites them, so they are not part of what has to be trusted.
 use Rattle.std.proofs.Common.{◌≡◌, ℕ, Bool, true, false, not, ◌&&◌, List, [], ◌∷◌, Some, None, sym, ap, ◌∙◌, inl, inr}
 use Rattle.std.specs.Prelude.{nat_le}
 use Rattle.std.proofs.lemmas.Bool.{not-false, cases_Bool, cond-true, cond-false}

@@ -1,7 +1,7 @@
 //! The verifier: a program is accepted, or rejected at its first faulty slot for a reason. No run of an accepted program
 //! faults.
 //!
-//! The shape is checked first: where control flows, and what is wrong with an instruction whatever the registers hold. Then
+//! The shape is checked first: the control flow, and what is wrong with an instruction whatever the registers hold. Then
 //! each instruction is checked against the facts before it. Each check is one pass over the slots.
 //!
 //! The definitions are `Shape` (the shape of a program), `Before` (the facts before each slot, a recursion over the slots

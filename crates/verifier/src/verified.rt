@@ -113,7 +113,7 @@ pub fn verify_slots(
         Judges named.now slots.now (Err refusal))) }
     ensures entries { IfOk result (λ verdict. IfOk verdict (λ program.
         program.entries ≡ entries_of (maps_of program.code) named.now)) }
-    // Memory is asked for only if a program may have so many slots.
+    // Memory is requested only if a program may have so many slots.
     ensures memory { IfErr result (λ _. length_fault (length slots.now) ≡ None) }
     // The slot of a refusal is one of the slots', or the one after them.
     ensures slot { IfOk result (λ verdict. IfErr verdict (λ refusal.

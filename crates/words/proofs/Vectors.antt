@@ -1,4 +1,4 @@
--- Known answers: the results of the equations on numbers of RFC 9669's rules, and the places of accesses in a stack of 512 bytes.
+-- Worked cases: the results of the equations on numbers of RFC 9669's rules, and the places of accesses in a stack of 512 bytes.
 use Rattle.std.proofs.Common.{◌≡◌, pos, neg_ℤ, true, false, refl}
 use Rattle.words.specs.declared.operator.KeptBits.TheVariants.{Bits16, Bits32, Bits64}
 use Rattle.words.specs.declared.operator.ExtendedBits.TheVariants as narrow

@@ -1,5 +1,5 @@
 -- Laws of places in the stack, of the definitions of `Stack`, proved here for the proofs of the crates above. This project's own.
--- No contract cites them, so there is nothing in them to believe.
+-- No contract cites them, so they are not part of what has to be trusted.
 use Rattle.std.proofs.Common.{◌≡◌, ℕ, ◌+◌, ◌-◌, ◌%◌, ◌≤◌, int_le, ℤ, pos, negsuc, ◌+ℤ◌, ◌≤ℤ◌, unsigned_abs, true, ap, arith}
 use Rattle.std.proofs.lemmas.Bool.{and_parts}
 use Rattle.std.proofs.lemmas.Int.{ints}

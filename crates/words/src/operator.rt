@@ -28,7 +28,7 @@ pub enum AluOp {
 /// How a byte-order conversion orders the bytes (RFC 9669, section 4.2).
 #[derive(Clone, Copy, Debug, PartialEq, Eq)]
 pub enum ByteOrder {
-    /// To little-endian: the bytes stay in their order.
+    /// To little-endian: the bytes keep their order.
     Little,
     /// To big-endian: the bytes are reversed, since the machine is little-endian.
     Big,

@@ -1,4 +1,4 @@
--- The program's arguments, and what they ask for. The arguments are this project's own; how arguments are parsed is clap's.
+-- The program's arguments, and the task that they name. The arguments are this project's own; how arguments are parsed is clap's.
 use Rattle.std.specs.Prelude.{◌≡◌, ◌⊎◌, ℕ, true, List, [], Option, Some, None, codes, if◌then◌else◌, option_and_then, option_map, unwrap_or}
 use Rattle.std.specs.Str.{bytes_eq}
 use Rattle.clap.specs.Words.{App, Kinds, Row, Rule, Shape, Text, all_of, fault_of, first_of, new_app, new_rule, subcommand_of, with_rule, with_subcommand}
@@ -69,7 +69,7 @@ tenant_number digits = option_and_then (λ number. if is_from_to 1 most_tenants 
 abbrev pub map_arguments : List Row → List Text
 map_arguments rows = unwrap_or (all_of (codes "map") rows) []
 
--- ---- what the arguments ask for
+-- ---- the task that the arguments name
 
 -- serve frames to a number of tenants; read a text and write another one; verify a program, with arguments for its maps
 pub data Asked : Type 0 where
@@ -77,7 +77,7 @@ pub data Asked : Type 0 where
   Rewrites : TextTask → Asked
   Verifies : List Text → Asked
 
--- what a subcommand asks for, given its name and its arguments; None if these are wrong
+-- the task of a subcommand, given its name and its arguments; None if these are wrong
 abbrev pub asked_with : Text → List Row → Option Asked
 asked_with name rows =
     if bytes_eq name (codes "serve") then option_map Serves (option_and_then tenant_number (tenants_value rows)) else
@@ -88,7 +88,7 @@ asked_with name rows =
 abbrev pub asked_of : Option (Text × List Row) → Option Asked
 asked_of chosen = option_and_then (λ (subcommand : Text × List Row). asked_with subcommand.0 subcommand.1) chosen
 
--- what the arguments ask for; None if they are wrong, whatever the map arguments name
+-- the task that the arguments name; None if they are wrong, whatever the map arguments name
 abbrev pub asked_by_arguments : List Text → Option Asked
 asked_by_arguments arguments = if is_empty (refusal_kinds arguments) then asked_of (chosen_subcommand arguments) else None
 
@@ -96,10 +96,10 @@ asked_by_arguments arguments = if is_empty (refusal_kinds arguments) then asked_
 abbrev pub HasWrongMapArgument : List Text → Type 0
 HasWrongMapArgument maps = (number : ℕ) × IsFirstWrongArgument maps number
 
--- the arguments ask for nothing, or a map argument is wrong
+-- the arguments name no task, or a map argument is wrong
 abbrev pub AreWrongArguments : List Text → Type 0
 AreWrongArguments arguments = (asked_by_arguments arguments ≡ None) ⊎ ((maps : List Text) × (asked_by_arguments arguments ≡ Some (Verifies maps)) × HasWrongMapArgument maps)
 
--- if the arguments ask for a verdict and the input's bytes are known, the input has a program that is accepted
+-- if the task is to verify a program and the input's bytes are known, the input has a program that is accepted
 abbrev pub AcceptsAsked : List Text → Option (List ℕ) → Type 0
 AcceptsAsked arguments input = (maps : List Text) → asked_by_arguments arguments ≡ Some (Verifies maps) → AcceptsIfKnown maps input

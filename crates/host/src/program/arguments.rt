@@ -26,7 +26,7 @@ use std::alloc::{AllocError, Global};
 use std::io::{self, BufReader, Read, Write};
 use tagged_model::Named;
 
-/// What the arguments ask for.
+/// The task that the arguments name.
 #[derive(Clone, Copy, Debug)]
 enum Task<'m, 'a> {
     /// Serve frames to this number of tenants.
@@ -198,7 +198,7 @@ fn judge_streams<I: Read + Drop, O: Write + Drop>(
     Ok(verdict_status(refusal))
 }
 
-/// Runs the subcommand that the arguments, those after the program's name, ask for, and returns the exit status.
+/// Runs the subcommand that the arguments name, and returns the exit status. The arguments are those after the name of the program.
 fn run<I: Read + Drop, O: Write + Drop>(
     alloc: Global,
     seed: Option<HashSeed>,

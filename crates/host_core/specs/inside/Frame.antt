@@ -1,4 +1,4 @@
--- How one frame is served: read, handled, answered. This project's own.
+-- Serving one frame: it is read, handled, and its reply is written. This project's own.
 use Rattle.std.specs.Prelude.{◌≡◌, Bool, true, false, ℕ, ◌<◌, List, [], length, take}
 use Rattle.std.specs.Io.KnownBytes.{Consumes, Appends, IsAtEnd}
 use Rattle.host_core.specs.declared.server.ServeFaultKind.{ServeFaultKind}
@@ -7,7 +7,7 @@ use Rattle.command_frames.specs.Frame.{framed, IsFrame, IsPartial}
 use Rattle.host_core.specs.Served.{StreamState, NoCallFailed}
 use Rattle.host_core.specs.Handled.{Handles}
 
--- a frame was read, answered, and its reply written as far as `out`
+-- a frame was read and handled, and its reply written as far as `out`
 pub record ServesOneFrame (old new : StreamState) (frame reply out : List ℕ) : Type 0 where
   pub is_frame : IsFrame frame
   pub read : Consumes old.input new.input (framed frame)

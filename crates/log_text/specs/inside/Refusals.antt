@@ -1,4 +1,4 @@
--- A program that is rejected, as the writers of a log have it. This project's own.
+-- A program that is rejected, as the writers of a log receive it. This project's own.
 use Rattle.std.specs.Prelude.{Option, option_map}
 use Rattle.std.specs.Borrow.{Bor}
 use Rattle.std.specs.Option.{option_copied}

@@ -8,7 +8,7 @@ use Rattle.tenant.specs.declared.reply.Reply.TheVariants as reply
 use Rattle.saving.specs.Births.{Birth, with_birth}
 use Rattle.tenant.specs.State.{TenantState}
 
--- the object that a reply opens is born last
+-- the object that a reply opens has the latest birth
 abbrev pub with_told : Result Reply Errno → List (Option OpenObject) → List Birth → List Birth
 with_told (Ok (reply.Opened fd)) objects births = with_birth fd (named objects fd) births
 with_told r objects births = births

@@ -1,11 +1,11 @@
--- The commands that close a descriptor and put the keys of a map, and how far these are. This project's own.
+-- The commands that close a descriptor and put the keys of a map, and the ones that are left. This project's own.
 use Rattle.std.specs.Prelude.{ℕ, nat_eq, is_none, if◌then◌else◌, List, [], ◌∷◌, map, Option, Some, None}
 use Rattle.command_frames.specs.Command.{Command, close}
 use Rattle.tenant.specs.declared.object.OpenObject.{OpenObject}
 use Rattle.tenant.specs.Entry.{PlacedEntry}
 use Rattle.saving.specs.Restored.{put_of}
 
--- a descriptor that is not open is closed
+-- the command that closes a descriptor without an object; none for a descriptor with one
 abbrev pub closing : ℕ → Option OpenObject → List Command
 closing fd o = if is_none o then close fd ∷ [] else []
 
@@ -17,7 +17,7 @@ abbrev pub rest_behind : {K : Type 0} → ℕ → List (K × ℕ) → List (K ×
 rest_behind p [] = []
 rest_behind p (e ∷ es) = if nat_eq p e.1 then es else rest_behind p es
 
--- all of them, if no place is given
+-- all entries if there is no place, else those after it
 abbrev pub rest_after : {K : Type 0} → Option ℕ → List (K × ℕ) → List (K × ℕ)
 rest_after None es = es
 rest_after (Some p) es = rest_behind p es

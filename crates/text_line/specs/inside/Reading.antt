@@ -216,7 +216,7 @@ parsed_map_value dst ts = do
   ts ← after_word (codes "ll") off.1
   at_end (form.MapValue dst n.0 off.0) ts
 
--- after `=`, what only an r register can be assigned
+-- after `=`: an assignment that only an r register can have
 unfoldable pub parsed_wide_move : ℕ → List Token → Option Form
 parsed_wide_move dst ts =
     match_option (after_word (codes "map_fd") ts)

@@ -1,4 +1,4 @@
--- The facts that a forward pass over the slots holds (dataflow analysis: facts are propagated along each edge, and joined where
+-- The facts during a forward pass over the slots (dataflow analysis: facts are propagated along each edge, and joined if
 -- edges meet). This project's own.
 use Rattle.std.specs.Prelude.{◌≡◌, ℕ, List, Option}
 use Rattle.reg_kinds.specs.declared.facts.Facts.{Facts}
@@ -16,6 +16,6 @@ brought_to slot entries = facts_on (entry_of slot entries)
 abbrev pub Brings : Option ℕ → Option Facts → List (Option NumberedFacts) → List (Option NumberedFacts) → ℕ → Type 0
 Brings target facts old new i = brought_to i new ≡ joined (brought_to i old) (only_if (is_slot target i) facts)
 
--- the facts that arrive at a slot where an instruction begins: on the falling edge into it, and on jumps
+-- the facts that arrive at a slot at which an instruction begins: on the falling edge into it, and on jumps
 abbrev pub arriving_at : ℕ → Pass → Option Facts
 arriving_at slot pass = joined (facts_on pass.falling) (brought_to slot pass.entries)

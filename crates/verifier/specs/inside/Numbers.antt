@@ -1,5 +1,5 @@
--- Numbers of the parts of stacks: what is known of a part in facts, so that a part which is known to be joined already is not
--- joined again. This project's own.
+-- Numbers of the parts of stacks. A number identifies the facts about a part, so that a part is not joined again if it is known to be
+-- joined already. This project's own.
 use Rattle.std.specs.Prelude.{◌≡◌, ◌≢◌, ◌⊎◌, ℕ, ◌+◌, ◌*◌, ◌<◌, ◌≤◌, Bool, not, List, length, replicate, slice_index_or, slice_set, Option, Some, None, Ok}
 use Rattle.std.specs.Option.{option_map}
 use Rattle.words.specs.Stack.{stack_slots}
@@ -28,7 +28,7 @@ facts_on o = option_map (λ x. x.facts) o
 abbrev pub entry_of : ℕ → List (Option NumberedFacts) → Option NumberedFacts
 entry_of i entries = slice_index_or entries i None
 
--- of a slot of the stack, the number of its part, and the number of what its part includes
+-- for a slot of the stack, the number of its part, and the number of the part that this part includes
 abbrev pub number_of : NumberedFacts → ℕ → ℕ
 number_of x i = slice_index_or x.numbers (part_of i) 0
 
@@ -121,7 +121,7 @@ with_ranges x dst src ranges = record { facts = with_pair x.facts dst src ranges
 abbrev pub settled : ℕ → Bool → ℕ → NumberedFacts → NumberedFacts
 settled site null fresh x = numbered_by fresh (facts_settled site null x.facts)
 
--- from the facts that the code leaves
+-- the facts on the falling edge, from the facts that the code leaves
 abbrev pub on_falling_edge : Flow → ℕ → NumberedFacts → Option NumberedFacts
 on_falling_edge Ends fresh x = None
 on_falling_edge Falls fresh x = Some x
@@ -167,16 +167,16 @@ abbrev pub IsPastIf : Shapes → ℕ → Insn → Option NumberedFacts → List 
 IsPastIf shapes n insn None entries_old new entries_new = (new ≡ None) × (entries_new ≡ entries_old)
 IsPastIf shapes n insn (Some x) entries_old new entries_new = IsPast shapes n insn x entries_old new entries_new
 
--- ---- what each number means, for numbers below a bound
+-- ---- the meaning of each number, for numbers below a bound
 
--- slot s is what the number n of its part means, and a join with what number m means, which its part includes, changes nothing
+-- slot s is the slot that number n means, and a join with the slot that number m means, which its part includes, changes nothing
 pub record IsNumberedSlot (held : ℕ → Slot) (bound : ℕ) (s : Slot) (n m : ℕ) : Type 0 where
   pub is : s ≡ held n
   pub some : 0 < n
   pub below : n < bound
   pub includes : 0 < m → (m < bound) × (slot_join s (held m) ≡ s)
 
--- the same of each slot; `stacks` gives what a number means in a slot
+-- the same for each slot; `stacks` gives the slot that a number means
 pub record IsNumbered (stacks : ℕ → ℕ → Slot) (bound : ℕ) (x : NumberedFacts) : Type 0 where
   pub parts : length x.numbers ≡ stack_parts
   pub slots : (i : ℕ) → i < stack_slots → IsNumberedSlot (stacks i) bound (slot_at x.facts i) (number_of x i) (included_in x i)

@@ -1,4 +1,4 @@
--- What a watcher has received if the pass ends early. This project's own.
+-- The facts that a watcher has received if the pass ends early. This project's own.
 use Rattle.std.specs.Prelude.{◌≡◌, ◌⊎◌, ℕ, ◌+◌, List, Option}
 use Rattle.insn_set.specs.declared.insn.Insn.{Insn}
 use Rattle.reg_kinds.specs.declared.facts.Facts.{Facts}
@@ -16,7 +16,7 @@ StopsTelling old new slot known fault = (fault ≡ memory_fault) × ((new ≡ ol
 abbrev pub IsFaultTold : Shapes → ℕ → Insn → Option Facts → Option (List (ℕ × Facts)) → Option (List (ℕ × Facts)) → VerifyFault → Type 0
 IsFaultTold shapes slot insn known old new fault = IsFaultFrom shapes slot insn known fault × (new ≡ with_more old (known_at slot known))
 
--- the first fault of safety, where the watcher has received the facts up to its slot; or out of memory at some slot
+-- the first safety fault, and the watcher has received the facts up to its slot; or out of memory at some slot
 abbrev pub IsFirstTold : Shapes → List Insn → Option (List (ℕ × Facts)) → Option (List (ℕ × Facts)) → VerifyFault → Type 0
 IsFirstTold shapes code old new fault =
     ((fault ≡ memory_fault) × (n : ℕ) × IsToldBelow n shapes code old new)

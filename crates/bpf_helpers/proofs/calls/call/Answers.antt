@@ -10,7 +10,7 @@ use Rattle.bpf_helpers.proofs.Followed.{look_up_follows, update_follows, delete_
 use Rattle.bpf_helpers.proofs.calls.call.Goals as goal
 use Rattle.bpf_helpers.specs.States.{answers, site}
 
--- a number leads to one function
+-- a number names one function
 of_helper : (P : Helper → Type 0) (h : Helper) {id : ℤ} {found : Option Helper} {field : Helper} → SFits w32 id → found ≡ helper_of (to_z w32 (of_z w32 id)) → found ≡ Some field → field ≡ h → P h → (helper : Helper) → helper_of id ≡ Some helper → P helper
 of_helper P h {id} {field = field} fits by is told holds helper known = subst P (sym told ∙ same_Some field helper (sym is ∙ by ∙ ap helper_of (to_z-of_z w32 id fits) ∙ known)) holds
 

@@ -10,7 +10,7 @@ use Rattle.bpf_helpers.proofs.Copied.{copied_is}
 use Rattle.bpf_helpers.proofs.update.put.Goals as goal
 use Rattle.bpf_helpers.proofs.update.put.Goals.{After-claim}
 
--- what the code reads is the key's bytes
+-- the bytes that the code reads are the key's
 key_read : (c : After-claim)
     → slice_range c.part-part.result.now c.args.key (c.args.key + c.shape-shape.result.key_size) ≡ bytes_at c.args.arena.now.bytes (part_start c.args.arena.now c.args.caller.tenant + c.args.key) (shape_at c.args.maps.now c.args.map).key_size
 key_read c =

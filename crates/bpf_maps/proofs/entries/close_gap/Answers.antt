@@ -36,7 +36,7 @@ module _ (end size place : ℕ) (keys : List (Option ℕ)) (old mid : Slab Entry
     };
   }
 
-  -- it has one
+  -- the place has a key
   module _ (key : ℕ) (at : get_or keys place None ≡ Some key) (e : Entry) (here : get mid key ≡ Some e) (below : place < MAPS) where
     abbrev lower : Entry
     lower = closed_up end size e

@@ -6,7 +6,7 @@ use Rattle.bpf_maps.specs.declared.map_layout.MapLayout.{MapLayout}
 use Rattle.bpf_maps.specs.InMaps.{placed, AreKeys, closed_up, layout_of}
 use Rattle.bpf_maps.proofs.entries.close_gap.Given as goal
 
--- the entries at the places below this one have closed up, and the others are as they were
+-- the entries at the places below this one are moved down, and the others are not changed
 pub record ClosesBelow (end size place : ℕ) (old new : List (Option Entry)) : Type 0 where
   pub done : (p : ℕ) → p < place → get_or new p None ≡ option_map (closed_up end size) (get_or old p None)
   pub left : (p : ℕ) → place ≤ p → get_or new p None ≡ get_or old p None

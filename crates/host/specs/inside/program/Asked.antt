@@ -1,4 +1,4 @@
--- What arguments ask for, as the code has it. This project's own.
+-- The task that the arguments name. This project's own.
 use Rattle.std.specs.Prelude.{◌≤◌, List, [], Option, Some, None}
 use Rattle.std.specs.Borrow.{Bor}
 use Rattle.clap.specs.Words.{Text}

@@ -8,13 +8,13 @@ use Rattle.host.specs.declared.program.failure.Failure.{Failure}
 use Rattle.host.specs.declared.program.failure.Failure.TheVariants.{Memory}
 use Rattle.host.specs.program.Statuses.{stream_failure}
 
--- the program's end for the end of a stream
+-- the result of the program for the result of a stream
 abbrev pub stream_end : Result ℕ ServeFault → Result (Unit {0}) Failure
 stream_end (Ok count) = Ok tt
 stream_end (Err fault) = Err (stream_failure fault)
 
--- A new host serves the stream from `before` on, `most_frames` frames at most; `after` is the state after it, by the states of
--- the tenants. Or it is out of memory for the host, and nothing is read or written.
+-- A new host serves the stream from `before` on, at most `most_frames` frames; `after` is the state after it, as a function of the states
+-- of the tenants. Or memory runs out for the host, and nothing is read or written.
 abbrev pub ServesNewHost : Result (Unit {0}) Failure → StreamState → (List TenantState → StreamState) → Type 0
 ServesNewHost result before after =
     ((served : Result ℕ ServeFault) × (states : List TenantState)

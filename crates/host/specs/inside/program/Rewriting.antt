@@ -1,4 +1,4 @@
--- What `asm` and `dis` read, write and refuse. This project's own.
+-- The input and output of `asm` and `dis`, and the inputs that they reject. This project's own.
 use Rattle.std.specs.Prelude.{◌≡◌, ◌⊎◌, ℕ, ◌+◌, ◌<◌, ◌≤◌, List, length, take, Option, IsUtf8}
 use Rattle.std.specs.Io.KnownBytes.{Appends, Consumes, IsAtEnd}
 use Rattle.bpf_text.specs.Assembly.{IsAssembled, IsOwnFault}
@@ -108,7 +108,7 @@ HasNoInput Seed before after failures_before failures_after = ⊥
 abbrev pub WritesNothing : Streams → Streams → Type 0
 WritesNothing old new = (new.output ≡ old.output) × (new.write_failures ≡ old.write_failures)
 
--- Below, `made` relates an input to its output, and `refused` to the failure for which it is refused.
+-- Below, `made` relates an input to its output, and `refused` relates it to the failure for which it is rejected.
 
 -- the input was read, and its whole output written; no call failed
 pub record WritesWholeOutput (made : List ℕ → List ℕ → Type 0) (old new : Streams) : Type 0 where
@@ -119,7 +119,7 @@ pub record WritesWholeOutput (made : List ℕ → List ℕ → Type 0) (old new 
   pub written : Appends old.output new.output output
   pub sound : (new.read_failures ≡ old.read_failures) × (new.write_failures ≡ old.write_failures)
 
--- the input was read, and is refused, or memory ran out
+-- the input was read and is rejected, or memory ran out
 pub record RefusesInput (refused : List ℕ → Failure → Type 0) (old new : Streams) (failure : Failure) : Type 0 where
   pub input : List ℕ
   pub whole : ReadsWholeInput old.input new.input input
@@ -127,7 +127,7 @@ pub record RefusesInput (refused : List ℕ → Failure → Type 0) (old new : S
   pub silent : WritesNothing old new
   pub sound : new.read_failures ≡ old.read_failures
 
--- the input was read, a part of its output written, and a call failed
+-- the input was read, a part of its output was written, and a call failed
 pub record CutsOutput (made : List ℕ → List ℕ → Type 0) (old new : Streams) (failure : Failure) : Type 0 where
   pub input : List ℕ
   pub output : List ℕ

@@ -1,4 +1,4 @@
--- So many new tenants are made so far.
+-- The number of new tenants so far.
 use Rattle.std.proofs.Common.{◌≡◌, ℕ, [], length}
 use Rattle.std.specs.Prelude.{replicate}
 use Rattle.arena.specs.Memory.{Memory}

@@ -1,4 +1,4 @@
--- What the buffer's front holds is what came out of the reader, and no call has failed.
+-- The front of the buffer has the bytes that were read, and no call has failed.
 use Rattle.std.proofs.Common.{◌≡◌, ◌-◌, ◌≤◌, length, take}
 use Rattle.std.specs.Io.KnownBytes.{Consumes}
 use Rattle.host_core.proofs.reading.fill.Given as goal

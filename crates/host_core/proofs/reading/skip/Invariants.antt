@@ -1,4 +1,4 @@
--- What is no longer left came out of the reader, and no call has failed.
+-- The bytes that are no longer to be skipped were read, and no call has failed.
 use Rattle.std.proofs.Common.{◌≡◌, ℕ, ◌+◌, ◌<◌, List, length}
 use Rattle.std.specs.Io.KnownBytes.{Consumes}
 use Rattle.host_core.proofs.reading.skip.Given as goal

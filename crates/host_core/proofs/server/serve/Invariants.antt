@@ -1,4 +1,4 @@
--- So many frames are answered so far, their replies are flushed, and no call has failed.
+-- The replies to the frames so far are written and flushed, and no call has failed.
 use Rattle.std.proofs.Common.{[]}
 use Rattle.host_core.specs.Served.{AnswersFrames, NoCallFailed, IsFlushedAgain, stream_state}
 use Rattle.host_core.proofs.server.serve.Given as goal

@@ -1,4 +1,4 @@
--- What is gone from the rest went out, and no call has failed.
+-- The bytes that are no longer in the rest were written, and no call has failed.
 use Rattle.std.proofs.Common.{◌≡◌, ℕ, ◌≤◌, length, take, drop}
 use Rattle.std.specs.Io.KnownBytes.{Appends}
 use Rattle.host_core.proofs.writing.write_whole.Given as goal

@@ -1,4 +1,4 @@
--- What is spelled at the front has no fault, and nothing else is spelled there.
+-- If an instruction is spelled at the front, the bytes have no fault and begin with no other instruction.
 use Rattle.std.proofs.Common.{◌≡◌, length, ap, ◌∙◌, arith, refl}
 use Rattle.insn_set.specs.declared.insn.Insn.{Insn}
 use Rattle.insn_set.specs.Spelling.{slots}

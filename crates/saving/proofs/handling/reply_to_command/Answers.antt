@@ -38,7 +38,7 @@ note-requires-in-ProgLoad c =
     subst (λ (bs : List Birth). length bs ≤ most + most_maps) (sym (told_is_opened r after c.args.births.now))
     (few_after c.maps_are_held.ensures c.births_are_kept.ensures c.args.tenant.now c.args.births.now c.requires.recorded p (refused ∷ []) (prog_load a.kind a.slots.now) (shown_answer r after) loads)
 
--- ---- commands that are lent the part
+-- ---- commands that borrow the part to write it
 
 pub returns-in-MapCreate-clause-told : goal.returns-in-MapCreate-clause-told
 returns-in-MapCreate-clause-told c =
@@ -60,7 +60,7 @@ returns-in-Close-clause-told c =
     lent_told c.parts_are_apart.ensures c.args.tenant.now c.close-answer.new.self lent (told [] c.close-answer.result c.in-Close.is e.answer e.writable c.write_answer-in-Close.ensures
     (c.keep_living.ensures c.close-answer.new.part ∙ ap (λ (s : TenantState). filter (lives s) c.args.births.now) (shown_after c.close-answer.result (state_in c.close-answer.new.part c.close-answer.new.self))))
 
--- ---- commands that read the part, or are not lent it
+-- ---- commands that read the part, or do not borrow it
 
 pub returns-in-MapLookup-clause-told : goal.returns-in-MapLookup-clause-told
 returns-in-MapLookup-clause-told c =

@@ -6,7 +6,7 @@ use Rattle.tagged_model.specs.Named.{shapes_named}
 use Rattle.transfer.specs.Effects.{assigns, value_of, effect}
 use Rattle.transfer.proofs.effects.apply.Goals as goal
 
--- if there is no such value, the reason is reported
+-- if the map has no direct value, its reason is returned
 pub returns-in_err-pointer-in-MapValue-clause-refused :
     goal.returns-in_err-pointer-in-MapValue-clause-refused
 returns-in_err-pointer-in-MapValue-clause-refused c =

@@ -8,7 +8,7 @@ use Rattle.tagged_model.specs.Named.{shapes_named}
 use Rattle.transfer.specs.Effects.{store_facts}
 use Rattle.transfer.proofs.effects.store.Goals as goal
 
--- what a write of the stack tells is what the store tells
+-- the result of the write to the stack is the result of the store
 abbrev Tells : Result Facts Reason → Result ℕ Reason → Facts → Facts → Type 0
 Tells done result old new = MatchResult done (λ after. IsOk result × (new ≡ after)) (λ reason. (result ≡ Err reason) × (new ≡ old))
 

@@ -3,7 +3,7 @@ use Rattle.insn_set.specs.Program.{slot_count}
 use Rattle.verifier.specs.Shape.{reached_from, structure_fault}
 use Rattle.verifier.proofs.shape.check_shape.Given as goal
 
--- the flags ahead are those of what the slots so far lead to, and none of those has a fault
+-- a later slot is marked if an edge from a slot so far goes to it, and none of the slots so far has a fault
 abbrev pub invariant-loop-slot : goal.invariant-loop-slot
 invariant-loop-slot l =
     record {

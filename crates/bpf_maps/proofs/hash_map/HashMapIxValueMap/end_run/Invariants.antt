@@ -2,7 +2,7 @@ use Rattle.std.proofs.Common.{◌≡◌, vec_len}
 use Rattle.bpf_maps.specs.Index.{entries_of, IsWellFormedHash}
 use Rattle.bpf_maps.proofs.hash_map.HashMapIxValueMap.end_run.Given as goal
 
--- the places stay whole, and the keys with them
+-- the invariant holds, and the keys are not changed
 abbrev pub invariant-loop-place : goal.invariant-loop-place
 invariant-loop-place l = record {
   whole : IsWellFormedHash l.self-inside;

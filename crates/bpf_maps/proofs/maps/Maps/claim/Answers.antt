@@ -19,7 +19,7 @@ claim-answer-requires c =
 pub returns-in-Array-clause-rest : goal.returns-in-Array-clause-rest
 returns-in-Array-clause-rest c = no_keys c.args.self.now c.args.map c.requires.live (c.maps_are_laid.ensures.sound c.args.map c.requires.live) c.maps_are_laid.ensures.laid
 
--- a hash map has another table
+-- the table of a hash map changes
 change : (c : After-claim-answer) → IsKeyChange c.self.inside c.args.self.now c.map.inside.place c.args.map c.key_at-at.result c.index_mut-entry.result.now c.claim-answer.new.self
 change c = record {
   under = is_under c.self.view_is c.self.invariant c.map.view_is c.key_at-at.ensures c.index_mut-entry.ensures.value;
@@ -39,7 +39,7 @@ returns-then-matches-clause-claimed c =
 pub returns-then-matches-clause-rest : goal.returns-then-matches-clause-rest
 returns-then-matches-clause-rest c = only_keys (change (goal.at.returns-then-matches-clause-rest c).After-claim-answer)
 
--- it was not
+-- memory was not refused
 pub invariant_of-self-else-matches : goal.invariant_of-self-else-matches
 invariant_of-self-else-matches c = keys_whole (change (goal.at.invariant_of-self-else-matches c).After-claim-answer)
 

@@ -5,7 +5,7 @@ use Rattle.bpf_maps.proofs.Placed.{in_places}
 use Rattle.bpf_maps.proofs.Changes.{live_entry}
 use Rattle.bpf_maps.proofs.maps.Maps.layout.Goals as goal
 
--- what a call asks of a live map
+-- the layout of a live map
 abbrev layout_of_live : Option LiveMap → MapLayout
 layout_of_live o = let l : MapLayout = record { shape = (live_or o).places.shape; start = (live_or o).start; stride = (live_or o).stride } in l
 

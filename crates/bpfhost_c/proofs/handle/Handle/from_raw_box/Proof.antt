@@ -1,4 +1,4 @@
--- `from_raw_box` moves the pointer and the allocator, and what they own goes with them.
+-- `from_raw_box` moves the pointer and the allocator, with the memory that they own.
 use Rattle.std.proofs.Common.{List, [], ◌∷◌, ◌++◌, refl, sym, subst}
 use mir.Val.{Val, vptr}
 use base.Logic.{SProp, ent, id⊢}

@@ -1,4 +1,4 @@
--- `into_raw_box` tests the pointer, and what it owns goes with it.
+-- `into_raw_box` tests the pointer and moves it, with the memory that it owns.
 use Rattle.std.proofs.Common.{List, [], ◌∷◌, ◌++◌, refl, sym, ap, ◌∙◌, subst, lit<}
 use mir.Val.{Val, vptr, vcons, vnil}
 use base.Logic.{SProp, ent, id⊢}

@@ -1,4 +1,4 @@
--- `from_box` takes the box apart.
+-- `from_box` takes the pointer and the allocator out of the box.
 use Rattle.std.proofs.Common.{◌≡◌, List, [], ◌∷◌, ◌++◌, refl, sym, ap, ◌∙◌, subst}
 use mir.Syntax.{a_type, dcons, dnil}
 use mir.Raw.{raw as bare}

@@ -1,4 +1,4 @@
--- The ends that are left are judged as all are.
+-- The packets of the other ends have the fault that all packets have.
 use Rattle.std.proofs.Common.{◌≡◌, length, drop}
 use Rattle.flat_machine.specs.Packets.{packets_fault}
 use Rattle.flat_machine.proofs.packets.Packets.new.Given as goal

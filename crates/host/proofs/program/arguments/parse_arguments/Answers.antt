@@ -18,7 +18,7 @@ free = refl
 abbrev is_plain_app : App → Bool
 is_plain_app a = a.top.is_plain
 
--- a plain command has no argument that holds below it too
+-- a plain command has no global argument
 plain_local : (a b global rest : Bool) → (a && (not b && (not global && rest))) ≡ true → global ≡ false
 plain_local true false false rest e = refl
 plain_local true false true rest e = absurd (true≢false (sym e))

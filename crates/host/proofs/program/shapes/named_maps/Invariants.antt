@@ -3,6 +3,6 @@ use Rattle.clap.specs.Walk.{texts}
 use Rattle.host.specs.program.Shapes.{AreMapArguments}
 use Rattle.host.proofs.program.shapes.named_maps.Given as goal
 
--- the arguments so far name the maps so far
+-- the arguments so far name the maps in the list
 abbrev pub invariant-loop-index : goal.invariant-loop-index
 invariant-loop-index l = AreMapArguments (take l.index (texts l.arguments)) l.maps.items

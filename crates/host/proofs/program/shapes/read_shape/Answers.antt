@@ -1,7 +1,7 @@
 use Rattle.std.proofs.Common.{◌≡◌, ◌∙◌, ap, sym, Option, Some, None, Ok, ok_or}
 use Rattle.host.proofs.program.shapes.read_shape.Goals as goal
 
--- the option from which the result was made has the same value
+-- if `ok_or` returns a value, the option has this value
 told : {A E : Type 0} (o : Option A) (e : E) (a : A) → ok_or o e ≡ Ok a → o ≡ Some a
 told None e a is = absurd (cc is)
 told (Some x) e a is = let same : x ≡ a = cc is in ap Some same

@@ -5,7 +5,7 @@ use Rattle.saving.specs.Recorded.{RecordedTenant}
 use Rattle.host_core.proofs.Tenants.{slice_get_in, states_length, states_are, told_refused, told_unrefused, none_unrefused}
 use Rattle.host_core.proofs.host.Host.memory_was_refused.Goals as goal
 
--- the tenant that was found is the one of this number
+-- the tenant that was found has this number
 found_is : (c : goal.After-memory_was_refused) → slice_get c.self.inside.tenants.items c.args.tenant ≡ Some c.in-Some.tenant.now
 found_is c =
     let found = c.in-Some.ensures.lookup in

@@ -1,4 +1,4 @@
--- What is written, and what is left to write.
+-- The frames so far and the frames that are left are all frames.
 use Rattle.std.proofs.Common.{◌≡◌, ◌++◌, ◌+◌, ◌-◌}
 use Rattle.fd_table.specs.Table.{first_descriptor, most}
 use Rattle.saving.specs.Restored.{closings}

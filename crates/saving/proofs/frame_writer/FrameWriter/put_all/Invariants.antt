@@ -1,4 +1,4 @@
--- What is written, and what is left to write.
+-- The frames so far and the frames that are left are all frames.
 use Rattle.std.proofs.Common.{◌≡◌, ◌++◌, length}
 use Rattle.tenant.specs.Entry.{placed_entries}
 use Rattle.saving.specs.SaveParts.{frames_of}

@@ -9,7 +9,7 @@ use Rattle.saving.specs.SaveParts.{birth_commands, parts, frames_of}
 use Rattle.saving.proofs.Saves.{part_of_birth, part_of_rest, no_part}
 use Rattle.saving.proofs.savable.SavableTenant.save_part.Goals as goal
 
--- the frames of a part are written by a new writer
+-- a new writer writes the frames of a part
 is_written : (number n : ℕ) (before written : List ℕ) (part : Option (List Command)) (cs : List Command) → part ≡ Some cs → before ≡ [] → n ≡ number → written ≡ before ++ frames_of n cs
     → ◌≡◌ {A = Option (List ℕ)} (Some written) (option_map (frames_of number) part)
 is_written number n before written part cs is none same wrote =

@@ -13,7 +13,7 @@ use Rattle.tenant.proofs.StillKept.{kept_in, with_both}
 use Rattle.tenant.proofs.tenant.Tenant.close.Goals as goal
 use Rattle.tenant.proofs.tenant.Tenant.close.Goals.{In_default}
 
--- ---- nothing is open
+-- ---- the descriptor is not open
 
 module _ (c : In_default) where
   none : named c.self.inside.objects c.args.fd ≡ None

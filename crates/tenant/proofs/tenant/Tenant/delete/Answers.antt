@@ -11,7 +11,7 @@ use Rattle.tenant.proofs.StillKept.{kept_in, with_live}
 use Rattle.tenant.proofs.Deletes.{IsRemoved, IsEnded, unremoved_kept, removed_kept, delete_refused, deleted}
 use Rattle.tenant.proofs.tenant.Tenant.delete.Goals as goal
 
--- ---- the map refuses
+-- ---- the map rejects the deletion
 
 module _ (c : goal.After-of_map) where
   not_removed : IsRemoved (kept_in c.self.inside) c.remove.new.self c.args.fd c.in_ok-map.map c.args.key.now (Err c.in-Err.fault)
@@ -32,7 +32,7 @@ returns-in-Err-clause-answer c = λ part.
     ∙ delete_refused c.live_maps_refine_values.ensures c.calls_refine_values.ensures.bytes part (not_removed c)
     ∙ ap (λ (old : KeptTenant). element_deleted (state_in part old) c.args.fd c.args.key.now) c.self.view_is
 
--- ---- the key is taken out
+-- ---- the key is removed
 
 module _ (c : goal.After-end_run) where
   removed : IsRemoved (kept_in c.self.inside) c.remove.new.self c.args.fd c.in_ok-map.map c.args.key.now (Ok tt)

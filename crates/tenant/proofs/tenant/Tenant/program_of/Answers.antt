@@ -27,7 +27,7 @@ module _ (c : goal.After-drop-descriptors-in-Ok) where
   accepted : (part : List ℕ) → IsAccepted c.in-Ok.program.code (targets (state_in part c.args.self.now))
   accepted part = subst (IsAccepted c.in-Ok.program.code) (c.deref.ensures.value ∙ c.in_ok-descriptors.ensures part) (of_ok _ _ _ c.in-Ok.is c.in_ok-program.ensures.accepted).2
 
-  -- the program is the machine's
+  -- the program is the one in the machine's state
   same_program : (part : List ℕ) → c.new.result ≡ loaded_program (state_in part c.args.self.now) c.in-Ok.program.code
   same_program part =
       let k = c.args.self.now in

@@ -12,7 +12,7 @@ use Rattle.tenant.proofs.StillKept.{kept_in, with_live}
 use Rattle.tenant.proofs.Updates.{IsClaimed, claimed_by, still_claimed, value_fits, updated_at, update_refused, has_sizes, value_of, put_of}
 use Rattle.tenant.proofs.tenant.Tenant.update.Goals as goal
 
--- ---- the claim is refused
+-- ---- the claim is rejected
 
 module _ (c : goal.After-of_map) where
   not_claimed : IsClaimed (kept_in c.self.inside) c.claim.new.self c.args.fd c.in_ok-map.map c.args.flags c.args.key_and_value.now (Err c.in-Err.fault)
@@ -33,7 +33,7 @@ returns-in-Err-clause-answer c =
           ∙ ap (λ (old : KeptTenant). element_updated refused (state_in part old) c.args.fd c.args.flags c.args.key_and_value.now) c.self.view_is,
     )
 
--- ---- the key has a place
+-- ---- the claim gives a place
 
 module _ (c : goal.After-slice_known-2-1) where
   claimed : IsClaimed (kept_in c.self.inside) c.claim.new.self c.args.fd c.in_ok-map.map c.args.flags c.args.key_and_value.now (Ok c.in-Ok.place)

@@ -5,8 +5,8 @@ ghost use Rattle.tenant.specs.State.{TenantState, new_tenant};
 ghost use Rattle.host_core.specs.Served.{stream_state, ServesAlone};
 ghost use Rattle.host_core.specs.Limits.{most_frames, most_tenants};
 
-use crate::host::{Host, MOST_TENANTS};
-use crate::server::{MOST_FRAMES, serve};
+use crate::host::MOST_TENANTS;
+use crate::server::{MOST_FRAMES, serve_new_host};
 use crate::stream::{Sink, Source};
 use seeded_hash::HashSeed;
 use std::alloc::Global;
@@ -28,8 +28,7 @@ fn serve_from_the_beginning<R: Source, W: Sink>(
         (stream_state R.Source W.Sink after reader.new writer.new)
         count []) }
 {
-    let mut host = Host::new(alloc, tenants, HashSeed::new(0, 0)).ok()?;
-    serve(alloc, &mut host, reader, writer, 100).ok()
+    serve_new_host(alloc, tenants, HashSeed::new(0, 0), reader, writer, 100).ok()
 }
 
 /// The limit on tenants is that of the definitions.

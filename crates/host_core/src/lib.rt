@@ -20,6 +20,7 @@
 //! - Up to the first reply with which a tenant's flag is set, its replies are those of its machine without refusals; the
 //!   machine may give that reply: `each_is_told_alone_until_refused`.
 //! - Both also hold for a sequence of calls of `Host::handle` without a stream, and no test run faults: `calls_are_told_alone`.
+//! - `serve_new_host` promises the same of a stream that a new host serves, from the states of new tenants.
 //! - A caller can ask whether a tenant's flag is set: `refused`, `unrefused` of `Host::memory_was_refused`.
 //! - Two streams that agree on a tenant's initial state and on its frames give it the same replies, if neither refuses memory
 //!   to it: `same_frames_same_replies`.
@@ -113,7 +114,7 @@ pub use command_frames::{GIVEN_WORDS, LONGEST_REPLY, ReplyBuf};
 pub use host::{Host, MOST_TENANTS};
 pub use reading::fill;
 pub use seeded_hash::HashSeed;
-pub use server::{MOST_FRAMES, ServeFault, ServeFaultKind, serve};
+pub use server::{MOST_FRAMES, ServeFault, ServeFaultKind, serve, serve_new_host};
 pub use stream::{Counted, Sink, Source};
 pub use tenant::Errno;
 pub use writing::write_whole;

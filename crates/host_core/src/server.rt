@@ -4,10 +4,13 @@ ghost use Rattle.std.specs.Prelude.{◌≡◌, ℕ, ◌-◌, ◌<◌, ◌≤◌,
 ghost use Rattle.std.specs.Prelude.{◌∷◌};
 ghost use Rattle.std.specs.Io.KnownBytes.{IsAtEnd};
 ghost use Rattle.host_core.specs.declared.reading.TheConstants.{FRAME_BUFFER};
-ghost use Rattle.host_core.specs.Limits.{most_frames};
+ghost use Rattle.std.specs.Prelude.{List};
+ghost use Rattle.host_core.specs.Limits.{most_frames, most_tenants};
 ghost use Rattle.host_core.specs.Stream.{Takes};
 ghost use Rattle.host_core.specs.Served.{stream_state, ServesStream};
+ghost use Rattle.host_core.specs.States.{new_host};
 ghost use Rattle.host_core.specs.inside.Frame.{ServesFrameOrEnds, StopsInFrame};
+ghost use Rattle.tenant.specs.State.{TenantState};
 
 use crate::host::Host;
 use crate::laws;
@@ -15,6 +18,7 @@ use crate::reading::{FRAME_BUFFER, fill, read_frame};
 use crate::stream::{Sink, Source};
 use crate::writing::write_whole;
 use command_frames::ReplyBuf;
+use seeded_hash::HashSeed;
 use std::alloc::{AllocError, Global};
 
 /// The greatest limit on the frames of one call of `serve`.
@@ -148,4 +152,36 @@ pub fn serve<R: Source, W: Sink>(
             frames: limit,
         }),
     }
+}
+
+/// Serves a stream, as `serve` does, on a new host for 1 to `MOST_TENANTS` tenants, and frees the host. The keys of its hash maps are
+/// hashed with this seed.
+///
+/// # Errors
+///
+/// Those of `serve`; `Memory` also if out of memory for the host. Then nothing was read or written.
+pub fn serve_new_host<R: Source, W: Sink>(
+    alloc: Global,
+    tenants: usize,
+    seed: HashSeed,
+    reader: &mut R,
+    writer: &mut W,
+    limit: u32,
+) -> Result<u32, ServeFault>
+    requires some { 1 ≤ tenants }
+    requires few { tenants ≤ most_tenants }
+    requires limit { limit ≤ most_frames }
+    requires reader { R.failures reader.old < 2 ^ 64 - 1 }
+    requires writer { W.failures writer.old < 2 ^ 64 - 1 }
+    ensures { (states : List TenantState) × ServesStream limit result
+        (stream_state R.Source W.Sink (new_host tenants).states reader.old writer.old)
+        (stream_state R.Source W.Sink states reader.new writer.new) }
+{
+    let Ok(mut host) = Host::new(alloc, tenants, seed) else {
+        return Err(ServeFault {
+            kind: ServeFaultKind::Memory,
+            frames: 0,
+        });
+    };
+    serve(alloc, &mut host, reader, writer, limit)
 }

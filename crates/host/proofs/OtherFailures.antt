@@ -73,5 +73,4 @@ ends_otherwise (Err fault) = stream_otherwise fault.kind fault.frames
 
 pub served_otherwise : (result : Result (Unit {0}) Failure) (before : StreamState) (after : List TenantState → StreamState)
     → ServesNewHost result before after → IfErr result IsOther
-served_otherwise result before after (inl is) = subst (λ r. IfErr r IsOther) (sym is.3) (ends_otherwise is.0)
-served_otherwise result before after (inr none) = subst (λ r. IfErr r IsOther) (sym none.0) (λ e. omega (arith, e))
+served_otherwise result before after is = subst (λ r. IfErr r IsOther) (sym is.3) (ends_otherwise is.0)

@@ -10,8 +10,8 @@
 //!   arguments end with 2, or with 4 if memory is refused: `range`, `wrong`, `refused` of `run_words`.
 //! - If the bytes of the input are known, `verify` exits with 0 only if they are hex lines of a program that is accepted with
 //!   the maps of the arguments: `accepted` of `run_words`.
-//! - `serve`: the private `serve_frames`, over readers and writers, serves the frames with a new host and the public `serve`,
-//!   at most `most_frames` of them, and the exit status is that of the stream.
+//! - `serve`: the private `serve_frames`, over readers and writers, serves the frames with the public `serve_new_host`, at most
+//!   `most_frames` of them, and the exit status is that of the stream.
 //! - `asm` and `dis`: the private `rewrite`, over readers and writers whose bytes contracts see, writes the hex lines of the
 //!   program whose text it reads, or the text of the program whose hex lines it reads; its contract defines the failure for
 //!   each other input. `run_words` consumes the streams, so its own contract cannot describe the output. That it calls
@@ -51,7 +51,7 @@ mod program;
 
 pub use host_core::{
     Counted, HashSeed, Host, LONGEST_REPLY, MOST_FRAMES, MOST_TENANTS, ReplyBuf, ServeFault,
-    ServeFaultKind, Sink, Source, laws, serve,
+    ServeFaultKind, Sink, Source, laws, serve, serve_new_host,
 };
 pub use program::arguments::{refuse_unread_words, run_words};
 pub use program::failure::Failure;

@@ -7,14 +7,14 @@ ghost use Rattle.host_core.specs.Limits.{most_tenants};
 ghost use Rattle.host.specs.inside.program.Frames.{ServesNewHost};
 
 use crate::program::failure::Failure;
-use host_core::{HashSeed, Host, MOST_FRAMES, Sink, Source, serve};
+use host_core::{HashSeed, MOST_FRAMES, Sink, Source, serve_new_host};
 use std::alloc::Global;
 
 /// Serves the reader's frames on a new host with this seed, `MOST_FRAMES` at most, and writes the replies.
 ///
 /// # Errors
 ///
-/// Those of `serve`; `Memory` also if out of memory for the host, before anything is read.
+/// Those of `serve_new_host`.
 pub(crate) fn serve_frames<R: Source, W: Sink>(
     alloc: Global,
     tenants: usize,
@@ -30,7 +30,6 @@ pub(crate) fn serve_frames<R: Source, W: Sink>(
         (stream_state R.Source W.Sink (replicate tenants new_tenant) reader.old writer.old)
         (λ states. stream_state R.Source W.Sink states reader.new writer.new) }
 {
-    let mut host = Host::new(alloc, tenants, seed)?;
-    serve(alloc, &mut host, reader, writer, MOST_FRAMES)?;
+    serve_new_host(alloc, tenants, seed, reader, writer, MOST_FRAMES)?;
     Ok(())
 }

@@ -1,11 +1,10 @@
 -- The end of the subcommand `serve`. This project's own.
-use Rattle.std.specs.Prelude.{◌≡◌, ◌⊎◌, ℕ, List, Result, Ok, Err}
+use Rattle.std.specs.Prelude.{◌≡◌, ℕ, List, Result, Ok, Err}
 use Rattle.host_core.specs.declared.server.ServeFault.{ServeFault}
 use Rattle.host_core.specs.Limits.{most_frames}
 use Rattle.host_core.specs.Served.{StreamState, ServesStream}
 use Rattle.host_core.specs.State.{TenantState}
 use Rattle.host.specs.declared.program.failure.Failure.{Failure}
-use Rattle.host.specs.declared.program.failure.Failure.TheVariants.{Memory}
 use Rattle.host.specs.program.Statuses.{stream_failure}
 
 -- the result of the program for the result of a stream
@@ -14,9 +13,8 @@ stream_end (Ok count) = Ok tt
 stream_end (Err fault) = Err (stream_failure fault)
 
 -- A new host serves the stream from `before` on, at most `most_frames` frames; `after` is the state after it, as a function of the states
--- of the tenants. Or memory runs out for the host, and nothing is read or written.
+-- of the tenants.
 abbrev pub ServesNewHost : Result (Unit {0}) Failure → StreamState → (List TenantState → StreamState) → Type 0
 ServesNewHost result before after =
-    ((served : Result ℕ ServeFault) × (states : List TenantState)
-    × ServesStream most_frames served before (after states) × (result ≡ stream_end served))
-    ⊎ ((result ≡ Err Memory) × (after before.states ≡ before))
+    (served : Result ℕ ServeFault) × (states : List TenantState)
+    × ServesStream most_frames served before (after states) × (result ≡ stream_end served)

@@ -4,7 +4,7 @@ from __future__ import annotations
 
 import struct
 from collections.abc import Callable, Sequence
-from dataclasses import dataclass, field
+from dataclasses import dataclass, field, replace
 
 # Opcodes: operation, source bit and class in one byte.
 ADD64_K, ADD64_X, XOR64_X, AND64_K, LSH64_K, RSH64_K, MUL32_K = 0x07, 0x0F, 0xAF, 0x57, 0x67, 0x77, 0x24
@@ -12,7 +12,7 @@ MOV64_K, MOV64_X, BIG_ENDIAN, WIDE = 0xB7, 0xBF, 0xDC, 0x18
 LOAD_BYTE, LOAD_HALF, LOAD_WORD, LOAD_DOUBLE = 0x71, 0x69, 0x61, 0x79
 STORE_BYTE_K, STORE_WORD_K, STORE_DOUBLE_K, STORE_WORD, STORE_DOUBLE = 0x72, 0x62, 0x7A, 0x63, 0x7B
 ATOMIC_DOUBLE, ATOMIC_ADD = 0xDB, 0x00
-JA, JEQ_K, JGT_K, JGE_X, JSET_K, JNE_K, CALL, EXIT = 0x05, 0x15, 0x25, 0x3D, 0x45, 0x55, 0x85, 0x95
+JA, JEQ_K, JGT_K, JGT_X, JGE_X, JSET_K, JNE_K, CALL, EXIT = 0x05, 0x15, 0x25, 0x2D, 0x3D, 0x45, 0x55, 0x85, 0x95
 LOOK_UP, UPDATE, DELETE, LOAD_BYTES = 1, 2, 3, 26
 HASH, ARRAY = 1, 2
 
@@ -399,6 +399,11 @@ def crossing_jumps(slots: Slots, stores: Sequence[bytes] = (), jumps: int = 1) -
     return filled(slots, end)
 
 
+# The registers that are not compared, but for the frame pointer, and a map with the values that pointers lead into.
+OTHERS = (0, 1, 3, 4, 5, 6, 7, 8, 9)
+VALUES = [(ARRAY, 4, 512, 1)]
+
+
 def crossing() -> Program:
     """Ninety jumps are open at each slot."""
     return crossing_jumps(full_facts())
@@ -406,9 +411,51 @@ def crossing() -> Program:
 
 def crossing_values() -> Program:
     """The same with a pointer into a value in each stack slot."""
-    program = crossing_jumps(full_of_values())
-    program.maps = [(ARRAY, 4, 512, 1)]
-    return program
+    return replace(crossing_jumps(full_of_values()), maps=VALUES)
+
+
+def crossing_pointers() -> Program:
+    """A pointer into a value in each stack slot and in nine registers."""
+    slots = full_of_values()
+    for reg in OTHERS:
+        slots += loads_value(reg, 3, reg)
+    return replace(crossing_jumps(slots), maps=VALUES)
+
+
+def crossing_look_ups() -> Program:
+    """The result of one look-up, not yet tested, in each stack slot and in nine registers."""
+    slots = [slot(LOAD_WORD, 6, 1), slot(STORE_WORD_K, 10, off=-4), *loads_map(1, 3), slot(MOV64_X, 2, 10)]
+    slots += [slot(ADD64_K, 2, imm=-4), call(LOOK_UP), slot(MOV64_X, 2, 6)]
+    slots += [slot(MOV64_X, reg, 0) for reg in OTHERS[1:]]
+    slots += [slot(STORE_DOUBLE, 10, 0, off=-8 * (number + 1)) for number in range(64)]
+    return replace(crossing_jumps(slots), maps=VALUES)
+
+
+def crossing_ranges() -> Program:
+    """Each jump compares two of ten numbers, so both have other ranges on each edge."""
+    end, open_jumps, slots, number = returns(0), 90, full_of_values(), 0
+    slots += [slot(LOAD_WORD, reg, 1) for reg in (*OTHERS[2:], 0, 1)]
+    while len(slots) + open_jumps + 2 < SLOTS - len(end):
+        first, second = number % 10, (3 * number + 1) % 10
+        second += first == second
+        slots.append(slot((JGT_X, JGE_X)[number % 2], first, second % 10, off=open_jumps))
+        number += 1
+    return replace(filled(slots, end), maps=VALUES)
+
+
+def alternating() -> Program:
+    """Phases of ninety jumps, half of them into the next phase and half into the one after it. Between two phases a slot of each part of
+    the stack changes, so jumps with two states of the stack arrive in turn."""
+    end, jumps, stores, slots = returns(0), 90, 9, full_of_values()
+    slots += [slot(MOV64_X, reg, 10) for reg in (0, 4, 5, 6, 7, 8, 9)]
+    phases = (SLOTS - len(end) - len(slots)) // (stores + jumps)
+    for phase in range(phases):
+        slots += [slot(STORE_DOUBLE, 10, 3, off=-8 * (8 * part + 1)) for part in range(8)] + [slot(ADD64_K, 3, imm=(1, -1)[phase % 2])]
+        for at in range(jumps):
+            off = (1 + at % 2) * (stores + jumps) - 1
+            is_within = phase + 1 + at % 2 < phases
+            slots.append(slot(JEQ_K, 2, off=off if is_within else SLOTS - len(end) - len(slots) - 1, imm=len(slots)))
+    return replace(filled(slots, end), maps=VALUES)
 
 
 # Stores of one byte to each stack slot.
@@ -445,7 +492,11 @@ LOADED: dict[str, Callable[[], Program]] = {
     "one target, full": one_target_full,
     "crossing jumps": crossing,
     "crossing, values": crossing_values,
+    "crossing, pointers": crossing_pointers,
+    "crossing, look-ups": crossing_look_ups,
+    "crossing, ranges": crossing_ranges,
     "crossing, bytes": crossing_bytes,
     "crossing, 4 jumps": crossing_few_bytes,
     "diamonds": diamonds,
+    "two stacks in turn": alternating,
 }

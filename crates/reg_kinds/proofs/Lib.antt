@@ -6,5 +6,6 @@ pub mod KindGroups
 pub mod KindOrder
 pub mod SlotTests
 pub mod PointerLemmas
+pub mod RegisterJoins
 pub mod Tables
 mod Vectors

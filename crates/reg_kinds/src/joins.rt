@@ -1,7 +1,7 @@
 //! The joins of kinds, stack slots and facts, for edges that merge.
 
 ghost use Rattle.std.specs.Prelude.{◌≡◌, ◌<◌, true, false, bit_and};
-ghost use Rattle.reg_kinds.specs.Kinds.{kind_at, slot_at, with_registers, with_slots};
+ghost use Rattle.reg_kinds.specs.Kinds.{kind_at, slot_at, with_kind, with_registers, with_slots};
 ghost use Rattle.reg_kinds.specs.Pointers.{offsets_hull};
 ghost use Rattle.reg_kinds.specs.declared.kind.Slot.TheVariants.{Spill};
 ghost use Rattle.interval.specs.Ranges.{hull};
@@ -17,6 +17,13 @@ pub const PART_SLOTS: usize = 8;
 
 /// The number of parts of the stack.
 pub const STACK_PARTS: usize = STACK_SLOTS / PART_SLOTS;
+
+/// A part of the stack: the slots from `PART_SLOTS * number` on.
+#[derive(Clone, Copy, Debug, PartialEq, Eq)]
+pub struct StackPart {
+    pub number: usize,
+    pub ghost within: { number < stack_parts },
+}
 
 impl Kind {
     /// The join of two kinds: the hull of two ranges, or of two ranges of offsets into values of one map; else, if both are
@@ -100,15 +107,13 @@ fn join_other_kind(known: &mut Kind, edge: &Kind)
     ensures { known.new ≡ kind_join known.old edge.now }
 {
     match (&mut *known, edge) {
-        (Kind::Ctx, Kind::Ctx) => {}
-        (Kind::Stack(x), Kind::Stack(y)) if *x == *y => {}
-        (Kind::MapRef(m), Kind::MapRef(n)) if *m == *n => {}
+        (Kind::Scalar(range), Kind::Scalar(other)) => *range = hull(*range, *other),
         (Kind::Value(p), Kind::Value(q)) if p.map == q.map => *p = offsets_hull(*p, *q),
         _ => *known = known.join(*edge),
     }
 }
 
-/// Joins the kind `edge` into `known` in place. Nothing is written if `known` is unreadable, or a range that includes that of `edge`.
+/// Joins the kind `edge` into `known` in place. Nothing is written if that changes nothing.
 #[inline(always)]
 fn join_kind(known: &mut Kind, edge: &Kind)
     ensures { known.new ≡ kind_join known.old edge.now }
@@ -116,18 +121,39 @@ fn join_kind(known: &mut Kind, edge: &Kind)
     match (&mut *known, edge) {
         (Kind::Scalar(range), Kind::Scalar(other)) if holds_range(range, other) => {}
         (Kind::Unreadable, _) => {}
+        (Kind::Value(p), Kind::Value(q)) if p.map == q.map && holds_offsets(p, q) => {}
+        (kind, other) if are_same(kind, other) => {}
         _ => join_other_kind(known, edge),
     }
 }
 
-/// Joins the registers of a further edge into those of `facts`.
+/// Joins register `r` of a further edge into that of `facts`.
+#[inline(always)]
+fn join_register(facts: &mut Facts, edge: &Facts, r: usize)
+    requires { r < REGISTERS }
+    ensures { facts.new
+        ≡ with_kind facts.old r (kind_join (kind_at facts.old r) (kind_at edge.now r)) }
+{
+    join_kind(&mut facts.registers[r], &edge.registers[r]);
+}
+
+/// Joins the registers of a further edge into those of `facts`. There is a call for each register, since the compiler does not
+/// unroll a loop of such a length.
 pub fn join_registers(facts: &mut Facts, edge: &Facts)
     ensures { facts.new ≡ with_registers facts.old
         (λ r. kind_join (kind_at facts.old r) (kind_at edge.now r)) }
 {
-    for r in 0..REGISTERS {
-        join_kind(&mut facts.registers[r], &edge.registers[r]);
-    }
+    join_register(facts, edge, 0);
+    join_register(facts, edge, 1);
+    join_register(facts, edge, 2);
+    join_register(facts, edge, 3);
+    join_register(facts, edge, 4);
+    join_register(facts, edge, 5);
+    join_register(facts, edge, 6);
+    join_register(facts, edge, 7);
+    join_register(facts, edge, 8);
+    join_register(facts, edge, 9);
+    join_register(facts, edge, 10);
 }
 
 /// Whether the range of offsets of `p` includes that of `q`.
@@ -141,7 +167,9 @@ fn holds_offsets(p: &ValuePointer, q: &ValuePointer) -> bool
 /// Whether both kinds are the context, the same stack offset, the same map, or the result of the same look-up.
 #[inline(always)]
 fn are_same(known: &Kind, edge: &Kind) -> bool
-    ensures { result ≡ true → slot_join (Spill known.now) (Spill edge.now) ≡ Spill known.now }
+    ensures kinds { result ≡ true → kind_join known.now edge.now ≡ known.now }
+    ensures spills { result ≡ true
+        → slot_join (Spill known.now) (Spill edge.now) ≡ Spill known.now }
 {
     match (known, edge) {
         (Kind::Ctx, Kind::Ctx) => true,
@@ -198,15 +226,13 @@ fn join_other_slots(known: &mut Slot, edge: &Slot)
     *known = known.join(*edge);
 }
 
-/// Joins a part of the stack of a further edge into that of `facts`: the slots from `PART_SLOTS * part` on. Returns whether it may
-/// have changed.
-pub fn join_part(facts: &mut Facts, edge: &Facts, part: usize) -> bool
-    requires { part < stack_parts }
-    ensures facts { facts.new ≡ with_slots facts.old (part_joined part facts.old edge.now) }
+/// Joins a part of the stack of a further edge into that of `facts`. Returns whether it may have changed.
+pub fn join_part(facts: &mut Facts, edge: &Facts, part: StackPart) -> bool
+    ensures facts { facts.new ≡ with_slots facts.old (part_joined part.number facts.old edge.now) }
     ensures stack { result ≡ false → facts.new.slots ≡ facts.old.slots }
 {
     let mut changes = false;
-    let first = PART_SLOTS * part;
+    let first = PART_SLOTS * part.number;
     for i in first..first + PART_SLOTS {
         if join_slot(&mut facts.slots[i], &edge.slots[i]) {
             changes = true;

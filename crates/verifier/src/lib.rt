@@ -50,9 +50,9 @@
 //!   the falling edge are in one place next to a flag. `apply` copies nothing for a jump: it returns the ranges of a comparison
 //!   on each edge, or that a look-up is settled. The pass sets the ranges of the jumping edge in the facts, joins the facts into
 //!   the target's entry in place, and then sets the ranges of the falling edge; only a null test copies the facts. The place of
-//!   a finished entry is reused. If the list of these places cannot grow, the verdict is out of memory. If both sides of a join
-//!   are equal, nothing is written; kinds that differ are joined out of line, so that the loop stays small. With facts moved by
-//!   value, a load of straight arithmetic took 26 times as many machine instructions, and one of diamonds 15 times.
+//!   a finished entry is reused. If the list of these places cannot grow, the verdict is out of memory. A join writes
+//!   only registers and slots that change; kinds that differ are joined out of line. With facts moved by value, a load of straight
+//!   arithmetic took 26 times as many machine instructions, and one of diamonds 15 times.
 //! - The stack in facts has eight parts of eight slots, each with a number (`NumberedFacts`). Parts at the same place with the
 //!   same number are the same. A store gives the part of its slot a new number; a call or a null test all parts; a join the
 //!   parts that it changes. Each part also has the number of the last part that was joined into it, and a second join with that

@@ -6,7 +6,7 @@ ghost use Rattle.reg_kinds.specs.Join.{stack_parts};
 ghost use Rattle.verifier.specs.inside.Numbers.{IsInStack, IsJoin, IsPartJoin, at_entry, noted, part_renumbered, renumbered};
 
 use reg_kinds::laws::facts_have_all_slots;
-use reg_kinds::{Facts, PART_SLOTS, STACK_PARTS, join_part, join_registers};
+use reg_kinds::{Facts, PART_SLOTS, STACK_PARTS, StackPart, join_part, join_registers};
 use transfer::Flow;
 
 /// Facts, with a number for what is known of each part of the stack. Parts at the same place with the same number are the same.
@@ -74,7 +74,7 @@ impl NumberedFacts {
         requires { part < stack_parts }
         ensures { IsPartJoin fresh part self.old edge.now self.new }
     {
-        if join_part(&mut self.facts, &edge.facts, part) {
+        if join_part(&mut self.facts, &edge.facts, StackPart { number: part }) {
             self.numbers[part] = fresh;
         }
         self.includes[part] = edge.numbers[part];

@@ -24,7 +24,7 @@ loop-i-init c =
     record {
       long = search rules;
       kept = refl;
-      done = λ k lt. sym (below c.args.part c.args.facts.now c.args.edge.now k (omega (arith, lt)));
+      done = λ k lt. sym (below c.args.part.number c.args.facts.now c.args.edge.now k (omega (arith, lt)));
       rest = λ k le. refl;
       same = λ none. refl;
     }
@@ -34,10 +34,10 @@ loop-i-preserved c =
     record {
       long = length-set _ _ _ ∙ c.loop-i.invariant.long;
       kept = c.loop-i.invariant.kept;
-      done = fill_more (part_joined c.args.part c.args.facts.now c.args.edge.now) c.loop-i.facts.slots c.loop-i.i _ (Bytes 0) (omega arith)
+      done = fill_more (part_joined c.args.part.number c.args.facts.now c.args.edge.now) c.loop-i.facts.slots c.loop-i.i _ (Bytes 0) (omega arith)
           (c.join_slot.ensures.slot
           ∙ ap₂ slot_join (get_or_default c.loop-i.facts.slots c.loop-i.i _ (Bytes 0) (omega arith) ∙ c.loop-i.invariant.rest c.loop-i.i (omega arith)) (get_or_default c.args.edge.now.slots c.loop-i.i _ (Bytes 0) (omega arith))
-          ∙ sym (inside c.args.part c.args.facts.now c.args.edge.now c.loop-i.i (omega arith) (omega arith)))
+          ∙ sym (inside c.args.part.number c.args.facts.now c.args.edge.now c.loop-i.i (omega arith) (omega arith)))
           c.loop-i.invariant.done;
       rest = rest_more c.loop-i.facts.slots c.args.facts.now.slots c.loop-i.i _ (Bytes 0) c.loop-i.invariant.rest;
       same = λ none.
@@ -52,13 +52,13 @@ loop-i-preserved c =
 
 pub returns-clause-facts : goal.returns-clause-facts
 returns-clause-facts c =
-    let after : Facts = with_slots c.args.facts.now (part_joined c.args.part c.args.facts.now c.args.edge.now) in
+    let after : Facts = with_slots c.args.facts.now (part_joined c.args.part.number c.args.facts.now c.args.edge.now) in
     let table : c.loop-i.facts.slots ≡ after.slots =
     filled _ c.loop-i.facts.slots 64 (Bytes 0) c.loop-i.invariant.long
     (λ k h.
     elim (cases_lt k c.loop-i.i) [
       | inl lt ↦ c.loop-i.invariant.done k lt
-      | inr le ↦ c.loop-i.invariant.rest k le ∙ sym (above c.args.part c.args.facts.now c.args.edge.now k (omega (arith, le)))
+      | inr le ↦ c.loop-i.invariant.rest k le ∙ sym (above c.args.part.number c.args.facts.now c.args.edge.now k (omega (arith, le)))
     ]) in
     same_facts _ after c.loop-i.invariant.kept table
 

@@ -9,7 +9,7 @@ invariant-loop-i l =
     record {
       long : length l.facts.slots ≡ 64;
       kept : l.facts.registers ≡ l.fn.facts.registers;
-      done : (k : ℕ) → k < l.i → get_or l.facts.slots k (Bytes 0) ≡ part_joined l.part l.fn.facts l.edge k;
+      done : (k : ℕ) → k < l.i → get_or l.facts.slots k (Bytes 0) ≡ part_joined l.fn.part.number l.fn.facts l.edge k;
       rest : (k : ℕ) → l.i ≤ k → get_or l.facts.slots k (Bytes 0) ≡ slot_at l.fn.facts k;
       same : l.changes ≡ false → l.facts.slots ≡ l.fn.facts.slots;
     }

@@ -1,24 +1,22 @@
-use Rattle.std.proofs.Common.{◌≡◌, arith, length-set, ap₂, ◌∙◌}
-use Rattle.std.proofs.lemmas.List.{get_or_default}
-use Rattle.reg_kinds.specs.declared.kind.Kind.TheVariants.{Unreadable}
+use Rattle.std.proofs.Common.{rules, arith}
 use Rattle.reg_kinds.specs.declared.facts.Facts.{Facts}
-use Rattle.reg_kinds.specs.Kinds.{kind_at, with_registers}
-use Rattle.reg_kinds.specs.Join.{kind_join}
-use Rattle.reg_kinds.proofs.Tables.{filled, fill_more, rest_more, same_facts}
+use Rattle.reg_kinds.proofs.RegisterJoins.{AreJoinedBelow, none_joined, one_joined, all_joined}
 use Rattle.reg_kinds.proofs.joins.join_registers.Goals as goal
-
-pub loop-r-preserved : goal.loop-r-preserved
-loop-r-preserved c =
-    record {
-      long = length-set _ _ _ ∙ c.loop-r.invariant.long;
-      kept = c.loop-r.invariant.kept;
-      done = fill_more (λ k. kind_join (kind_at c.args.facts.now k) (kind_at c.args.edge.now k)) c.loop-r.facts.registers c.loop-r.r _ Unreadable (omega arith) (c.join_kind.ensures ∙ ap₂ kind_join (get_or_default c.loop-r.facts.registers c.loop-r.r _ Unreadable (omega arith) ∙ c.loop-r.invariant.rest c.loop-r.r (omega arith)) (get_or_default c.args.edge.now.registers c.loop-r.r _ Unreadable (omega arith))) c.loop-r.invariant.done;
-      rest = rest_more c.loop-r.facts.registers c.args.facts.now.registers c.loop-r.r _ Unreadable c.loop-r.invariant.rest;
-    }
 
 pub returns : goal.returns
 returns c =
-    let after : Facts = with_registers c.args.facts.now (λ k. kind_join (kind_at c.args.facts.now k) (kind_at c.args.edge.now k)) in
-    let table : c.loop-r.facts.registers ≡ after.registers =
-    filled _ c.loop-r.facts.registers 11 Unreadable c.loop-r.invariant.long (λ k h. c.loop-r.invariant.done k (omega arith)) in
-    same_facts _ after table c.loop-r.invariant.kept
+    let f : Facts = c.args.facts.now in
+    let e : Facts = c.args.edge.now in
+    let none : AreJoinedBelow f e 0 f = none_joined f e (search rules) in
+    let one : AreJoinedBelow f e 1 c.join_register.new.facts = one_joined 0 c.join_register.new.facts (omega arith) none c.join_register.ensures in
+    let two : AreJoinedBelow f e 2 c.join_register-2.new.facts = one_joined 1 c.join_register-2.new.facts (omega arith) one c.join_register-2.ensures in
+    let three : AreJoinedBelow f e 3 c.join_register-3.new.facts = one_joined 2 c.join_register-3.new.facts (omega arith) two c.join_register-3.ensures in
+    let four : AreJoinedBelow f e 4 c.join_register-4.new.facts = one_joined 3 c.join_register-4.new.facts (omega arith) three c.join_register-4.ensures in
+    let five : AreJoinedBelow f e 5 c.join_register-5.new.facts = one_joined 4 c.join_register-5.new.facts (omega arith) four c.join_register-5.ensures in
+    let six : AreJoinedBelow f e 6 c.join_register-6.new.facts = one_joined 5 c.join_register-6.new.facts (omega arith) five c.join_register-6.ensures in
+    let seven : AreJoinedBelow f e 7 c.join_register-7.new.facts = one_joined 6 c.join_register-7.new.facts (omega arith) six c.join_register-7.ensures in
+    let eight : AreJoinedBelow f e 8 c.join_register-8.new.facts = one_joined 7 c.join_register-8.new.facts (omega arith) seven c.join_register-8.ensures in
+    let nine : AreJoinedBelow f e 9 c.join_register-9.new.facts = one_joined 8 c.join_register-9.new.facts (omega arith) eight c.join_register-9.ensures in
+    let ten : AreJoinedBelow f e 10 c.join_register-10.new.facts = one_joined 9 c.join_register-10.new.facts (omega arith) nine c.join_register-10.ensures in
+    let eleven : AreJoinedBelow f e 11 c.join_register-11.new.facts = one_joined 10 c.join_register-11.new.facts (omega arith) ten c.join_register-11.ensures in
+    all_joined f e c.join_register-11.new.facts eleven

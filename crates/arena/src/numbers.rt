@@ -56,22 +56,46 @@ fn spelled_double(bytes: &[u8], at: usize) -> u64
     read_double(bytes, at)
 }
 
-/// Writes the low `size` bytes of `value` at offset `at`, little-endian.
+/// The low four bytes of a number.
+#[inline(always)]
+fn low_word(value: u64) -> [u8; 4]
+    ensures { result ≡ low_bytes 4 value }
+{
+    ((value % 0x1_0000_0000) as u32).to_le_bytes()
+}
+
+/// The low two bytes of a number.
+#[inline(always)]
+fn low_half(value: u64) -> [u8; 2]
+    ensures { result ≡ low_bytes 2 value }
+{
+    ((value % 0x1_0000) as u16).to_le_bytes()
+}
+
+/// The low byte of a number.
+#[inline(always)]
+fn low_byte(value: u64) -> [u8; 1]
+    ensures { result ≡ low_bytes 1 value }
+{
+    ((value % 0x100) as u8).to_le_bytes()
+}
+
+/// Writes the low `size` bytes of `value` at offset `at`, little-endian. Each size has its own conversion: with a slice of the eight bytes
+/// of `value`, the machine code of a run also stored all eight on its stack, and stores of different operands shared one dispatch.
 #[inline(always)]
 pub(crate) fn write(bytes: &mut [u8], at: usize, size: usize, value: u64)
     requires size { IsSize size }
     requires within { at + size ≤ length bytes.old }
     ensures { bytes.new ≡ written_at bytes.old at (low_bytes size value) }
 {
-    let spelled = value.to_le_bytes();
     if size == 8 {
-        put(bytes, at, &spelled);
+        put(bytes, at, &value.to_le_bytes());
     } else if size == 4 {
-        put(bytes, at, &spelled[..4]);
+        put(bytes, at, &low_word(value));
     } else if size == 2 {
-        put(bytes, at, &spelled[..2]);
+        put(bytes, at, &low_half(value));
     } else {
-        put(bytes, at, &spelled[..1]);
+        put(bytes, at, &low_byte(value));
     }
 }
 

@@ -114,6 +114,8 @@ static const struct way {
 static bpfhost *host;
 static bpfhost_context context;
 static size_t ends[MOST_BATCH];
+/* The same packets with their places. */
+static bpfhost_packet places[MOST_BATCH];
 /* Each packet after the head of its frame. */
 static uint8_t frames[MOST_BATCH * (BPFHOST_TEST_RUN_HEAD + MOST_SIZE)];
 
@@ -143,6 +145,7 @@ static void begin(void)
         bpfhost_frame_test_run_head(frame, BPFHOST_TEST_RUN_HEAD, 0, fd, &context);
         memcpy(frame + BPFHOST_TEST_RUN_HEAD, packets + i * size, size);
         ends[i] = (i + 1) * size;
+        places[i] = (bpfhost_packet){packets + i * size, size};
     }
 }
 
@@ -151,6 +154,15 @@ static void by_batch(void)
     int32_t status = -1;
     int code = bpfhost_run_packets(host, 0, fd, &context, packets, batch * size, ends, batch, results, &status);
     must(code == BPFHOST_DONE && status == 0, "a batch is refused");
+}
+
+/* By an address and a length for each packet. */
+static void by_places(void)
+{
+    static uint8_t buffer[64 * MOST_SIZE];
+    int32_t status = -1;
+    int code = bpfhost_run_scattered(host, 0, fd, &context, 1, places, batch, buffer, sizeof buffer, results, &status);
+    must(code == BPFHOST_DONE && status == 0, "scattered packets are refused");
 }
 
 static void by_frames(void)
@@ -183,7 +195,7 @@ static void end(void)
 static const struct way {
     const char *name;
     void (*run)(void);
-} ways[] = {{"batch", by_batch}, {"frames", by_frames}, {"plain", by_plain}};
+} ways[] = {{"batch", by_batch}, {"places", by_places}, {"frames", by_frames}, {"plain", by_plain}};
 #endif
 
 /* ---- the stream and what is printed */

@@ -119,7 +119,8 @@ def read_arguments() -> argparse.Namespace:
 
 def main() -> None:
     arguments = read_arguments()
-    ways = [Way(name, arguments.packets, word) for name, word in (("call", "batch"), ("frames", "frames"), ("C", "plain"))]
+    words = {"call": "batch", "frames": "frames", "C": "plain", "scattered": "places"}
+    ways = [Way(name, arguments.packets, word) for name, word in words.items()]
     if arguments.with_dpdk:
         ways.append(Way("DPDK", arguments.with_dpdk, "burst"))
     with tempfile.TemporaryDirectory() as folder:

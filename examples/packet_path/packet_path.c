@@ -110,17 +110,18 @@ static struct tenant load(uint16_t number, char *filter)
 
 /* ---- the packet path */
 
-static size_t begin_of(size_t packet)
-{
-    return packet == 0 ? 0 : batch.ends[packet - 1];
-}
-
-/* All packets of the batch by one call. */
+/* All packets of the batch by one call: in place, if they lie one after another, and else by a buffer. */
 static void run_batch(uint16_t number, const struct tenant *it)
 {
+    static uint8_t buffer[BATCH * 1514];
     int32_t status = 0;
-    int code = bpfhost_run_packets(host, number, it->program, NULL, batch.bytes, begin_of(batch.count), batch.ends, batch.count,
-                                   answers, &status);
+    int code;
+    if (batch.context_count == 0)
+        code = bpfhost_run_packets(host, number, it->program, NULL, batch.bytes, sizeof batch.bytes, batch.ends, batch.count, answers,
+                                   &status);
+    else
+        code = bpfhost_run_scattered(host, number, it->program, batch.contexts, batch.context_count, batch.packets, batch.count, buffer,
+                                     sizeof buffer, answers, &status);
     if (code != BPFHOST_DONE)
         fail("%s: not run: %s", it->name, bpfhost_code_text(code));
     if (status != 0)
@@ -130,11 +131,11 @@ static void run_batch(uint16_t number, const struct tenant *it)
 /* The same by a frame for each packet. */
 static void run_frames(uint16_t number, const struct tenant *it)
 {
-    static uint8_t frame[BPFHOST_TEST_RUN_HEAD + LONGEST_PACKET];
+    static uint8_t frame[BPFHOST_TEST_RUN_HEAD + BPFHOST_LONGEST_PACKET];
     for (size_t i = 0; i < batch.count; i++) {
-        const uint8_t *packet = batch.bytes + begin_of(i);
-        size_t length = batch.ends[i] - begin_of(i);
-        size_t whole = bpfhost_frame_prog_test_run(frame, sizeof frame, number, it->program, NULL, packet, length);
+        const bpfhost_context *context = batch.context_count == 0 ? NULL : &batch.contexts[i];
+        const bpfhost_packet *packet = &batch.packets[i];
+        size_t whole = bpfhost_frame_prog_test_run(frame, sizeof frame, number, it->program, context, packet->at, packet->length);
         bpfhost_reply reply = ask(frame, whole);
         if (reply.status != 0)
             fail("%s: not run: status %d", it->name, (int)reply.status);
@@ -146,7 +147,7 @@ static void run_frames(uint16_t number, const struct tenant *it)
 static void count_kept(struct tenant *it, uint64_t first, bool each)
 {
     for (size_t i = 0; i < batch.count; i++) {
-        size_t length = batch.ends[i] - begin_of(i), answer = answers[i];
+        size_t length = batch.packets[i].length, answer = answers[i];
         it->packets += answer != 0;
         it->bytes += answer < length ? answer : length;
         if (each)

@@ -1,8 +1,7 @@
 /* Packets of a capture in the format pcap, and of an interface. What they are for is in packets.h. */
-#define _DEFAULT_SOURCE
+#define _GNU_SOURCE
 #include "packets.h"
 
-#include <bpfhost.h>
 #include <errno.h>
 #include <stdarg.h>
 #include <stdlib.h>
@@ -73,7 +72,7 @@ static bool next_of_capture(struct source *it, uint8_t *room, size_t *length)
     size_t got = fread(head, 1, sizeof head, it->file);
     if (got == sizeof head) {
         *length = number_of(it, head + 8);
-        if (*length > LONGEST_PACKET) {
+        if (*length > BPFHOST_LONGEST_PACKET) {
             it->wrong = "it has more than 65,536 bytes, by its header";
             return false;
         }
@@ -107,14 +106,26 @@ struct source open_interface(const char *name, double seconds)
     return it;
 }
 
-/* The same; it waits up to a tenth of a second if it may. Of a longer packet the first 65,536 bytes are taken. */
-static bool next_of_interface(struct source *it, uint8_t *room, size_t *length, bool may_wait)
+/* Fills the batch with the packets that are there, by one system call; it waits for the first one up to a tenth of a second. Of a longer
+ * packet the first 65,536 bytes are taken. */
+static void fill_from_interface(struct source *it, struct batch *batch)
 {
-    ssize_t got = recv(it->socket, room, LONGEST_PACKET, may_wait ? 0 : MSG_DONTWAIT);
+    struct mmsghdr messages[BATCH] = {{.msg_len = 0}};
+    struct sockaddr_ll from[BATCH];
+    struct iovec rooms[BATCH];
+    for (size_t i = 0; i < BATCH; i++) {
+        rooms[i] = (struct iovec){batch->bytes + i * BPFHOST_LONGEST_PACKET, BPFHOST_LONGEST_PACKET};
+        messages[i].msg_hdr = (struct msghdr){.msg_name = &from[i], .msg_namelen = sizeof from[i], .msg_iov = &rooms[i], .msg_iovlen = 1};
+    }
+    int got = recvmmsg(it->socket, messages, BATCH, MSG_WAITFORONE, NULL);
     if (got < 0 && errno != EAGAIN && errno != EINTR)
         it->wrong = strerror(errno);
-    *length = got < 0 ? 0 : (size_t)got;
-    return got >= 0;
+    batch->count = batch->context_count = got < 0 ? 0 : (size_t)got;
+    for (size_t i = 0; i < batch->count; i++) {
+        batch->packets[i] = (bpfhost_packet){rooms[i].iov_base, messages[i].msg_len};
+        batch->contexts[i] = (bpfhost_context){
+            .pkt_type = from[i].sll_pkttype, .protocol = from[i].sll_protocol, .ifindex = (uint32_t)from[i].sll_ifindex};
+    }
 }
 #else
 struct source open_interface(const char *name, double seconds)
@@ -123,26 +134,31 @@ struct source open_interface(const char *name, double seconds)
     fail("%s: interfaces are read on Linux only", name);
 }
 
-static bool next_of_interface(struct source *it, uint8_t *room, size_t *length, bool may_wait)
+static void fill_from_interface(struct source *it, struct batch *batch)
 {
-    (void)it, (void)room, (void)length, (void)may_wait;
-    return false;
+    (void)it, (void)batch;
 }
 #endif
 
-/* Only an empty batch waits for packets: what is there goes on at once. */
-bool next_batch(struct source *source, struct batch *batch)
+static void fill_from_capture(struct source *it, struct batch *batch)
 {
     size_t end = 0, length = 0;
-    bool is_capture = source->file != NULL;
-    batch->count = 0;
-    if (!is_capture && now() >= source->until)
-        return false;
-    while (batch->count < BATCH && source->wrong == NULL
-           && (is_capture ? next_of_capture(source, batch->bytes + end, &length)
-                          : next_of_interface(source, batch->bytes + end, &length, batch->count == 0))) {
+    while (batch->count < BATCH && it->wrong == NULL && next_of_capture(it, batch->bytes + end, &length)) {
+        batch->packets[batch->count] = (bpfhost_packet){batch->bytes + end, length};
         end += length;
         batch->ends[batch->count++] = end;
     }
-    return batch->count != 0 || (!is_capture && source->wrong == NULL);
+}
+
+bool next_batch(struct source *source, struct batch *batch)
+{
+    batch->count = batch->context_count = 0;
+    if (source->file != NULL) {
+        fill_from_capture(source, batch);
+        return batch->count != 0;
+    }
+    if (now() >= source->until)
+        return false;
+    fill_from_interface(source, batch);
+    return batch->count != 0 || source->wrong == NULL;
 }

@@ -2,17 +2,21 @@
 #ifndef PACKETS_H
 #define PACKETS_H
 
+#include <bpfhost.h>
 #include <stdbool.h>
 #include <stddef.h>
 #include <stdint.h>
 #include <stdio.h>
 
-enum { BATCH = 64, LONGEST_PACKET = 65536 };
+enum { BATCH = 64 };
 
-/* Packets one after another: packet i ends before byte ends[i], and the next one begins there. */
+/* Packets of a batch, each with its address. Those of an interface have the contexts that the kernel's filters would get, and lie apart; those
+ * of a capture have none, and lie one after another from the first byte on: packet i ends before byte ends[i]. */
 struct batch {
-    size_t count, ends[BATCH];
-    uint8_t bytes[BATCH * LONGEST_PACKET];
+    size_t count, context_count, ends[BATCH];
+    bpfhost_packet packets[BATCH];
+    bpfhost_context contexts[BATCH];
+    uint8_t bytes[BATCH * BPFHOST_LONGEST_PACKET];
 };
 
 /* A source of packets: a capture in the pcap format, or an interface until some time. `wrong` says why no more came, and is

@@ -1,10 +1,11 @@
 /* The functions of bpfhost.h that may write something: their objects, how they are called, and what a call has to do.
  *
  * Not here, since they write nothing: bpfhost_pair_code, bpfhost_bytes_at, bpfhost_frame_code, bpfhost_may_empty,
- * bpfhost_context_at, bpfhost_packets_code, bpfhost_run_code, bpfhost_may_copy, bpfhost_code_text, bpfhost_reason_text,
+ * bpfhost_context_at, bpfhost_packets_code, bpfhost_written_code, bpfhost_run_code, bpfhost_scattered_run_code,
+ * bpfhost_scattered_code, bpfhost_span_code, bpfhost_scattered_status, bpfhost_may_copy, bpfhost_code_text, bpfhost_reason_text,
  * bpfhost_version, bpfhost_get16, bpfhost_get32, bpfhost_frame_of_tenant. Since they test nothing: bpfhost_put16, bpfhost_put32,
  * bpfhost_put_bytes. In objects.c: bpfhost_are_apart, bpfhost_free. In saves.c, since it calls bpfhost_save_part again and again:
- * bpfhost_save. */
+ * bpfhost_save. In scattered.c, since their packets lie anywhere: bpfhost_gather, bpfhost_run_some, bpfhost_run_scattered. */
 #ifndef FUNCTIONS_H
 #define FUNCTIONS_H
 

@@ -55,6 +55,7 @@ static inline const char *bpfhost_version(void)
 
 /* limits: written by tools/generate */
 #define BPFHOST_MOST_TENANTS 64 /* the most tenants of a host */
+#define BPFHOST_LONGEST_PACKET 65536 /* the most bytes of a packet */
 #define BPFHOST_LONGEST_FRAME 131072 /* the most bytes of a frame, without its length field; the reply to a longer one is E2BIG */
 #define BPFHOST_LONGEST_REPLY 4108 /* the most bytes of a reply, its length field included */
 #define BPFHOST_LONGEST_PAYLOAD 4096 /* the most bytes of a reply's payload */
@@ -233,6 +234,12 @@ typedef struct bpfhost_context {
     uint32_t pkt_type, mark, queue_mapping, protocol, vlan_present, vlan_tci, vlan_proto, priority, ingress_ifindex, ifindex;
 } bpfhost_context;
 
+/* A packet that lies anywhere: its address, and how many bytes it has. If it has none, `at` may be null. */
+typedef struct bpfhost_packet {
+    const void *at;
+    size_t length;
+} bpfhost_packet;
+
 /* The address of a context; of one with zeros for null. */
 static inline const bpfhost_context *bpfhost_context_at(const bpfhost_context *context)
 {
@@ -272,6 +279,17 @@ static inline int bpfhost_packets_code(const void *out, size_t out_length, const
     return code;
 }
 
+/* What is wrong with the objects that a run of many packets may write, or DONE. */
+static inline int bpfhost_written_code(const bpfhost *host, const uint32_t *results, size_t packets, const int32_t *status)
+{
+    int code = bpfhost_pair_code(host, BPFHOST_HANDLE_SIZE, results, packets * sizeof *results);
+    if (code == BPFHOST_DONE)
+        code = bpfhost_pair_code(host, BPFHOST_HANDLE_SIZE, status, sizeof *status);
+    if (code == BPFHOST_DONE)
+        code = bpfhost_pair_code(results, packets * sizeof *results, status, sizeof *status);
+    return code;
+}
+
 /* What is wrong with the objects of a run of many packets, or DONE. */
 static inline int bpfhost_run_code(const bpfhost *host, const bpfhost_context *context, const uint8_t *bytes, size_t byte_count,
                                    const size_t *ends, size_t packets, const uint32_t *results, const int32_t *status)
@@ -285,13 +303,7 @@ static inline int bpfhost_run_code(const bpfhost *host, const bpfhost_context *c
         code = bpfhost_packets_code(results, results_size, context, bytes, byte_count, ends, packets);
     if (code == BPFHOST_DONE)
         code = bpfhost_packets_code(status, sizeof *status, context, bytes, byte_count, ends, packets);
-    if (code == BPFHOST_DONE)
-        code = bpfhost_pair_code(host, BPFHOST_HANDLE_SIZE, results, results_size);
-    if (code == BPFHOST_DONE)
-        code = bpfhost_pair_code(host, BPFHOST_HANDLE_SIZE, status, sizeof *status);
-    if (code == BPFHOST_DONE)
-        code = bpfhost_pair_code(results, results_size, status, sizeof *status);
-    return code;
+    return code == BPFHOST_DONE ? bpfhost_written_code(host, results, packets, status) : code;
 }
 
 /* Runs a program of a tenant on many packets, one after another, as PROG_TEST_RUN does on each, without frames and replies. The
@@ -317,6 +329,168 @@ static inline int bpfhost_run_packets(bpfhost *host, uint16_t tenant, uint32_t f
         code = bpfhost_context_words(c, words);
     if (code == BPFHOST_DONE)
         code = (int)bpfhost_c_run_packets(host, tenant, fd, words, at, byte_count, stops, packets, room, packets, &told);
+    if (code == BPFHOST_DONE)
+        *status = told;
+    return code;
+}
+
+/* The ends of the packets that bpfhost_run_scattered gathers for one call of the proved function. */
+typedef struct bpfhost_gathered {
+    size_t ends[64];
+} bpfhost_gathered;
+
+/* Copies packets one after another to the front of a buffer while they fit, and writes their ends. Returns how many it copied. */
+static inline size_t bpfhost_gather(const bpfhost_packet *packets, size_t count, uint8_t *buffer, size_t buffer_length,
+                                    bpfhost_gathered *gathered)
+{
+    const size_t most = sizeof gathered->ends / sizeof *gathered->ends;
+    size_t copied = 0, end = 0;
+    while (copied < count && copied < most && packets[copied].length <= buffer_length - end) {
+        if (packets[copied].length != 0)
+            memcpy(buffer + end, packets[copied].at, packets[copied].length);
+        end += packets[copied].length;
+        gathered->ends[copied++] = end;
+    }
+    return copied;
+}
+
+/* What is wrong with each packet by itself, or DONE. `span` gets bytes in which all of them lie. */
+static inline int bpfhost_span_code(const bpfhost_packet *packets, size_t count, bpfhost_bytes *span)
+{
+    uintptr_t from = UINTPTR_MAX, to = 0;
+    for (size_t i = 0; i < count; i++) {
+        uintptr_t at = (uintptr_t)packets[i].at;
+        size_t length = packets[i].length;
+        if (length == 0)
+            continue;
+        if (at == 0)
+            return BPFHOST_ERR_NULL;
+        if (length > PTRDIFF_MAX)
+            return BPFHOST_ERR_LENGTH;
+        from = at < from ? at : from;
+        if (length > UINTPTR_MAX - at)
+            from = 0, to = UINTPTR_MAX; /* no object lies so; it counts as all bytes */
+        to = at + length > to ? at + length : to;
+    }
+    span->at = (const uint8_t *)from;
+    span->length = to > from ? to - from : 0;
+    return BPFHOST_DONE;
+}
+
+/* What is wrong with packets that lie anywhere, within a span, and with their contexts, together with an object that the run may write, or
+ * DONE. */
+static inline int bpfhost_scattered_code(const void *out, size_t out_length, const bpfhost_context *contexts, size_t context_count,
+                                         const bpfhost_packet *packets, size_t count, bpfhost_bytes span)
+{
+    int code = bpfhost_pair_code(out, out_length, contexts, context_count * sizeof *contexts);
+    if (code == BPFHOST_DONE)
+        code = bpfhost_pair_code(out, out_length, packets, count * sizeof *packets);
+    if (bpfhost_are_apart(out, out_length, span.at, span.length))
+        return code;
+    for (size_t i = 0; i < count && code == BPFHOST_DONE; i++)
+        code = bpfhost_pair_code(out, out_length, bpfhost_bytes_at(packets[i].at, packets[i].length), packets[i].length);
+    return code;
+}
+
+/* What is wrong with the objects of such a run, or DONE. */
+static inline int bpfhost_scattered_run_code(const bpfhost *host, const bpfhost_context *contexts, size_t context_count,
+                                             const bpfhost_packet *packets, size_t count, const uint8_t *buffer,
+                                             size_t buffer_length, const uint32_t *results, const int32_t *status)
+{
+    size_t results_size = count * sizeof *results;
+    bpfhost_bytes span;
+    int code;
+    if (count > PTRDIFF_MAX / sizeof *packets || context_count > PTRDIFF_MAX / sizeof *contexts)
+        return BPFHOST_ERR_LENGTH;
+    code = packets == NULL ? BPFHOST_ERR_NULL : bpfhost_span_code(packets, count, &span);
+    if (code == BPFHOST_DONE)
+        code = bpfhost_written_code(host, results, count, status);
+    if (code == BPFHOST_DONE)
+        code = bpfhost_pair_code(host, BPFHOST_HANDLE_SIZE, buffer, buffer_length);
+    if (code == BPFHOST_DONE)
+        code = bpfhost_pair_code(results, results_size, buffer, buffer_length);
+    if (code == BPFHOST_DONE)
+        code = bpfhost_pair_code(status, sizeof *status, buffer, buffer_length);
+    if (code == BPFHOST_DONE)
+        code = bpfhost_scattered_code(host, BPFHOST_HANDLE_SIZE, contexts, context_count, packets, count, span);
+    if (code == BPFHOST_DONE)
+        code = bpfhost_scattered_code(results, results_size, contexts, context_count, packets, count, span);
+    if (code == BPFHOST_DONE)
+        code = bpfhost_scattered_code(status, sizeof *status, contexts, context_count, packets, count, span);
+    if (code == BPFHOST_DONE)
+        code = bpfhost_scattered_code(buffer, buffer_length, contexts, context_count, packets, count, span);
+    return code;
+}
+
+/* The status of such a run by the number of contexts and the lengths of packets: 0, or their error. */
+static inline int32_t bpfhost_scattered_status(size_t context_count, const bpfhost_packet *packets, size_t count)
+{
+    if (context_count != 1 && context_count != count)
+        return -22; /* EINVAL */
+    for (size_t i = 0; i < count; i++)
+        if (packets[i].length > BPFHOST_LONGEST_PACKET)
+            return -7; /* E2BIG */
+    return 0;
+}
+
+/* Runs packets that lie anywhere, from the first one on: as many as fit into the buffer together, or one in its place. With one context
+ * for each, it is one packet. It returns the code of the proved function, and `done` gets how many packets were given to it. */
+static inline int bpfhost_run_some(bpfhost *host, uint16_t tenant, uint32_t fd, const bpfhost_context *context, bool is_shared,
+                                   const bpfhost_packet *packets, size_t count, uint8_t *buffer, size_t buffer_length,
+                                   uint32_t *results, int32_t *status, size_t *done)
+{
+    bpfhost_gathered gathered;
+    uint32_t words[10];
+    size_t many = is_shared ? bpfhost_gather(packets, count, buffer, buffer_length, &gathered) : 0;
+    const uint8_t *at = many == 0 ? bpfhost_bytes_at(packets->at, packets->length) : buffer;
+    int code = bpfhost_context_words(context, words);
+    if (many == 0) {
+        many = 1;
+        gathered.ends[0] = packets->length;
+    }
+    *done = many;
+    if (code == BPFHOST_DONE)
+        code = (int)bpfhost_c_run_packets(host, tenant, fd, words, at, gathered.ends[many - 1], gathered.ends, many, results, many, status);
+    return code;
+}
+
+/* Runs a program of a tenant on packets that lie anywhere, as recvmmsg, the rings of packet(7) and DPDK's mbufs have them: one after
+ * another, as PROG_TEST_RUN does on each. With one context it is that of all packets, with as many contexts as packets each has its own,
+ * and with none, whose address may be null, all have zeros; the packet's length is always its own. What is refused is refused before the
+ * first packet, with the status that bpfhost_run_packets has, and -22 for another number of contexts; then no packet was run.
+ *
+ * Packets are copied one after another to `buffer`, at most 64 at a time and as many as fit, and are run by one call of the proved
+ * function; then the next ones. A packet that is longer than the buffer, or has a context of its own, is not copied, and is run by a
+ * call of its own. So the buffer may have any length, or none at all; room for 64 usual packets serves best. It holds any bytes afterwards.
+ * This loop is tested, not proved; what it calls is proved. Packets may overlap one another. ERR_NO_HOST, ERR_NULL, ERR_LENGTH,
+ * ERR_OVERLAP: nothing is written, and no tenant's state has changed. */
+static inline int bpfhost_run_scattered(bpfhost *host, uint16_t tenant, uint32_t fd, const bpfhost_context *contexts,
+                                        size_t context_count, const bpfhost_packet *packets, size_t count, void *buffer,
+                                        size_t buffer_length, uint32_t *results, int32_t *status)
+{
+    static const bpfhost_packet no_packets[1] = {{NULL, 0}};
+    static const size_t no_ends[1] = {0};
+    uint8_t no_bytes[1] = {0};
+    uint32_t no_results[1] = {0}, zeros[10] = {0};
+    const bpfhost_context *c = context_count == 0 ? bpfhost_context_at(NULL) : contexts;
+    const bpfhost_packet *p = count == 0 ? no_packets : packets;
+    uint8_t *room = buffer_length == 0 ? no_bytes : (uint8_t *)buffer;
+    uint32_t *out = count == 0 ? no_results : results;
+    size_t given = context_count == 0 ? 1 : context_count, done = 0, some = 0;
+    int32_t wrong, told = 0;
+    int code = bpfhost_scattered_run_code(host, c, given, p, count, room, buffer_length, out, status);
+    if (code != BPFHOST_DONE)
+        return code;
+    wrong = bpfhost_scattered_status(given, p, count);
+    /* The errors of no packets, those of the tenant and the descriptor, come before those of packets. */
+    if (wrong != 0 || count == 0)
+        code = (int)bpfhost_c_run_packets(host, tenant, fd, zeros, no_bytes, 0, no_ends, 0, no_results, 0, &told);
+    told = told == 0 ? wrong : told;
+    while (code == BPFHOST_DONE && told == 0 && done < count) {
+        const bpfhost_context *own = given == 1 ? c : c + done;
+        code = bpfhost_run_some(host, tenant, fd, own, given == 1, p + done, count - done, room, buffer_length, out + done, &told, &some);
+        done += some;
+    }
     if (code == BPFHOST_DONE)
         *status = told;
     return code;

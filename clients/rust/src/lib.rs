@@ -18,7 +18,9 @@ mod tenant;
 /// The version of this crate, which is the library's too.
 pub const VERSION: &str = env!("CARGO_PKG_VERSION");
 
-pub use bpfhost_sys::{LONGEST_FRAME, LONGEST_PART, LONGEST_PAYLOAD, LONGEST_REPLY, MOST_TENANTS, TEST_RUN_HEAD};
+pub use bpfhost_sys::{
+    LONGEST_FRAME, LONGEST_PACKET, LONGEST_PART, LONGEST_PAYLOAD, LONGEST_REPLY, MOST_TENANTS, TEST_RUN_HEAD,
+};
 pub use built::{BuiltMap, BuiltProgram, LoadedProgram, NotBuilt};
 pub use errno::Errno;
 pub use error::Error;

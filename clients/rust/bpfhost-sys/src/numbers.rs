@@ -3,6 +3,8 @@
 // limits: written by tools/generate
 /// The most tenants of a host.
 pub const MOST_TENANTS: usize = 64;
+/// The most bytes of a packet.
+pub const LONGEST_PACKET: usize = 65_536;
 /// The most bytes of a frame, without its length field; the reply to a longer one is E2BIG.
 pub const LONGEST_FRAME: usize = 131_072;
 /// The most bytes of a reply, its length field included.

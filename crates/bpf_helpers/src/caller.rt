@@ -7,7 +7,7 @@ use bpf_maps::MapKey;
 pub struct Caller<'a> {
     /// The tenant to whose part of the memory the run belongs.
     pub tenant: usize,
-    /// The keys of the bound live maps, in the order of the program's descriptors.
+    /// The handles of the bound live maps, in the order of the program's descriptors.
     pub bind: &'a [MapKey],
     /// The packet.
     pub packet: &'a [u8],

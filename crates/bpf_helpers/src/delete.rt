@@ -11,7 +11,7 @@ use crate::caller::Caller;
 use crate::look_up::{bound, traced_place};
 use crate::update::refusal;
 use arena::{Arena, Trace};
-use bpf_maps::{MapKey, Maps, laws};
+use bpf_maps::{Maps, laws};
 use tagged_model::MapFault;
 
 /// bpf_map_delete_elem (3): deletes a key. `map` names the map, and `key` is the address of the key. If one of them names nothing,

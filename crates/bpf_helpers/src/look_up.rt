@@ -13,7 +13,7 @@ use crate::caller::Caller;
 use arena::{Arena, Trace};
 use bpf_maps::{MapKey, Maps, PART, laws};
 
-/// The key of the bound map that a word names; `None` if it names none.
+/// The handle of the bound map that a word names; `None` if it names none.
 #[inline(always)]
 pub(crate) fn bound(bind: &[MapKey], word: u64) -> Option<MapKey>
     ensures value { result ≡ bound_map bind.now word }

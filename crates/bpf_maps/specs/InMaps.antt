@@ -19,7 +19,7 @@ live_of e = record { places = places_of e.map; start = e.start; stride = e.strid
 abbrev pub live_maps_of : List (Option Entry) → List (Option LiveMap)
 live_maps_of xs = map (λ o. option_map live_of o) xs
 
--- the entry at each place: that of the place's key, if the place has one
+-- the stored map of each handle: that under the handle's key in the slab, if it has one
 abbrev pub placed : List (Option ℕ) → Slab Entry → List (Option Entry)
 placed keys entries = map (λ key. option_and_then (get entries) key) keys
 
@@ -31,7 +31,7 @@ as_live_maps a = record { maps = live_maps_of (entries_of a); refused = a.refuse
 
 -- ---- the invariant
 
--- each key has an entry, no two places have the same key, and there are no other entries
+-- each key in the slab has an entry, no two handles have the same key, and there are no other entries
 pub record AreKeys (keys : List (Option ℕ)) (entries : Slab Entry) : Type 0 where
   pub long : length keys ≡ most_maps
   pub there : (p key : ℕ) → slice_index_or keys p None ≡ Some key → ContainsKey entries key
@@ -42,11 +42,11 @@ pub record AreKeys (keys : List (Option ℕ)) (entries : Slab Entry) : Type 0 wh
 abbrev pub layout_of : Entry → MapLayout
 layout_of e = record { shape = (places_of e.map).shape; start = e.start; stride = e.stride }
 
--- the layout of the live map at a place
+-- the layout of the live map of a handle
 abbrev pub layout_at : LiveMaps → ℕ → MapLayout
 layout_at t k = record { shape = shape_at t k; start = start_at t k; stride = (live_or (live_at t k)).stride }
 
--- each place has a layout; if the place has an entry, it is the entry's
+-- each handle has a layout; if it has an entry, it is the entry's
 pub record AreLaidOut (entries : List (Option Entry)) (layouts : List MapLayout) : Type 0 where
   pub long : length layouts ≡ most_maps
   pub each : (p : ℕ) (e : Entry) (other : MapLayout) → slice_index_or entries p None ≡ Some e → slice_index_or layouts p other ≡ layout_of e
@@ -66,7 +66,7 @@ pub record IsInItsArea (bytes : ℕ) (e : Entry) : Type 0 where
   pub sound : IsSound (places_of e.map)
 
 -- the keys are those of the entries, and there is room for `most_maps` of these; the areas don't overlap, and lie after the stack and
--- the context in as many bytes as they take together, `bytes`; each place has its entry's layout
+-- the context in as many bytes as they take together, `bytes`; each handle has its entry's layout
 pub record IsWellFormedMaps (a : Inside) : Type 0 where
   pub keys : AreKeys a.keys a.entries
   pub room : most_maps ≤ a.entries.capacity

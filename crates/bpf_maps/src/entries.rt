@@ -1,4 +1,4 @@
-//! The entries of a tenant's live maps. They are kept in a slab; the place of a map has the entry's key in the slab.
+//! A tenant's live maps as they are stored, in a slab; for the handle of each there is its key in the slab.
 
 ghost use Rattle.std.specs.Prelude.{◌≡◌, ℕ, ◌≤◌, length, option_map, position, is_none, Some, None, IsSome, slice_index_or};
 ghost use Rattle.bpf_maps.specs.declared.part.TheConstants.{MAPS};
@@ -43,14 +43,14 @@ impl Entry {
     }
 }
 
-/// The lowest place without a key; `None` if each has one.
+/// The lowest handle without a key in the slab; `None` if each has one.
 pub(crate) fn free_place(keys: &[Option<usize>; MAPS]) -> Option<usize>
     ensures { result ≡ position is_none keys.now }
 {
     keys.iter().position(|key| key.is_none())
 }
 
-/// The key at a place that has one.
+/// The slab's key of the map of a handle that has one.
 #[inline(always)]
 pub(crate) fn key_at(keys: &[Option<usize>; MAPS], place: usize) -> usize
     requires { IsSome (slice_index_or keys.now place None) }

@@ -4,6 +4,13 @@
 //! for a value. Both kinds of map have this one definition. The values of a tenant's live maps are in its part of the memory,
 //! in which each place of a map has bytes of its own.
 //!
+//! # Words
+//!
+//! - A *key* is the bytes by which a caller finds a value in a map; an *entry* is a key with its place.
+//! - A *place* is the number of a value in its map, from 0 to one less than `max_entries`.
+//! - A map *handle* (`MapKey`) says which of a tenant's live maps is meant, 0 to 15.
+//! - The *area* of a map is the bytes of all its values, in the tenant's *part* of the memory.
+//!
 //! # What is proved
 //!
 //! Calls of one map:
@@ -26,7 +33,7 @@
 //!
 //! The live maps of a tenant:
 //!
-//! - A tenant has sixteen places for live maps, and at most 262,144 bytes of values. A new map is at the lowest free place; if
+//! - A tenant has at most sixteen live maps, and at most 262,144 bytes of values. A new map gets the lowest free handle; if
 //!   there is none, or there are too many bytes, no map is created; out of memory, only the flag changes: `created` of
 //!   `Maps::create`, `maps`, `bytes` of `maps_are_laid`.
 //! - A new map adds its area to the sum of their bytes, its last release subtracts it, and no other call changes the sum:
@@ -86,10 +93,9 @@
 //!   shows one.
 //! - An entry stores the start of its area, so an access needs no sum over earlier maps. When a map is freed, those of the
 //!   later maps are reduced.
-//! - A map of a tenant has one name, its place, 0 to 15, and a new map gets the lowest free one. Descriptors, programs and runs
-//!   use it (`MapKey`). The slab that stores the maps chooses keys of its own, about which nothing is known; they stay inside
-//!   `Maps`.
-//! - What a call needs of a map is in a list by place (`Layouts`): its shape, the start of its area and the distance of its
+//! - A map of a tenant has one name, its handle, 0 to 15, and a new map gets the lowest free one. Descriptors, programs and runs
+//!   use it. The slab that stores the maps chooses keys of its own, about which nothing is known; they stay inside `Maps`.
+//! - What a call needs of a map is in a list by handle (`Layouts`): its shape, the start of its area and the distance of its
 //!   values, 32 bytes for each map. It is kept with the maps and not built in each run, so a run without calls pays nothing for
 //!   it, and a call has all with one load of the list's address. An array is only its shape, so a look-up or an update in one
 //!   reads nothing else (`arrays_have_their_indices`). The map itself stores the start of its area too: that both agree is a

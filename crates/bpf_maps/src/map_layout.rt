@@ -17,7 +17,7 @@ pub(crate) struct MapLayout {
 }
 
 impl MapLayout {
-    /// The layout at a place without a map.
+    /// The layout of a handle without a map.
     fn unused() -> MapLayout {
         MapLayout {
             shape: MapShape {
@@ -32,7 +32,7 @@ impl MapLayout {
     }
 }
 
-/// The layouts of a tenant's maps, by the places of the maps, contiguous in memory. Contracts see the list.
+/// The layouts of a tenant's maps, by the handles of the maps, contiguous in memory. Contracts see the list.
 #[derive(Drop)]
 pub(crate) struct Layouts {
     all: Vec<MapLayout>,
@@ -48,7 +48,7 @@ impl Model for Layouts {
 }
 
 impl Layouts {
-    /// Makes `count` layouts, for places without a map. `AllocError`: out of memory.
+    /// Makes `count` layouts, for handles without a map. `AllocError`: out of memory.
     pub(crate) fn new(alloc: Global, count: usize) -> Result<Layouts, AllocError>
         ensures { IfOk result (λ all. length all ≡ count) }
     {
@@ -56,7 +56,7 @@ impl Layouts {
         Ok(Layouts { all })
     }
 
-    /// The layout at a place.
+    /// The layout of a handle.
     #[inline(always)]
     pub(crate) fn get(&self, place: usize) -> &MapLayout
         requires { place < length self.now }
@@ -65,7 +65,7 @@ impl Layouts {
         &self.all[place]
     }
 
-    /// Sets the layout at a place.
+    /// Sets the layout of a handle.
     pub(crate) fn put(&mut self, place: usize, layout: MapLayout)
         requires { place < length self.old }
         ensures { self.new ≡ slice_set self.old place layout }

@@ -1,4 +1,4 @@
-//! A tenant's live maps, each at a place.
+//! A tenant's live maps, each with a handle.
 
 ghost use Rattle.std.specs.Prelude.{◌≡◌, ◌≢◌, ℕ, ◌+◌, ◌-◌, ◌<◌, ◌≤◌, ◌^◌, ◌⊎◌, ◌||◌, true, false, [], length, take, replicate, option_map, Some, None, is_some, IfSome, IfOk, OnErr, IsSome};
 ghost use Rattle.ordered_keys.specs.Orders.{next_entry};
@@ -27,7 +27,7 @@ use tagged_model::{MapFault, MapKind, MapShape};
 // A map with this number of references is freed when one of them is dropped.
 const LAST: u32 = 1;
 
-/// The key of a live map: its place. Contracts see the place's number.
+/// The handle of a live map, 0 to 15. Contracts see the number.
 #[derive(Clone, Copy, Debug, PartialEq, Eq)]
 pub struct MapKey {
     place: usize,
@@ -41,15 +41,15 @@ impl Model for MapKey {
     ghost inverse = { λ n. record { place = n } };
 }
 
-/// A tenant's live maps. Contracts see the map at each of `MAPS` places, and the positions of its values in the tenant's part.
+/// A tenant's live maps. Contracts see the map of each of `MAPS` handles, and the positions of its values in the tenant's part.
 #[derive(Drop)]
 pub struct Maps {
     alloc: Global,
     seed: HashSeed,
     entries: Slab<Entry>,
-    // The layout of the map at each place. It is what calls read, and is contiguous in memory, apart from the entries.
+    // The layout of the map of each handle. It is what calls read, and is contiguous in memory, apart from the entries.
     layouts: Layouts,
-    // The key in `entries` of the map at each place.
+    // The slab's key of the map of each handle.
     keys: [Option<usize>; MAPS],
     // The number of bytes that the areas of all maps take. The areas lie one after another, in order of creation, after the stack
     // and the context.
@@ -92,8 +92,8 @@ impl Maps {
     }
 
     /// A law: the values of all live maps lie in the part and don't overlap, their areas lie without gaps after the stack and the
-    /// context, no two keys of a live map have the same place, and there are `MAPS` places for maps, whose values take at most
-    /// `LARGEST_SUM` bytes. It does nothing when it runs.
+    /// context, no two keys of a live map have the same place, and there are `MAPS` handles. The values of the maps take
+    /// at most `LARGEST_SUM` bytes. It does nothing when it runs.
     #[inline(always)]
     pub fn maps_are_laid(&self)
         ensures laid { IsLaid self.now }
@@ -139,13 +139,13 @@ impl Maps {
         self.layouts.get(map.place)
     }
 
-    /// Creates a map with one reference at the lowest free place. The map gets an area of its own in the tenant's part, `PART`
+    /// Creates a map with one reference and the lowest free handle. The map gets an area of its own in the tenant's part, `PART`
     /// bytes, after the areas of the live maps. A hash map has no keys, and the values of an array are zero bytes. The maps that
     /// were live are unchanged.
     ///
     /// # Errors
     ///
-    /// `NoSpace` if no place is free, or if the values of all maps, each rounded up to a multiple of eight bytes, would take
+    /// `NoSpace` if no handle is free, or if the values of all maps, each rounded up to a multiple of eight bytes, would take
     /// more than `LARGEST_SUM` bytes; else `Memory` if out of memory for a hash map. Then no map has changed.
     pub fn create(&mut self, shape: MapShape, part: &mut [u8]) -> Result<MapKey, MapFault>
         requires { length part.old ≡ PART }
@@ -212,7 +212,7 @@ impl Maps {
         entry.holds += 1;
     }
 
-    /// Drops one reference to a map; the last frees the map, its place and its area. The areas after that one then move down by its
+    /// Drops one reference to a map; the last frees the map, its handle and its area. The areas after that one then move down by its
     /// size, and their maps keep their places, keys and values.
     pub fn release(&mut self, map: MapKey, part: &mut [u8])
         requires live { IsSome (live_at self.old map) }
@@ -263,7 +263,7 @@ impl Maps {
     pub fn is_live(&self, map: MapKey) -> bool
         ensures { result ≡ is_some (live_at self.now map) }
     {
-        // A place with a key has an entry.
+        // A handle with a key in the slab has an entry.
         let _ = &self.entries;
         match self.keys.get(map.place) {
             Some(key) => key.is_some(),

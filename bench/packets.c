@@ -114,8 +114,9 @@ static const struct way {
 static bpfhost *host;
 static bpfhost_context context;
 static size_t ends[MOST_BATCH];
-/* The same packets with their places. */
+/* The same packets with their places, and a context for each. */
 static bpfhost_packet places[MOST_BATCH];
+static bpfhost_context contexts[MOST_BATCH];
 /* Each packet after the head of its frame. */
 static uint8_t frames[MOST_BATCH * (BPFHOST_TEST_RUN_HEAD + MOST_SIZE)];
 
@@ -146,6 +147,7 @@ static void begin(void)
         memcpy(frame + BPFHOST_TEST_RUN_HEAD, packets + i * size, size);
         ends[i] = (i + 1) * size;
         places[i] = (bpfhost_packet){packets + i * size, size};
+        contexts[i] = context;
     }
 }
 
@@ -154,6 +156,14 @@ static void by_batch(void)
     int32_t status = -1;
     int code = bpfhost_run_packets(host, 0, fd, &context, packets, batch * size, ends, batch, results, &status);
     must(code == BPFHOST_DONE && status == 0, "a batch is refused");
+}
+
+/* With a context for each packet. */
+static void by_contexts(void)
+{
+    int32_t status = -1;
+    int code = bpfhost_run_packets_with(host, 0, fd, contexts, batch, packets, batch * size, ends, batch, results, &status);
+    must(code == BPFHOST_DONE && status == 0, "a batch with contexts is refused");
 }
 
 /* By an address and a length for each packet. */
@@ -195,7 +205,7 @@ static void end(void)
 static const struct way {
     const char *name;
     void (*run)(void);
-} ways[] = {{"batch", by_batch}, {"places", by_places}, {"frames", by_frames}, {"plain", by_plain}};
+} ways[] = {{"batch", by_batch}, {"contexts", by_contexts}, {"places", by_places}, {"frames", by_frames}, {"plain", by_plain}};
 #endif
 
 /* ---- the stream and what is printed */

@@ -119,7 +119,7 @@ def read_arguments() -> argparse.Namespace:
 
 def main() -> None:
     arguments = read_arguments()
-    words = {"call": "batch", "frames": "frames", "C": "plain", "scattered": "places"}
+    words = {"call": "batch", "frames": "frames", "C": "plain", "contexts": "contexts", "scattered": "places"}
     ways = [Way(name, arguments.packets, word) for name, word in words.items()]
     if arguments.with_dpdk:
         ways.append(Way("DPDK", arguments.with_dpdk, "burst"))

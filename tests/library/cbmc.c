@@ -232,15 +232,16 @@ int32_t bpfhost_c_handle_lent(bpfhost *handle, const uint8_t *frame, size_t fram
     return code;
 }
 
-int32_t bpfhost_c_run_packets(bpfhost *handle, uint16_t tenant, uint32_t fd, const uint32_t *words, const uint8_t *bytes,
-                              size_t byte_count, const size_t *ends, size_t packets, uint32_t *results, size_t room,
-                              int32_t *status)
+int32_t bpfhost_c_run_packets(bpfhost *handle, uint16_t tenant, uint32_t fd, const bpfhost_context *contexts, size_t context_count,
+                              const uint8_t *bytes, size_t byte_count, const size_t *ends, size_t packets, uint32_t *results,
+                              size_t room, int32_t *status)
 {
-    const struct piece pieces[] = {{handle, BPFHOST_HANDLE_SIZE, true},          {words, 10 * sizeof *words, false},
+    const struct piece pieces[] = {{handle, BPFHOST_HANDLE_SIZE, true},     {contexts, context_count * sizeof *contexts, false},
                                    {bytes, byte_count, false},              {ends, packets * sizeof *ends, false},
                                    {results, room * sizeof *results, true}, {status, sizeof *status, true}};
     (void)tenant, (void)fd;
     __CPROVER_assert(room == packets && packets <= PTRDIFF_MAX / sizeof *ends, "there are as many results as packets");
+    __CPROVER_assert(context_count <= PTRDIFF_MAX / sizeof *contexts, "there are no more contexts than an object has");
     return ask(pieces, 6);
 }
 
@@ -354,6 +355,22 @@ void try_run_packets(void)
     uint32_t *results = object(results_size, sizeof *results, WRITTEN | NULL_IF_EMPTY);
     int32_t *status = ONE(status, WRITTEN);
     end(bpfhost_run_packets(host, 1, 3, context, bytes, byte_count, ends, packets, results, status), true);
+}
+
+void try_run_packets_with(void)
+{
+    uint8_t here[116];
+    lie_in(here, sizeof here);
+    size_t byte_count = any_length(), ends_size = any_length(), packets = any_units(ends_size, sizeof(size_t));
+    size_t results_size = ends_size > PTRDIFF_MAX ? ends_size : packets * sizeof(uint32_t);
+    size_t contexts_size = any_length(), context_count = any_units(contexts_size, sizeof(bpfhost_context));
+    bpfhost *host = HOST;
+    const bpfhost_context *contexts = object(contexts_size, alignof(bpfhost_context), READ | NULL_IF_EMPTY);
+    const void *bytes = BYTES(byte_count, READ | NULL_IF_EMPTY);
+    const size_t *ends = object(ends_size, sizeof *ends, READ | NULL_IF_EMPTY);
+    uint32_t *results = object(results_size, sizeof *results, WRITTEN | NULL_IF_EMPTY);
+    int32_t *status = ONE(status, WRITTEN);
+    end(bpfhost_run_packets_with(host, 1, 3, contexts, context_count, bytes, byte_count, ends, packets, results, status), true);
 }
 
 void try_save_part(void)

@@ -182,15 +182,36 @@ static int call_run_packets(const struct given *given)
                                (int32_t *)given->at[5]);
 }
 
-static bool holds_run_packets(const struct given *given, int code)
+/* Whether the proved function was asked to run these packets, on contexts of which the first one is at an address, or zeros for null. */
+static bool ran_packets(const struct given *given, const void *context, size_t contexts, int code)
 {
     size_t packets = given->counts[1];
     return is_asked(given, 0, code) && asked.numbers[0] == 258 && asked.numbers[1] == 4 && asked.numbers[2] == given->counts[0]
-        && asked.numbers[3] == packets && asked.numbers[4] == packets && are_words_of(asked.words, given->at[1])
+        && asked.numbers[3] == packets && asked.numbers[4] == packets && asked.numbers[5] == contexts
+        && are_words_of(&asked.context, context) && (context == NULL || asked.at[1] == context)
         && (given->counts[0] == 0 || asked.at[2] == given->at[2])
         && (packets == 0 || (asked.at[3] == given->at[3] && asked.at[4] == given->at[4]))
         && (code != BPFHOST_DONE
             || (is_marked(given->at[4], packets * sizeof(uint32_t)) && is_marked(given->at[5], sizeof(int32_t))));
+}
+
+static bool holds_run_packets(const struct given *given, int code)
+{
+    return ran_packets(given, given->at[1], 1, code);
+}
+
+static int call_run_packets_with(const struct given *given)
+{
+    return bpfhost_run_packets_with((bpfhost *)given->at[0], 258, 4, (const bpfhost_context *)given->at[1], given->counts[2],
+                                    given->at[2], given->counts[0], (const size_t *)given->at[3], given->counts[1],
+                                    (uint32_t *)given->at[4], (int32_t *)given->at[5]);
+}
+
+/* No contexts are one with zeros. */
+static bool holds_run_packets_with(const struct given *given, int code)
+{
+    size_t contexts = given->counts[2];
+    return ran_packets(given, contexts == 0 ? NULL : given->at[1], contexts == 0 ? 1 : contexts, code);
 }
 
 static int call_save_part(const struct given *given)
@@ -362,6 +383,10 @@ static const struct function functions[] = {
     {"bpfhost_run_packets", call_run_packets, holds_run_packets, false, 0, 6, 2,
      {HOST, CONTEXT, BYTES("bytes", 11, 0, READ | NULL_IF_EMPTY),
       {"ends", sizeof(size_t), 3, alignof(size_t), 1, READ | NULL_IF_EMPTY, NULL},
+      {"results", sizeof(uint32_t), 3, alignof(uint32_t), 1, WRITTEN | NULL_IF_EMPTY, NULL}, ONE("status", int32_t, WRITTEN)}},
+    {"bpfhost_run_packets_with", call_run_packets_with, holds_run_packets_with, false, 0, 6, 3,
+     {HOST, {"contexts", sizeof(bpfhost_context), 2, alignof(bpfhost_context), 2, READ | NULL_IF_EMPTY, NULL},
+      BYTES("bytes", 11, 0, READ | NULL_IF_EMPTY), {"ends", sizeof(size_t), 3, alignof(size_t), 1, READ | NULL_IF_EMPTY, NULL},
       {"results", sizeof(uint32_t), 3, alignof(uint32_t), 1, WRITTEN | NULL_IF_EMPTY, NULL}, ONE("status", int32_t, WRITTEN)}},
     {"bpfhost_save_part", call_save_part, holds_save_part, false, 0, 2, 0, {HOST, ONE("frames", bpfhost_bytes, WRITTEN)}},
     {"bpfhost_restore", call_restore, holds_restore, false, 0, 3, 1,

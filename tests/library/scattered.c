@@ -1,5 +1,5 @@
-/* Packets that lie anywhere (bpfhost_run_scattered): compared with the test-run frames of the same packets on a second host, for random
- * batches, buffers and contexts; and that what is refused changes nothing. */
+/* Packets that lie anywhere (bpfhost_run_scattered), and contexts for each packet (bpfhost_run_packets_with): compared with the test-run
+ * frames of the same packets on a second host, for random batches, buffers and contexts; and that what is refused changes nothing. */
 #include "common.h"
 #include <string.h>
 
@@ -41,9 +41,10 @@ static const uint8_t mixes[] = {
     SLOT(0x95, 0, 0, 0, 0)    /* exit */
 };
 
-static uint8_t bytes[BYTES], buffer[MOST_BUFFER];
+static uint8_t bytes[BYTES], in_one_piece[MOST_PACKETS * BYTES / 8], buffer[MOST_BUFFER];
 static bpfhost_context contexts[MOST_PACKETS];
 static bpfhost_packet packets[MOST_PACKETS];
+static size_t ends[MOST_PACKETS];
 static uint32_t results[MOST_PACKETS + 1];
 
 /* A host whose tenant 1 has the map, descriptor 3, and the program, descriptor 4. */
@@ -120,11 +121,22 @@ static size_t any_contexts(uint64_t *state, size_t count)
     return which == 0 ? 0 : which == 1 ? 1 : count;
 }
 
-/* Random batches by one call, and by frames on another host. */
+static void copies_to_one_piece(size_t count)
+{
+    size_t end = 0;
+    for (size_t i = 0; i < count; i++) {
+        if (packets[i].length != 0)
+            memcpy(in_one_piece + end, packets[i].at, packets[i].length);
+        end += packets[i].length;
+        ends[i] = end;
+    }
+}
+
+/* Random batches by each of both functions, and by frames, each on a host of its own. */
 static void compares(unsigned batches)
 {
     static const size_t buffers[] = {0, 1, 63, 64, 1499, 1500, 4096, MOST_BUFFER};
-    bpfhost *scattered = new_host(), *by_frames = new_host();
+    bpfhost *scattered = new_host(), *together = new_host(), *by_frames = new_host(), *again = new_host();
     uint64_t state = 0x9e3779b97f4a7c15;
     for (size_t i = 0; i < BYTES; i++)
         bytes[i] = (uint8_t)random_number(&state);
@@ -137,14 +149,24 @@ static void compares(unsigned batches)
         CHECK(status == 0);
         same_as_frames(by_frames, contexts, given, count);
         CHECK(count_of(scattered) == count_of(by_frames));
+        copies_to_one_piece(count);
+        unset();
+        status = 1;
+        CHECK(bpfhost_run_packets_with(together, 1, COUNTER, given == 0 ? NULL : contexts, given, in_one_piece, sizeof in_one_piece,
+                                       ends, count, results, &status) == BPFHOST_DONE);
+        CHECK(status == 0);
+        same_as_frames(again, contexts, given, count);
+        CHECK(count_of(together) == count_of(again));
     }
     bpfhost_free(scattered);
+    bpfhost_free(together);
     bpfhost_free(by_frames);
+    bpfhost_free(again);
 }
 
 /* ---- what is refused */
 
-/* A batch is refused with this status; the program has not run, and no result is written. */
+/* Both functions refuse a batch with this status; the program has not run, and no result is written. */
 static void refuses(bpfhost *host, uint16_t tenant, uint32_t fd, size_t given, size_t count, int32_t wanted)
 {
     uint64_t before = count_of(host);
@@ -152,6 +174,11 @@ static void refuses(bpfhost *host, uint16_t tenant, uint32_t fd, size_t given, s
         int32_t status = 1;
         unset();
         CHECK(bpfhost_run_scattered(host, tenant, fd, contexts, given, packets, count, buffer, room, results, &status) == BPFHOST_DONE);
+        CHECK(status == wanted && count_of(host) == before);
+        copies_to_one_piece(count);
+        status = 1;
+        CHECK(bpfhost_run_packets_with(host, tenant, fd, contexts, given, in_one_piece, sizeof in_one_piece, ends, count, results,
+                                       &status) == BPFHOST_DONE);
         CHECK(status == wanted && count_of(host) == before);
         for (size_t i = 0; i <= MOST_PACKETS; i++)
             CHECK(results[i] == UNSET);

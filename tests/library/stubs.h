@@ -16,7 +16,7 @@ static struct {
     long ever;
     const void *at[MOST_ASKED];
     size_t numbers[MOST_ASKED];
-    uint32_t words[10];
+    bpfhost_context context; /* the first one */
 } asked;
 
 /* Reports what the header does wrong, and ends the test. */
@@ -113,14 +113,14 @@ int32_t bpfhost_c_handle_lent(bpfhost *handle, const uint8_t *frame, size_t fram
     return asked.code;
 }
 
-int32_t bpfhost_c_run_packets(bpfhost *handle, uint16_t tenant, uint32_t fd, const uint32_t *words, const uint8_t *bytes,
-                              size_t byte_count, const size_t *ends, size_t packets, uint32_t *results, size_t room,
-                              int32_t *status)
+int32_t bpfhost_c_run_packets(bpfhost *handle, uint16_t tenant, uint32_t fd, const bpfhost_context *contexts, size_t context_count,
+                              const uint8_t *bytes, size_t byte_count, const size_t *ends, size_t packets, uint32_t *results,
+                              size_t room, int32_t *status)
 {
-    const struct piece pieces[] = {{handle, BPFHOST_HANDLE_SIZE, true},     {words, 10 * sizeof *words, false},
+    const struct piece pieces[] = {{handle, BPFHOST_HANDLE_SIZE, true},     {contexts, context_count * sizeof *contexts, false},
                                    {bytes, byte_count, false},              {ends, packets * sizeof *ends, false},
                                    {results, room * sizeof *results, true}, {status, sizeof *status, true}};
-    if (packets > PTRDIFF_MAX / sizeof *ends || room > PTRDIFF_MAX / sizeof *results)
+    if (packets > PTRDIFF_MAX / sizeof *ends || room > PTRDIFF_MAX / sizeof *results || context_count > PTRDIFF_MAX / sizeof *contexts)
         fails("a proved function is given more elements than an object has");
     record(pieces, 6);
     asked.numbers[0] = tenant;
@@ -128,7 +128,9 @@ int32_t bpfhost_c_run_packets(bpfhost *handle, uint16_t tenant, uint32_t fd, con
     asked.numbers[2] = byte_count;
     asked.numbers[3] = packets;
     asked.numbers[4] = room;
-    memcpy(asked.words, words, sizeof asked.words);
+    asked.numbers[5] = context_count;
+    if (context_count != 0)
+        asked.context = *contexts;
     return answer(pieces, 6);
 }
 

@@ -106,6 +106,17 @@ typedef struct bpfhost_seed {
     uint64_t words[2];
 } bpfhost_seed;
 
+/* What a run finds in its context after the packet's length: the fields of the kernel's __sk_buff, with any values. */
+typedef struct bpfhost_context {
+    uint32_t pkt_type, mark, queue_mapping, protocol, vlan_present, vlan_tci, vlan_proto, priority, ingress_ifindex, ifindex;
+} bpfhost_context;
+
+/* A packet that lies anywhere: its address, and how many bytes it has. If it has none, `at` may be null. */
+typedef struct bpfhost_packet {
+    const void *at;
+    size_t length;
+} bpfhost_packet;
+
 /* The proved functions. No pointer is null, no length is above PTRDIFF_MAX, what they may write overlaps nothing else that they
  * are given, `*refused` is false or true, and `reply->at` leads to `reply->length` bytes, as `frames->at` does. Call those below in their
  * place. */
@@ -113,9 +124,9 @@ int32_t bpfhost_c_new(bpfhost *handle, size_t tenants, uint64_t first, uint64_t 
 int32_t bpfhost_c_handle(bpfhost *handle, const uint8_t *frame, size_t frame_length, uint8_t *room, size_t room_length,
                          size_t *written);
 int32_t bpfhost_c_handle_lent(bpfhost *handle, const uint8_t *frame, size_t frame_length, bpfhost_bytes *reply);
-int32_t bpfhost_c_run_packets(bpfhost *handle, uint16_t tenant, uint32_t fd, const uint32_t *words, const uint8_t *bytes,
-                              size_t byte_count, const size_t *ends, size_t packets, uint32_t *results, size_t room,
-                              int32_t *status);
+int32_t bpfhost_c_run_packets(bpfhost *handle, uint16_t tenant, uint32_t fd, const bpfhost_context *contexts, size_t context_count,
+                              const uint8_t *bytes, size_t byte_count, const size_t *ends, size_t packets, uint32_t *results,
+                              size_t room, int32_t *status);
 int32_t bpfhost_c_save(bpfhost *handle, uint16_t tenant, size_t part, bpfhost_bytes *frames);
 int32_t bpfhost_c_memory_refused(bpfhost *handle, uint16_t tenant, bool *refused);
 void bpfhost_c_free(bpfhost *handle);
@@ -229,17 +240,6 @@ static inline int bpfhost_handle_lent(bpfhost *host, const void *frame, size_t f
     return code == BPFHOST_DONE ? (int)bpfhost_c_handle_lent(host, at, frame_length, reply) : code;
 }
 
-/* What a run finds in its context after the packet's length: the fields of the kernel's __sk_buff, with any values. */
-typedef struct bpfhost_context {
-    uint32_t pkt_type, mark, queue_mapping, protocol, vlan_present, vlan_tci, vlan_proto, priority, ingress_ifindex, ifindex;
-} bpfhost_context;
-
-/* A packet that lies anywhere: its address, and how many bytes it has. If it has none, `at` may be null. */
-typedef struct bpfhost_packet {
-    const void *at;
-    size_t length;
-} bpfhost_packet;
-
 /* The address of a context; of one with zeros for null. */
 static inline const bpfhost_context *bpfhost_context_at(const bpfhost_context *context)
 {
@@ -268,10 +268,10 @@ static inline int bpfhost_context_words(const bpfhost_context *context, uint32_t
 }
 
 /* What is wrong with what a run of many packets reads, together with an object that it may write, or DONE. */
-static inline int bpfhost_packets_code(const void *out, size_t out_length, const bpfhost_context *context, const uint8_t *bytes,
-                                       size_t byte_count, const size_t *ends, size_t packets)
+static inline int bpfhost_packets_code(const void *out, size_t out_length, const bpfhost_context *contexts, size_t context_count,
+                                       const uint8_t *bytes, size_t byte_count, const size_t *ends, size_t packets)
 {
-    int code = bpfhost_pair_code(out, out_length, context, sizeof *context);
+    int code = bpfhost_pair_code(out, out_length, contexts, context_count * sizeof *contexts);
     if (code == BPFHOST_DONE)
         code = bpfhost_pair_code(out, out_length, bytes, byte_count);
     if (code == BPFHOST_DONE)
@@ -291,47 +291,56 @@ static inline int bpfhost_written_code(const bpfhost *host, const uint32_t *resu
 }
 
 /* What is wrong with the objects of a run of many packets, or DONE. */
-static inline int bpfhost_run_code(const bpfhost *host, const bpfhost_context *context, const uint8_t *bytes, size_t byte_count,
-                                   const size_t *ends, size_t packets, const uint32_t *results, const int32_t *status)
+static inline int bpfhost_run_code(const bpfhost *host, const bpfhost_context *contexts, size_t context_count, const uint8_t *bytes,
+                                   size_t byte_count, const size_t *ends, size_t packets, const uint32_t *results,
+                                   const int32_t *status)
 {
-    size_t results_size = packets * sizeof *results;
     int code;
-    if (packets > PTRDIFF_MAX / sizeof *ends)
+    if (packets > PTRDIFF_MAX / sizeof *ends || context_count > PTRDIFF_MAX / sizeof *contexts)
         return BPFHOST_ERR_LENGTH;
-    code = bpfhost_packets_code(host, BPFHOST_HANDLE_SIZE, context, bytes, byte_count, ends, packets);
+    code = bpfhost_packets_code(host, BPFHOST_HANDLE_SIZE, contexts, context_count, bytes, byte_count, ends, packets);
     if (code == BPFHOST_DONE)
-        code = bpfhost_packets_code(results, results_size, context, bytes, byte_count, ends, packets);
+        code = bpfhost_packets_code(results, packets * sizeof *results, contexts, context_count, bytes, byte_count, ends, packets);
     if (code == BPFHOST_DONE)
-        code = bpfhost_packets_code(status, sizeof *status, context, bytes, byte_count, ends, packets);
+        code = bpfhost_packets_code(status, sizeof *status, contexts, context_count, bytes, byte_count, ends, packets);
     return code == BPFHOST_DONE ? bpfhost_written_code(host, results, packets, status) : code;
 }
 
 /* Runs a program of a tenant on many packets, one after another, as PROG_TEST_RUN does on each, without frames and replies. The
- * packets lie one after another in `bytes`, and packet i ends before byte ends[i]; the context, which may be null for zeros, is
- * the same for all but for the packet's length. `results` has room for as many results as packets, and `status` gets 0. What
- * PROG_TEST_RUN would refuse is refused before the first packet, and `status` gets its error: -1 for a tenant that is not
- * served, -9 and -22 for a descriptor that is not open or names a map, -7 for a packet of more than 65,536 bytes; -22 too for
- * ends that are out of order or outside the bytes. Then no packet was run, and `results` is as it was. ERR_NO_HOST, ERR_NULL,
- * ERR_LENGTH, ERR_OVERLAP: nothing is written, and no tenant's state has changed. */
-static inline int bpfhost_run_packets(bpfhost *host, uint16_t tenant, uint32_t fd, const bpfhost_context *context,
-                                      const void *bytes, size_t byte_count, const size_t *ends, size_t packets,
-                                      uint32_t *results, int32_t *status)
+ * packets lie one after another in `bytes`, and packet i ends before byte ends[i]. With one context it is that of all packets, with as
+ * many contexts as packets each has its own, and with none, whose address may be null, all have zeros; the packet's length is always
+ * its own. `results` has room for as many results as packets, and `status` gets 0. What PROG_TEST_RUN would refuse is refused before
+ * the first packet, and `status` gets its error: -1 for a tenant that is not served, -9 and -22 for a descriptor that is not open or
+ * names a map, -7 for a packet of more than 65,536 bytes; -22 too for another number of contexts, and for ends that are out of order
+ * or outside the bytes. Then no packet was run, and `results` is as it was. ERR_NO_HOST, ERR_NULL, ERR_LENGTH, ERR_OVERLAP: nothing is
+ * written, and no tenant's state has changed. */
+static inline int bpfhost_run_packets_with(bpfhost *host, uint16_t tenant, uint32_t fd, const bpfhost_context *contexts,
+                                           size_t context_count, const void *bytes, size_t byte_count, const size_t *ends,
+                                           size_t packets, uint32_t *results, int32_t *status)
 {
     static const size_t no_ends[1] = {0};
-    uint32_t no_results[1] = {0}, words[10];
-    const bpfhost_context *c = bpfhost_context_at(context);
+    uint32_t no_results[1] = {0};
+    const bpfhost_context *c = context_count == 0 ? bpfhost_context_at(NULL) : contexts;
+    size_t given = context_count == 0 ? 1 : context_count;
     const uint8_t *at = bpfhost_bytes_at(bytes, byte_count);
     const size_t *stops = packets == 0 ? no_ends : ends;
     uint32_t *room = packets == 0 ? no_results : results;
     int32_t told = 0;
-    int code = bpfhost_run_code(host, c, at, byte_count, stops, packets, room, status);
+    int code = bpfhost_run_code(host, c, given, at, byte_count, stops, packets, room, status);
     if (code == BPFHOST_DONE)
-        code = bpfhost_context_words(c, words);
-    if (code == BPFHOST_DONE)
-        code = (int)bpfhost_c_run_packets(host, tenant, fd, words, at, byte_count, stops, packets, room, packets, &told);
+        code = (int)bpfhost_c_run_packets(host, tenant, fd, c, given, at, byte_count, stops, packets, room, packets, &told);
     if (code == BPFHOST_DONE)
         *status = told;
     return code;
+}
+
+/* The same with one context for all packets, which may be null for zeros. */
+static inline int bpfhost_run_packets(bpfhost *host, uint16_t tenant, uint32_t fd, const bpfhost_context *context,
+                                      const void *bytes, size_t byte_count, const size_t *ends, size_t packets,
+                                      uint32_t *results, int32_t *status)
+{
+    return bpfhost_run_packets_with(host, tenant, fd, bpfhost_context_at(context), 1, bytes, byte_count, ends, packets, results,
+                                    status);
 }
 
 /* The ends of the packets that bpfhost_run_scattered gathers for one call of the proved function. */
@@ -433,37 +442,30 @@ static inline int32_t bpfhost_scattered_status(size_t context_count, const bpfho
     return 0;
 }
 
-/* Runs packets that lie anywhere, from the first one on: as many as fit into the buffer together, or one in its place. With one context
- * for each, it is one packet. It returns the code of the proved function, and `done` gets how many packets were given to it. */
-static inline int bpfhost_run_some(bpfhost *host, uint16_t tenant, uint32_t fd, const bpfhost_context *context, bool is_shared,
+/* Runs packets of a batch that lie anywhere, from the first one on: as many as fit into the buffer together, or one in its place. It
+ * returns the code of the proved function, and `done` gets how many packets were given to it. */
+static inline int bpfhost_run_some(bpfhost *host, uint16_t tenant, uint32_t fd, const bpfhost_context *contexts, bool is_shared,
                                    const bpfhost_packet *packets, size_t count, uint8_t *buffer, size_t buffer_length,
                                    uint32_t *results, int32_t *status, size_t *done)
 {
     bpfhost_gathered gathered;
-    uint32_t words[10];
-    size_t many = is_shared ? bpfhost_gather(packets, count, buffer, buffer_length, &gathered) : 0;
-    const uint8_t *at = many == 0 ? bpfhost_bytes_at(packets->at, packets->length) : buffer;
-    int code = bpfhost_context_words(context, words);
+    size_t many = bpfhost_gather(packets, count, buffer, buffer_length, &gathered);
+    const uint8_t *at = many == 0 ? (const uint8_t *)packets->at : buffer;
     if (many == 0) {
         many = 1;
         gathered.ends[0] = packets->length;
     }
     *done = many;
-    if (code == BPFHOST_DONE)
-        code = (int)bpfhost_c_run_packets(host, tenant, fd, words, at, gathered.ends[many - 1], gathered.ends, many, results, many, status);
-    return code;
+    return (int)bpfhost_c_run_packets(host, tenant, fd, contexts, is_shared ? 1 : many, at, gathered.ends[many - 1], gathered.ends,
+                                      many, results, many, status);
 }
 
-/* Runs a program of a tenant on packets that lie anywhere, as recvmmsg, the rings of packet(7) and DPDK's mbufs have them: one after
- * another, as PROG_TEST_RUN does on each. With one context it is that of all packets, with as many contexts as packets each has its own,
- * and with none, whose address may be null, all have zeros; the packet's length is always its own. What is refused is refused before the
- * first packet, with the status that bpfhost_run_packets has, and -22 for another number of contexts; then no packet was run.
- *
- * Packets are copied one after another to `buffer`, at most 64 at a time and as many as fit, and are run by one call of the proved
- * function; then the next ones. A packet that is longer than the buffer, or has a context of its own, is not copied, and is run by a
- * call of its own. So the buffer may have any length, or none at all; room for 64 usual packets serves best. It holds any bytes afterwards.
- * This loop is tested, not proved; what it calls is proved. Packets may overlap one another. ERR_NO_HOST, ERR_NULL, ERR_LENGTH,
- * ERR_OVERLAP: nothing is written, and no tenant's state has changed. */
+/* Runs a program of a tenant on packets that lie anywhere, as recvmmsg, the rings of packet(7) and DPDK's mbufs have them. It does what
+ * bpfhost_run_packets_with does on these packets, and what is refused is refused before the first packet. Packets are copied one after
+ * another to `buffer`, at most 64 at a time and as many as fit, and are run by one call of the proved function; then the next ones. A
+ * packet that is longer than the buffer is not copied, and is run by a call of its own. So the buffer may have any length, or none at all;
+ * room for 64 usual packets serves best. It holds any bytes afterwards. This loop is tested, not proved; what it calls is proved.
+ * Packets may overlap one another. ERR_NO_HOST, ERR_NULL, ERR_LENGTH, ERR_OVERLAP: nothing is written, and no tenant's state has changed. */
 static inline int bpfhost_run_scattered(bpfhost *host, uint16_t tenant, uint32_t fd, const bpfhost_context *contexts,
                                         size_t context_count, const bpfhost_packet *packets, size_t count, void *buffer,
                                         size_t buffer_length, uint32_t *results, int32_t *status)
@@ -471,7 +473,7 @@ static inline int bpfhost_run_scattered(bpfhost *host, uint16_t tenant, uint32_t
     static const bpfhost_packet no_packets[1] = {{NULL, 0}};
     static const size_t no_ends[1] = {0};
     uint8_t no_bytes[1] = {0};
-    uint32_t no_results[1] = {0}, zeros[10] = {0};
+    uint32_t no_results[1] = {0};
     const bpfhost_context *c = context_count == 0 ? bpfhost_context_at(NULL) : contexts;
     const bpfhost_packet *p = count == 0 ? no_packets : packets;
     uint8_t *room = buffer_length == 0 ? no_bytes : (uint8_t *)buffer;
@@ -484,7 +486,7 @@ static inline int bpfhost_run_scattered(bpfhost *host, uint16_t tenant, uint32_t
     wrong = bpfhost_scattered_status(given, p, count);
     /* The errors of no packets, those of the tenant and the descriptor, come before those of packets. */
     if (wrong != 0 || count == 0)
-        code = (int)bpfhost_c_run_packets(host, tenant, fd, zeros, no_bytes, 0, no_ends, 0, no_results, 0, &told);
+        code = (int)bpfhost_c_run_packets(host, tenant, fd, c, 1, no_bytes, 0, no_ends, 0, no_results, 0, &told);
     told = told == 0 ? wrong : told;
     while (code == BPFHOST_DONE && told == 0 && done < count) {
         const bpfhost_context *own = given == 1 ? c : c + done;

@@ -15,7 +15,7 @@ _AT, _SIZE = ctypes.c_void_p, ctypes.c_size_t
 _PARAMETERS: dict[str, tuple[Any, ...]] = {
     "new": (_AT, _SIZE, ctypes.c_uint64, ctypes.c_uint64),
     "handle": (_AT, _AT, _SIZE, _AT, _SIZE, _AT),
-    "run_packets": (_AT, ctypes.c_uint16, ctypes.c_uint32, _AT, _AT, _SIZE, _AT, _SIZE, _AT, _SIZE, _AT),
+    "run_packets": (_AT, ctypes.c_uint16, ctypes.c_uint32, _AT, _SIZE, _AT, _SIZE, _AT, _SIZE, _AT, _SIZE, _AT),
     "save": (_AT, ctypes.c_uint16, _SIZE, _AT),
     "memory_refused": (_AT, ctypes.c_uint16, _AT),
     "free": (_AT,),

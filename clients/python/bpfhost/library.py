@@ -12,7 +12,7 @@ import re
 import secrets
 import threading
 from array import array
-from collections.abc import Iterable, Iterator
+from collections.abc import Iterable, Iterator, Sequence
 from functools import lru_cache
 from itertools import accumulate
 from operator import sub
@@ -158,21 +158,27 @@ class LibraryHost:
             self.ask(frame).done()
 
     def run_packets(
-        self, tenant: int, descriptor: int, packets: Packets | Iterable[bytes], context: Context = NO_CONTEXT
+        self,
+        tenant: int,
+        descriptor: int,
+        packets: Packets | Iterable[bytes],
+        context: Context | Sequence[Context] = NO_CONTEXT,
     ) -> list[int]:
         """Runs a program of a tenant on packets, one after another, by one call; returns the result of each.
 
-        The context is the same for all, except the length. If PROG_TEST_RUN would be refused, no packet is run: it raises Refused with the
-        status. Raises ValueError if a packet has more than 65,536 bytes.
+        The context is the same for all, or there is one for each packet; the length is that of each. If PROG_TEST_RUN would be refused, no
+        packet is run: it raises Refused with the status. Raises ValueError if a packet has more than 65,536 bytes, or if the contexts are
+        not as many as the packets.
         """
         if tenant >> 16 or descriptor >> 32:
             raise ValueError("the tenant is a number of 16 bits, and a descriptor one of 32")
         data, ends = _in_one_piece(packets)
+        contexts = _contexts_of(context, len(ends))
         count, results, status = len(ends), array("I", bytes(4 * len(ends))), ctypes.c_int32()
         places = (ends.buffer_info()[0] or _ANYWHERE, count, results.buffer_info()[0] or _ANYWHERE, count)
         with self._lock:
             code = self.library.functions.run_packets(
-                *(self._at, tenant, descriptor, _words_of(context), data, len(data), *places, ctypes.byref(status))
+                *(self._at, tenant, descriptor, *contexts, data, len(data), *places, ctypes.byref(status))
             )
             self.library.demand_done(code)
         if status.value == -Errno.E2BIG:
@@ -196,7 +202,9 @@ class LibraryTenant:
         """Loads a socket filter; returns its descriptor. Raises ProgramRefused, with the slot and the reason, if it is rejected."""
         return self.host.ask(frames.prog_load(self.number, slots)).done()
 
-    def run_packets(self, descriptor: int, packets: Packets | Iterable[bytes], context: Context = NO_CONTEXT) -> list[int]:
+    def run_packets(
+        self, descriptor: int, packets: Packets | Iterable[bytes], context: Context | Sequence[Context] = NO_CONTEXT
+    ) -> list[int]:
         """Runs a program on packets by one call (`LibraryHost.run_packets`)."""
         return self.host.run_packets(self.number, descriptor, packets, context)
 
@@ -224,6 +232,15 @@ class LibraryTenant:
 def _words_of(context: Context) -> bytes:
     """The words of a context after the length."""
     return context.to_bytes()
+
+
+def _contexts_of(context: Context | Sequence[Context], packets: int) -> tuple[bytes, int]:
+    """The words of contexts, and how many contexts there are: one for all packets, or one for each."""
+    if isinstance(context, Context):
+        return _words_of(context), 1
+    if len(context) != packets:
+        raise ValueError(f"there are {len(context):,} contexts for {packets:,} packets")
+    return b"".join(map(_words_of, context)), len(context)
 
 
 def _in_one_piece(packets: Packets | Iterable[bytes]) -> tuple[bytes, array[int]]:

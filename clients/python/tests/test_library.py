@@ -99,6 +99,13 @@ class Calls(TimedTest):
         descriptor = tenant.prog_load(MARK)
         self.assertEqual(tenant.run_packets(descriptor, [b"", b"a"]), [0, 0])
         self.assertEqual(tenant.run_packets(descriptor, [b"", b"a"], Context(mark=2**32 - 7)), [2**32 - 7] * 2)
+        marks = [Context(mark=each) for each in (5, 0, 2**32 - 1)]
+        self.assertEqual(tenant.run_packets(descriptor, [b"", b"a", b""], marks), [5, 0, 2**32 - 1])
+        self.assertEqual(tenant.run_packets(descriptor, [b"a"], marks[2:]), [2**32 - 1])
+        self.assertEqual(tenant.run_packets(descriptor, [], []), [])
+        for packets in ([], [b""], [b""] * 2, [b""] * 4):
+            with self.assertRaisesRegex(ValueError, f"there are 3 contexts for {len(packets)} packets"):
+                tenant.run_packets(descriptor, packets, marks)
 
     @unittest.skipUnless(PROGRAM, "the variable BPFHOST names no program")
     def test_beside_pipes(self) -> None:

@@ -76,13 +76,13 @@ impl Host {
         &mut self,
         tenant: u16,
         prog: u32,
-        context: &Context,
+        contexts: &[Context],
         packets: impl IntoIterator<Item: AsRef<[u8]>>,
         results: &mut [u32],
     ) -> Result<usize, Error> {
         self.batch.fill(packets, results.len())?;
         let Batch { bytes, ends } = &self.batch;
-        run_packets(&mut self.handle, tenant, prog, context, bytes, ends, results)?;
+        run_packets(&mut self.handle, tenant, prog, contexts, bytes, ends, results)?;
         Ok(ends.len())
     }
 
@@ -91,12 +91,12 @@ impl Host {
         &mut self,
         tenant: u16,
         prog: u32,
-        context: &Context,
+        contexts: &[Context],
         bytes: &[u8],
         ends: &[usize],
         results: &mut [u32],
     ) -> Result<(), Error> {
-        run_packets(&mut self.handle, tenant, prog, context, bytes, ends, results)
+        run_packets(&mut self.handle, tenant, prog, contexts, bytes, ends, results)
     }
 
     /// The frames of one part of a tenant, lent; `None` if there is no such part.
@@ -127,7 +127,7 @@ fn run_packets(
     handle: &mut Handle,
     tenant: u16,
     prog: u32,
-    context: &Context,
+    contexts: &[Context],
     bytes: &[u8],
     ends: &[usize],
     results: &mut [u32],
@@ -135,6 +135,6 @@ fn run_packets(
     if results.len() < ends.len() {
         return Err(Error::Room { results: results.len() });
     }
-    let status = handle.run_packets(tenant, prog, &context.words(), bytes, ends, results);
+    let status = handle.run_packets(tenant, prog, contexts, bytes, ends, results);
     if status == 0 { Ok(()) } else { Err(Error::Status(Errno::of_status(status))) }
 }

@@ -25,7 +25,7 @@ pub use built::{BuiltMap, BuiltProgram, LoadedProgram, NotBuilt};
 pub use errno::Errno;
 pub use error::Error;
 pub use host::Host;
-pub use packet::{Context, Packet};
+pub use packet::{AsContexts, Context, Packet};
 pub use program::AsProgram;
 pub use reply::Reply;
 pub use tenant::{Fd, MapShape, MapType, Tenant, Update};

@@ -3,11 +3,15 @@
 //! No contract of the library's functions has a `requires`, so all that a call owes are its parameters' types (crates/bpfhost_c). A `&mut`
 //! and a slice are not null, are aligned, lead to a whole value, and outlive the call; what a `&mut` leads to overlaps no other parameter.
 
+use crate::Context;
 use bpfhost_sys::{
     DONE, bpfhost, bpfhost_bytes, bpfhost_c_free, bpfhost_c_handle_lent, bpfhost_c_memory_refused, bpfhost_c_new,
     bpfhost_c_run_packets, bpfhost_c_save,
 };
 use std::ptr::{NonNull, null_mut};
+
+// What the library takes as ten words.
+const _: () = assert!(size_of::<Context>() == size_of::<[u32; 10]>());
 
 /// A handle with a host, from its first moment to its last.
 pub(crate) struct Handle(bpfhost);
@@ -37,7 +41,8 @@ impl Handle {
         unsafe { std::slice::from_raw_parts(lent.at, lent.length) }
     }
 
-    /// Runs a program of a tenant on packets that lie one after another in `bytes`, and end before the bytes of `ends`. Returns the status.
+    /// Runs a program of a tenant on packets that lie one after another in `bytes`, and end before the bytes of `ends`, with one context for
+    /// all or one for each. Returns the status.
     ///
     /// # Panics
     ///
@@ -46,21 +51,22 @@ impl Handle {
         &mut self,
         tenant: u16,
         prog: u32,
-        words: &[u32; 10],
+        contexts: &[Context],
         bytes: &[u8],
         ends: &[usize],
         results: &mut [u32],
     ) -> i32 {
         assert!(ends.len() <= results.len(), "there is a result for each packet");
         let mut status = 0;
-        // SAFETY: each address with its length is that of a slice or an array. What may be written is the handle, `results` and
-        // `status`, each passed as a `&mut`.
+        // SAFETY: each address with its length is that of a slice; a context is its ten words, one after another (`repr(C)`, and its size).
+        // What may be written is the handle, `results` and `status`, each passed as a `&mut`.
         done(unsafe {
             bpfhost_c_run_packets(
                 &mut self.0,
                 tenant,
                 prog,
-                words.as_ptr(),
+                contexts.as_ptr().cast(),
+                contexts.len(),
                 bytes.as_ptr(),
                 bytes.len(),
                 ends.as_ptr(),

@@ -2,6 +2,7 @@ use bpfhost_sys::{PROG_TEST_RUN, TEST_RUN_HEAD};
 
 /// What a test run finds in its context after the packet's length: the fields of the kernel's `__sk_buff`, with any values.
 #[derive(Debug, Clone, Copy, Default, PartialEq, Eq)]
+#[repr(C)]
 #[allow(missing_docs, reason = "the kernel's names, which mean to this host what the program makes of them")]
 pub struct Context {
     pub pkt_type: u32,
@@ -45,6 +46,43 @@ impl Context {
             field.copy_from_slice(&word.to_le_bytes());
         }
         head
+    }
+}
+
+/// What [`Tenant::run_packets`](crate::Tenant::run_packets) takes: the context of all packets, or one for each packet. A single one is that of
+/// all packets in any form.
+pub trait AsContexts {
+    /// The contexts in the order of their packets, or the one of all.
+    fn as_contexts(&self) -> &[Context];
+}
+
+impl AsContexts for Context {
+    fn as_contexts(&self) -> &[Context] {
+        std::slice::from_ref(self)
+    }
+}
+
+impl AsContexts for [Context] {
+    fn as_contexts(&self) -> &[Context] {
+        self
+    }
+}
+
+impl<const N: usize> AsContexts for [Context; N] {
+    fn as_contexts(&self) -> &[Context] {
+        self
+    }
+}
+
+impl AsContexts for Vec<Context> {
+    fn as_contexts(&self) -> &[Context] {
+        self
+    }
+}
+
+impl<T: AsContexts + ?Sized> AsContexts for &T {
+    fn as_contexts(&self) -> &[Context] {
+        (**self).as_contexts()
     }
 }
 

@@ -1,4 +1,4 @@
-use crate::{AsProgram, Context, Errno, Error, Host, Reply};
+use crate::{AsContexts, AsProgram, Context, Errno, Error, Host, Reply};
 use bpfhost_sys::{
     ANY, ARRAY, CLOSE, EXIST, HASH, MAP_CREATE, MAP_DELETE, MAP_LOOKUP, MAP_NEXT_KEY, MAP_UPDATE, NOEXIST, PROG_LOAD,
     PROG_TEST_RUN, SOCKET_FILTER, TEST_RUN_HEAD,
@@ -171,9 +171,9 @@ impl<'a> Tenant<'a> {
         reply.done().map(|_| reply.result())
     }
 
-    /// Runs a program on many packets by one call of the library, one after another and with the same context. Results, maps and all
-    /// else afterwards are those of [`prog_test_run`](Tenant::prog_test_run) on each of them in this order. The result of each is
-    /// written to the front of `results`, whose rest stays as it is. Returns how many packets there were.
+    /// Runs a program on many packets by one call of the library, one after another, with one context for all or one for each. Results,
+    /// maps and all else afterwards are those of [`prog_test_run`](Tenant::prog_test_run) on each of them in this order. The result of
+    /// each is written to the front of `results`, whose rest stays as it is. Returns how many packets there were.
     ///
     /// The packets are copied one after another into memory that the host keeps, so that later calls allocate only for more bytes or
     /// packets than before. [`run_packets_in_place`](Tenant::run_packets_in_place) copies none.
@@ -202,16 +202,16 @@ impl<'a> Tenant<'a> {
     /// # Errors
     ///
     /// First of all [`Error::Room`]: `results` has room for fewer results than there are packets, of which no more than one too many
-    /// is asked for. EBADF; EINVAL: the descriptor names a map. E2BIG: a packet has more than 65,536 bytes. Then no packet was run,
-    /// and `results` is as it was.
+    /// is asked for. EBADF; EINVAL: the descriptor names a map, or there is neither one context nor one for each packet. E2BIG: a packet has
+    /// more than 65,536 bytes. Then no packet was run, and `results` is as it was.
     pub fn run_packets(
         &mut self,
         prog: Fd,
-        context: &Context,
+        contexts: &(impl AsContexts + ?Sized),
         packets: impl IntoIterator<Item: AsRef<[u8]>>,
         results: &mut [u32],
     ) -> Result<usize, Error> {
-        self.host.run_packets(self.number, prog.0, context, packets, results)
+        self.host.run_packets(self.number, prog.0, contexts.as_contexts(), packets, results)
     }
 
     /// Runs a program on many packets in place, one after another in `bytes`: the first begins at 0, and packet i ends before
@@ -238,12 +238,12 @@ impl<'a> Tenant<'a> {
     pub fn run_packets_in_place(
         &mut self,
         prog: Fd,
-        context: &Context,
+        contexts: &(impl AsContexts + ?Sized),
         bytes: &[u8],
         ends: &[usize],
         results: &mut [u32],
     ) -> Result<(), Error> {
-        self.host.run_packets_in_place(self.number, prog.0, context, bytes, ends, results)
+        self.host.run_packets_in_place(self.number, prog.0, contexts.as_contexts(), bytes, ends, results)
     }
 
     /// Closes a descriptor. A map goes when no descriptor and no open program names it.

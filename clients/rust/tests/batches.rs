@@ -107,6 +107,70 @@ fn results_and_maps_are_those_of_single_runs() {
     }
 }
 
+/// A context of its own for each packet.
+fn contexts(count: usize) -> Vec<Context> {
+    (0..count as u32).map(|at| Context { mark: 1_000_003 * (at + 1), ifindex: at, ..CONTEXT }).collect()
+}
+
+#[test]
+fn each_packet_may_have_a_context() {
+    let packets = packets();
+    let (bytes, ends) = in_one_piece(&packets);
+    let contexts = contexts(packets.len());
+    let mut hosts = [host(2), host(2), host(2)];
+    let [single, copied, in_place] = &mut hosts;
+    let prog = [&mut *single, copied, in_place].map(|host| open_sums(&mut host.tenant(1)))[0];
+    let wanted: Vec<u32> = (packets.iter().zip(&contexts))
+        .map(|(packet, context)| single.tenant(1).prog_test_run(prog, context, packet).expect("it is a program"))
+        .collect();
+    let mut results = vec![BEFORE; packets.len()];
+    assert_eq!(copied.tenant(1).run_packets(prog, &contexts, &packets, &mut results), Ok(packets.len()));
+    assert_eq!(results, wanted);
+    results.fill(BEFORE);
+    assert_eq!(in_place.tenant(1).run_packets_in_place(prog, &contexts[..], &bytes, &ends, &mut results), Ok(()));
+    assert_eq!(results, wanted);
+    let after = values(&mut single.tenant(1));
+    assert_eq!([copied, in_place].map(|host| values(&mut host.tenant(1))), [after.clone(), after]);
+}
+
+#[test]
+fn one_context_is_for_all_packets() {
+    let (mut host, prog) = two_tenants();
+    let mut results = [BEFORE; 3];
+    let mut tenant = host.tenant(0);
+    assert_eq!(tenant.run_packets(prog, &CONTEXT, [b"a"; 3], &mut results), Ok(3));
+    let shared = results;
+    let (mut host, prog) = two_tenants();
+    assert_eq!(host.tenant(0).run_packets(prog, &[CONTEXT], [b"a"; 3], &mut results), Ok(3));
+    assert_eq!(results, shared);
+}
+
+#[test]
+fn another_number_of_contexts_is_refused() {
+    let (mut host, prog) = two_tenants();
+    let before = values(&mut host.tenant(0));
+    let contexts = contexts(4);
+    for count in [0, 2, 4] {
+        let mut results = [BEFORE; 4];
+        let refused = host.tenant(0).run_packets(prog, &contexts[..count], [b"a"; 3], &mut results);
+        assert_eq!(refused, Err(Error::Status(Errno::EINVAL)));
+        let refused = host.tenant(0).run_packets_in_place(prog, &contexts[..count], b"abc", &[1, 2, 3], &mut results);
+        assert_eq!(refused, Err(Error::Status(Errno::EINVAL)));
+        assert_eq!(results, [BEFORE; 4]);
+    }
+    assert_eq!(values(&mut host.tenant(0)), before);
+    // Before it come the errors of the descriptor, and after it those of packets.
+    let too_long = vec![0; 65_537];
+    let mut results = [BEFORE; 1];
+    for (fd, count, wanted) in [(Fd(9), 2, Errno::EBADF), (prog, 2, Errno::EINVAL), (prog, 1, Errno::E2BIG)] {
+        let refused = host.tenant(0).run_packets(fd, &contexts[..count], [&too_long], &mut results);
+        assert_eq!(refused, Err(Error::Status(wanted)));
+    }
+    let none: [&[u8]; 0] = [];
+    assert_eq!(host.tenant(0).run_packets(prog, &contexts[..0], none, &mut results), Ok(0));
+    assert_eq!(results, [BEFORE; 1]);
+}
+
 #[test]
 fn packets_come_from_whatever_yields_bytes() {
     let mut host = host(1);

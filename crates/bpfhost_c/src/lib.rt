@@ -65,11 +65,12 @@
 //!   have a better source. The header reads one from /dev/urandom; the crate for Rust uses the standard library.
 //! - A batch is run or rejected as a whole: everything is checked before the first packet runs, so there is no count of packets
 //!   that ran. The order of errors is that of PROG_TEST_RUN, with those that a frame cannot have in between: the tenant is not
-//!   served (-1); the descriptor is not open (-9), or names a map (-22); there is room for fewer results than packets (-22);
-//!   then packet by packet, its end is before the previous one or after the bytes (-22), or it is too long (-7). An empty batch
-//!   of what is no program is rejected too.
+//!   served (-1); the descriptor is not open (-9), or names a map (-22); there is room for fewer results than packets (-22); there
+//!   is neither one context nor one for each packet (-22); then packet by packet, its end is before the previous one or after the
+//!   bytes (-22), or it is too long (-7). An empty batch of what is no program is rejected too.
 //! - Packets are consecutive in one buffer, and each has its end, a number of machine size, since a batch may have more than 4
-//!   GiB. All have the same ten words of context; the length is that of each packet.
+//!   GiB. All have the same ten words of context, or each its own, as many arrays of words as packets; the length is that of each
+//!   packet. A shared context is an array of one, and no second function.
 //! - Whether memory was refused is a call of its own, for each tenant, and no part of each reply: replies are those of the
 //!   protocol, and the flag is never cleared.
 //! - Codes are the library's, statuses the protocol's: the code says whether there is a reply, the status in the reply is the
@@ -219,9 +220,10 @@ pub extern "C" fn bpfhost_c_handle_lent(
     DONE
 }
 
-/// Runs the program at a descriptor of a tenant on many packets, one after another, on the same ten words of context. The packets
-/// lie one after another in `bytes`, and each ends at its number in `ends`. Writes the result of each to the front of `results`, and
-/// 0 to `status`; or, if the batch is rejected, the status of the error that its frames would get, and then no packet was run.
+/// Runs the program at a descriptor of a tenant on many packets, one after another. The packets lie one after another in `bytes`, and
+/// each ends at its number in `ends`. `contexts` has the ten words of context that all packets get, or those of each. Writes the
+/// result of each to the front of `results`, and 0 to `status`; or, if the batch is rejected, the status of the error that its
+/// frames would get, and then no packet was run.
 ///
 /// Returns `DONE`; else `ERR_NO_HOST`, and the host, `results` and `status` are unchanged.
 #[unsafe(no_mangle)]
@@ -230,14 +232,14 @@ pub extern "C" fn bpfhost_c_run_packets(
     handle: &mut Handle,
     tenant: u16,
     fd: u32,
-    words: &[u32; GIVEN_WORDS],
+    contexts: &[[u32; GIVEN_WORDS]],
     bytes: &[u8],
     ends: &[usize],
     results: &mut [u32],
     status: &mut i32,
 ) -> i32
-    ensures done { result ≡ DONE → RunsPackets tenant fd words.now bytes.now ends.now results.old
-        results.new status.new (states handle.old.session) (states handle.new.session) }
+    ensures done { result ≡ DONE → RunsPackets tenant fd contexts.now bytes.now ends.now
+        results.old results.new status.new (states handle.old.session) (states handle.new.session) }
     ensures code { result ≡ host_code handle.old.session }
     ensures call { Call (host_of handle.old.session) (host_of handle.new.session) }
     ensures otherwise { result ≢ DONE → handle.new.session ≡ handle.old.session }
@@ -247,7 +249,7 @@ pub extern "C" fn bpfhost_c_run_packets(
     let Some(mut session) = handle.take(alloc) else {
         return ERR_NO_HOST;
     };
-    *status = session.run_packets(usize::from(tenant), fd, words, bytes, ends, results);
+    *status = session.run_packets(usize::from(tenant), fd, contexts, bytes, ends, results);
     handle.put(session);
     DONE
 }

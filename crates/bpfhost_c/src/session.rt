@@ -82,18 +82,18 @@ impl Session {
         &mut self,
         tenant: usize,
         fd: u32,
-        words: &[u32; GIVEN_WORDS],
+        contexts: &[[u32; GIVEN_WORDS]],
         bytes: &[u8],
         ends: &[usize],
         results: &mut [u32],
     ) -> i32
-        ensures runs { RunsPackets tenant fd words.now bytes.now ends.now results.old results.new
-            result self.old.host.states self.new.host.states }
+        ensures runs { RunsPackets tenant fd contexts.now bytes.now ends.now results.old
+            results.new result self.old.host.states self.new.host.states }
         ensures births { self.new.host.births ≡ self.old.host.births }
     {
         match self
             .host
-            .run_packets(tenant, fd, words, bytes, ends, results)
+            .run_packets(tenant, fd, contexts, bytes, ends, results)
         {
             Ok(()) => 0,
             Err(errno) => errno.status(),

@@ -19,8 +19,9 @@
 //!   The results are at the front of the room, whose rest is unchanged; packets for whose results there is no room are not run;
 //!   the statements above on steps, ranges, memory and maps hold for all of them together: `runs`, `few`, `ranges`, `memory`,
 //!   `maps` of `run_packets`.
-//! - The packets of a batch are consecutive in their bytes, and none is longer than a test run accepts; otherwise the fault is the
-//!   first packet that is outside the bytes or too long: `packets`, `fault` of `Packets::new`.
+//! - The packets of a batch are consecutive in their bytes, and none is longer than a test run accepts; they have the same words of
+//!   context, or each its own (`inputs_of`). Otherwise the fault is the number of contexts, or the first packet that is outside the
+//!   bytes or too long: `packets`, `fault` of `Packets::new`.
 //!
 //! Preconditions of a call: the tenant is one of the arena's parts, which have the size that live maps need; and for each
 //! descriptor that the program loads, in order, the key of a live map of the verified shape is bound, no map twice, and none
@@ -77,6 +78,6 @@ mod ops;
 mod packets;
 mod running;
 
-pub use batch::{GIVEN_WORDS, context_words, run_packets};
-pub use packets::{LONGEST_PACKET, PacketFault, Packets};
+pub use batch::{context_words, run_packets};
+pub use packets::{GIVEN_WORDS, LONGEST_PACKET, PacketFault, Packets};
 pub use running::run;

@@ -1,54 +1,80 @@
-//! Packets that lie one after another in some bytes.
+//! Packets that lie one after another in some bytes, each with the words of its context.
 
 ghost use Rattle.std.specs.Prelude.{◌≡◌, ◌≤◌, length, IfOk};
 ghost use Rattle.std.specs.List.{All};
 ghost use Rattle.std.specs.Result.{result_err};
-ghost use Rattle.flat_machine.specs.Packets.{longest_packet, packets_in, packets_fault};
+ghost use Rattle.flat_machine.specs.Packets.{longest_packet, packets_in, inputs_of, are_contexts, batch_fault};
 
 use std::marker::Model;
 
 /// The length of the longest packet of a run, in bytes.
 pub const LONGEST_PACKET: usize = 65_536;
 
+/// The number of the words of a context that a caller gives: all but the packet's length.
+pub const GIVEN_WORDS: usize = 10;
+
 /// Why packets are refused.
 #[derive(Clone, Copy, Debug, PartialEq, Eq)]
 pub enum PacketFault {
+    /// There are words for neither all packets together nor each of them.
+    Contexts,
     /// A packet ends before it begins, or after the last byte.
     Outside,
     /// A packet has more than `LONGEST_PACKET` bytes.
     TooLong,
 }
 
-/// Packets that lie one after another in some bytes, of at most `LONGEST_PACKET` bytes each. Contracts see the list of packets.
+/// Packets that lie one after another in some bytes, of at most `LONGEST_PACKET` bytes each, with the words of their contexts: the
+/// same for all, or an array for each. Contracts see the list of packets, each with its words.
 #[derive(Drop)]
 pub struct Packets<'a> {
+    pub(crate) contexts: &'a [[u32; GIVEN_WORDS]],
     pub(crate) bytes: &'a [u8],
     pub(crate) ends: &'a [usize],
 }
 
 impl<'a> Model for Packets<'a> {
-    ghost use Rattle.std.specs.Prelude.{◌≡◌, ℕ, List, length, None};
-    ghost use Rattle.flat_machine.specs.Packets.{packets_in, packets_fault};
+    ghost use Rattle.std.specs.Prelude.{◌≡◌, List, length, None};
+    ghost use Rattle.flat_machine.specs.Packets.{BatchInput, packets_in, inputs_of, batch_fault};
 
-    ghost Value = { List (List ℕ) };
+    ghost Value = { List BatchInput };
 
-    ghost view = { λ p. packets_in p.bytes.now p.ends.now };
+    ghost view = { λ p. inputs_of p.contexts.now (packets_in p.bytes.now p.ends.now) };
 
-    ghost invariant = { λ p. packets_fault (length p.bytes.now) 0 p.ends.now ≡ None };
+    ghost invariant = { λ p. batch_fault (length p.contexts.now) (length p.bytes.now) p.ends.now
+        ≡ None };
+}
+
+/// Whether there is one array of words for all packets, or one for each.
+#[inline(always)]
+fn are_enough(contexts: usize, packets: usize) -> bool
+    ensures { result ≡ are_contexts contexts packets }
+{
+    contexts == 1 || contexts == packets
 }
 
 impl<'a> Packets<'a> {
-    /// The packets that end at these numbers of bytes. Each begins at the end of the one before it.
+    /// The packets that end at these numbers of bytes. Each begins at the end of the one before it. `contexts` has one array of
+    /// words for all packets, or one for each.
     ///
     /// # Errors
     ///
-    /// Those of the first packet that is refused: `Outside` if it ends before it begins or after the last byte, else `TooLong` if
-    /// it has more than `LONGEST_PACKET` bytes.
-    pub fn new(bytes: &'a [u8], ends: &'a [usize]) -> Result<Packets<'a>, PacketFault>
-        ensures packets { IfOk result (λ packets. packets ≡ packets_in bytes.now ends.now) }
+    /// `Contexts` if there is neither one array of words nor one for each packet. Else those of the first packet that is refused:
+    /// `Outside` if it ends before it begins or after the last byte, `TooLong` if it has more than `LONGEST_PACKET` bytes.
+    pub fn new(
+        contexts: &'a [[u32; GIVEN_WORDS]],
+        bytes: &'a [u8],
+        ends: &'a [usize],
+    ) -> Result<Packets<'a>, PacketFault>
+        ensures packets { IfOk result (λ packets. packets
+            ≡ inputs_of contexts.now (packets_in bytes.now ends.now)) }
         ensures count { IfOk result (λ packets. length packets ≡ length ends.now) }
-        ensures fault { result_err result ≡ packets_fault (length bytes.now) 0 ends.now }
+        ensures fault { result_err result
+            ≡ batch_fault (length contexts.now) (length bytes.now) ends.now }
     {
+        if !are_enough(contexts.len(), ends.len()) {
+            return Err(PacketFault::Contexts);
+        }
         let many = bytes.len();
         let mut start = 0;
         for end in ends {
@@ -60,13 +86,17 @@ impl<'a> Packets<'a> {
             }
             start = *end;
         }
-        Ok(Packets { bytes, ends })
+        Ok(Packets {
+            contexts,
+            bytes,
+            ends,
+        })
     }
 
     /// A law: no packet has more than `LONGEST_PACKET` bytes. It does nothing when it runs.
     #[inline(always)]
     pub fn packets_are_short(&self)
-        ensures { All (λ packet. length packet ≤ longest_packet) self.now }
+        ensures { All (λ input. length input.packet ≤ longest_packet) self.now }
     {
         let _ = self.ends.len();
     }

@@ -65,17 +65,17 @@ changes_rest t before after between changes = record {
 
 pub batch_is_its_calls : BatchIsItsCalls
 unfolding RunsInOrder
-batch_is_its_calls t fd words [] [] [] before after s last owned tests found runs left changes = none_run t before after s last found runs left changes
-batch_is_its_calls t fd words [] [] (result ∷ results) before after s last owned tests found runs left changes = absurd runs
-batch_is_its_calls t fd words [] (packet ∷ packets) results before after s last owned tests found runs left changes = absurd tests
-batch_is_its_calls t fd words (frame ∷ frames) [] results before after s last owned tests found runs left changes = absurd tests
-batch_is_its_calls t fd words (frame ∷ frames) (packet ∷ packets) [] before after s last owned tests found runs left changes = absurd runs
-batch_is_its_calls t fd words (frame ∷ frames) (packet ∷ packets) (result ∷ results) before after s last owned tests found runs left changes =
+batch_is_its_calls t fd [] [] [] before after s last owned tests found runs left changes = none_run t before after s last found runs left changes
+batch_is_its_calls t fd [] [] (result ∷ results) before after s last owned tests found runs left changes = absurd runs
+batch_is_its_calls t fd [] (input ∷ inputs) results before after s last owned tests found runs left changes = absurd tests
+batch_is_its_calls t fd (frame ∷ frames) [] results before after s last owned tests found runs left changes = absurd tests
+batch_is_its_calls t fd (frame ∷ frames) (input ∷ inputs) [] before after s last owned tests found runs left changes = absurd runs
+batch_is_its_calls t fd (frame ∷ frames) (input ∷ inputs) (result ∷ results) before after s last owned tests found runs left changes =
     let (refusals, between, told, rest) = runs in
     let answer = gives (little_bytes 4 result) between in
     let answers = subst (λ (r : Result Command BadFrame). AnswersFrame refusals s r answer) (sym tests.0) told in (
       set before t between,
       one_run t frame (little_bytes 4 result) before s between owned.0 found (refusals, (answer, answers, refl, refl)),
-      batch_is_its_calls t fd words frames packets results (set before t between) after between last owned.1 tests.1 (slice_get-set_same before t between (within before t s found)) rest left
+      batch_is_its_calls t fd frames inputs results (set before t between) after between last owned.1 tests.1 (slice_get-set_same before t between (within before t s found)) rest left
           (changes_rest t before after between changes),
     )

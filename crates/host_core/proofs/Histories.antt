@@ -11,7 +11,7 @@ use Rattle.command_frames.specs.declared.command.BadFrame.{BadFrame}
 use Rattle.command_frames.specs.Command.{Command, parsed, prog_test_run}
 use Rattle.command_frames.specs.Frame.{framed, owner}
 use Rattle.tenant.specs.Alone.{AnswersFrame, MayReply}
-use Rattle.tenant.specs.Batch.{RunsInOrder}
+use Rattle.tenant.specs.Batch.{BatchInput, RunsInOrder}
 use Rattle.tenant.specs.Machine.{Answer, Answers, gives}
 use Rattle.tenant.specs.State.{TenantState, new_tenant}
 use Rattle.saving.specs.declared.birth.Birth.{Birth}
@@ -52,13 +52,13 @@ by_frame frame reply s t births later reached told = by (parsed frame) told.answ
         subst (λ (x : TenantState). IsReached x later) (sym told.left)
         (subst (λ (bs : List Birth). IsReached told.answer.after bs) (sym recorded) (by_command s births told.refusals c told.answer reached answers))
 
-by_runs : (births : List Birth) (fd : ℕ) (words : List ℕ) (s t : TenantState) (packets : List (List ℕ)) (results : List ℕ) → IsReached s births → RunsInOrder fd words s packets results t → IsReached t births
+by_runs : (births : List Birth) (fd : ℕ) (s t : TenantState) (inputs : List BatchInput) (results : List ℕ) → IsReached s births → RunsInOrder fd s inputs results t → IsReached t births
 unfolding RunsInOrder
-by_runs births fd words s t [] [] reached same = subst (λ (x : TenantState). IsReached x births) (sym same) reached
-by_runs births fd words s t [] (r ∷ rs) reached wrong = absurd wrong
-by_runs births fd words s t (p ∷ ps) [] reached wrong = absurd wrong
-by_runs births fd words s t (p ∷ ps) (r ∷ rs) reached (refusals, between, answers, rest) =
-    by_runs births fd words between t ps rs (by_command s births refusals (prog_test_run fd words p) (gives (little_bytes 4 r) between) reached answers) rest
+by_runs births fd s t [] [] reached same = subst (λ (x : TenantState). IsReached x births) (sym same) reached
+by_runs births fd s t [] (r ∷ rs) reached wrong = absurd wrong
+by_runs births fd s t (input ∷ inputs) [] reached wrong = absurd wrong
+by_runs births fd s t (input ∷ inputs) (r ∷ rs) reached (refusals, between, answers, rest) =
+    by_runs births fd between t inputs rs (by_command s births refusals (prog_test_run fd input.words input.packet) (gives (little_bytes 4 r) between) reached answers) rest
 
 -- ---- all tenants
 
@@ -100,16 +100,16 @@ by_handle before after frame reply reached handles records = record { many = rec
         others_reached before after t s births reached (handles.others t other) (records.others t other) there born
 
 by_packets : (before after : HostState) → AreReached before → RunsPackets before after → AreReached after
-by_packets before after reached (tenant, fd, words, packets, room, written, runs, changes, same_births) =
+by_packets before after reached (tenant, fd, inputs, room, written, runs, changes, same_births) =
     record { many = ap length same_births ∙ reached.many ∙ sym changes.count; each = λ t s births there born. at t s births there born (nat_eq t tenant) refl }
   where
     own : (s : TenantState) (births : List Birth) (o : Option TenantState) → slice_get before.states tenant ≡ o → slice_get after.states tenant ≡ Some s → slice_get after.births tenant ≡ Some births → IsReached s births
-    own s births None e there born = absurd (subst (λ (x : Option TenantState). RunsFor fd words x packets room written (slice_get after.states tenant)) e runs)
+    own s births None e there born = absurd (subst (λ (x : Option TenantState). RunsFor fd x inputs room written (slice_get after.states tenant)) e runs)
     own s births (Some x) e there born =
-        let (last, (results, in_order, front), is) = subst (λ (y : Option TenantState). RunsFor fd words y packets room written (slice_get after.states tenant)) e runs in
+        let (last, (results, in_order, front), is) = subst (λ (y : Option TenantState). RunsFor fd y inputs room written (slice_get after.states tenant)) e runs in
         let same : last ≡ s = same_Some last s (sym is ∙ there) in
         subst (λ (u : TenantState). IsReached u births) same
-        (by_runs births fd words x last packets results (reached.each tenant x births e (ap (λ (bss : List (List Birth)). slice_get bss tenant) (sym same_births) ∙ born)) in_order)
+        (by_runs births fd x last inputs results (reached.each tenant x births e (ap (λ (bss : List (List Birth)). slice_get bss tenant) (sym same_births) ∙ born)) in_order)
 
     at : (t : ℕ) (s : TenantState) (births : List Birth) → slice_get after.states t ≡ Some s → slice_get after.births t ≡ Some births → (b : Bool) → nat_eq t tenant ≡ b → IsReached s births
     at t s births there born true e =

@@ -8,7 +8,7 @@ use Rattle.saving.specs.declared.birth.Birth.{Birth}
 use Rattle.saving.specs.Recorded.{RecordedTenant, RecordsFrame, tenant_state}
 use Rattle.command_frames.specs.Frame.{owner, reply_to}
 use Rattle.tenant.specs.Alone.{MayReply}
-use Rattle.tenant.specs.Batch.{RunsBatch}
+use Rattle.tenant.specs.Batch.{BatchInput, RunsBatch}
 use Rattle.tenant.specs.Errno.{status_of}
 use Rattle.tenant.specs.State.{TenantState, new_tenant}
 use Rattle.tenant.specs.declared.errno.Errno.TheVariants.{NotPermitted, Invalid}
@@ -134,12 +134,12 @@ new_more m first ks k n new is =
 -- ---- a batch
 
 -- a batch of a tenant that is served
-pub runs_own : (m n : Memory) (ks : List RecordedTenant) (states : List TenantState) (i fd : ℕ) (k l : RecordedTenant) (words room written : List ℕ) (packets : List (List ℕ)) → states_in m ks ≡ states → i < length ks → slice_get ks i ≡ Some k
-    → RunsBatch fd words (tenant_state (part_bytes m i) k) packets room written (tenant_state (part_bytes n i) l) → RunsFor fd words (slice_get states i) packets room written (slice_get (states_in n (set ks i l)) i)
-runs_own m n ks states i fd k l words room written packets is lt found runs =
+pub runs_own : (m n : Memory) (ks : List RecordedTenant) (states : List TenantState) (i fd : ℕ) (k l : RecordedTenant) (room written : List ℕ) (inputs : List BatchInput) → states_in m ks ≡ states → i < length ks → slice_get ks i ≡ Some k
+    → RunsBatch fd (tenant_state (part_bytes m i) k) inputs room written (tenant_state (part_bytes n i) l) → RunsFor fd (slice_get states i) inputs room written (slice_get (states_in n (set ks i l)) i)
+runs_own m n ks states i fd k l room written inputs is lt found runs =
     let before = state_there m ks states i k is found in
     let after = own_after n ks i l lt in
-    subst (λ (x : Option TenantState). RunsFor fd words x packets room written (slice_get (states_in n (set ks i l)) i)) (sym before) (tenant_state (part_bytes n i) l, runs, after)
+    subst (λ (x : Option TenantState). RunsFor fd x inputs room written (slice_get (states_in n (set ks i l)) i)) (sym before) (tenant_state (part_bytes n i) l, runs, after)
 
 -- a tenant whose record is not changed
 pub put_back : (m n : Memory) (ks : List RecordedTenant) (i : ℕ) (k l : RecordedTenant) → slice_get ks i ≡ Some k → l ≡ k → n ≡ m → host_state n (set ks i l) ≡ host_state m ks

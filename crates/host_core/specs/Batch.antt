@@ -5,21 +5,21 @@ use Rattle.command_frames.specs.Frame.{owner}
 use Rattle.tenant.specs.Table.{named}
 use Rattle.tenant.specs.declared.errno.Errno.{Errno}
 use Rattle.tenant.specs.declared.errno.Errno.TheVariants.{NotPermitted}
-use Rattle.tenant.specs.Batch.{RunsInOrder, RunsBatch, AreTestRuns, batch_refusal, result_replies}
+use Rattle.tenant.specs.Batch.{BatchInput, RunsInOrder, RunsBatch, AreTestRuns, batch_refusal, result_replies}
 use Rattle.tenant.specs.Errno.{status_of}
 use Rattle.tenant.specs.State.{TenantState}
 use Rattle.host_core.specs.Handled.{HandlesInOrder}
 
 -- a batch of a tenant that is served, and its state before and after it
-abbrev pub RunsFor : ℕ → List ℕ → Option TenantState → List (List ℕ) → List ℕ → List ℕ → Option TenantState → Type 0
-RunsFor fd words None packets room written after = ⊥
-RunsFor fd words (Some s) packets room written after =
-    (last : TenantState) × RunsBatch fd words s packets room written last × (after ≡ Some last)
+abbrev pub RunsFor : ℕ → Option TenantState → List BatchInput → List ℕ → List ℕ → Option TenantState → Type 0
+RunsFor fd None inputs room written after = ⊥
+RunsFor fd (Some s) inputs room written after =
+    (last : TenantState) × RunsBatch fd s inputs room written last × (after ≡ Some last)
 
 -- why a batch is rejected: its tenant is not served, or the error of the tenant
-abbrev pub refusal_for : Option TenantState → ℕ → ℕ → List ℕ → ℕ → Option Errno
-refusal_for None fd many ends room = Some NotPermitted
-refusal_for (Some s) fd many ends room = batch_refusal (named s.objects fd) many ends room
+abbrev pub refusal_for : Option TenantState → ℕ → ℕ → ℕ → List ℕ → ℕ → Option Errno
+refusal_for None fd contexts many ends room = Some NotPermitted
+refusal_for (Some s) fd contexts many ends room = batch_refusal (named s.objects fd) contexts many ends room
 
 -- the status of a batch, as that of the frames: 0, or the negated error number
 abbrev pub batch_status : Option Errno → ℤ
@@ -34,7 +34,7 @@ pub record ChangesTenant (tenant : ℕ) (before after : List TenantState) : Type
 -- the runs of a batch are the calls on the test-run frames of its packets, one after another
 abbrev pub BatchIsItsCalls : Type 0
 BatchIsItsCalls =
-    (tenant fd : ℕ) (words : List ℕ) (frames packets : List (List ℕ)) (results : List ℕ) (before after : List TenantState) (s last : TenantState)
-    → AllByRecursion (λ frame. owner frame ≡ tenant) frames → AreTestRuns fd words frames packets
-    → slice_get before tenant ≡ Some s → RunsInOrder fd words s packets results last → slice_get after tenant ≡ Some last → ChangesTenant tenant before after
+    (tenant fd : ℕ) (frames : List (List ℕ)) (inputs : List BatchInput) (results : List ℕ) (before after : List TenantState) (s last : TenantState)
+    → AllByRecursion (λ frame. owner frame ≡ tenant) frames → AreTestRuns fd frames inputs
+    → slice_get before tenant ≡ Some s → RunsInOrder fd s inputs results last → slice_get after tenant ≡ Some last → ChangesTenant tenant before after
     → HandlesInOrder before frames (result_replies frames results) after

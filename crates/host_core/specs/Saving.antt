@@ -2,6 +2,7 @@
 use Rattle.std.specs.Prelude.{◌≡◌, ◌≢◌, ◌⊎◌, ℕ, ◌<◌, ◌^◌, List, [], ◌∷◌, length, slice_get, Option, Some, None, option_and_then, option_map}
 use Rattle.std.specs.List.{AllByRecursion, flat_map}
 use Rattle.command_frames.specs.Frame.{framed, owner}
+use Rattle.tenant.specs.Batch.{BatchInput}
 use Rattle.tenant.specs.State.{TenantState}
 use Rattle.saving.specs.declared.birth.Birth.{Birth}
 use Rattle.saving.specs.Laws.{IsRestoredBy}
@@ -32,8 +33,8 @@ HandlesFrame before after = (frame : List ℕ) × (reply : List ℕ) × Handles 
 
 abbrev pub RunsPackets : HostState → HostState → Type 0
 RunsPackets before after =
-    (tenant : ℕ) × (fd : ℕ) × (words : List ℕ) × (packets : List (List ℕ)) × (room : List ℕ) × (written : List ℕ)
-    × RunsFor fd words (slice_get before.states tenant) packets room written (slice_get after.states tenant)
+    (tenant : ℕ) × (fd : ℕ) × (inputs : List BatchInput) × (room : List ℕ) × (written : List ℕ)
+    × RunsFor fd (slice_get before.states tenant) inputs room written (slice_get after.states tenant)
     × ChangesTenant tenant before.states after.states × (after.births ≡ before.births)
 
 -- what a call does to a host: it handles a frame, runs a program on packets, or changes nothing

@@ -5,7 +5,7 @@ ghost use Rattle.std.specs.Result.{result_err};
 ghost use Rattle.arena.specs.Memory.{Memory};
 ghost use Rattle.command_frames.specs.Frame.{owner};
 ghost use Rattle.tenant.specs.Alone.{MayReply, IsFault};
-ghost use Rattle.tenant.specs.Batch.{packets_in};
+ghost use Rattle.tenant.specs.Batch.{packets_in, inputs_of};
 ghost use Rattle.tenant.specs.State.{new_tenant};
 ghost use Rattle.host_core.specs.Batch.{RunsFor, refusal_for, ChangesTenant};
 ghost use Rattle.host_core.specs.Served.{IsUnrefused};
@@ -151,9 +151,9 @@ impl Host {
         kept.save_part(self.alloc, tenant as u16, part, self.arena.part(tenant))
     }
 
-    /// Runs the program at a descriptor of `tenant` on many packets, one after another, on the same ten words of context. The
-    /// packets lie one after another in `bytes`, and each ends at its number in `ends`. The result of each is written to
-    /// `results`, whose rest is unchanged.
+    /// Runs the program at a descriptor of `tenant` on many packets, one after another. The packets lie one after another in `bytes`,
+    /// and each ends at its number in `ends`. `contexts` has the ten words of context that all packets get, or those of each. The
+    /// result of each is written to `results`, whose rest is unchanged.
     ///
     /// Results and states afterwards are those of the test-run frames of these packets in this order. The states of all other
     /// tenants are unchanged.
@@ -166,16 +166,16 @@ impl Host {
         &mut self,
         tenant: usize,
         fd: u32,
-        words: &[u32; GIVEN_WORDS],
+        contexts: &[[u32; GIVEN_WORDS]],
         bytes: &[u8],
         ends: &[usize],
         results: &mut [u32],
     ) -> Result<(), Errno>
-        ensures runs { OnOk result (RunsFor fd words.now (slice_get self.old.states tenant)
-            (packets_in bytes.now ends.now) results.old results.new
+        ensures runs { OnOk result (RunsFor fd (slice_get self.old.states tenant)
+            (inputs_of contexts.now (packets_in bytes.now ends.now)) results.old results.new
             (slice_get self.new.states tenant)) }
         ensures refusal { result_err result ≡ refusal_for (slice_get self.old.states tenant) fd
-            (length bytes.now) ends.now (length results.old) }
+            (length contexts.now) (length bytes.now) ends.now (length results.old) }
         ensures unchanged { OnErr result ((self.new ≡ self.old) × (results.new ≡ results.old)) }
         ensures tenant { ChangesTenant tenant self.old.states self.new.states }
         ensures births { self.new.births ≡ self.old.births }
@@ -184,6 +184,6 @@ impl Host {
             return Err(Errno::NotPermitted);
         }
         let arena = &mut self.arena;
-        self.tenants[tenant].run_packets(fd, words, bytes, ends, results, tenant, arena)
+        self.tenants[tenant].run_packets(fd, contexts, bytes, ends, results, tenant, arena)
     }
 }

@@ -14,7 +14,7 @@ use Rattle.tenant.specs.declared.reply.Reply.{Reply}
 use Rattle.tenant.specs.declared.reply.Reply.TheVariants as reply
 use Rattle.tenant.specs.Errno.{status_of}
 use Rattle.tenant.specs.Kept.{KeptTenant, state_in, at_places, map_at}
-use Rattle.tenant.specs.Batch.{RunsInOrder, RunsBatch}
+use Rattle.tenant.specs.Batch.{BatchInput, RunsInOrder, RunsBatch}
 use Rattle.tenant.specs.Machine.{Answer, Answers, cause_errno, gives}
 use Rattle.tenant.specs.Replies.{shown_answer}
 use Rattle.bpf_maps.specs.Limits.{most_maps}
@@ -74,25 +74,25 @@ module _ (maps : MapsAreHeld) (law : BirthsAreKept) where
 
   -- ---- a list of test runs
 
-  runs_keep : (births : List Birth) (fd : ℕ) (words : List ℕ) (s t : TenantState) (packets : List (List ℕ)) (results : List ℕ) → HoldsItsMaps s → AreBirths s births → RunsInOrder fd words s packets results t
+  runs_keep : (births : List Birth) (fd : ℕ) (s t : TenantState) (inputs : List BatchInput) (results : List ℕ) → HoldsItsMaps s → AreBirths s births → RunsInOrder fd s inputs results t
       → HoldsItsMaps t × AreBirths t births
   unfolding RunsInOrder
-  runs_keep births fd words s t [] [] held are same = (subst HoldsItsMaps (sym same) held, subst (λ (u : TenantState). AreBirths u births) (sym same) are)
-  runs_keep births fd words s t [] (r ∷ rs) held are wrong = absurd wrong
-  runs_keep births fd words s t (p ∷ ps) [] held are wrong = absurd wrong
-  runs_keep births fd words s t (p ∷ ps) (r ∷ rs) held are (refusals, between, answers, rest) =
-      let command = prog_test_run fd words p in
+  runs_keep births fd s t [] [] held are same = (subst HoldsItsMaps (sym same) held, subst (λ (u : TenantState). AreBirths u births) (sym same) are)
+  runs_keep births fd s t [] (r ∷ rs) held are wrong = absurd wrong
+  runs_keep births fd s t (input ∷ inputs) [] held are wrong = absurd wrong
+  runs_keep births fd s t (input ∷ inputs) (r ∷ rs) held are (refusals, between, answers, rest) =
+      let command = prog_test_run fd input.words input.packet in
       let a = gives (little_bytes 4 r) between in
-      runs_keep births fd words between t ps rs (maps.kept refusals s command a held answers) (law.kept refusals s command a births held are answers) rest
+      runs_keep births fd between t inputs rs (maps.kept refusals s command a held answers) (law.kept refusals s command a births held are answers) rest
 
   -- packets are run, or nothing is changed
-  pub recorded_runs : {U E : Type 0} (r : Result U E) (k l : KeptTenant) (births : List Birth) (p q : List ℕ) (fd : ℕ) (words : List ℕ) (packets : List (List ℕ)) (room written : List ℕ)
-      → IsRecorded (record { kept = k; births = births }) → OnOk r (RunsBatch fd words (state_in p k) packets room written (state_in q l)) → OnErr r (l ≡ k) → IsRecorded (record { kept = l; births = births })
-  recorded_runs (Ok done) k l births p q fd words packets room written is runs same =
+  pub recorded_runs : {U E : Type 0} (r : Result U E) (k l : KeptTenant) (births : List Birth) (p q : List ℕ) (fd : ℕ) (inputs : List BatchInput) (room written : List ℕ)
+      → IsRecorded (record { kept = k; births = births }) → OnOk r (RunsBatch fd (state_in p k) inputs room written (state_in q l)) → OnErr r (l ≡ k) → IsRecorded (record { kept = l; births = births })
+  recorded_runs (Ok done) k l births p q fd inputs room written is runs same =
       let (held, are) = is p in
-      let (t, after) = runs_keep births fd words (state_in p k) (state_in q l) packets runs.0 held are runs.1 in
+      let (t, after) = runs_keep births fd (state_in p k) (state_in q l) inputs runs.0 held are runs.1 in
       recorded_by l births q t after
-  recorded_runs (Err e) k l births p q fd words packets room written is runs same =
+  recorded_runs (Err e) k l births p q fd inputs room written is runs same =
       subst (λ (x : KeptTenant). IsRecorded (record { kept = x; births = births })) (sym same) is
 
 -- an implication in the error of a result

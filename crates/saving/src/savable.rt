@@ -8,7 +8,7 @@ ghost use Rattle.fd_table.specs.Table.{named};
 ghost use Rattle.bpf_maps.specs.declared.part.TheConstants.{PART};
 ghost use Rattle.saving.specs.Recorded.{tenant_state};
 ghost use Rattle.saving.specs.SaveParts.{parts, frames_of};
-ghost use Rattle.tenant.specs.Batch.{RunsBatch, packets_in, batch_refusal};
+ghost use Rattle.tenant.specs.Batch.{RunsBatch, packets_in, inputs_of, batch_refusal};
 ghost use Rattle.tenant.specs.State.{new_tenant};
 
 use crate::birth::Births;
@@ -107,7 +107,7 @@ impl SavableTenant {
     pub fn run_packets(
         &mut self,
         fd: u32,
-        words: &[u32; GIVEN_WORDS],
+        contexts: &[[u32; GIVEN_WORDS]],
         bytes: &[u8],
         ends: &[usize],
         results: &mut [u32],
@@ -115,12 +115,12 @@ impl SavableTenant {
         arena: &mut Arena,
     ) -> Result<(), Errno>
         requires part { IsPartOf tenant arena.old }
-        ensures runs { OnOk result (RunsBatch fd words.now
+        ensures runs { OnOk result (RunsBatch fd
             (tenant_state (part_bytes arena.old tenant) self.old)
-            (packets_in bytes.now ends.now) results.old results.new
+            (inputs_of contexts.now (packets_in bytes.now ends.now)) results.old results.new
             (tenant_state (part_bytes arena.new tenant) self.new)) }
         ensures refusal { result_err result ≡ batch_refusal (named self.old.kept.objects fd)
-            (length bytes.now) ends.now (length results.old) }
+            (length contexts.now) (length bytes.now) ends.now (length results.old) }
         ensures births { self.new.births ≡ self.old.births }
         ensures unchanged { OnErr result ((self.new ≡ self.old) × (arena.new ≡ arena.old)
             × (results.new ≡ results.old)) }
@@ -132,6 +132,6 @@ impl SavableTenant {
         maps_are_held();
         births_are_kept();
         let kept = &mut self.tenant;
-        kept.run_packets(fd, words, bytes, ends, results, tenant, arena)
+        kept.run_packets(fd, contexts, bytes, ends, results, tenant, arena)
     }
 }

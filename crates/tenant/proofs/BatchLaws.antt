@@ -17,27 +17,27 @@ use Rattle.tenant.specs.State.{TenantState}
 
 pub batch_is_its_frames : BatchIsItsFrames
 unfolding RunsInOrder
-batch_is_its_frames fd words [] [] [] before after tests runs = ap (λ (s : TenantState). Some s) runs
-batch_is_its_frames fd words [] [] (result ∷ results) before after tests runs = absurd runs
-batch_is_its_frames fd words [] (packet ∷ packets) results before after tests runs = absurd tests
-batch_is_its_frames fd words (frame ∷ frames) [] results before after tests runs = absurd tests
-batch_is_its_frames fd words (frame ∷ frames) (packet ∷ packets) [] before after tests runs = absurd runs
-batch_is_its_frames fd words (frame ∷ frames) (packet ∷ packets) (result ∷ results) before after tests runs =
+batch_is_its_frames fd [] [] [] before after tests runs = ap (λ (s : TenantState). Some s) runs
+batch_is_its_frames fd [] [] (result ∷ results) before after tests runs = absurd runs
+batch_is_its_frames fd [] (input ∷ inputs) results before after tests runs = absurd tests
+batch_is_its_frames fd (frame ∷ frames) [] results before after tests runs = absurd tests
+batch_is_its_frames fd (frame ∷ frames) (input ∷ inputs) [] before after tests runs = absurd runs
+batch_is_its_frames fd (frame ∷ frames) (input ∷ inputs) (result ∷ results) before after tests runs =
     let (refusals, between, told, rest) = runs in
     let answer = gives (little_bytes 4 result) between in
     let answers = subst (λ (r : Result Command BadFrame). AnswersFrame refusals before r answer) (sym tests.0) told in (
       Some between,
       (refusals, (answer, answers, refl, refl)),
-      batch_is_its_frames fd words frames packets results between after tests.1 rest,
+      batch_is_its_frames fd frames inputs results between after tests.1 rest,
     )
 
 pub one_result_each : OneResultEach
 unfolding RunsInOrder
-one_result_each fd words [] [] before after runs = refl
-one_result_each fd words [] (result ∷ results) before after runs = absurd runs
-one_result_each fd words (packet ∷ packets) [] before after runs = absurd runs
-one_result_each fd words (packet ∷ packets) (result ∷ results) before after runs =
-    let (refusals, between, told, rest) = runs in ap (λ (n : ℕ). suc n) (one_result_each fd words packets results between after rest)
+one_result_each fd [] [] before after runs = refl
+one_result_each fd [] (result ∷ results) before after runs = absurd runs
+one_result_each fd (input ∷ inputs) [] before after runs = absurd runs
+one_result_each fd (input ∷ inputs) (result ∷ results) before after runs =
+    let (refusals, between, told, rest) = runs in ap (λ (n : ℕ). suc n) (one_result_each fd inputs results between after rest)
 
 refused_by : (s : TenantState) (answer : Errno) (errno : Errno) → Some answer ≡ Some errno → refuses errno s ≡ refuses answer s
 refused_by s answer errno same = let is : errno ≡ answer = cc in ap (λ (e : Errno). refuses e s) is

@@ -5,9 +5,9 @@ use Rattle.command_frames.specs.Command.{prog_test_run, parsed}
 use Rattle.command_frames.specs.Frame.{reply_to}
 use Rattle.fd_table.specs.Table.{named}
 use Rattle.flat_machine.specs.declared.packets.PacketFault.{PacketFault}
-use Rattle.flat_machine.specs.declared.packets.PacketFault.TheVariants.{Outside, TooLong}
-use Rattle.flat_machine.specs.Packets.{packets_fault}
-pub use Rattle.flat_machine.specs.Packets.{packets_in}
+use Rattle.flat_machine.specs.declared.packets.PacketFault.TheVariants.{Contexts, Outside, TooLong}
+use Rattle.flat_machine.specs.Packets.{batch_fault}
+pub use Rattle.flat_machine.specs.Packets.{BatchInput, packets_in, inputs_of}
 use Rattle.tenant.specs.declared.errno.Errno.{Errno}
 use Rattle.tenant.specs.declared.errno.Errno.TheVariants.{TooBig, BadDescriptor, Invalid}
 use Rattle.tenant.specs.declared.object.OpenObject.{OpenObject}
@@ -18,21 +18,21 @@ use Rattle.tenant.specs.State.{TenantState}
 
 -- ---- the runs
 
--- The test-run commands of packets, one after another on the same words of context: each succeeds with its result, and the states
--- before and after them. To each of them memory may be refused.
-unfoldable pub RunsInOrder : ℕ → List ℕ → TenantState → List (List ℕ) → List ℕ → TenantState → Type 0
-RunsInOrder fd words before [] [] after = after ≡ before
-RunsInOrder fd words before (packet ∷ packets) (result ∷ results) after =
+-- The test-run commands of packets, one after another, each on the words of context that are given with it: each succeeds with its
+-- result, and the states before and after them. To each of them memory may be refused.
+unfoldable pub RunsInOrder : ℕ → TenantState → List BatchInput → List ℕ → TenantState → Type 0
+RunsInOrder fd before [] [] after = after ≡ before
+RunsInOrder fd before (input ∷ inputs) (result ∷ results) after =
     (refusals : List Bool) × (between : TenantState)
-    × Answers refusals before (prog_test_run fd words packet) (gives (little_bytes 4 result) between)
-    × RunsInOrder fd words between packets results after
-RunsInOrder fd words before [] (result ∷ results) after = ⊥
-RunsInOrder fd words before (packet ∷ packets) [] after = ⊥
+    × Answers refusals before (prog_test_run fd input.words input.packet) (gives (little_bytes 4 result) between)
+    × RunsInOrder fd between inputs results after
+RunsInOrder fd before [] (result ∷ results) after = ⊥
+RunsInOrder fd before (input ∷ inputs) [] after = ⊥
 
 -- the results of the runs are written to the front of a room, whose rest is unchanged
-abbrev pub RunsBatch : ℕ → List ℕ → TenantState → List (List ℕ) → List ℕ → List ℕ → TenantState → Type 0
-RunsBatch fd words before packets room written after =
-    (results : List ℕ) × RunsInOrder fd words before packets results after × (written ≡ results ++ drop (length results) room)
+abbrev pub RunsBatch : ℕ → TenantState → List BatchInput → List ℕ → List ℕ → TenantState → Type 0
+RunsBatch fd before inputs room written after =
+    (results : List ℕ) × RunsInOrder fd before inputs results after × (written ≡ results ++ drop (length results) room)
 
 -- ---- the refusals
 
@@ -54,29 +54,31 @@ else_refusal (Some errno) later = Some errno
 abbrev pub run_refusal : Option OpenObject → ℕ → Option Errno
 run_refusal o size = else_refusal (object_refusal o) (length_refusal size)
 
--- the error of a packet that is refused
+-- the error of packets that are refused
 abbrev pub packet_errno : PacketFault → Errno
+packet_errno Contexts = Invalid
 packet_errno Outside = Invalid
 packet_errno TooLong = TooBig
 
--- why packets with these ends in `many` bytes are refused: there is room for fewer results, or the first that is outside or too long
-abbrev pub packets_refusal : ℕ → List ℕ → ℕ → Option Errno
-packets_refusal many ends room =
-    if nat_lt room (length ends) then Some Invalid else option_map packet_errno (packets_fault many 0 ends)
+-- Why packets with these ends in `many` bytes and so many arrays of words are refused: there is room for fewer results, or words for
+-- neither all packets together nor each of them, or the first packet that is outside or too long.
+abbrev pub packets_refusal : ℕ → ℕ → List ℕ → ℕ → Option Errno
+packets_refusal contexts many ends room =
+    if nat_lt room (length ends) then Some Invalid else option_map packet_errno (batch_fault contexts many ends)
 
--- Why a batch is rejected, before the first packet: what is named is no program; there is room for fewer results than packets; or
--- a packet is outside, or too long.
-abbrev pub batch_refusal : Option OpenObject → ℕ → List ℕ → ℕ → Option Errno
-batch_refusal o many ends room = else_refusal (object_refusal o) (packets_refusal many ends room)
+-- Why a batch is rejected, before the first packet: what is named is no program; there is room for fewer results than packets; there
+-- is neither one context nor one for each packet; or a packet is outside, or too long.
+abbrev pub batch_refusal : Option OpenObject → ℕ → ℕ → List ℕ → ℕ → Option Errno
+batch_refusal o contexts many ends room = else_refusal (object_refusal o) (packets_refusal contexts many ends room)
 
 -- ---- laws
 
--- these frames are the test runs of a program on these packets
-abbrev pub AreTestRuns : ℕ → List ℕ → List (List ℕ) → List (List ℕ) → Type 0
-AreTestRuns fd words [] [] = Unit {0}
-AreTestRuns fd words (frame ∷ frames) (packet ∷ packets) = (parsed frame ≡ Ok (prog_test_run fd words packet)) × AreTestRuns fd words frames packets
-AreTestRuns fd words [] (packet ∷ packets) = ⊥
-AreTestRuns fd words (frame ∷ frames) [] = ⊥
+-- these frames are the test runs of a program on these inputs
+abbrev pub AreTestRuns : ℕ → List (List ℕ) → List BatchInput → Type 0
+AreTestRuns fd [] [] = Unit {0}
+AreTestRuns fd (frame ∷ frames) (input ∷ inputs) = (parsed frame ≡ Ok (prog_test_run fd input.words input.packet)) × AreTestRuns fd frames inputs
+AreTestRuns fd [] (input ∷ inputs) = ⊥
+AreTestRuns fd (frame ∷ frames) [] = ⊥
 
 -- the replies to frames with these results
 abbrev pub result_replies : List (List ℕ) → List ℕ → List (List ℕ)
@@ -87,8 +89,8 @@ result_replies (frame ∷ frames) (result ∷ results) = reply_to frame (pos 0) 
 -- the runs of a batch are the test-run frames of its packets, one after another
 abbrev pub BatchIsItsFrames : Type 0
 BatchIsItsFrames =
-    (fd : ℕ) (words : List ℕ) (frames packets : List (List ℕ)) (results : List ℕ) (before after : TenantState) → AreTestRuns fd words frames packets
-    → RunsInOrder fd words before packets results after → AloneWithRefusals (Some before) frames (result_replies frames results) (Some after)
+    (fd : ℕ) (frames : List (List ℕ)) (inputs : List BatchInput) (results : List ℕ) (before after : TenantState) → AreTestRuns fd frames inputs
+    → RunsInOrder fd before inputs results after → AloneWithRefusals (Some before) frames (result_replies frames results) (Some after)
 
 -- the test-run command of a packet has the error of a run
 abbrev pub RefusedAsItsFrame : Type 0
@@ -99,5 +101,5 @@ RefusedAsItsFrame =
 -- there are as many results as packets
 abbrev pub OneResultEach : Type 0
 OneResultEach =
-    (fd : ℕ) (words : List ℕ) (packets : List (List ℕ)) (results : List ℕ) (before after : TenantState) → RunsInOrder fd words before packets results after
-    → length results ≡ length packets
+    (fd : ℕ) (inputs : List BatchInput) (results : List ℕ) (before after : TenantState) → RunsInOrder fd before inputs results after
+    → length results ≡ length inputs

@@ -5,7 +5,7 @@ ghost use Rattle.std.specs.Result.{result_err};
 ghost use Rattle.arena.specs.Memory.{part_bytes};
 ghost use Rattle.bpf_helpers.specs.Parts.{IsPartOf};
 ghost use Rattle.fd_table.specs.Table.{named};
-ghost use Rattle.tenant.specs.Batch.{packets_in, RunsBatch, batch_refusal};
+ghost use Rattle.tenant.specs.Batch.{packets_in, inputs_of, RunsBatch, batch_refusal};
 ghost use Rattle.tenant.specs.Kept.{state_in};
 
 use crate::errno::Errno;
@@ -16,21 +16,22 @@ use flat_machine::{GIVEN_WORDS, Packets, run_packets};
 use verifier::laws;
 
 impl Tenant {
-    /// Runs the program at a descriptor on many packets, one after another, on the same ten words of context. The packets lie
-    /// one after another in `bytes`, and each ends at its number in `ends`. The result of each is written to `results`, whose rest
-    /// is unchanged.
+    /// Runs the program at a descriptor on many packets, one after another. The packets lie one after another in `bytes`, and each
+    /// ends at its number in `ends`. `contexts` has the ten words of context that all packets get, or those of each. The result of each
+    /// is written to `results`, whose rest is unchanged.
     ///
     /// Results, maps and state afterwards are those of the test runs of these packets in this order.
     ///
     /// # Errors
     ///
     /// `BadDescriptor` if the descriptor is not open, `Invalid` if it names a map. `Invalid` if there is room for fewer
-    /// results than packets, and at the first end that is before the one before it or after the last byte; `TooBig` at the first
-    /// packet of more than `LONGEST_PACKET` bytes. Then no packet was run, and nothing has changed.
+    /// results than packets, if there is neither one array of words nor one for each packet, and at the first end that is before the
+    /// one before it or after the last byte; `TooBig` at the first packet of more than `LONGEST_PACKET` bytes. Then no packet was
+    /// run, and nothing has changed.
     pub fn run_packets(
         &mut self,
         fd: u32,
-        words: &[u32; GIVEN_WORDS],
+        contexts: &[[u32; GIVEN_WORDS]],
         bytes: &[u8],
         ends: &[usize],
         results: &mut [u32],
@@ -38,12 +39,12 @@ impl Tenant {
         arena: &mut Arena,
     ) -> Result<(), Errno>
         requires part { IsPartOf tenant arena.old }
-        ensures runs { OnOk result (RunsBatch fd words.now
+        ensures runs { OnOk result (RunsBatch fd
             (state_in (part_bytes arena.old tenant) self.old)
-            (packets_in bytes.now ends.now) results.old results.new
+            (inputs_of contexts.now (packets_in bytes.now ends.now)) results.old results.new
             (state_in (part_bytes arena.new tenant) self.new)) }
         ensures refusal { result_err result ≡ batch_refusal (named self.old.objects fd)
-            (length bytes.now) ends.now (length results.old) }
+            (length contexts.now) (length bytes.now) ends.now (length results.old) }
         ensures unchanged { OnErr result ((self.new ≡ self.old) × (arena.new ≡ arena.old)
             × (results.new ≡ results.old)) }
         ensures parts { arena.new.parts ≡ arena.old.parts }
@@ -56,7 +57,7 @@ impl Tenant {
         if results.len() < ends.len() {
             return Err(Errno::Invalid);
         }
-        match Packets::new(bytes, ends) {
+        match Packets::new(contexts, bytes, ends) {
             Ok(packets) => {
                 packets.packets_are_short();
                 let mut trace = Trace::new();
@@ -66,7 +67,6 @@ impl Tenant {
                     tenant,
                     arena,
                     &mut self.maps,
-                    words,
                     &packets,
                     results,
                     &mut trace,

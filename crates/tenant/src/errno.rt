@@ -104,11 +104,12 @@ impl Errno {
         }
     }
 
-    /// The error of a batch with a packet that is refused.
+    /// The error of a batch whose packets are refused.
     pub(crate) fn of_packet(fault: PacketFault) -> Errno
         ensures { result ≡ packet_errno fault }
     {
         match fault {
+            PacketFault::Contexts => Errno::Invalid,
             PacketFault::Outside => Errno::Invalid,
             PacketFault::TooLong => Errno::TooBig,
         }

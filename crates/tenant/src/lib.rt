@@ -22,12 +22,12 @@
 //!   `clear_flag_means_no_refusal`, `clear_flag_means_alone`. Until the flag is set, its replies are those:
 //!   `alone_until_refused`.
 //! - A reply with the status of a fault has no payload: `faults_have_no_payload`.
-//! - A program is run on many packets: the machine carries out the test-run command of each, one after another, with its
-//!   result, and memory may be refused to each (`RunsInOrder`). The results are at the front of the room, whose rest is
+//! - A program is run on many packets, with one context for all (`with_words`) or one for each (`with_own_words`): the machine carries
+//!   out the test-run command of each, one after another, with its result, and memory may be refused to each (`RunsInOrder`). The results are at the front of the room, whose rest is
 //!   unchanged: `runs` of `Tenant::run_packets`.
 //! - Or the batch is rejected before its first packet, by the first of these: the descriptor names no program; there is room
-//!   for fewer results than packets; or, packet by packet, one is outside the bytes or is too long. Then nothing has changed:
-//!   `refusal`, `unchanged` of `Tenant::run_packets`.
+//!   for fewer results than packets; there is neither one context nor one for each packet; or, packet by packet, one is outside
+//!   the bytes or is too long. Then nothing has changed: `refusal`, `unchanged` of `Tenant::run_packets`.
 //! - The runs of a batch are the test-run frames of its packets, with replies that have its results; memory refused to a run is
 //!   refused to its frame; there are as many results as packets: `batch_is_its_frames`, `refused_as_its_frame`,
 //!   `one_result_each`.

@@ -194,7 +194,7 @@ class LibraryHost:
         many = len(packets) // size
         results = array("I", bytes(4 * many))
         code = self._functions.run_packets(
-            *(self._at, tenant, int.from_bytes(runs[8:12], "little"), runs[12:BEFORE_PACKET], packets, len(packets)),
+            *(self._at, tenant, int.from_bytes(runs[8:12], "little"), runs[12:BEFORE_PACKET], 1, packets, len(packets)),
             *(self._ends_of(size, many).buffer_info()[0], many, results.buffer_info()[0], many),
             ctypes.addressof(self._status),
         )

@@ -49,13 +49,14 @@ unsafe extern "C" {
         reply: *mut bpfhost_bytes,
     ) -> i32;
 
-    /// Runs a program of a tenant on many packets, with ten words of context; packet i ends before byte `ends[i]`. `status` gets 0, or why
-    /// no packet was run. Returns a code.
+    /// Runs a program of a tenant on many packets, with the ten words of one context for all of them, or those of one for each; packet i ends
+    /// before byte `ends[i]`. `status` gets 0, or why no packet was run. Returns a code.
     pub fn bpfhost_c_run_packets(
         handle: *mut bpfhost,
         tenant: u16,
         fd: u32,
-        words: *const u32,
+        contexts: *const [u32; 10],
+        context_count: usize,
         bytes: *const u8,
         byte_count: usize,
         ends: *const usize,

@@ -1,6 +1,6 @@
 use Rattle.std.proofs.Common.{◌≡◌, ◌<◌, List, Option, None, length, sym, ap, ◌∙◌, arith}
 use Rattle.std.specs.Prelude.{slice_get}
-use Rattle.tenant.specs.Batch.{packets_in}
+use Rattle.tenant.specs.Batch.{packets_in, inputs_of}
 use Rattle.tenant.specs.State.{TenantState}
 use Rattle.host_core.specs.Batch.{refusal_for}
 use Rattle.host_core.specs.States.{HostState}
@@ -14,7 +14,7 @@ pub returns-then-tenant-len-clause-refusal : goal.returns-then-tenant-len-clause
 returns-then-tenant-len-clause-refusal c =
     let many = states_length c.self.inside.arena 0 c.self.inside.tenants.items in
     let unserved : slice_get c.args.self.now.states c.args.tenant ≡ None = no_state c.args.self.now.states c.args.tenant (omega (arith, many, ap length (states_are c.self.inside.arena c.self.inside.tenants.items c.args.self.now c.self.view_is), c.len.ensures, c.if-tenant-len.true)) in
-    sym (ap (λ (s : Option TenantState). refusal_for s c.args.fd (length c.args.bytes.now) c.args.ends.now (length c.args.results.now)) unserved)
+    sym (ap (λ (s : Option TenantState). refusal_for s c.args.fd (length c.args.contexts.now) (length c.args.bytes.now) c.args.ends.now (length c.args.results.now)) unserved)
 
 -- ---- a tenant that is served
 
@@ -24,8 +24,8 @@ returns-clause-runs c =
     let t = c.args.tenant in
     let room : t < length ks = omega (arith, c.if-tenant-len.false, c.len.ensures) in
     let found = slice_get_in ks t c.index_mut.result.now room c.index_mut.ensures.value in
-    let own = runs_own c.self.inside.arena c.run_packets.new.arena ks c.args.self.now.states t c.args.fd c.index_mut.result.now c.run_packets.new.self c.args.words.now c.args.results.now c.run_packets.new.results
-    (packets_in c.args.bytes.now c.args.ends.now) (states_are c.self.inside.arena c.self.inside.tenants.items c.args.self.now c.self.view_is) room found in
+    let own = runs_own c.self.inside.arena c.run_packets.new.arena ks c.args.self.now.states t c.args.fd c.index_mut.result.now c.run_packets.new.self c.args.results.now c.run_packets.new.results
+    (inputs_of c.args.contexts.now (packets_in c.args.bytes.now c.args.ends.now)) (states_are c.self.inside.arena c.self.inside.tenants.items c.args.self.now c.self.view_is) room found in
     with_ok c.run_packets.result own c.run_packets.ensures.runs
 
 pub returns-clause-refusal : goal.returns-clause-refusal
@@ -35,7 +35,7 @@ returns-clause-refusal c =
     let room : t < length ks = omega (arith, c.if-tenant-len.false, c.len.ensures) in
     let found = slice_get_in ks t c.index_mut.result.now room c.index_mut.ensures.value in
     let there = state_there c.self.inside.arena ks c.args.self.now.states t c.index_mut.result.now (states_are c.self.inside.arena c.self.inside.tenants.items c.args.self.now c.self.view_is) found in
-    c.run_packets.ensures.refusal ∙ sym (ap (λ (s : Option TenantState). refusal_for s c.args.fd (length c.args.bytes.now) c.args.ends.now (length c.args.results.now)) there)
+    c.run_packets.ensures.refusal ∙ sym (ap (λ (s : Option TenantState). refusal_for s c.args.fd (length c.args.contexts.now) (length c.args.bytes.now) c.args.ends.now (length c.args.results.now)) there)
 
 pub returns-clause-unchanged : goal.returns-clause-unchanged
 returns-clause-unchanged c =

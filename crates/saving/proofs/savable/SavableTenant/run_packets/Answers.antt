@@ -2,7 +2,7 @@ use Rattle.std.proofs.Common.{◌≡◌, Result, Ok, Err, OnOk, OnErr, sym, ap, 
 use Rattle.std.specs.Result.{result_err}
 use Rattle.arena.specs.Memory.{part_bytes}
 use Rattle.fd_table.specs.Table.{named}
-use Rattle.tenant.specs.Batch.{RunsBatch, packets_in, batch_refusal}
+use Rattle.tenant.specs.Batch.{RunsBatch, packets_in, inputs_of, batch_refusal}
 use Rattle.tenant.specs.Kept.{KeptTenant, state_in}
 use Rattle.saving.specs.Recorded.{RecordedTenant, tenant_state}
 use Rattle.saving.proofs.Recorded.{recorded_runs, with_err}
@@ -11,11 +11,11 @@ use Rattle.saving.proofs.savable.SavableTenant.run_packets.Goals as goal
 pub invariant_of-self : goal.invariant_of-self
 invariant_of-self c =
     recorded_runs c.maps_are_held.ensures c.births_are_kept.ensures c.run_packets.result c.self.inside.tenant c.run_packets.new.self c.self.inside.births
-    (part_bytes c.args.arena.now c.args.tenant) (part_bytes c.run_packets.new.arena c.args.tenant) c.args.fd c.args.words.now
-    (packets_in c.args.bytes.now c.args.ends.now) c.args.results.now c.run_packets.new.results c.self.invariant c.run_packets.ensures.runs
+    (part_bytes c.args.arena.now c.args.tenant) (part_bytes c.run_packets.new.arena c.args.tenant) c.args.fd
+    (inputs_of c.args.contexts.now (packets_in c.args.bytes.now c.args.ends.now)) c.args.results.now c.run_packets.new.results c.self.invariant c.run_packets.ensures.runs
     (with_err c.run_packets.result (λ still. still.0) c.run_packets.ensures.unchanged)
 
 pub returns-clause-runs : goal.returns-clause-runs
 returns-clause-runs c =
-    subst (λ (t : RecordedTenant). OnOk c.run_packets.result (RunsBatch c.args.fd c.args.words.now (tenant_state (part_bytes c.args.arena.now c.args.tenant) t)
-    (packets_in c.args.bytes.now c.args.ends.now) c.args.results.now c.run_packets.new.results (state_in (part_bytes c.run_packets.new.arena c.args.tenant) c.run_packets.new.self))) c.self.view_is c.run_packets.ensures.runs
+    subst (λ (t : RecordedTenant). OnOk c.run_packets.result (RunsBatch c.args.fd (tenant_state (part_bytes c.args.arena.now c.args.tenant) t)
+    (inputs_of c.args.contexts.now (packets_in c.args.bytes.now c.args.ends.now)) c.args.results.now c.run_packets.new.results (state_in (part_bytes c.run_packets.new.arena c.args.tenant) c.run_packets.new.self))) c.self.view_is c.run_packets.ensures.runs

@@ -12,7 +12,7 @@ use Rattle.arena.specs.Memory.{Memory, base, part_start}
 use Rattle.bpf_maps.specs.Live.{shape_at}
 use Rattle.bpf_helpers.specs.States.{CallSite}
 
--- the key of the map that a word names: i + 1 names the i-th
+-- the handle of the map that a word names: i + 1 names the i-th
 abbrev pub bound_map : List ℕ → ℕ → Option ℕ
 bound_map bind w = if w == 0 then None else slice_get bind (w - 1)
 

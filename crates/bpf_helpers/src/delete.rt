@@ -3,15 +3,14 @@
 ghost use Rattle.std.specs.Prelude.{◌<◌};
 ghost use Rattle.bpf_helpers.specs.Calls.{AreLive};
 ghost use Rattle.bpf_helpers.specs.Named.{key_named};
-ghost use Rattle.bpf_helpers.specs.States.{site_of};
 ghost use Rattle.bpf_helpers.specs.Parts.{IsPartOf, AsksInside};
-ghost use Rattle.bpf_helpers.specs.inside.Flat.{DeletesNamed};
+ghost use Rattle.bpf_helpers.specs.inside.Flat.{site_of, DeletesNamed};
 
 use crate::caller::Caller;
 use crate::look_up::{bound, traced_place};
 use crate::update::refusal;
 use arena::{Arena, Trace};
-use bpf_maps::{MapKey, Maps, laws};
+use bpf_maps::{Maps, laws};
 use tagged_model::MapFault;
 
 /// bpf_map_delete_elem (3): deletes a key. `map` names the map, and `key` is the address of the key. If one of them names nothing,

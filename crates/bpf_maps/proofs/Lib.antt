@@ -9,7 +9,6 @@ pub mod Indices
 pub mod Arrays
 pub mod Slots
 pub mod Placed
-pub mod LaidOut
 pub mod Totals
 pub mod InAreas
 pub mod Whole

@@ -1,169 +1,118 @@
 -- A map that goes.
-use Rattle.std.proofs.Common.{◌≡◌, ◌≢◌, ℕ, ◌+◌, ◌-◌, ◌*◌, ◌<◌, ◌≤◌, List, ◌++◌, length, take, drop, Option, Some, None, is_some, option_map, refl, sym, ap, subst, ◌∙◌, arith, get_or, set, ⊎_elim, true≢false}
+use Rattle.std.proofs.Common.{◌≡◌, ◌≢◌, ℕ, ◌+◌, ◌-◌, ◌*◌, ◌<◌, ◌≤◌, List, ◌++◌, length, take, drop, Option, Some, None, is_some, option_map, refl, sym, ap, subst, ◌∙◌, arith, get_or, set, get_or-set_same, get_or-set_other, ⊎_elim, true≢false}
 use Rattle.std.proofs.lemmas.List.{drop-take, drop-drop, length-drop}
 use Rattle.std.proofs.Math.Seq.{length-take-le, take-take}
-use Rattle.slab.specs.Slab.{Slab, get, slab_len, with_value}
 use Rattle.bpf_maps.specs.declared.part.TheConstants.{STACK_AND_CONTEXT, PART}
-use Rattle.bpf_maps.specs.declared.entries.Entry.{Entry}
+use Rattle.bpf_maps.specs.declared.stored_map.StoredMap.{StoredMap}
 use Rattle.bpf_maps.specs.declared.maps.Maps.TheInside.{Inside}
 use Rattle.bpf_maps.specs.BpfMap.{places_of}
 use Rattle.bpf_maps.specs.Live.{LiveMap, LiveMaps, live_at, live_or, shape_at, offset, area_by, areas, without_area, held_at, one_less, area_of, IsLaid, AreSound, SameValues, KeepsOthers, map_without, ClosesUp}
 use Rattle.bpf_maps.specs.Sum.{weight}
-use Rattle.bpf_maps.specs.InMaps.{live_of, live_maps_of, placed, entries_of, as_live_maps, AreKeys, closed_up, AreLaidOut, IsWellFormedMaps}
-use Rattle.bpf_maps.specs.declared.map_layout.MapLayout.{MapLayout}
-use Rattle.bpf_maps.proofs.Slots.{at_lives, live_by, none_by, same_some}
-use Rattle.bpf_maps.proofs.Placed.{changed_entry, changed_others, changed_keys, removed_here, removed_others, removed_keys}
+use Rattle.bpf_maps.specs.InMaps.{live_of, live_maps_of, stored_in, as_live_maps, closed_up, IsWellFormedMaps}
+use Rattle.bpf_maps.proofs.Slots.{at_lives, within, live_by, none_by}
 use Rattle.bpf_maps.proofs.Totals.{weight_most}
-use Rattle.bpf_maps.proofs.Changes.{told_of, IsUnder, at_place, live_here, live_entry, none_held}
+use Rattle.bpf_maps.proofs.Changes.{told_of, IsAt, live_here, live_stored, none_held}
 use Rattle.bpf_maps.proofs.Stays.{keeps_held}
 use Rattle.bpf_maps.proofs.InAreas.{value_ends, before_or_behind}
 use Rattle.bpf_maps.proofs.Written.{front_same, before_same, own}
 use Rattle.bpf_maps.proofs.Whole.{laid, sound_at, offset_of, offset_without, beside, whole_removed}
 
--- the entry that is taken out is the one that was there
-pub record IsTaken (a : Inside) (t : LiveMaps) (place map key : ℕ) (old gone : Entry) : Type 0 where
-  pub under : IsUnder a t place map key old
-  pub value : get (with_value a.entries key old) key ≡ Some gone
-
--- the entries without it
-pub record IsLeft (a : Inside) (key : ℕ) (old : Entry) (left : Slab Entry) : Type 0 where
-  pub gap : get left key ≡ None
-  pub others : (j : ℕ) → j ≢ key → get left j ≡ get (with_value a.entries key old) j
-  pub len : slab_len left + 1 ≡ slab_len (with_value a.entries key old)
-  pub capacity : left.capacity ≡ a.entries.capacity
-
--- and those after they have closed up, with these keys
-pub record IsClosed (keys : List (Option ℕ)) (end size : ℕ) (left entries : Slab Entry) (layouts : List MapLayout) : Type 0 where
-  pub each : (p : ℕ) → get_or (placed keys entries) p None ≡ option_map (closed_up end size) (get_or (placed keys left) p None)
-  pub are_keys : AreKeys keys entries
-  pub capacity : entries.capacity ≡ left.capacity
-  pub layouts_are : AreLaidOut (placed keys entries) layouts
-
--- the map goes: its entry is taken out, and the others close up by the size of its area
-pub record Goes (a : Inside) (t : LiveMaps) (place map key size : ℕ) (old gone : Entry) (left entries : Slab Entry) (layouts : List MapLayout) : Type 0 where
-  pub taken : IsTaken a t place map key old gone
+-- the map goes, and those after it close up by the size of its area
+pub record Goes (a : Inside) (t : LiveMaps) (index map size : ℕ) (gone : StoredMap) (b : Inside) : Type 0 where
+  pub at : IsAt a t index map gone
   pub size_is : size ≡ area_of (live_of gone)
-  pub rest : IsLeft a key old left
-  pub closed : IsClosed (set a.keys place None) (gone.start + size) size left entries layouts
-
--- the fields without it
-abbrev pub without_entry : Inside → ℕ → ℕ → Slab Entry → List MapLayout → Inside
-without_entry a size place entries layouts = record a { keys = set a.keys place None; entries = entries; layouts = layouts; bytes = a.bytes - size }
+  pub each : (k : ℕ) → get_or (stored_in b) k None ≡ option_map (closed_up (gone.start + size) size) (get_or (set (stored_in a) index None) k None)
+  pub long : length (stored_in b) ≡ length (stored_in a)
+  pub bytes : b.bytes ≡ a.bytes - size
 
 -- a map without its area is the same at another address
 held_still : (gone : LiveMap) (o : Option LiveMap) → option_map without_area (option_map (map_without gone) o) ≡ option_map without_area o
 held_still gone None = refl
 held_still gone (Some l) = refl
 
-lives_closed : (gone : Entry) (o : Option Entry) → option_map live_of (option_map (closed_up (gone.start + area_of (live_of gone)) (area_of (live_of gone))) o) ≡ option_map (map_without (live_of gone)) (option_map live_of o)
+lives_closed : (gone : StoredMap) (o : Option StoredMap) → option_map live_of (option_map (closed_up (gone.start + area_of (live_of gone)) (area_of (live_of gone))) o) ≡ option_map (map_without (live_of gone)) (option_map live_of o)
 lives_closed gone None = refl
 lives_closed gone (Some e) = refl
 
-module _ {a : Inside} {t : LiveMaps} {place map key : ℕ} {old gone : Entry} (c : IsTaken a t place map key old gone) where
-  abbrev whole : IsWellFormedMaps a
-  whole = c.under.whole
-
-  is_gone : old ≡ gone
-  is_gone = same_some (changed_entry a.keys a.entries whole.keys place key c.under.keyed old old c.under.here) c.value
-
-  was_there : get_or (entries_of a) place None ≡ Some gone
-  was_there = subst (λ (e : Entry). get_or (entries_of a) place None ≡ Some e) is_gone (at_place c.under)
-
+module _ {a : Inside} {t : LiveMaps} {index map : ℕ} {gone : StoredMap} (at : IsAt a t index map gone) where
   -- its area
   gone_behind : STACK_AND_CONTEXT ≤ gone.start
-  gone_behind = (whole.placed place gone was_there).behind
+  gone_behind = (at.whole.placed index gone at.here).behind
 
   pub gone_within : gone.start + area_of (live_of gone) ≤ STACK_AND_CONTEXT + a.bytes
-  gone_within = (whole.placed place gone was_there).within
+  gone_within = (at.whole.placed index gone at.here).within
 
   pub size_most : {size : ℕ} → size ≡ area_of (live_of gone) → size ≤ a.bytes
   size_most is =
-      let s = whole.sum in
-      let w = weight_most area_of place (live_maps_of (entries_of a)) in
-      let x = ap (weight area_of) (live_by (entries_of a) (entries_of a) place gone was_there) in
+      let s = at.whole.sum in
+      let w = weight_most area_of index (live_maps_of (stored_in a)) in
+      let x = ap (weight area_of) (live_by (stored_in a) (stored_in a) index gone at.here) in
       omega arith
 
-  keys_before : AreKeys a.keys (with_value a.entries key old)
-  keys_before = changed_keys a.keys a.entries whole.keys place key c.under.keyed old old c.under.here
-
-  module _ {left : Slab Entry} (l : IsLeft a key old left) where
-    pub left_keys : AreKeys (set a.keys place None) left
-    left_keys = removed_keys a.keys (with_value a.entries key old) left keys_before place key c.under.keyed l.gap l.others l.len
-
-    none_left : get_or (placed (set a.keys place None) left) place None ≡ None
-    none_left = removed_here a.keys (with_value a.entries key old) left keys_before place key c.under.keyed l.gap l.others
-
-    others_left : (p : ℕ) → p ≢ place → get_or (placed (set a.keys place None) left) p None ≡ get_or (entries_of a) p None
-    others_left p ne =
-        removed_others a.keys (with_value a.entries key old) left keys_before place key c.under.keyed l.gap l.others p ne
-        ∙ changed_others a.keys a.entries whole.keys place key c.under.keyed old old c.under.here p ne
-
-module _ {a : Inside} {t : LiveMaps} {place map key size : ℕ} {old gone : Entry} {left entries : Slab Entry} {layouts : List MapLayout} (g : Goes a t place map key size old gone left entries layouts) where
-  abbrev new : Inside
-  new = without_entry a size place entries layouts
-
+module _ {a : Inside} {t : LiveMaps} {index map size : ℕ} {gone : StoredMap} {b : Inside} (g : Goes a t index map size gone b) where
   abbrev was_whole : IsWellFormedMaps a
-  was_whole = g.taken.under.whole
+  was_whole = g.at.whole
 
-  was : get_or (entries_of a) place None ≡ Some gone
-  was = was_there g.taken
+  abbrev was : get_or (stored_in a) index None ≡ Some gone
+  was = g.at.here
 
-  closed : (p : ℕ) → p ≢ place → get_or (entries_of new) p None ≡ option_map (closed_up (gone.start + area_of (live_of gone)) (area_of (live_of gone))) (get_or (entries_of a) p None)
-  closed p ne =
-      g.closed.each p
-      ∙ ap (λ (n : ℕ). option_map (closed_up (gone.start + n) n) (get_or (placed (set a.keys place None) left) p None)) g.size_is
-      ∙ ap (option_map (closed_up (gone.start + area_of (live_of gone)) (area_of (live_of gone)))) (others_left g.taken g.rest p ne)
+  abbrev lowered : Option StoredMap → Option StoredMap
+  lowered o = option_map (closed_up (gone.start + area_of (live_of gone)) (area_of (live_of gone))) o
 
-  empty : get_or (entries_of new) place None ≡ None
-  empty = g.closed.each place ∙ ap (option_map (closed_up (gone.start + size) size)) (none_left g.taken g.rest)
+  -- the list after the map is taken out, and before the others close up
+  closes : (k : ℕ) → get_or (stored_in b) k None ≡ lowered (get_or (set (stored_in a) index None) k None)
+  closes k = g.each k ∙ ap (λ (n : ℕ). option_map (closed_up (gone.start + n) n) (get_or (set (stored_in a) index None) k None)) g.size_is
 
-  bytes_now : a.bytes - size + area_of (live_of gone) ≡ a.bytes
-  bytes_now = let m = size_most g.taken g.size_is in let s = g.size_is in omega arith
+  closed : (k : ℕ) → k ≢ index → get_or (stored_in b) k None ≡ lowered (get_or (stored_in a) k None)
+  closed k ne = closes k ∙ ap lowered (get_or-set_other (stored_in a) index k None None ne)
 
-  pub whole_gone : IsWellFormedMaps new
-  whole_gone =
-      let room = was_whole.room in
-      let same = g.rest.capacity in
-      let still = g.closed.capacity in
-      whole_removed new place was_whole gone was empty closed bytes_now g.closed.are_keys (omega arith) g.closed.layouts_are
+  empty : get_or (stored_in b) index None ≡ None
+  empty = closes index ∙ ap lowered (get_or-set_same (stored_in a) index None None (within (stored_in a) index gone was))
 
-  pub laid_gone : IsLaid (as_live_maps new)
+  bytes_now : b.bytes + area_of (live_of gone) ≡ a.bytes
+  bytes_now = let m = size_most g.at g.size_is in let s = g.size_is in let n = g.bytes in omega arith
+
+  pub whole_gone : IsWellFormedMaps b
+  whole_gone = whole_removed b index was_whole gone was empty closed bytes_now (g.long ∙ was_whole.long)
+
+  pub laid_gone : IsLaid (as_live_maps b)
   laid_gone = laid whole_gone
 
   live_gone : live_at t map ≡ Some (live_of gone)
-  live_gone = live_here a g.taken.under.view g.taken.under.same was
+  live_gone = live_here a g.at.view g.at.same was
 
-  pub freed_gone : areas t ≡ areas (as_live_maps new) + area_by (shape_at t map)
+  pub freed_gone : areas t ≡ areas (as_live_maps b) + area_by (shape_at t map)
   freed_gone =
       let shape : area_by (shape_at t map) ≡ area_of (live_of gone) = told_of (λ (x : LiveMap). area_of x) live_gone in
       let bytes = whole_gone.sum in
       let sum = was_whole.sum in
-      let seen = ap areas g.taken.under.view in
-      let most = size_most g.taken g.size_is in
+      let seen = ap areas g.at.view in
+      let most = size_most g.at g.size_is in
       let is = g.size_is in
+      let now = g.bytes in
       omega arith
 
-  pub none_now : live_at (as_live_maps new) map ≡ None
-  none_now = ap (λ (p : ℕ). get_or (live_maps_of (entries_of new)) p None) (sym g.taken.under.same) ∙ none_by (entries_of new) (entries_of new) place empty
+  pub none_now : live_at (as_live_maps b) map ≡ None
+  none_now = ap (λ (p : ℕ). get_or (live_maps_of (stored_in b)) p None) (sym g.at.same) ∙ none_by (stored_in b) (stored_in b) index empty
 
   -- the other maps
-  lives_close : (p : ℕ) → p ≢ place → live_at (as_live_maps new) p ≡ option_map (map_without (live_of gone)) (live_at t p)
+  lives_close : (p : ℕ) → p ≢ index → live_at (as_live_maps b) p ≡ option_map (map_without (live_of gone)) (live_at t p)
   lives_close p ne =
-      at_lives (entries_of new) p
+      at_lives (stored_in b) p
       ∙ ap (option_map live_of) (closed p ne)
-      ∙ lives_closed gone (get_or (entries_of a) p None)
-      ∙ ap (option_map (map_without (live_of gone))) (sym (at_lives (entries_of a) p) ∙ ap (λ (u : LiveMaps). live_at u p) g.taken.under.view)
+      ∙ lives_closed gone (get_or (stored_in a) p None)
+      ∙ ap (option_map (map_without (live_of gone))) (sym (at_lives (stored_in a) p) ∙ ap (λ (u : LiveMaps). live_at u p) g.at.view)
 
-  pub closes_up : ClosesUp map t (as_live_maps new)
+  pub closes_up : ClosesUp map t (as_live_maps b)
   closes_up p ne =
-      lives_close p (λ e. ne (e ∙ g.taken.under.same))
+      lives_close p (λ e. ne (e ∙ g.at.same))
       ∙ ap (λ (o : Option LiveMap). option_map (map_without (live_or o)) (live_at t p)) (sym live_gone)
 
-  pub less_gone : old.holds ≤ 1 → held_at (as_live_maps new) map ≡ one_less (held_at t map)
-  less_gone last = none_held t (as_live_maps new) map live_gone none_now (subst (λ (e : Entry). e.holds ≤ 1) (is_gone g.taken) last)
+  pub less_gone : gone.holds ≤ 1 → held_at (as_live_maps b) map ≡ one_less (held_at t map)
+  less_gone last = none_held t (as_live_maps b) map live_gone none_now last
 
-  pub others_gone : (p : ℕ) → p ≢ map → held_at (as_live_maps new) p ≡ held_at t p
-  others_gone p ne = ap (option_map without_area) (lives_close p (λ e. ne (e ∙ g.taken.under.same))) ∙ held_still (live_of gone) (live_at t p)
+  pub others_gone : (p : ℕ) → p ≢ map → held_at (as_live_maps b) p ≡ held_at t p
+  others_gone p ne = ap (option_map without_area) (lives_close p (λ e. ne (e ∙ g.at.same))) ∙ held_still (live_of gone) (live_at t p)
 
   -- ---- the bytes
 
@@ -179,13 +128,13 @@ module _ {a : Inside} {t : LiveMaps} {place map key size : ℕ} {old gone : Entr
     in_part = let f = was_whole.few in omega arith
 
     long_moved : length moved ≡ many
-    long_moved = let w = gone_within g.taken in let p = in_part in length-take-le many (drop (gone.start + size) bytes) (omega (arith, length-drop (gone.start + size) bytes))
+    long_moved = let w = gone_within g.at in let p = in_part in length-take-le many (drop (gone.start + size) bytes) (omega (arith, length-drop (gone.start + size) bytes))
 
     room : gone.start + many ≤ length bytes
-    room = let w = gone_within g.taken in let p = in_part in omega arith
+    room = let w = gone_within g.at in let p = in_part in omega arith
 
     pub front_gone : take STACK_AND_CONTEXT later ≡ take STACK_AND_CONTEXT bytes
-    front_gone = ap (take STACK_AND_CONTEXT) written ∙ front_same bytes moved gone.start many long_moved room STACK_AND_CONTEXT (gone_behind g.taken)
+    front_gone = ap (take STACK_AND_CONTEXT) written ∙ front_same bytes moved gone.start many long_moved room STACK_AND_CONTEXT (gone_behind g.at)
 
     -- the bytes that move are those after it
     from_behind : (x n : ℕ) → x + n ≤ many → take n (drop x moved) ≡ take n (drop (gone.start + size + x) bytes)
@@ -196,7 +145,7 @@ module _ {a : Inside} {t : LiveMaps} {place map key size : ℕ} {old gone : Entr
         ∙ ap (take n) (drop-drop x (gone.start + size) bytes)
 
     -- a value of another map
-    kept_at : (j p : ℕ) (f : Entry) → j ≢ place → get_or (entries_of a) j None ≡ Some f → p < (places_of f.map).shape.max_entries
+    kept_at : (j p : ℕ) (f : StoredMap) → j ≢ index → get_or (stored_in a) j None ≡ Some f → p < (places_of f.map).shape.max_entries
         → take (places_of f.map).shape.value_size (drop (offset (map_without (live_of gone) (live_of f)) p) later) ≡ take (places_of f.map).shape.value_size (drop (offset (live_of f) p) bytes)
     kept_at j p f ne ft l =
         let s = (places_of f.map).shape in
@@ -205,7 +154,7 @@ module _ {a : Inside} {t : LiveMaps} {place map key size : ℕ} {old gone : Entr
         let m = offset_without gone f p in
         let x = value_ends s.value_size s.max_entries f.stride i.stride p l in
         let w = i.within in
-        let all = gone_within g.taken in
+        let all = gone_within g.at in
         ap (λ (b : List ℕ). take s.value_size (drop (offset (map_without (live_of gone) (live_of f)) p) b)) written
         ∙ ⊎_elim
         (λ y.
@@ -224,17 +173,17 @@ module _ {a : Inside} {t : LiveMaps} {place map key size : ℕ} {old gone : Entr
         ∙ own bytes moved gone.start many long_moved room (f.start - (gone.start + size) + p * f.stride) s.value_size fits
         ∙ from_behind (f.start - (gone.start + size) + p * f.stride) s.value_size fits
         ∙ ap (λ (n : ℕ). take s.value_size (drop n bytes)) at_then)
-        (before_or_behind gone.start (area_of (live_of gone)) f.start (area_of (live_of f)) (beside new place was_whole gone was empty closed bytes_now j f ne ft))
+        (before_or_behind gone.start (area_of (live_of gone)) f.start (area_of (live_of f)) (beside b index was_whole gone was empty closed bytes_now j f ne ft))
 
-    pub values_gone : SameValues t bytes (as_live_maps new) later
+    pub values_gone : SameValues t bytes (as_live_maps b) later
     values_gone j p old_live new_live l =
-        let ne : j ≢ map = λ (s : j ≡ map). true≢false (sym new_live ∙ ap is_some (ap (live_at (as_live_maps new)) s ∙ none_now)) in
-        let f = live_entry a {map = j} g.taken.under.view refl old_live in
-        let n : live_at (as_live_maps new) j ≡ Some (map_without (live_of gone) (live_of f.0)) = lives_close j (λ e. ne (e ∙ g.taken.under.same)) ∙ ap (option_map (map_without (live_of gone))) f.2 in
+        let ne : j ≢ map = λ (s : j ≡ map). true≢false (sym new_live ∙ ap is_some (ap (live_at (as_live_maps b)) s ∙ none_now)) in
+        let f = live_stored a {map = j} g.at.view refl old_live in
+        let n : live_at (as_live_maps b) j ≡ Some (map_without (live_of gone) (live_of f.0)) = lives_close j (λ e. ne (e ∙ g.at.same)) ∙ ap (option_map (map_without (live_of gone))) f.2 in
         let m = told_of (λ x. x.places.shape.max_entries) n in
         ap (λ (x : Option LiveMap). take (live_or x).places.shape.value_size (drop (offset (live_or x) p) later)) n
-        ∙ kept_at j p f.0 (λ e. ne (e ∙ g.taken.under.same)) f.1 (omega arith)
+        ∙ kept_at j p f.0 (λ e. ne (e ∙ g.at.same)) f.1 (omega arith)
         ∙ ap (λ (x : Option LiveMap). take (live_or x).places.shape.value_size (drop (offset (live_or x) p) bytes)) (sym f.2)
 
-    pub others_kept : KeepsOthers map t bytes (as_live_maps new) later
-    others_kept other ne = keeps_held t (as_live_maps new) bytes later other values_gone (subst AreSound g.taken.under.view (sound_at was_whole) other) (others_gone other ne)
+    pub others_kept : KeepsOthers map t bytes (as_live_maps b) later
+    others_kept other ne = keeps_held t (as_live_maps b) bytes later other values_gone (subst AreSound g.at.view (sound_at was_whole) other) (others_gone other ne)

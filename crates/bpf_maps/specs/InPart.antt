@@ -9,7 +9,7 @@ use Rattle.bpf_maps.specs.Live.{LiveMaps, live_at, places_at, shape_at, offset_a
 
 -- ---- a value is written
 
--- these bytes have the size of the value at place p of the live map at place k
+-- these bytes have the size of the value at place p of the live map of handle k
 pub record IsValueAt (part : List ℕ) (t : LiveMaps) (k p : ℕ) (bytes : List ℕ) : Type 0 where
   pub whole : length part ≡ PART
   pub laid : IsLaid t
@@ -18,7 +18,7 @@ pub record IsValueAt (part : List ℕ) (t : LiveMaps) (k p : ℕ) (bytes : List 
   pub within : p < (shape_at t k).max_entries
   pub size : length bytes ≡ (shape_at t k).value_size
 
--- the part with these bytes as the value at place p of the map at place k
+-- the part with these bytes as the value at place p of the map of handle k
 abbrev pub with_value : List ℕ → LiveMaps → ℕ → ℕ → List ℕ → List ℕ
 with_value part t k p bytes = written_at part (offset_at t k p) bytes
 

@@ -19,7 +19,7 @@ pub record LiveMap : Type 0 where
   pub stride : ℕ
   pub holds : ℕ
 
--- the live map at each place, and whether memory was ever refused to a new map or a new key
+-- the live map of each handle, and whether memory was ever refused to a new map or a new key
 pub record LiveMaps : Type 0 where
   pub maps : List (Option LiveMap)
   pub refused : Bool
@@ -27,11 +27,11 @@ pub record LiveMaps : Type 0 where
 abbrev pub live_at : LiveMaps → ℕ → Option LiveMap
 live_at t k = slice_index_or t.maps k None
 
--- the lowest place without a map, if there is one
-abbrev pub free_place : LiveMaps → Option ℕ
-free_place t = position is_none t.maps
+-- the lowest handle without a map, if there is one
+abbrev pub free_handle : LiveMaps → Option ℕ
+free_handle t = position is_none t.maps
 
--- a placeholder for the map at a place without one, for the functions below; it means nothing
+-- a placeholder for the map of a handle without one, for the functions below; it means nothing
 abbrev pub no_live : LiveMap
 no_live = record { places = new_places (record { kind = Hash; key_size = 1; value_size = 1; max_entries = 1; listed = refl }); start = 0; stride = 0; holds = 0 }
 
@@ -66,11 +66,11 @@ abbrev pub value_address : ℕ → LiveMaps → ℕ → Option ℕ → ℕ
 value_address part t k None = 0
 value_address part t k (Some p) = (part + offset_at t k p) % 2 ^ 64
 
--- the bytes of the value at place p of the map at place k
+-- the bytes of the value at place p of the map of handle k
 abbrev pub value_in : List ℕ → LiveMaps → ℕ → ℕ → List ℕ
 value_in part t k p = take (shape_at t k).value_size (drop (offset_at t k p) part)
 
--- the map at a place, as a list of keys with the bytes of their values
+-- the map of a handle, as a list of keys with the bytes of their values
 abbrev pub map_in : List ℕ → LiveMaps → ℕ → Table (List ℕ)
 map_in part t k = with_values (value_in part t k) (table_of (places_at t k))
 
@@ -120,7 +120,7 @@ areas t = total area_of t.maps
 
 -- ---- the addresses of the areas
 
--- the offset in the part of the area of the map at a place
+-- the offset in the part of the area of the map of a handle
 abbrev pub start_at : LiveMaps → ℕ → ℕ
 start_at t k = (live_or (live_at t k)).start
 
@@ -143,14 +143,14 @@ start_without end size start = if nat_le end start then start - size else start
 abbrev pub map_without : LiveMap → LiveMap → LiveMap
 map_without gone l = record { places = l.places; start = start_without (gone.start + area_of gone) (area_of gone) l.start; stride = l.stride; holds = l.holds }
 
--- the area of the map at place k is gone: each area after it begins lower by its size, and nothing else has changed of the maps at
--- other places; this says nothing of place k in `new`, nor of `refused`
+-- the area of the map of handle k is gone: each area after it begins lower by its size, and nothing else has changed of the other
+-- maps; this says nothing of handle k in `new`, nor of `refused`
 abbrev pub ClosesUp : ℕ → LiveMaps → LiveMaps → Type 0
 ClosesUp k old new = (other : ℕ) → other ≢ k → live_at new other ≡ option_map (map_without (live_or (live_at old k))) (live_at old other)
 
 -- ---- the keys of one map change
 
--- only the map at place k may have changed, and only in its keys and their places; this says nothing of `refused`
+-- only the map of handle k may have changed, and only in its keys and their places; this says nothing of `refused`
 pub record OnlyKeysChange (k : ℕ) (old new : LiveMaps) : Type 0 where
   pub live : IsSome (live_at new k)
   pub holds : holds_at new k ≡ holds_at old k
@@ -165,13 +165,13 @@ pub record OnlyKeysChange (k : ℕ) (old new : LiveMaps) : Type 0 where
 
 -- ---- a new map
 
--- the fault if no place is free, or the values would take too many bytes; else None
+-- the fault if no handle is free, or the values would take too many bytes; else None
 abbrev pub create_fault : LiveMaps → MapShape → Option MapFault
-create_fault t shape = if is_none (free_place t) || nat_lt most_bytes (areas t + area_by shape) then Some NoSpace else None
+create_fault t shape = if is_none (free_handle t) || nat_lt most_bytes (areas t + area_by shape) then Some NoSpace else None
 
--- a new map with one reference is live at place k, the lowest that was free, and nothing else has changed
+-- a new map with one reference is live with handle k, the lowest that was free, and nothing else has changed
 pub record IsCreated (old : LiveMaps) (shape : MapShape) (k : ℕ) (new : LiveMaps) : Type 0 where
-  pub lowest : free_place old ≡ Some k
+  pub lowest : free_handle old ≡ Some k
   pub was : live_at old k ≡ None
   pub live : IsSome (live_at new k)
   pub places : places_at new k ≡ new_places shape

@@ -4,17 +4,24 @@
 //! for a value. Both kinds of map have this one definition. The values of a tenant's live maps are in its part of the memory,
 //! where each place of a map has bytes of its own.
 //!
+//! # Words
+//!
+//! - A *key* is the bytes by which a caller finds a value in a map; an *entry* is a key with its place.
+//! - A *place* is the number of a value in its map, from 0 to one less than `max_entries`.
+//! - A map *handle* (`MapKey`) says which of a tenant's live maps is meant: its index in their list, 0 to 15.
+//! - The *area* of a map is the bytes of all its values, in the tenant's *part* of the memory.
+//!
 //! # What is proved
 //!
 //! Calls of one map:
 //!
 //! - A look-up, an update, a delete and a request for the next key return and leave what the definition says, with errors in
 //!   its order. Only a new key of a hash map can be out of memory, and then nothing changes. This holds for the calls of
-//!   `ValueMap`, for `ArrayMap` and `HashMapIx`.
+//!   `ValueMap`, for `ArrayMap` and `HashMap`.
 //! - The address of a key's value is that of its place in the part, modulo 2^64, where the whole value is, and 0 if the map has
 //!   no such key: `address`, `inside` of `address_of`.
 //! - A key is the list of its bytes, whether it is stored as a number or as bytes: `entries_of`, in the calls of `KeyIndex` and
-//!   the model of `HashMapIx`.
+//!   the model of `HashMap`.
 //! - The next key is the one of the definition, and has the size of the map's keys: `given`, `size` of `key_after`. Or it is
 //!   written at the front of a buffer for the longest key, with nothing changed after it; nothing is written if no key follows:
 //!   `given` of `next_key`.
@@ -26,7 +33,7 @@
 //!
 //! The live maps of a tenant:
 //!
-//! - A tenant has sixteen places for live maps, and at most 262,144 bytes of values. A new map is at the lowest free place; if
+//! - A tenant has at most sixteen live maps, and at most 262,144 bytes of values. A new map gets the lowest free handle; if
 //!   there is none, or there are too many bytes, no map is created; out of memory, only the flag changes: `created` of
 //!   `Maps::create`, `maps`, `bytes` of `maps_are_laid`.
 //! - A new map adds its area to the sum of their bytes, its last release subtracts it, and no other call changes the sum:
@@ -73,7 +80,7 @@
 //! - The next key is borrowed or returned by value (`KeyRef`): a key that is stored as a number is spelled in eight bytes, a
 //!   longer one is borrowed from the map. So no request clears and fills room for the longest key, 512 bytes.
 //! - Memory is allocated in advance: a hash map allocates its lists of places and their order when it is created, and `Maps`
-//!   room for sixteen entries, so a delete and the end of a run allocate nothing.
+//!   room for sixteen maps, so a delete and the end of a run allocate nothing.
 //! - The place of a deleted key stays in a list of its own until the run ends, and counts as an entry.
 //! - The refinement between a map of objects and the map of what they represent is one record for any two kinds of object. No
 //!   clause can range over all kinds, so `calls_refine_values` states it for numbers that represent numbers and bytes.
@@ -84,37 +91,33 @@
 //!   the bytes of all later maps move down by its area: at most 262,136 bytes, by at most 65,536. A program's run closes
 //!   nothing, so no map moves between looking up an address and using it; addresses of a later run may differ, and no reply
 //!   shows one.
-//! - An entry stores where its area begins, so an access needs no sum over earlier maps. When a map is freed, those of the
-//!   later maps are reduced.
-//! - A map of a tenant has one name, its place, 0 to 15, and a new map gets the lowest free one. Descriptors, programs and runs
-//!   use it (`MapKey`). The slab that stores the maps chooses keys of its own, about which nothing is known; they stay inside
-//!   `Maps`.
-//! - What a call needs of a map is in a list by place (`Layouts`): its shape, where its area begins and the distance of its
-//!   values, 32 bytes for each map. It is kept with the maps and not built in each run, so a run without calls pays nothing for
-//!   it, and a call has all with one load of the list's address. An array is only its shape, so a look-up or an update in one
-//!   reads nothing else (`arrays_have_their_indices`). The map itself stores where its area begins too: that both agree is a
-//!   clause of the invariant (`AreLaidOut`).
+//! - Each fact of a live map is stored once, in one list (`StoredMap`): its kind and shape, its keys, where its area begins, the
+//!   distance of its values, and how many references there are. So an access needs no sum over earlier maps; when a map is
+//!   freed, the starts of the later ones are reduced.
+//! - The index in this list is the map's handle, and a new map gets the lowest free one. Descriptors, programs and runs use it.
+//!   A call has all that it needs with one load of the list's address, and a run without calls pays nothing for it.
 #![tactic(auto)]
 
 mod array_map;
 mod bpf_map;
 mod bytes_index;
 mod contract_clients;
-mod entries;
 mod hash_map;
 mod key_index;
 mod key_ref;
 pub mod laws;
 mod long_key;
-mod map_layout;
 mod maps;
 mod part;
+mod stored_map;
 mod value_map;
 mod word_index;
 
 pub use array_map::ArrayMap;
 pub use bpf_map::BpfMap;
-pub use hash_map::HashMapIx;
+pub use hash_map::HashMap;
+/// Another name of `HashMap`.
+pub use hash_map::HashMap as HashMapIx;
 pub use key_ref::{KeyRef, ShortKey};
 pub use maps::{MapKey, Maps};
 pub use part::{KEY_ROOM, LARGEST_SUM, MAPS, PART, STACK_AND_CONTEXT};

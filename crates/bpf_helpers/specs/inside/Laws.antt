@@ -137,7 +137,7 @@ ReturnsKeepSimulation =
 
 -- ---- one map at the start and the end of a run
 
--- the place of the value of the n-th key, of the map under key k
+-- the place of the value of the n-th key, of the map of handle k
 abbrev pub nth_place : LiveMaps → ℕ → ℕ → ℕ
 nth_place tenant k n = slice_index (values_of (places_at tenant k).entries) n
 

@@ -1,6 +1,6 @@
 use Rattle.std.proofs.Common.{◌≡◌, vec_len}
 use Rattle.bpf_maps.specs.Index.{entries_of, IsWellFormedHash}
-use Rattle.bpf_maps.proofs.hash_map.HashMapIxValueMap.end_run.Given as goal
+use Rattle.bpf_maps.proofs.hash_map.HashMapValueMap.end_run.Given as goal
 
 -- the places stay whole, and the keys with them
 abbrev pub invariant-loop-place : goal.invariant-loop-place

@@ -3,7 +3,7 @@ use Rattle.tagged_model.specs.Table.{look_up}
 use Rattle.bpf_maps.specs.Places.{PlaceTable, table_of, IsSound}
 use Rattle.bpf_maps.proofs.Kept.{sound}
 use Rattle.bpf_maps.proofs.Answered.{found_within}
-use Rattle.bpf_maps.proofs.hash_map.HashMapIx.place_of.Goals as goal
+use Rattle.bpf_maps.proofs.hash_map.HashMap.place_of.Goals as goal
 
 pub returns-clause-within : goal.returns-clause-within
 returns-clause-within c =

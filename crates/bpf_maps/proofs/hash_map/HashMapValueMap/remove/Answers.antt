@@ -2,12 +2,12 @@ use Rattle.std.proofs.Common.{◌≡◌, ◌∙◌, sym, ap, subst, refl, Some, 
 use Rattle.tagged_model.specs.Table.{found}
 use Rattle.bpf_maps.specs.Places.{PlaceTable, IsSound}
 use Rattle.bpf_maps.specs.Index.{entries_of, TakesKeys, shown, IsWellFormedHash}
-use Rattle.bpf_maps.specs.declared.hash_map.HashMapIx.TheInside.{Inside}
+use Rattle.bpf_maps.specs.declared.hash_map.HashMap.TheInside.{Inside}
 use Rattle.bpf_maps.proofs.Counts.{without-absent}
 use Rattle.bpf_maps.proofs.Kept.{sound, kept_by_same, kept_by_remove}
 use Rattle.bpf_maps.proofs.Answered.{same_table, removes_none}
-use Rattle.bpf_maps.proofs.hash_map.HashMapIxValueMap.remove.Goals as goal
-use Rattle.bpf_maps.proofs.hash_map.HashMapIxValueMap.remove.Goals.{After-remove}
+use Rattle.bpf_maps.proofs.hash_map.HashMapValueMap.remove.Goals as goal
+use Rattle.bpf_maps.proofs.hash_map.HashMapValueMap.remove.Goals.{After-remove}
 
 takes : (c : After-remove) → TakesKeys c.remove.new.self c.self.inside.shape.key_size
 takes c = subst (TakesKeys c.remove.new.self) (c.requires.size ∙ ap (λ (t : PlaceTable). t.shape.key_size) (sym c.self.view_is)) c.remove.ensures.takes

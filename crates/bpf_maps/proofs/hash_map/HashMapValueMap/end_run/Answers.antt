@@ -1,6 +1,6 @@
 use Rattle.std.proofs.Common.{ℕ, ◌∙◌, ap, refl, Option, ◌++◌, option_to_list}
 use Rattle.bpf_maps.proofs.Kept.{kept_by_free}
-use Rattle.bpf_maps.proofs.hash_map.HashMapIxValueMap.end_run.Goals as goal
+use Rattle.bpf_maps.proofs.hash_map.HashMapValueMap.end_run.Goals as goal
 
 pub loop-place-preserved : goal.loop-place-preserved
 loop-place-preserved c = record {

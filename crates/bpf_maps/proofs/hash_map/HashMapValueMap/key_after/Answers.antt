@@ -5,7 +5,7 @@ use Rattle.bpf_maps.specs.Index.{entries_of}
 use Rattle.bpf_maps.specs.declared.part.TheConstants.{KEY_ROOM}
 use Rattle.bpf_maps.proofs.Following.{given_sized, given_short}
 use Rattle.bpf_maps.proofs.Shapes.{key_fits_room}
-use Rattle.bpf_maps.proofs.hash_map.HashMapIxValueMap.key_after.Goals as goal
+use Rattle.bpf_maps.proofs.hash_map.HashMapValueMap.key_after.Goals as goal
 
 pub returns-clause-size : goal.returns-clause-size
 returns-clause-size c =

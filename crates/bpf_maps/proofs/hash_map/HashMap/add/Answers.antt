@@ -2,11 +2,11 @@ use Rattle.std.proofs.Common.{◌≡◌, ℕ, ◌∙◌, sym, ap, subst, refl, S
 use Rattle.tagged_model.specs.Table.{with_key}
 use Rattle.bpf_maps.specs.Places.{PlaceTable}
 use Rattle.bpf_maps.specs.Index.{entries_of, TakesKeys, shown, IsWellFormedHash}
-use Rattle.bpf_maps.specs.declared.hash_map.HashMapIx.TheInside.{Inside}
+use Rattle.bpf_maps.specs.declared.hash_map.HashMap.TheInside.{Inside}
 use Rattle.bpf_maps.proofs.Shown.{on_ok}
 use Rattle.bpf_maps.proofs.Kept.{last_is, ends_with, sound, kept_by_add, not_full, is_free}
 use Rattle.bpf_maps.proofs.Answered.{claims_new, same_table}
-use Rattle.bpf_maps.proofs.hash_map.HashMapIx.add.Goals as goal
+use Rattle.bpf_maps.proofs.hash_map.HashMap.add.Goals as goal
 
 module _ (c : goal.After-pop) where
   last : c.self.inside.free.items ≡ c.pop.new.self.items ++ c.in-Some.place ∷ []

@@ -1,7 +1,7 @@
 use Rattle.std.proofs.Common.{◌∙◌, sym, ap, subst}
 use Rattle.bpf_maps.specs.Places.{PlaceTable, IsSound}
 use Rattle.bpf_maps.proofs.Kept.{sound}
-use Rattle.bpf_maps.proofs.hash_map.HashMapIx.places_are_distinct.Goals as goal
+use Rattle.bpf_maps.proofs.hash_map.HashMap.places_are_distinct.Goals as goal
 
 pub returns-clause-kind : goal.returns-clause-kind
 returns-clause-kind c = ap (λ (t : PlaceTable). t.shape.kind) (sym c.self.view_is) ∙ c.self.invariant.kind

@@ -54,6 +54,7 @@ mod fault;
 mod form;
 mod known_answers;
 pub mod laws;
+mod marking;
 mod opcode;
 mod program;
 mod reading;

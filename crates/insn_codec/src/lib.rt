@@ -21,6 +21,7 @@
 //! - The slots that a program lends for a run are those of its instructions in their order; from the slot of an instruction on,
 //!   they begin with its own: `length`, `slots`, `first` of `run_slots` of `Program`, `slots_of_spelled`. The first slot of a
 //!   sequence may have a mark in the place of its opcode; the instructions from there on are those of its row: `marks`.
+//!   No instruction has the opcode of a mark: `marks_and_opcodes`. Nothing sets a mark yet.
 //! - The opcode and the fields of its first slot determine an instruction, form by form; a register field that the form does
 //!   not use is zero: `arithmetic_by_opcode`, `moves_by_opcode`, `one_operand_by_opcode`, `jumps_by_opcode`,
 //!   `accesses_by_opcode`, `atomics_by_opcode`, `wide_by_opcode`.

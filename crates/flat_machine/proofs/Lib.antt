@@ -17,6 +17,8 @@ pub mod Branches
 pub mod Opcodes
 pub mod Ending
 pub mod SetUp
+pub mod Several
+pub mod LastStep
 pub mod Clear
 pub mod GivenWords
 pub mod ContextWritten

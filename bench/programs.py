@@ -458,6 +458,41 @@ def alternating() -> Program:
     return replace(filled(slots, end), maps=VALUES)
 
 
+def regions(slots: Slots, inside: Callable[[int], Slots]) -> Program:
+    """Regions of the same length: a jump, then what `inside` gives, then a jump that ends the region. The first and the last slot of each
+    lead to the same slots of the next one."""
+    slots, length = list(slots), len(inside(0)) + 2
+    while len(slots) + 2 * length + 2 < SLOTS:
+        slots += [slot(JSET_K, 2, off=length - 1, imm=1), *inside(length), slot(JA, off=length - 1)]
+    return replace(filled(slots, returns(0)), maps=VALUES)
+
+
+def growing() -> Program:
+    """Regions of eight slots, each of which leads to the same slot of the next region. Each stack slot holds a pointer into a value, and so
+    do seven registers. From slot to slot of a region, the range of offsets of all these pointers grows."""
+    length, stores, others = 8, 64, (0, 4, 5, 6, 7, 8, 9)
+    slots = [slot(LOAD_WORD, 2, 1), *loads_value(3, 3, 0)]
+    first = len(slots) + length * (stores + len(others) + 2) + 1
+    for number in range(length):
+        slots += [slot(STORE_DOUBLE, 10, 3, off=-8 * (at + 1)) for at in range(stores)] + [slot(MOV64_X, reg, 3) for reg in others]
+        slots.append(slot(ADD64_K, 3, imm=1))
+        slots.append(slot(JSET_K, 2, off=first + number - len(slots) - 1, imm=1))
+    slots.append(slot(JA, off=SLOTS - len(slots) - 3))
+    return regions(slots, lambda length: [slot(JSET_K, 2, off=length - 1, imm=1)] * 6)
+
+
+def null_tests() -> Program:
+    """Regions of null tests of eight look-ups. The results are in registers and all over the stack. Each test leads to the slot after
+    the same test of the next region."""
+    registers = (0, 1, 3, 4, 5, 6, 7, 8)
+    slots = [slot(MOV64_X, 9, 1), slot(STORE_WORD_K, 10, off=-4)]
+    for number in range(8):
+        slots += [*loads_map(1, 3), slot(MOV64_X, 2, 10), slot(ADD64_K, 2, imm=-4), call(LOOK_UP)]
+        slots += [slot(STORE_DOUBLE, 10, 0, off=-8 * at - 16) for at in range(number, 63, 8)]
+    slots += [slot(LOAD_WORD, 2, 9), *[slot(LOAD_DOUBLE, reg, 10, off=-8 * at - 16) for at, reg in enumerate(registers)]]
+    return regions(slots, lambda length: [slot(JEQ_K, reg, off=length) for reg in registers])
+
+
 # Stores of one byte to each stack slot.
 BYTES = [slot(STORE_BYTE_K, 10, off=-1 - 8 * number, imm=number) for number in range(64)]
 
@@ -499,4 +534,6 @@ LOADED: dict[str, Callable[[], Program]] = {
     "crossing, 4 jumps": crossing_few_bytes,
     "diamonds": diamonds,
     "two stacks in turn": alternating,
+    "growing stacks": growing,
+    "null tests": null_tests,
 }

@@ -23,7 +23,7 @@ use Rattle.bpf_maps.specs.Live.{LiveMaps, live_at, places_at, shape_at, offset_a
 use Rattle.bpf_maps.specs.Laws.{AreasKeepPlaces}
 use Rattle.bpf_helpers.specs.Layout.{Layout, IsWord}
 use Rattle.bpf_helpers.specs.Stands.{stack_top, IsRoom, HasMap, Simulates, stored_maps}
-use Rattle.bpf_helpers.specs.Runs.{AreReady, HasContext, first_registers, RunsBegin, RunsEnd, OthersStay, first_state}
+use Rattle.bpf_helpers.specs.Runs.{AreReady, HasContext, AreFirst, RunsBegin, RunsEnd, OthersStay, first_state}
 use Rattle.bpf_maps.specs.LiveLaws.{laid_inside}
 use Rattle.bpf_helpers.proofs.Ends.{maps_begin, maps_end}
 use Rattle.bpf_helpers.proofs.Flags.{or_none}
@@ -71,7 +71,7 @@ module _ (old : Memory) (t : ℕ) (room : IsRoom old t) (memory : Memory) (size 
 
 -- ---- the beginning
 
-module _ (env : Environment) (memory : Memory) (maps : MapsByDescriptor) (words : List ℕ) (room : IsRoom env.memory env.tenant) (context : HasContext env.memory env.tenant words memory) (ready : AreReady env)
+module _ (env : Environment) (memory : Memory) (registers : List ℕ) (maps : MapsByDescriptor) (words : List ℕ) (room : IsRoom env.memory env.tenant) (context : HasContext env.memory env.tenant words memory) (first : AreFirst env.memory env.tenant registers) (ready : AreReady env)
     (given : (i m : ℕ) → slice_get env.descriptors i ≡ Some m → maps m ≡ Some (map_in (part_bytes env.memory env.tenant) env.maps (slice_index env.bind i))) where
   -- the number of objects of a map is the number of its keys
   count_at : Option ℕ → ℕ
@@ -140,28 +140,28 @@ module _ (env : Environment) (memory : Memory) (maps : MapsByDescriptor) (words 
   unfolding layout
   stack_first = (omega (arith, ints), refl, tt)
 
-  first_words : (r : ℕ) (v : Tagged) → r < 11 → begins_with r ≡ Some v → IsWord env layout v (slice_index (first_registers env.memory env.tenant) r)
+  first_words : (r : ℕ) (v : Tagged) → r < 11 → begins_with r ≡ Some v → IsWord env layout v (slice_index registers r)
   first_words r v lt e = context_word context_first stack_first (eqb r 1) refl e
     where
-      stack_word : IsWord env layout (Pointer object.Stack (pos 0)) (base + stack_top env.memory env.tenant) → (b : Bool) → eqb r 10 ≡ b → cond b (Some (Pointer object.Stack (pos 0))) None ≡ Some v → IsWord env layout v (slice_index (first_registers env.memory env.tenant) r)
-      stack_word h true k e = subst (λ (x : ℕ). IsWord env layout v (slice_index (first_registers env.memory env.tenant) x)) (sym (eqb-true r 10 k))
-          (subst (λ (x : Tagged). IsWord env layout x (base + stack_top env.memory env.tenant)) (same_Some (Pointer object.Stack (pos 0)) v e) h)
+      stack_word : IsWord env layout (Pointer object.Stack (pos 0)) (base + stack_top env.memory env.tenant) → (b : Bool) → eqb r 10 ≡ b → cond b (Some (Pointer object.Stack (pos 0))) None ≡ Some v → IsWord env layout v (slice_index registers r)
+      stack_word h true k e = subst (λ (x : ℕ). IsWord env layout v (slice_index registers x)) (sym (eqb-true r 10 k))
+          (subst (λ (x : Tagged). IsWord env layout x (slice_index registers 10)) (same_Some (Pointer object.Stack (pos 0)) v e) (subst (IsWord env layout (Pointer object.Stack (pos 0))) (sym first.frame) h))
       stack_word h false k e = absurd (none-some v e)
 
       context_word : IsWord env layout (Pointer object.Context (pos 0)) (base + stack_top env.memory env.tenant) → IsWord env layout (Pointer object.Stack (pos 0)) (base + stack_top env.memory env.tenant) → (b : Bool) → eqb r 1 ≡ b
-          → cond b (Some (Pointer object.Context (pos 0))) (cond (eqb r 10) (Some (Pointer object.Stack (pos 0))) None) ≡ Some v → IsWord env layout v (slice_index (first_registers env.memory env.tenant) r)
-      context_word h g true k e = subst (λ (x : ℕ). IsWord env layout v (slice_index (first_registers env.memory env.tenant) x)) (sym (eqb-true r 1 k))
-          (subst (λ (x : Tagged). IsWord env layout x (base + stack_top env.memory env.tenant)) (same_Some (Pointer object.Context (pos 0)) v e) h)
+          → cond b (Some (Pointer object.Context (pos 0))) (cond (eqb r 10) (Some (Pointer object.Stack (pos 0))) None) ≡ Some v → IsWord env layout v (slice_index registers r)
+      context_word h g true k e = subst (λ (x : ℕ). IsWord env layout v (slice_index registers x)) (sym (eqb-true r 1 k))
+          (subst (λ (x : Tagged). IsWord env layout x (slice_index registers 1)) (same_Some (Pointer object.Context (pos 0)) v e) (subst (IsWord env layout (Pointer object.Context (pos 0))) (sym first.context) h))
       context_word h g false k e = stack_word g (eqb r 10) refl e
 
   not_whole : (b : ℕ → Option ℕ) (v : Tagged) → bytes b ≡ holds v → ⊥
   not_whole b v e = cc
 
-  begins : Simulates env layout (first_state env memory) (start_of_run maps words env.packet)
+  begins : Simulates env layout (first_state env memory registers) (start_of_run maps words env.packet)
   unfolding layout
   begins = record {
     slot = refl;
-    count = refl;
+    count = first.count;
     packet = refl;
     changed = context.changed;
     front = refl;
@@ -182,7 +182,7 @@ module _ (env : Environment) (memory : Memory) (maps : MapsByDescriptor) (words 
   }
 
 pub runs_begin : RunsBegin
-runs_begin env memory maps words room context ready given = (layout env memory maps words room context ready given, begins env memory maps words room context ready given)
+runs_begin env memory registers maps words room context first ready given = (layout env memory registers maps words room context first ready given, begins env memory registers maps words room context first ready given)
 
 -- ---- the end
 

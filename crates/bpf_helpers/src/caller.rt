@@ -4,7 +4,7 @@ use bpf_maps::MapKey;
 
 /// The inputs of a call from the run that makes it, besides the words of its arguments.
 #[derive(Clone, Copy)]
-pub struct Caller<'a> {
+pub(crate) struct Caller<'a> {
     /// The tenant to whose part of the memory the run belongs.
     pub tenant: usize,
     /// The handles of the bound live maps, in the order of the program's descriptors.

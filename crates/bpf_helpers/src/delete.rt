@@ -3,9 +3,8 @@
 ghost use Rattle.std.specs.Prelude.{◌<◌};
 ghost use Rattle.bpf_helpers.specs.Calls.{AreLive};
 ghost use Rattle.bpf_helpers.specs.Named.{key_named};
-ghost use Rattle.bpf_helpers.specs.States.{site_of};
 ghost use Rattle.bpf_helpers.specs.Parts.{IsPartOf, AsksInside};
-ghost use Rattle.bpf_helpers.specs.inside.Flat.{DeletesNamed};
+ghost use Rattle.bpf_helpers.specs.inside.Flat.{site_of, DeletesNamed};
 
 use crate::caller::Caller;
 use crate::look_up::{bound, traced_place};

@@ -49,5 +49,4 @@ mod look_up;
 mod output;
 mod update;
 
-pub use caller::Caller;
 pub use calls::call;

@@ -5,9 +5,8 @@ ghost use Rattle.arena.specs.Ranges.{IsInside};
 ghost use Rattle.bpf_maps.specs.declared.part.TheConstants.{PART};
 ghost use Rattle.bpf_helpers.specs.Named.{bound_map, place_named};
 ghost use Rattle.bpf_helpers.specs.Calls.{AreLive};
-ghost use Rattle.bpf_helpers.specs.States.{site_of};
 ghost use Rattle.bpf_helpers.specs.Parts.{IsPartOf, AsksInside};
-ghost use Rattle.bpf_helpers.specs.inside.Flat.{flat_look_up};
+ghost use Rattle.bpf_helpers.specs.inside.Flat.{site_of, flat_look_up};
 
 use crate::caller::Caller;
 use arena::{Arena, Trace};
@@ -17,8 +16,8 @@ use bpf_maps::{MapKey, Maps, PART, laws};
 #[inline(always)]
 pub(crate) fn bound(bind: &[MapKey], word: u64) -> Option<MapKey>
     ensures value { result ≡ bound_map bind.now word }
-    ensures listed { IfSome result (λ key.
-        (word - 1 < length bind.now) × (key ≡ slice_index bind.now (word - 1))) }
+    ensures listed { IfSome result (λ map.
+        (word - 1 < length bind.now) × (map ≡ slice_index bind.now (word - 1))) }
 {
     let index = word.wrapping_sub(1);
     if index >= bind.len() as u64 {

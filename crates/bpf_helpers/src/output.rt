@@ -5,9 +5,8 @@ ghost use Rattle.arena.specs.Memory.{part_start, with_bytes};
 ghost use Rattle.bpf_maps.specs.declared.part.TheConstants.{PART};
 ghost use Rattle.bpf_maps.specs.Live.{LiveMaps};
 ghost use Rattle.bpf_helpers.specs.Named.{place_named};
-ghost use Rattle.bpf_helpers.specs.States.{site_of};
 ghost use Rattle.bpf_helpers.specs.Parts.{IsPartOf, AsksInside};
-ghost use Rattle.bpf_helpers.specs.inside.Flat.{LoadsAt};
+ghost use Rattle.bpf_helpers.specs.inside.Flat.{site_of, LoadsAt};
 
 use crate::caller::Caller;
 use crate::copying::copy_bytes;

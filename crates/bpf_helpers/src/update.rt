@@ -5,10 +5,10 @@ ghost use Rattle.bpf_maps.specs.declared.part.TheConstants.{PART};
 ghost use Rattle.bpf_maps.specs.Live.{live_at, shape_at};
 ghost use Rattle.tagged_model.specs.Helpers.{errno, negative};
 ghost use Rattle.bpf_helpers.specs.Calls.{AreLive};
-ghost use Rattle.bpf_helpers.specs.States.{site_of, answers};
+ghost use Rattle.bpf_helpers.specs.States.{answers};
 ghost use Rattle.bpf_helpers.specs.Named.{pair_named};
 ghost use Rattle.bpf_helpers.specs.Parts.{IsPartOf, AsksInside};
-ghost use Rattle.bpf_helpers.specs.inside.Flat.{pair_there, Updates, UpdatesNamed};
+ghost use Rattle.bpf_helpers.specs.inside.Flat.{site_of, pair_there, Updates, UpdatesNamed};
 
 use crate::caller::Caller;
 use crate::look_up::{bound, traced_place};

@@ -1,23 +1,23 @@
 -- A call that changes one map, which keeps its shape and its area.
 use Rattle.std.proofs.Common.{◌≡◌, ◌≢◌, ℕ, ◌-◌, ◌<◌, ◌≤◌, Bool, if◌then◌else◌, nat_le, List, Option, Some, None, IsSome, is_some, option_map, refl, sym, ap, subst, ◌∙◌, get_or, arith}
 use Rattle.std.proofs.lemmas.Bool.{lt-leb, le-leb}
-use Rattle.bpf_maps.specs.declared.entries.Entry.{Entry}
+use Rattle.bpf_maps.specs.declared.stored_map.StoredMap.{StoredMap}
 use Rattle.bpf_maps.specs.declared.maps.Maps.TheInside.{Inside}
 use Rattle.bpf_maps.specs.Places.{IsSound}
 use Rattle.bpf_maps.specs.BpfMap.{places_of}
 use Rattle.bpf_maps.specs.Live.{LiveMap, LiveMaps, live_at, live_or, places_at, holds_at, AreSound, IsLaid, SameAreas, SameValues, KeepsMap, KeepsOthers, areas, MapWithoutArea, without_area, held_at, one_less}
 use Rattle.slab.specs.Slab.{get, with_value}
-use Rattle.bpf_maps.specs.InMaps.{live_of, live_maps_of, entries_of, as_live_maps, IsInItsArea, IsWellFormedMaps}
-use Rattle.bpf_maps.proofs.Slots.{some_entry, live_by, others_by, one_changed, value_stays}
-use Rattle.bpf_maps.proofs.Placed.{under_key, changed_here, changed_others, changed_keys}
+use Rattle.bpf_maps.specs.InMaps.{live_of, live_maps_of, stored_in, as_live_maps, IsInItsArea, IsWellFormedMaps}
+use Rattle.bpf_maps.proofs.Slots.{some_stored, live_by, others_by, one_changed, value_stays}
+use Rattle.bpf_maps.proofs.ByHandle.{under_key, changed_here, changed_others, changed_keys}
 use Rattle.bpf_maps.proofs.Whole.{laid, sound_at, whole_replaced}
 use Rattle.bpf_maps.proofs.Stays.{keeps_live, keeps_places}
 
--- the fields with another entry under a key
-abbrev pub with_entry : Inside → ℕ → Entry → Bool → Inside
-with_entry a key new refused = record a { entries = with_value a.entries key new; refused = refused }
+-- the fields with another map under a key
+abbrev pub with_stored : Inside → ℕ → StoredMap → Bool → Inside
+with_stored a key new refused = record a { maps = with_value a.maps key new; refused = refused }
 
--- a property of the map at a place is that of the live map there
+-- a property of the map of a handle is that of the live map
 pub told_of : {P : Type 0} (f : LiveMap → P) {o : Option LiveMap} {l : LiveMap} → o ≡ Some l → f (live_or o) ≡ f l
 told_of f is = ap (λ (x : Option LiveMap). f (live_or x)) is
 
@@ -28,21 +28,21 @@ held_less l last = if last then None else Some (let h : MapWithoutArea = record 
 less_than_held : {o : Option LiveMap} {l : LiveMap} {last : Bool} → o ≡ Some l → nat_le l.holds 1 ≡ last → one_less (option_map without_area o) ≡ held_less l last
 less_than_held {l = l} at is = ap (λ (x : Option LiveMap). one_less (option_map without_area x)) at ∙ ap (held_less l) is
 
--- the entry of the map at `place` is under `key`
-pub record IsUnder (a : Inside) (t : LiveMaps) (place map key : ℕ) (e : Entry) : Type 0 where
+-- the map of `handle` is under `key`
+pub record IsUnder (a : Inside) (t : LiveMaps) (handle map key : ℕ) (e : StoredMap) : Type 0 where
   pub view : as_live_maps a ≡ t
   pub whole : IsWellFormedMaps a
-  pub same : place ≡ map
-  pub keyed : get_or a.keys place None ≡ Some key
-  pub here : get a.entries key ≡ Some e
+  pub same : handle ≡ map
+  pub keyed : get_or a.keys handle None ≡ Some key
+  pub here : get a.maps key ≡ Some e
 
--- the same, from the clauses of the calls that lead to the entry
-pub is_under : {a : Inside} {t : LiveMaps} {place map key : ℕ} {e : Entry} → as_live_maps a ≡ t → IsWellFormedMaps a → place ≡ map → get_or a.keys place None ≡ Some key → get a.entries key ≡ Some e → IsUnder a t place map key e
+-- the same, from the clauses of the calls that lead to the map
+pub is_under : {a : Inside} {t : LiveMaps} {handle map key : ℕ} {e : StoredMap} → as_live_maps a ≡ t → IsWellFormedMaps a → handle ≡ map → get_or a.keys handle None ≡ Some key → get a.maps key ≡ Some e → IsUnder a t handle map key e
 is_under view whole same keyed here = record { view = view; whole = whole; same = same; keyed = keyed; here = here }
 
--- the entry is replaced by one with the same shape and area
-pub record IsChange (a : Inside) (t : LiveMaps) (place map key : ℕ) (old new : Entry) : Type 0 where
-  pub under : IsUnder a t place map key old
+-- it is replaced by one with the same shape and area
+pub record IsChange (a : Inside) (t : LiveMaps) (handle map key : ℕ) (old new : StoredMap) : Type 0 where
+  pub under : IsUnder a t handle map key old
   pub start : new.start ≡ old.start
   pub stride : new.stride ≡ old.stride
   pub shape : (places_of new.map).shape ≡ (places_of old.map).shape
@@ -50,40 +50,40 @@ pub record IsChange (a : Inside) (t : LiveMaps) (place map key : ℕ) (old new :
   pub sound : IsSound (places_of new.map)
 
 -- a map is live
-pub live_here : (a : Inside) {t : LiveMaps} {place map : ℕ} {e : Entry} → as_live_maps a ≡ t → place ≡ map → get_or (entries_of a) place None ≡ Some e → live_at t map ≡ Some (live_of e)
-live_here a {place = place} {map = map} {e = e} view same here = ap (λ (u : LiveMaps). live_at u map) (sym view) ∙ ap (λ (p : ℕ). get_or (live_maps_of (entries_of a)) p None) (sym same) ∙ live_by (entries_of a) (entries_of a) place e here
+pub live_here : (a : Inside) {t : LiveMaps} {handle map : ℕ} {e : StoredMap} → as_live_maps a ≡ t → handle ≡ map → get_or (stored_in a) handle None ≡ Some e → live_at t map ≡ Some (live_of e)
+live_here a {handle = handle} {map = map} {e = e} view same here = ap (λ (u : LiveMaps). live_at u map) (sym view) ∙ ap (λ (p : ℕ). get_or (live_maps_of (stored_in a)) p None) (sym same) ∙ live_by (stored_in a) (stored_in a) handle e here
 
--- a live map has an entry
-pub live_entry : (a : Inside) {t : LiveMaps} {place map : ℕ} → as_live_maps a ≡ t → place ≡ map → IsSome (live_at t map) → (e : Entry) × (get_or (entries_of a) place None ≡ Some e) × (live_at t map ≡ Some (live_of e))
-live_entry a {t = t} {place = place} view same live =
-    let there : IsSome (live_at (as_live_maps a) place) = subst (λ (u : LiveMaps). IsSome (live_at u place)) (sym view) (subst (λ (k : ℕ). IsSome (live_at t k)) (sym same) live) in
-    let e = some_entry (entries_of a) place there in
+-- a live map is stored
+pub live_stored : (a : Inside) {t : LiveMaps} {handle map : ℕ} → as_live_maps a ≡ t → handle ≡ map → IsSome (live_at t map) → (e : StoredMap) × (get_or (stored_in a) handle None ≡ Some e) × (live_at t map ≡ Some (live_of e))
+live_stored a {t = t} {handle = handle} view same live =
+    let there : IsSome (live_at (as_live_maps a) handle) = subst (λ (u : LiveMaps). IsSome (live_at u handle)) (sym view) (subst (λ (k : ℕ). IsSome (live_at t k)) (sym same) live) in
+    let e = some_stored (stored_in a) handle there in
     (e.0, e.1, live_here a view same e.1)
 
--- its entry is under its key
-module _ {a : Inside} {t : LiveMaps} {place map key : ℕ} {e : Entry} (u : IsUnder a t place map key e) where
-  pub at_place : get_or (entries_of a) place None ≡ Some e
-  at_place = under_key a.entries a.keys place key u.keyed ∙ u.here
+-- it is under its key
+module _ {a : Inside} {t : LiveMaps} {handle map key : ℕ} {e : StoredMap} (u : IsUnder a t handle map key e) where
+  pub at_handle : get_or (stored_in a) handle None ≡ Some e
+  at_handle = under_key a.maps a.keys handle key u.keyed ∙ u.here
 
   pub live_under : live_at t map ≡ Some (live_of e)
-  live_under = live_here a u.view u.same at_place
+  live_under = live_here a u.view u.same at_handle
 
   pub placed_under : IsInItsArea a.bytes e
-  placed_under = u.whole.placed place e at_place
+  placed_under = u.whole.placed handle e at_handle
 
-module _ {a : Inside} {t : LiveMaps} {place map key : ℕ} {old new : Entry} (c : IsChange a t place map key old new) where
+module _ {a : Inside} {t : LiveMaps} {handle map key : ℕ} {old new : StoredMap} (c : IsChange a t handle map key old new) where
   abbrev after : Bool → Inside
-  after refused = with_entry a key new refused
+  after refused = with_stored a key new refused
 
-  -- the places of the maps, and their entries, whether or not memory was refused
+  -- the maps, whether or not memory was refused
   abbrev now : Inside
   now = after a.refused
 
-  is : get_or (entries_of now) place None ≡ Some new
-  is = changed_here a.keys a.entries c.under.whole.keys place key c.under.keyed old new c.under.here
+  is : get_or (stored_in now) handle None ≡ Some new
+  is = changed_here a.keys a.maps c.under.whole.keys handle key c.under.keyed old new c.under.here
 
-  others : (p : ℕ) → p ≢ place → get_or (entries_of now) p None ≡ get_or (entries_of a) p None
-  others = changed_others a.keys a.entries c.under.whole.keys place key c.under.keyed old new c.under.here
+  others : (p : ℕ) → p ≢ handle → get_or (stored_in now) p None ≡ get_or (stored_in a) p None
+  others = changed_others a.keys a.maps c.under.whole.keys handle key c.under.keyed old new c.under.here
 
   pub live_old : live_at t map ≡ Some (live_of old)
   live_old = live_under c.under
@@ -93,7 +93,7 @@ module _ {a : Inside} {t : LiveMaps} {place map key : ℕ} {old new : Entry} (c 
 
   pub others_stay : (other : ℕ) → other ≢ map → live_at (as_live_maps now) other ≡ live_at t other
   others_stay other ne =
-      others_by (entries_of a) (entries_of now) place others other (λ e. ne (e ∙ c.under.same))
+      others_by (stored_in a) (stored_in now) handle others other (λ e. ne (e ∙ c.under.same))
       ∙ ap (λ (u : LiveMaps). live_at u other) c.under.view
 
   pub areas_stay : SameAreas t (as_live_maps now)
@@ -101,8 +101,8 @@ module _ {a : Inside} {t : LiveMaps} {place map key : ℕ} {old new : Entry} (c 
 
   pub whole_stays : {refused : Bool} → IsWellFormedMaps (after refused)
   whole_stays {refused} =
-      whole_replaced (after refused) place c.under.whole others old new (at_place c.under) is c.start c.stride c.shape c.held c.sound refl refl
-      (changed_keys a.keys a.entries c.under.whole.keys place key c.under.keyed old new c.under.here) c.under.whole.room
+      whole_replaced (after refused) handle c.under.whole others old new (at_handle c.under) is c.start c.stride c.shape c.held c.sound refl
+      (changed_keys a.keys a.maps c.under.whole.keys handle key c.under.keyed old new c.under.here) c.under.whole.room
 
   pub laid_stays : {refused : Bool} → IsLaid (as_live_maps (after refused))
   laid_stays {refused} = laid (whole_stays {refused = refused})

@@ -1,6 +1,6 @@
 -- A map that is new.
 use Rattle.std.proofs.Common.{◌≡◌, ◌≢◌, ℕ, ◌+◌, ◌*◌, ◌/◌, ◌<◌, ◌≤◌, ◌⊎◌, ◌||◌, Bool, true, false, if◌then◌else◌, nat_lt, List, ◌++◌, length, take, drop, replicate, Option, Some, None, Result, Ok, Err, IfOk, IsSome, is_some, refl, sym, ap, ap₂, subst, ◌∙◌, arith, get_or, set, ⊎_elim, inl, inr, true≢false}
-use Rattle.std.specs.Prelude.{slice_set, is_none, position}
+use Rattle.std.specs.Prelude.{is_none, position}
 use Rattle.std.proofs.lemmas.Bool.{lt-ltb, le-ltb}
 use Rattle.std.proofs.lemmas.List.{length-replicate}
 use Rattle.std.proofs.lemmas.List.Quantifiers.{position-Some}
@@ -10,26 +10,24 @@ use Rattle.tagged_model.specs.declared.fault.MapFault.{MapFault}
 use Rattle.tagged_model.specs.declared.fault.MapFault.TheVariants.{NoEntry, TooBig, Memory, Exists, Invalid, NoSpace}
 use Rattle.slab.specs.Slab.{Slab, get, slab_len}
 use Rattle.bpf_maps.specs.declared.part.TheConstants.{STACK_AND_CONTEXT, LARGEST_SUM, MAPS, PART}
-use Rattle.bpf_maps.specs.declared.entries.Entry.{Entry}
+use Rattle.bpf_maps.specs.declared.stored_map.StoredMap.{StoredMap}
 use Rattle.bpf_maps.specs.declared.maps.Maps.TheInside.{Inside}
 use Rattle.bpf_maps.specs.Places.{PlaceTable, IsSound, new_places}
 use Rattle.bpf_maps.specs.BpfMap.{places_of}
-use Rattle.bpf_maps.specs.Live.{LiveMap, LiveMaps, live_at, live_or, free_place, places_at, offset, value_in, map_in, start_at, area_by, areas, create_fault, Creates, IsCreated, IsLaid, AreSound, SameValues, KeepsMaps}
-use Rattle.bpf_maps.specs.InMaps.{live_of, entries_of, as_live_maps, layout_of, AreLaidOut, IsWellFormedMaps}
-use Rattle.bpf_maps.specs.declared.map_layout.MapLayout.{MapLayout}
+use Rattle.bpf_maps.specs.Live.{LiveMap, LiveMaps, live_at, live_or, free_handle, places_at, offset, value_in, map_in, start_at, area_by, areas, create_fault, Creates, IsCreated, IsLaid, AreSound, SameValues, KeepsMaps}
+use Rattle.bpf_maps.specs.InMaps.{live_of, by_handle, stored_in, as_live_maps, AreKeys, IsWellFormedMaps}
 use Rattle.bpf_maps.specs.LiveLaws.{lowest_most}
-use Rattle.bpf_maps.proofs.LaidOut.{added_out}
 use Rattle.bpf_maps.proofs.Slots.{live_by, none_by, others_by, same_or_other}
-use Rattle.bpf_maps.proofs.Placed.{fewer_keys, no_key, lowest_is, added_here, added_others, added_keys}
+use Rattle.bpf_maps.proofs.ByHandle.{fewer_keys, no_key, lowest_is, added_here, added_others, added_keys}
 use Rattle.bpf_maps.proofs.InAreas.{value_ends}
 use Rattle.bpf_maps.proofs.Arrays.{sound_new}
-use Rattle.bpf_maps.proofs.Changes.{told_of, live_entry}
+use Rattle.bpf_maps.proofs.Changes.{told_of, live_stored}
 use Rattle.bpf_maps.proofs.Written.{front_same, before_same, zeros}
 use Rattle.bpf_maps.proofs.Whole.{laid, sound_at, whole_added, offset_of}
 use Rattle.bpf_maps.proofs.Values.{new_map_in}
 use Rattle.bpf_maps.proofs.Stays.{keeps_live}
 
-pub no_fault : (t : LiveMaps) (s : MapShape) → is_none (free_place t) ≡ false → areas t + area_by s ≤ LARGEST_SUM → create_fault t s ≡ None
+pub no_fault : (t : LiveMaps) (s : MapShape) → is_none (free_handle t) ≡ false → areas t + area_by s ≤ LARGEST_SUM → create_fault t s ≡ None
 no_fault t s free fits =
     let b : nat_lt LARGEST_SUM (areas t + area_by s) ≡ false = le-ltb LARGEST_SUM (areas t + area_by s) fits in
     ap (λ (x : Bool). if x || nat_lt LARGEST_SUM (areas t + area_by s) then Some NoSpace else None) free
@@ -39,13 +37,13 @@ or_true : (b : Bool) → (b || true) ≡ true
 or_true true = refl
 or_true false = refl
 
-full_fault : (t : LiveMaps) (s : MapShape) → (free_place t ≡ None) ⊎ (LARGEST_SUM < areas t + area_by s) → create_fault t s ≡ Some NoSpace
+full_fault : (t : LiveMaps) (s : MapShape) → (free_handle t ≡ None) ⊎ (LARGEST_SUM < areas t + area_by s) → create_fault t s ≡ Some NoSpace
 full_fault t s full =
     ⊎_elim
-    (λ (e : free_place t ≡ None). ap (λ (o : Option ℕ). if is_none o || nat_lt LARGEST_SUM (areas t + area_by s) then Some NoSpace else None) e)
+    (λ (e : free_handle t ≡ None). ap (λ (o : Option ℕ). if is_none o || nat_lt LARGEST_SUM (areas t + area_by s) then Some NoSpace else None) e)
     (λ (l : LARGEST_SUM < areas t + area_by s).
     ap (λ (x : Bool). if x then Some NoSpace else None)
-    (ap (λ (x : Bool). is_none (free_place t) || x) (lt-ltb LARGEST_SUM (areas t + area_by s) l) ∙ or_true (is_none (free_place t))))
+    (ap (λ (x : Bool). is_none (free_handle t) || x) (lt-ltb LARGEST_SUM (areas t + area_by s) l) ∙ or_true (is_none (free_handle t))))
     full
 
 -- there is no room
@@ -56,66 +54,66 @@ module _ {a : Inside} {t : LiveMaps} (shape : MapShape) {size : ℕ} (view : as_
       subst (λ (o : Option MapFault). Creates o t shape (Err NoSpace) t)
       (sym
       (ap (λ (u : LiveMaps). create_fault u shape) (sym view)
-      ∙ full_fault (as_live_maps a) shape (⊎_elim (λ e. inl (lowest_is a.keys a.entries h.keys ∙ e)) (λ l. inr (omega arith)) full)))
+      ∙ full_fault (as_live_maps a) shape (⊎_elim (λ e. inl (lowest_is a.keys a.maps h.keys ∙ e)) (λ l. inr (omega arith)) full)))
       (refl, refl)
 
--- there is room for another map, at this place
-pub record IsRoom (a : Inside) (t : LiveMaps) (shape : MapShape) (size place : ℕ) : Type 0 where
+-- there is room for another map, at this handle
+pub record IsRoom (a : Inside) (t : LiveMaps) (shape : MapShape) (size handle : ℕ) : Type 0 where
   pub view : as_live_maps a ≡ t
   pub whole : IsWellFormedMaps a
   pub size_is : size ≡ area_by shape
-  pub free : position is_none a.keys ≡ Some place
+  pub free : position is_none a.keys ≡ Some handle
   pub room : a.bytes + size ≤ LARGEST_SUM
 
--- the entry is in the slab, and its key at the place
-pub record IsAdded (a : Inside) (shape : MapShape) (entries : Slab Entry) (layouts : List MapLayout) (place key : ℕ) (e : Entry) : Type 0 where
-  pub was : get a.entries key ≡ None
-  pub there : get entries key ≡ Some e
-  pub others : (j : ℕ) → j ≢ key → get entries j ≡ get a.entries j
-  pub len : slab_len entries ≡ slab_len a.entries + 1
-  pub capacity : entries.capacity ≡ a.entries.capacity
+-- the map is in the slab, and its key is that of the handle
+pub record IsAdded (a : Inside) (shape : MapShape) (keys : List (Option ℕ)) (maps : Slab StoredMap) (handle key : ℕ) (e : StoredMap) : Type 0 where
+  pub keys_are : keys ≡ set a.keys handle (Some key)
+  pub was : get a.maps key ≡ None
+  pub there : get maps key ≡ Some e
+  pub others : (j : ℕ) → j ≢ key → get maps j ≡ get a.maps j
+  pub len : slab_len maps ≡ slab_len a.maps + 1
+  pub capacity : maps.capacity ≡ a.maps.capacity
   pub places : places_of e.map ≡ new_places shape
   pub start : e.start ≡ STACK_AND_CONTEXT + a.bytes
   pub stride : e.stride ≡ (shape.value_size + 7) / 8 * 8
   pub holds : e.holds ≡ 1
-  pub layout : layouts ≡ slice_set a.layouts place (layout_of e)
 
 -- the fields with it
-abbrev pub with_new : Inside → ℕ → ℕ → ℕ → Slab Entry → List MapLayout → Inside
-with_new a size place key entries layouts = record a { keys = set a.keys place (Some key); entries = entries; layouts = layouts; bytes = a.bytes + size }
+abbrev pub with_new : Inside → ℕ → List (Option ℕ) → Slab StoredMap → Inside
+with_new a size keys maps = record a { keys = keys; maps = maps; bytes = a.bytes + size }
 
-module _ {a : Inside} {t : LiveMaps} {shape : MapShape} {size place : ℕ} (r : IsRoom a t shape size place) where
+module _ {a : Inside} {t : LiveMaps} {shape : MapShape} {size handle : ℕ} (r : IsRoom a t shape size handle) where
   view : as_live_maps a ≡ t
   view = r.view
 
   h : IsWellFormedMaps a
   h = r.whole
 
-  -- the place is the lowest that has no key
-  front : (place < length a.keys) × (is_none (get_or a.keys place None) ≡ true) × ((q : ℕ) → q < place → is_none (get_or a.keys q None) ≡ false)
-  front = position-Some is_none a.keys place None r.free
+  -- the handle is the lowest that has no key
+  front : (handle < length a.keys) × (is_none (get_or a.keys handle None) ≡ true) × ((q : ℕ) → q < handle → is_none (get_or a.keys q None) ≡ false)
+  front = position-Some is_none a.keys handle None r.free
 
-  free : get_or a.keys place None ≡ None
-  free = by (get_or a.keys place None) front.1
+  free : get_or a.keys handle None ≡ None
+  free = by (get_or a.keys handle None) front.1
     where
       by : (o : Option ℕ) → is_none o ≡ true → o ≡ None
       by None is = refl
       by (Some key) is = absurd (true≢false (sym is))
 
-  below : place < MAPS
+  pub below : handle < MAPS
   below = let l = front.0 in let long = h.keys.long in omega arith
 
-  lowest : free_place t ≡ Some place
-  lowest = ap free_place (sym view) ∙ lowest_is a.keys a.entries h.keys ∙ r.free
+  lowest : free_handle t ≡ Some handle
+  lowest = ap free_handle (sym view) ∙ lowest_is a.keys a.maps h.keys ∙ r.free
 
-  empty : get_or (entries_of a) place None ≡ None
-  empty = no_key a.entries a.keys place free
+  empty : get_or (stored_in a) handle None ≡ None
+  empty = no_key a.maps a.keys handle free
 
   no_fault_here : create_fault t shape ≡ None
-  no_fault_here = ap (λ (u : LiveMaps). create_fault u shape) (sym view) ∙ no_fault (as_live_maps a) shape (ap is_none (ap free_place view ∙ lowest)) (let s = h.sum in let z = r.size_is in let m = r.room in omega arith)
+  no_fault_here = ap (λ (u : LiveMaps). create_fault u shape) (sym view) ∙ no_fault (as_live_maps a) shape (ap is_none (ap free_handle view ∙ lowest)) (let s = h.sum in let z = r.size_is in let m = r.room in omega arith)
 
-  pub was_none : live_at t place ≡ None
-  was_none = ap (λ (u : LiveMaps). live_at u place) (sym view) ∙ none_by (entries_of a) (entries_of a) place empty
+  pub was_none : live_at t handle ≡ None
+  was_none = ap (λ (u : LiveMaps). live_at u handle) (sym view) ∙ none_by (stored_in a) (stored_in a) handle empty
 
   -- memory was refused
   pub creates_none : Creates (create_fault t shape) t shape (Err Memory) (as_live_maps (record a { refused = true }))
@@ -123,38 +121,38 @@ module _ {a : Inside} {t : LiveMaps} {shape : MapShape} {size place : ℕ} (r : 
       subst (λ (o : Option MapFault). Creates o t shape (Err Memory) (as_live_maps (record a { refused = true }))) (sym no_fault_here)
       (ap (λ (u : LiveMaps). let v : LiveMaps = record { maps = u.maps; refused = true } in v) view)
 
-  -- there is room for one more entry in the slab
-  pub has_room : slab_len a.entries + 1 ≤ a.entries.capacity
-  has_room = let few = fewer_keys a.keys place front.0 free in let all = h.keys.all in let long = h.keys.long in let room = h.room in omega arith
+  -- there is room for one more map in the slab
+  pub has_room : slab_len a.maps + 1 ≤ a.maps.capacity
+  has_room = let few = fewer_keys a.keys handle front.0 free in let all = h.keys.all in let long = h.keys.long in let room = h.room in omega arith
 
-  module _ {entries : Slab Entry} {layouts : List MapLayout} {key : ℕ} {e : Entry} (d : IsAdded a shape entries layouts place key e) where
+  module _ {keys : List (Option ℕ)} {maps : Slab StoredMap} {key : ℕ} {e : StoredMap} (d : IsAdded a shape keys maps handle key e) where
     abbrev after : Inside
-    after = with_new a size place key entries layouts
+    after = with_new a size keys maps
 
     stride : e.stride ≡ (shape.value_size + 7) / 8 * 8
     stride = d.stride
 
-    there : get_or (entries_of after) place None ≡ Some e
-    there = added_here a.keys a.entries entries h.keys place key free below d.was e d.there d.others
+    there : get_or (stored_in after) handle None ≡ Some e
+    there = ap (λ (ks : List (Option ℕ)). get_or (by_handle ks maps) handle None) d.keys_are ∙ added_here a.keys a.maps maps h.keys handle key free below d.was e d.there d.others
 
-    others : (q : ℕ) → q ≢ place → get_or (entries_of after) q None ≡ get_or (entries_of a) q None
-    others = added_others a.keys a.entries entries h.keys place key free below d.was e d.there d.others
+    others : (q : ℕ) → q ≢ handle → get_or (stored_in after) q None ≡ get_or (stored_in a) q None
+    others q ne = ap (λ (ks : List (Option ℕ)). get_or (by_handle ks maps) q None) d.keys_are ∙ added_others a.keys a.maps maps h.keys handle key free below d.was e d.there d.others q ne
 
-    live_new : live_at (as_live_maps after) place ≡ Some (live_of e)
-    live_new = live_by (entries_of after) (entries_of after) place e there
+    live_new : live_at (as_live_maps after) handle ≡ Some (live_of e)
+    live_new = live_by (stored_in after) (stored_in after) handle e there
 
-    others_stay : (q : ℕ) → q ≢ place → live_at (as_live_maps after) q ≡ live_at t q
-    others_stay q ne = others_by (entries_of a) (entries_of after) place others q ne ∙ ap (λ (u : LiveMaps). live_at u q) view
+    others_stay : (q : ℕ) → q ≢ handle → live_at (as_live_maps after) q ≡ live_at t q
+    others_stay q ne = others_by (stored_in a) (stored_in after) handle others q ne ∙ ap (λ (u : LiveMaps). live_at u q) view
 
     pub older_stay : (k : ℕ) → IsSome (live_at t k) → live_at (as_live_maps after) k ≡ live_at t k
     older_stay k live = others_stay k (λ e. true≢false (sym live ∙ ap is_some (ap (live_at t) e ∙ was_none)))
 
-    places_one : places_at (as_live_maps after) place ≡ new_places shape
+    places_one : places_at (as_live_maps after) handle ≡ new_places shape
     places_one = told_of (λ l. l.places) live_new ∙ d.places
 
-    pub creates_one : Creates (create_fault t shape) t shape (Ok place) (as_live_maps after)
+    pub creates_one : Creates (create_fault t shape) t shape (Ok handle) (as_live_maps after)
     creates_one =
-        subst (λ (o : Option MapFault). Creates o t shape (Ok place) (as_live_maps after)) (sym no_fault_here)
+        subst (λ (o : Option MapFault). Creates o t shape (Ok handle) (as_live_maps after)) (sym no_fault_here)
         (record {
           lowest = lowest;
           was = was_none;
@@ -176,16 +174,15 @@ module _ {a : Inside} {t : LiveMaps} {shape : MapShape} {size place : ℕ} (r : 
         let x : area_by (places_of e.map).shape ≡ area_by shape = ap (λ (q : PlaceTable). area_by q.shape) d.places in
         let room = h.room in
         let same = d.capacity in
-        whole_added after place h others e empty there d.start round (let o = d.holds in omega arith) (subst IsSound (sym d.places) (sound_new shape)) (let s = r.size_is in omega arith) r.room
-        (subst (λ (ls : List MapLayout). AreLaidOut (entries_of after) ls) (sym d.layout) (added_out (entries_of a) (entries_of after) a.layouts place h.laid_out others e there below))
-        (added_keys a.keys a.entries entries h.keys place key free below d.was e d.there d.others d.len)
+        whole_added after handle h others e empty there d.start round (let o = d.holds in omega arith) (subst IsSound (sym d.places) (sound_new shape)) (let s = r.size_is in omega arith) r.room
+        (subst (λ (ks : List (Option ℕ)). AreKeys ks maps) (sym d.keys_are) (added_keys a.keys a.maps maps h.keys handle key free below d.was e d.there d.others d.len))
         (omega arith)
 
     pub laid_one : IsLaid (as_live_maps after)
     laid_one = laid whole_one
 
     -- its area is after the others
-    pub last_one : start_at (as_live_maps after) place ≡ STACK_AND_CONTEXT + areas t
+    pub last_one : start_at (as_live_maps after) handle ≡ STACK_AND_CONTEXT + areas t
     last_one = told_of (λ l. l.start) live_new ∙ d.start ∙ ap (λ (n : ℕ). STACK_AND_CONTEXT + n) (h.sum ∙ ap areas view)
 
     pub more_one : areas (as_live_maps after) ≡ areas t + area_by shape
@@ -205,7 +202,7 @@ module _ {a : Inside} {t : LiveMaps} {shape : MapShape} {size place : ℕ} (r : 
       pub front_kept : take STACK_AND_CONTEXT later ≡ take STACK_AND_CONTEXT bytes
       front_kept = ap (take STACK_AND_CONTEXT) written ∙ front_same bytes (replicate size 0) (STACK_AND_CONTEXT + a.bytes) size (length-replicate size 0) enough STACK_AND_CONTEXT (omega arith)
 
-      pub cleared_one : (p : ℕ) → p < shape.max_entries → value_in later (as_live_maps after) place p ≡ replicate shape.value_size 0
+      pub cleared_one : (p : ℕ) → p < shape.max_entries → value_in later (as_live_maps after) handle p ≡ replicate shape.value_size 0
       cleared_one p l =
           let o : offset (live_of e) p ≡ STACK_AND_CONTEXT + a.bytes + p * e.stride = offset_of e p ∙ ap (λ (n : ℕ). n + p * e.stride) d.start in
           ap (λ (x : Option LiveMap). take (live_or x).places.shape.value_size (drop (offset (live_or x) p) later)) live_new
@@ -214,7 +211,7 @@ module _ {a : Inside} {t : LiveMaps} {shape : MapShape} {size place : ℕ} (r : 
           ∙ ap (λ (b : List ℕ). take shape.value_size (drop (STACK_AND_CONTEXT + a.bytes + p * e.stride) b)) written
           ∙ zeros bytes (STACK_AND_CONTEXT + a.bytes) size enough (p * e.stride) shape.value_size (let x = value_ends shape.value_size shape.max_entries e.stride stride p l in let z = r.size_is in omega arith)
 
-      kept_at : (j p : ℕ) (f : Entry) → get_or (entries_of a) j None ≡ Some f → p < (places_of f.map).shape.max_entries → take (places_of f.map).shape.value_size (drop (offset (live_of f) p) later) ≡ take (places_of f.map).shape.value_size (drop (offset (live_of f) p) bytes)
+      kept_at : (j p : ℕ) (f : StoredMap) → get_or (stored_in a) j None ≡ Some f → p < (places_of f.map).shape.max_entries → take (places_of f.map).shape.value_size (drop (offset (live_of f) p) later) ≡ take (places_of f.map).shape.value_size (drop (offset (live_of f) p) bytes)
       kept_at j p f at l =
           let i = h.placed j f at in
           let s = (places_of f.map).shape in
@@ -226,18 +223,18 @@ module _ {a : Inside} {t : LiveMaps} {shape : MapShape} {size place : ℕ} (r : 
 
       pub values_kept : SameValues t bytes (as_live_maps after) later
       values_kept j p old_live new_live l =
-          same_or_other j place
-          (λ (s : j ≡ place). absurd (true≢false (sym old_live ∙ ap is_some (ap (live_at t) s ∙ was_none))))
-          (λ (ne : j ≢ place).
-          let f = live_entry a {map = j} view refl old_live in
+          same_or_other j handle
+          (λ (s : j ≡ handle). absurd (true≢false (sym old_live ∙ ap is_some (ap (live_at t) s ∙ was_none))))
+          (λ (ne : j ≢ handle).
+          let f = live_stored a {map = j} view refl old_live in
           let n = others_stay j ne ∙ f.2 in
           let m = told_of (λ x. x.places.shape.max_entries) n in
           ap (λ (x : Option LiveMap). take (live_or x).places.shape.value_size (drop (offset (live_or x) p) later)) n
           ∙ kept_at j p f.0 f.1 (omega arith)
           ∙ ap (λ (x : Option LiveMap). take (live_or x).places.shape.value_size (drop (offset (live_or x) p) bytes)) (sym f.2))
 
-      pub fresh_one : map_in later (as_live_maps after) place ≡ new_table (λ i. replicate shape.value_size 0) shape
-      fresh_one = new_map_in later (as_live_maps after) place shape (replicate shape.value_size 0) places_one (λ array. cleared_one)
+      pub fresh_one : map_in later (as_live_maps after) handle ≡ new_table (λ i. replicate shape.value_size 0) shape
+      fresh_one = new_map_in later (as_live_maps after) handle shape (replicate shape.value_size 0) places_one (λ array. cleared_one)
 
       pub maps_kept : KeepsMaps t bytes (as_live_maps after) later
       maps_kept k live = keeps_live t (as_live_maps after) bytes later k values_kept (subst AreSound view (sound_at h) k) (older_stay k live) live
@@ -254,7 +251,7 @@ created (Some f) old new s k h = cc (h.0)
 pub not_full : (old new : LiveMaps) (s : MapShape) (answer : Result ℕ MapFault) → create_fault old s ≡ None → Creates (create_fault old s) old s answer new → answer ≢ Err NoSpace
 not_full old new s answer none made e = subst (λ (a : Result ℕ MapFault). Creates None old s a new) e (subst (λ (f : Option MapFault). Creates f old s answer new) none made)
 
--- a new map is at no higher place than one that was free
+-- a new map is at no higher handle than one that was free
 pub made_low : (f : Option MapFault) (old new : LiveMaps) (s : MapShape) (k : ℕ) (answer : Result ℕ MapFault) → live_at old k ≡ None → Creates f old s answer new → IfOk answer (λ made. made ≤ k)
 made_low f old new s k (Ok made) none h = lowest_most made k old (created f old new s made h).lowest none
 made_low f old new s k (Err e) none h = tt
@@ -269,6 +266,6 @@ maps_refused None old new s Exists h = absurd h
 maps_refused None old new s Invalid h = absurd h
 maps_refused None old new s NoSpace h = absurd h
 
--- there is as much room if the same place is the lowest free one, and the areas take as many bytes
-pub same_fault : (old new : LiveMaps) (s : MapShape) → free_place new ≡ free_place old → areas new ≡ areas old → create_fault new s ≡ create_fault old s
+-- there is as much room if the same handle is the lowest free one, and the areas take as many bytes
+pub same_fault : (old new : LiveMaps) (s : MapShape) → free_handle new ≡ free_handle old → areas new ≡ areas old → create_fault new s ≡ create_fault old s
 same_fault old new s free bytes = ap₂ (λ (o : Option ℕ) (n : ℕ). if is_none o || nat_lt LARGEST_SUM (n + area_by s) then Some NoSpace else None) free bytes

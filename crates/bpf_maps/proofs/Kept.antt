@@ -8,7 +8,7 @@ use Rattle.std.specs.Map.{values_of}
 use Rattle.tagged_model.specs.Table.{found, without, with_key, is_full}
 use Rattle.bpf_maps.specs.Places.{table_of, occurrences, IsSound, IsSized, IsFree}
 use Rattle.bpf_maps.specs.Index.{entries_of, bound_of, TakesKeys, IsWellFormedHash, shown}
-use Rattle.bpf_maps.specs.declared.hash_map.HashMapIx.TheInside.{Inside}
+use Rattle.bpf_maps.specs.declared.hash_map.HashMap.TheInside.{Inside}
 use Rattle.bpf_maps.specs.declared.key_index.KeyIndex.{KeyIndex}
 use Rattle.tagged_model.specs.declared.shape.MapShape.{MapShape}
 use Rattle.bpf_maps.proofs.Counts.{IsSum, times-append, times_self, values_of-append, sum-without, sized-without, sized-with}

@@ -1,29 +1,29 @@
 -- A call that changes the keys of one map and nothing else.
-use Rattle.std.proofs.Common.{◌≡◌, ℕ, Bool, IsSome, refl, sym, ap, subst, is_some}
+use Rattle.std.proofs.Common.{◌≡◌, ℕ, Bool, refl, sym, ap, subst, is_some}
 use Rattle.bpf_maps.specs.declared.bpf_map.BpfMap.{BpfMap}
-use Rattle.bpf_maps.specs.declared.entries.Entry.{Entry}
+use Rattle.bpf_maps.specs.declared.stored_map.StoredMap.{StoredMap}
 use Rattle.bpf_maps.specs.declared.maps.Maps.TheInside.{Inside}
 use Rattle.bpf_maps.specs.Places.{IsSound}
 use Rattle.bpf_maps.specs.BpfMap.{places_of}
-use Rattle.bpf_maps.specs.Live.{LiveMaps, live_at, places_at, IsLaid, OnlyKeysChange}
+use Rattle.bpf_maps.specs.Live.{LiveMaps, places_at, OnlyKeysChange}
 use Rattle.bpf_maps.specs.InMaps.{as_live_maps, IsWellFormedMaps}
-use Rattle.bpf_maps.proofs.Changes.{with_entry, told_of, IsUnder, IsChange, placed_under, live_old, live_new, others_stay, areas_stay, whole_stays, laid_stays, room_stays, part_stays}
+use Rattle.bpf_maps.proofs.Changes.{with_stored, told_of, IsUnder, IsChange, placed_under, live_old, live_new, others_stay, areas_stay, whole_stays, laid_stays, room_stays, part_stays}
 
--- the entry with another table of places
-abbrev pub with_map : Entry → BpfMap → Entry
+-- the map with another table of places
+abbrev pub with_map : StoredMap → BpfMap → StoredMap
 with_map e map = record { map = map; start = e.start; stride = e.stride; holds = e.holds }
 
--- the map at `place`, whose entry is under `key`, has another table
-pub record IsKeyChange (a : Inside) (t : LiveMaps) (place map key : ℕ) (old : Entry) (table : BpfMap) : Type 0 where
-  pub under : IsUnder a t place map key old
+-- the map of `handle`, which is under `key`, has another table
+pub record IsKeyChange (a : Inside) (t : LiveMaps) (handle map key : ℕ) (old : StoredMap) (table : BpfMap) : Type 0 where
+  pub under : IsUnder a t handle map key old
   pub shape : (places_of table).shape ≡ (places_of old.map).shape
   pub sound : IsSound (places_of table)
 
-module _ {a : Inside} {t : LiveMaps} {place map key : ℕ} {old : Entry} {table : BpfMap} (c : IsKeyChange a t place map key old table) where
+module _ {a : Inside} {t : LiveMaps} {handle map key : ℕ} {old : StoredMap} {table : BpfMap} (c : IsKeyChange a t handle map key old table) where
   abbrev after : Bool → Inside
-  after refused = with_entry a key (with_map old table) refused
+  after refused = with_stored a key (with_map old table) refused
 
-  change : IsChange a t place map key old (with_map old table)
+  change : IsChange a t handle map key old (with_map old table)
   change = record { under = c.under; start = refl; stride = refl; shape = c.shape; held = (placed_under c.under).held; sound = c.sound }
 
   pub places_before : places_of old.map ≡ places_at t map
@@ -46,16 +46,3 @@ module _ {a : Inside} {t : LiveMaps} {place map key : ℕ} {old : Entry} {table 
     room = room_stays change;
     laid = laid_stays change {refused = refused};
   }
-
--- nothing changes
-pub no_keys : (t : LiveMaps) (key : ℕ) → IsSome (live_at t key) → IsSound (places_at t key) → IsLaid t → OnlyKeysChange key t t
-no_keys t key live sound laid = record {
-  live = live;
-  holds = refl;
-  shape = refl;
-  sound = sound;
-  others = λ other ne. refl;
-  areas = λ k l at. (l, at, refl, refl, refl);
-  room = refl;
-  laid = laid;
-}

@@ -8,8 +8,7 @@ pub mod Following
 pub mod Indices
 pub mod Arrays
 pub mod Slots
-pub mod Placed
-pub mod LaidOut
+pub mod ByHandle
 pub mod Totals
 pub mod InAreas
 pub mod Whole

@@ -4,118 +4,118 @@ use Rattle.std.proofs.lemmas.List.{drop-take, drop-drop, length-drop}
 use Rattle.std.proofs.Math.Seq.{length-take-le, take-take}
 use Rattle.slab.specs.Slab.{Slab, get, slab_len, with_value}
 use Rattle.bpf_maps.specs.declared.part.TheConstants.{STACK_AND_CONTEXT, PART}
-use Rattle.bpf_maps.specs.declared.entries.Entry.{Entry}
+use Rattle.bpf_maps.specs.declared.stored_map.StoredMap.{StoredMap}
 use Rattle.bpf_maps.specs.declared.maps.Maps.TheInside.{Inside}
 use Rattle.bpf_maps.specs.BpfMap.{places_of}
 use Rattle.bpf_maps.specs.Live.{LiveMap, LiveMaps, live_at, live_or, shape_at, offset, area_by, areas, without_area, held_at, one_less, area_of, IsLaid, AreSound, SameValues, KeepsOthers, map_without, ClosesUp}
 use Rattle.bpf_maps.specs.Sum.{weight}
-use Rattle.bpf_maps.specs.InMaps.{live_of, live_maps_of, placed, entries_of, as_live_maps, AreKeys, closed_up, AreLaidOut, IsWellFormedMaps}
-use Rattle.bpf_maps.specs.declared.map_layout.MapLayout.{MapLayout}
+use Rattle.bpf_maps.specs.InMaps.{live_of, live_maps_of, by_handle, stored_in, as_live_maps, AreKeys, closed_up, IsWellFormedMaps}
 use Rattle.bpf_maps.proofs.Slots.{at_lives, live_by, none_by, same_some}
-use Rattle.bpf_maps.proofs.Placed.{changed_entry, changed_others, changed_keys, removed_here, removed_others, removed_keys}
+use Rattle.bpf_maps.proofs.ByHandle.{changed_stored, changed_others, changed_keys, removed_here, removed_others, removed_keys}
 use Rattle.bpf_maps.proofs.Totals.{weight_most}
-use Rattle.bpf_maps.proofs.Changes.{told_of, IsUnder, at_place, live_here, live_entry, none_held}
+use Rattle.bpf_maps.proofs.Changes.{told_of, IsUnder, at_handle, live_here, live_stored, none_held}
 use Rattle.bpf_maps.proofs.Stays.{keeps_held}
 use Rattle.bpf_maps.proofs.InAreas.{value_ends, before_or_behind}
 use Rattle.bpf_maps.proofs.Written.{front_same, before_same, own}
 use Rattle.bpf_maps.proofs.Whole.{laid, sound_at, offset_of, offset_without, beside, whole_removed}
 
--- the entry that is removed is the one of the map
-pub record IsTaken (a : Inside) (t : LiveMaps) (place map key : ℕ) (old gone : Entry) : Type 0 where
-  pub under : IsUnder a t place map key old
-  pub value : get (with_value a.entries key old) key ≡ Some gone
+-- the map that is taken out is the one of the handle
+pub record IsTaken (a : Inside) (t : LiveMaps) (handle map key : ℕ) (old gone : StoredMap) : Type 0 where
+  pub under : IsUnder a t handle map key old
+  pub value : get (with_value a.maps key old) key ≡ Some gone
 
--- the entries without it
-pub record IsLeft (a : Inside) (key : ℕ) (old : Entry) (left : Slab Entry) : Type 0 where
+-- the keys and the slab without it
+pub record IsLeft (a : Inside) (handle key : ℕ) (old : StoredMap) (keys : List (Option ℕ)) (left : Slab StoredMap) : Type 0 where
+  pub keys_are : keys ≡ set a.keys handle None
   pub gap : get left key ≡ None
-  pub others : (j : ℕ) → j ≢ key → get left j ≡ get (with_value a.entries key old) j
-  pub len : slab_len left + 1 ≡ slab_len (with_value a.entries key old)
-  pub capacity : left.capacity ≡ a.entries.capacity
+  pub others : (j : ℕ) → j ≢ key → get left j ≡ get (with_value a.maps key old) j
+  pub len : slab_len left + 1 ≡ slab_len (with_value a.maps key old)
+  pub capacity : left.capacity ≡ a.maps.capacity
 
--- the entries after it are moved down, with these keys
-pub record IsClosed (keys : List (Option ℕ)) (end size : ℕ) (left entries : Slab Entry) (layouts : List MapLayout) : Type 0 where
-  pub each : (p : ℕ) → get_or (placed keys entries) p None ≡ option_map (closed_up end size) (get_or (placed keys left) p None)
-  pub are_keys : AreKeys keys entries
-  pub capacity : entries.capacity ≡ left.capacity
-  pub layouts_are : AreLaidOut (placed keys entries) layouts
+-- the maps after it are moved down, with these keys
+pub record IsClosed (keys : List (Option ℕ)) (end size : ℕ) (left maps : Slab StoredMap) : Type 0 where
+  pub each : (p : ℕ) → get_or (by_handle keys maps) p None ≡ option_map (closed_up end size) (get_or (by_handle keys left) p None)
+  pub are_keys : AreKeys keys maps
+  pub capacity : maps.capacity ≡ left.capacity
 
--- the map is removed: its entry is taken out, and the later ones move down by the size of its area
-pub record Goes (a : Inside) (t : LiveMaps) (place map key size : ℕ) (old gone : Entry) (left entries : Slab Entry) (layouts : List MapLayout) : Type 0 where
-  pub taken : IsTaken a t place map key old gone
+-- the map is removed: it is taken out, and the later ones move down by the size of its area
+pub record Goes (a : Inside) (t : LiveMaps) (handle map key size : ℕ) (old gone : StoredMap) (keys : List (Option ℕ)) (left maps : Slab StoredMap) : Type 0 where
+  pub taken : IsTaken a t handle map key old gone
   pub size_is : size ≡ area_of (live_of gone)
-  pub rest : IsLeft a key old left
-  pub closed : IsClosed (set a.keys place None) (gone.start + size) size left entries layouts
+  pub rest : IsLeft a handle key old keys left
+  pub closed : IsClosed keys (gone.start + size) size left maps
 
 -- the fields without it
-abbrev pub without_entry : Inside → ℕ → ℕ → Slab Entry → List MapLayout → Inside
-without_entry a size place entries layouts = record a { keys = set a.keys place None; entries = entries; layouts = layouts; bytes = a.bytes - size }
+abbrev pub without_stored : Inside → ℕ → List (Option ℕ) → Slab StoredMap → Inside
+without_stored a size keys maps = record a { keys = keys; maps = maps; bytes = a.bytes - size }
 
 -- a map without its area is the same at another address
 held_still : (gone : LiveMap) (o : Option LiveMap) → option_map without_area (option_map (map_without gone) o) ≡ option_map without_area o
 held_still gone None = refl
 held_still gone (Some l) = refl
 
-lives_closed : (gone : Entry) (o : Option Entry) → option_map live_of (option_map (closed_up (gone.start + area_of (live_of gone)) (area_of (live_of gone))) o) ≡ option_map (map_without (live_of gone)) (option_map live_of o)
+lives_closed : (gone : StoredMap) (o : Option StoredMap) → option_map live_of (option_map (closed_up (gone.start + area_of (live_of gone)) (area_of (live_of gone))) o) ≡ option_map (map_without (live_of gone)) (option_map live_of o)
 lives_closed gone None = refl
 lives_closed gone (Some e) = refl
 
-module _ {a : Inside} {t : LiveMaps} {place map key : ℕ} {old gone : Entry} (c : IsTaken a t place map key old gone) where
+module _ {a : Inside} {t : LiveMaps} {handle map key : ℕ} {old gone : StoredMap} (c : IsTaken a t handle map key old gone) where
   abbrev whole : IsWellFormedMaps a
   whole = c.under.whole
 
   is_gone : old ≡ gone
-  is_gone = same_some (changed_entry a.keys a.entries whole.keys place key c.under.keyed old old c.under.here) c.value
+  is_gone = same_some (changed_stored a.keys a.maps whole.keys handle key c.under.keyed old old c.under.here) c.value
 
-  was_there : get_or (entries_of a) place None ≡ Some gone
-  was_there = subst (λ (e : Entry). get_or (entries_of a) place None ≡ Some e) is_gone (at_place c.under)
+  was_there : get_or (stored_in a) handle None ≡ Some gone
+  was_there = subst (λ (e : StoredMap). get_or (stored_in a) handle None ≡ Some e) is_gone (at_handle c.under)
 
   -- the area of the removed map
   gone_behind : STACK_AND_CONTEXT ≤ gone.start
-  gone_behind = (whole.placed place gone was_there).behind
+  gone_behind = (whole.placed handle gone was_there).behind
 
   pub gone_within : gone.start + area_of (live_of gone) ≤ STACK_AND_CONTEXT + a.bytes
-  gone_within = (whole.placed place gone was_there).within
+  gone_within = (whole.placed handle gone was_there).within
 
   pub size_most : {size : ℕ} → size ≡ area_of (live_of gone) → size ≤ a.bytes
   size_most is =
       let s = whole.sum in
-      let w = weight_most area_of place (live_maps_of (entries_of a)) in
-      let x = ap (weight area_of) (live_by (entries_of a) (entries_of a) place gone was_there) in
+      let w = weight_most area_of handle (live_maps_of (stored_in a)) in
+      let x = ap (weight area_of) (live_by (stored_in a) (stored_in a) handle gone was_there) in
       omega arith
 
-  keys_before : AreKeys a.keys (with_value a.entries key old)
-  keys_before = changed_keys a.keys a.entries whole.keys place key c.under.keyed old old c.under.here
+  keys_before : AreKeys a.keys (with_value a.maps key old)
+  keys_before = changed_keys a.keys a.maps whole.keys handle key c.under.keyed old old c.under.here
 
-  module _ {left : Slab Entry} (l : IsLeft a key old left) where
-    pub left_keys : AreKeys (set a.keys place None) left
-    left_keys = removed_keys a.keys (with_value a.entries key old) left keys_before place key c.under.keyed l.gap l.others l.len
+  module _ {keys : List (Option ℕ)} {left : Slab StoredMap} (l : IsLeft a handle key old keys left) where
+    pub left_keys : AreKeys keys left
+    left_keys = subst (λ (ks : List (Option ℕ)). AreKeys ks left) (sym l.keys_are) (removed_keys a.keys (with_value a.maps key old) left keys_before handle key c.under.keyed l.gap l.others l.len)
 
-    none_left : get_or (placed (set a.keys place None) left) place None ≡ None
-    none_left = removed_here a.keys (with_value a.entries key old) left keys_before place key c.under.keyed l.gap l.others
+    none_left : get_or (by_handle keys left) handle None ≡ None
+    none_left = ap (λ (ks : List (Option ℕ)). get_or (by_handle ks left) handle None) l.keys_are ∙ removed_here a.keys (with_value a.maps key old) left keys_before handle key c.under.keyed l.gap l.others
 
-    others_left : (p : ℕ) → p ≢ place → get_or (placed (set a.keys place None) left) p None ≡ get_or (entries_of a) p None
+    others_left : (p : ℕ) → p ≢ handle → get_or (by_handle keys left) p None ≡ get_or (stored_in a) p None
     others_left p ne =
-        removed_others a.keys (with_value a.entries key old) left keys_before place key c.under.keyed l.gap l.others p ne
-        ∙ changed_others a.keys a.entries whole.keys place key c.under.keyed old old c.under.here p ne
+        ap (λ (ks : List (Option ℕ)). get_or (by_handle ks left) p None) l.keys_are
+        ∙ removed_others a.keys (with_value a.maps key old) left keys_before handle key c.under.keyed l.gap l.others p ne
+        ∙ changed_others a.keys a.maps whole.keys handle key c.under.keyed old old c.under.here p ne
 
-module _ {a : Inside} {t : LiveMaps} {place map key size : ℕ} {old gone : Entry} {left entries : Slab Entry} {layouts : List MapLayout} (g : Goes a t place map key size old gone left entries layouts) where
+module _ {a : Inside} {t : LiveMaps} {handle map key size : ℕ} {old gone : StoredMap} {keys : List (Option ℕ)} {left maps : Slab StoredMap} (g : Goes a t handle map key size old gone keys left maps) where
   abbrev new : Inside
-  new = without_entry a size place entries layouts
+  new = without_stored a size keys maps
 
   abbrev was_whole : IsWellFormedMaps a
   was_whole = g.taken.under.whole
 
-  was : get_or (entries_of a) place None ≡ Some gone
+  was : get_or (stored_in a) handle None ≡ Some gone
   was = was_there g.taken
 
-  closed : (p : ℕ) → p ≢ place → get_or (entries_of new) p None ≡ option_map (closed_up (gone.start + area_of (live_of gone)) (area_of (live_of gone))) (get_or (entries_of a) p None)
+  closed : (p : ℕ) → p ≢ handle → get_or (stored_in new) p None ≡ option_map (closed_up (gone.start + area_of (live_of gone)) (area_of (live_of gone))) (get_or (stored_in a) p None)
   closed p ne =
       g.closed.each p
-      ∙ ap (λ (n : ℕ). option_map (closed_up (gone.start + n) n) (get_or (placed (set a.keys place None) left) p None)) g.size_is
+      ∙ ap (λ (n : ℕ). option_map (closed_up (gone.start + n) n) (get_or (by_handle keys left) p None)) g.size_is
       ∙ ap (option_map (closed_up (gone.start + area_of (live_of gone)) (area_of (live_of gone)))) (others_left g.taken g.rest p ne)
 
-  empty : get_or (entries_of new) place None ≡ None
-  empty = g.closed.each place ∙ ap (option_map (closed_up (gone.start + size) size)) (none_left g.taken g.rest)
+  empty : get_or (stored_in new) handle None ≡ None
+  empty = g.closed.each handle ∙ ap (option_map (closed_up (gone.start + size) size)) (none_left g.taken g.rest)
 
   bytes_now : a.bytes - size + area_of (live_of gone) ≡ a.bytes
   bytes_now = let m = size_most g.taken g.size_is in let s = g.size_is in omega arith
@@ -125,7 +125,7 @@ module _ {a : Inside} {t : LiveMaps} {place map key size : ℕ} {old gone : Entr
       let room = was_whole.room in
       let same = g.rest.capacity in
       let still = g.closed.capacity in
-      whole_removed new place was_whole gone was empty closed bytes_now g.closed.are_keys (omega arith) g.closed.layouts_are
+      whole_removed new handle was_whole gone was empty closed bytes_now g.closed.are_keys (omega arith)
 
   pub laid_gone : IsLaid (as_live_maps new)
   laid_gone = laid whole_gone
@@ -144,15 +144,15 @@ module _ {a : Inside} {t : LiveMaps} {place map key size : ℕ} {old gone : Entr
       omega arith
 
   pub none_now : live_at (as_live_maps new) map ≡ None
-  none_now = ap (λ (p : ℕ). get_or (live_maps_of (entries_of new)) p None) (sym g.taken.under.same) ∙ none_by (entries_of new) (entries_of new) place empty
+  none_now = ap (λ (p : ℕ). get_or (live_maps_of (stored_in new)) p None) (sym g.taken.under.same) ∙ none_by (stored_in new) (stored_in new) handle empty
 
   -- the other maps
-  lives_close : (p : ℕ) → p ≢ place → live_at (as_live_maps new) p ≡ option_map (map_without (live_of gone)) (live_at t p)
+  lives_close : (p : ℕ) → p ≢ handle → live_at (as_live_maps new) p ≡ option_map (map_without (live_of gone)) (live_at t p)
   lives_close p ne =
-      at_lives (entries_of new) p
+      at_lives (stored_in new) p
       ∙ ap (option_map live_of) (closed p ne)
-      ∙ lives_closed gone (get_or (entries_of a) p None)
-      ∙ ap (option_map (map_without (live_of gone))) (sym (at_lives (entries_of a) p) ∙ ap (λ (u : LiveMaps). live_at u p) g.taken.under.view)
+      ∙ lives_closed gone (get_or (stored_in a) p None)
+      ∙ ap (option_map (map_without (live_of gone))) (sym (at_lives (stored_in a) p) ∙ ap (λ (u : LiveMaps). live_at u p) g.taken.under.view)
 
   pub closes_up : ClosesUp map t (as_live_maps new)
   closes_up p ne =
@@ -160,7 +160,7 @@ module _ {a : Inside} {t : LiveMaps} {place map key size : ℕ} {old gone : Entr
       ∙ ap (λ (o : Option LiveMap). option_map (map_without (live_or o)) (live_at t p)) (sym live_gone)
 
   pub less_gone : old.holds ≤ 1 → held_at (as_live_maps new) map ≡ one_less (held_at t map)
-  less_gone last = none_held t (as_live_maps new) map live_gone none_now (subst (λ (e : Entry). e.holds ≤ 1) (is_gone g.taken) last)
+  less_gone last = none_held t (as_live_maps new) map live_gone none_now (subst (λ (e : StoredMap). e.holds ≤ 1) (is_gone g.taken) last)
 
   pub others_gone : (p : ℕ) → p ≢ map → held_at (as_live_maps new) p ≡ held_at t p
   others_gone p ne = ap (option_map without_area) (lives_close p (λ e. ne (e ∙ g.taken.under.same))) ∙ held_still (live_of gone) (live_at t p)
@@ -196,7 +196,7 @@ module _ {a : Inside} {t : LiveMaps} {place map key size : ℕ} {old gone : Entr
         ∙ ap (take n) (drop-drop x (gone.start + size) bytes)
 
     -- a value of another map
-    kept_at : (j p : ℕ) (f : Entry) → j ≢ place → get_or (entries_of a) j None ≡ Some f → p < (places_of f.map).shape.max_entries
+    kept_at : (j p : ℕ) (f : StoredMap) → j ≢ handle → get_or (stored_in a) j None ≡ Some f → p < (places_of f.map).shape.max_entries
         → take (places_of f.map).shape.value_size (drop (offset (map_without (live_of gone) (live_of f)) p) later) ≡ take (places_of f.map).shape.value_size (drop (offset (live_of f) p) bytes)
     kept_at j p f ne ft l =
         let s = (places_of f.map).shape in
@@ -224,12 +224,12 @@ module _ {a : Inside} {t : LiveMaps} {place map key size : ℕ} {old gone : Entr
         ∙ own bytes moved gone.start many long_moved room (f.start - (gone.start + size) + p * f.stride) s.value_size fits
         ∙ from_behind (f.start - (gone.start + size) + p * f.stride) s.value_size fits
         ∙ ap (λ (n : ℕ). take s.value_size (drop n bytes)) at_then)
-        (before_or_behind gone.start (area_of (live_of gone)) f.start (area_of (live_of f)) (beside new place was_whole gone was empty closed bytes_now j f ne ft))
+        (before_or_behind gone.start (area_of (live_of gone)) f.start (area_of (live_of f)) (beside new handle was_whole gone was empty closed bytes_now j f ne ft))
 
     pub values_gone : SameValues t bytes (as_live_maps new) later
     values_gone j p old_live new_live l =
         let ne : j ≢ map = λ (s : j ≡ map). true≢false (sym new_live ∙ ap is_some (ap (live_at (as_live_maps new)) s ∙ none_now)) in
-        let f = live_entry a {map = j} g.taken.under.view refl old_live in
+        let f = live_stored a {map = j} g.taken.under.view refl old_live in
         let n : live_at (as_live_maps new) j ≡ Some (map_without (live_of gone) (live_of f.0)) = lives_close j (λ e. ne (e ∙ g.taken.under.same)) ∙ ap (option_map (map_without (live_of gone))) f.2 in
         let m = told_of (λ x. x.places.shape.max_entries) n in
         ap (λ (x : Option LiveMap). take (live_or x).places.shape.value_size (drop (offset (live_or x) p) later)) n

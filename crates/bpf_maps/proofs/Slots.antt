@@ -1,37 +1,37 @@
 -- A live map among the others.
 use Rattle.std.proofs.Common.{◌≡◌, ◌≢◌, ℕ, zero, suc, ◌+◌, ◌<◌, List, [], ◌∷◌, length, take, drop, Option, Some, None, option_map, refl, sym, ap, ◌∙◌, get_or, arith, Bool, true, false, IsSome, is_some, nat_eq, eqb-true, eq-eqb, true≢false, ◌*◌}
 use Rattle.std.proofs.lemmas.Option.{none-some, same_Some}
-use Rattle.bpf_maps.specs.declared.entries.Entry.{Entry}
+use Rattle.bpf_maps.specs.declared.stored_map.StoredMap.{StoredMap}
 use Rattle.bpf_maps.specs.Live.{LiveMap, LiveMaps, live_at, live_or, shape_at, offset, offset_at, value_in, SameAreas}
 use Rattle.bpf_maps.specs.InMaps.{live_of, live_maps_of}
 
-pub at_lives : (xs : List (Option Entry)) (k : ℕ) → get_or (live_maps_of xs) k None ≡ option_map live_of (get_or xs k None)
+pub at_lives : (xs : List (Option StoredMap)) (k : ℕ) → get_or (live_maps_of xs) k None ≡ option_map live_of (get_or xs k None)
 at_lives [] k = refl
 at_lives (x ∷ xs) zero = refl
 at_lives (x ∷ xs) (suc k) = at_lives xs k
 
-pub within : (xs : List (Option Entry)) (k : ℕ) (e : Entry) → get_or xs k None ≡ Some e → k < length xs
+pub within : (xs : List (Option StoredMap)) (k : ℕ) (e : StoredMap) → get_or xs k None ≡ Some e → k < length xs
 within [] k e h = absurd (none-some e h)
 within (x ∷ xs) zero e h = omega arith
 within (x ∷ xs) (suc k) e h = let r = within xs k e h in omega arith
 
--- the entry of a live map
-pub entry_of : (xs : List (Option Entry)) (k : ℕ) (l : LiveMap) → get_or (live_maps_of xs) k None ≡ Some l → (e : Entry) × (get_or xs k None ≡ Some e) × (live_of e ≡ l)
-entry_of xs k l h = by (get_or xs k None) refl
+-- a live map as it is stored
+pub stored_of : (xs : List (Option StoredMap)) (k : ℕ) (l : LiveMap) → get_or (live_maps_of xs) k None ≡ Some l → (e : StoredMap) × (get_or xs k None ≡ Some e) × (live_of e ≡ l)
+stored_of xs k l h = by (get_or xs k None) refl
   where
-    by : (o : Option Entry) → get_or xs k None ≡ o → (e : Entry) × (get_or xs k None ≡ Some e) × (live_of e ≡ l)
+    by : (o : Option StoredMap) → get_or xs k None ≡ o → (e : StoredMap) × (get_or xs k None ≡ Some e) × (live_of e ≡ l)
     by None e = absurd (none-some l (sym (ap (option_map live_of) e) ∙ sym (at_lives xs k) ∙ h))
     by (Some x) e = (x, e, same_Some (live_of x) l (sym (ap (option_map live_of) e) ∙ sym (at_lives xs k) ∙ h))
 
-pub some_entry : (xs : List (Option Entry)) (k : ℕ) → IsSome (get_or (live_maps_of xs) k None) → (e : Entry) × (get_or xs k None ≡ Some e)
-some_entry xs k h = by (get_or xs k None) refl
+pub some_stored : (xs : List (Option StoredMap)) (k : ℕ) → IsSome (get_or (live_maps_of xs) k None) → (e : StoredMap) × (get_or xs k None ≡ Some e)
+some_stored xs k h = by (get_or xs k None) refl
   where
-    by : (o : Option Entry) → get_or xs k None ≡ o → (e : Entry) × (get_or xs k None ≡ Some e)
+    by : (o : Option StoredMap) → get_or xs k None ≡ o → (e : StoredMap) × (get_or xs k None ≡ Some e)
     by None e = absurd (true≢false (sym h ∙ ap is_some (at_lives xs k ∙ ap (option_map live_of) e)))
     by (Some x) e = (x, e)
 
-module _ (xs ys : List (Option Entry)) (k : ℕ) where
-  pub live_by : (e : Entry) → get_or xs k None ≡ Some e → get_or (live_maps_of xs) k None ≡ Some (live_of e)
+module _ (xs ys : List (Option StoredMap)) (k : ℕ) where
+  pub live_by : (e : StoredMap) → get_or xs k None ≡ Some e → get_or (live_maps_of xs) k None ≡ Some (live_of e)
   live_by e at = at_lives xs k ∙ ap (option_map live_of) at
 
   pub none_by : get_or xs k None ≡ None → get_or (live_maps_of xs) k None ≡ None

@@ -5,7 +5,7 @@ use Rattle.tagged_model.specs.declared.shape.MapKind.TheVariants.{Hash}
 use Rattle.bpf_maps.specs.Places.{PlaceTable, occurrences, IsSized}
 use Rattle.bpf_maps.specs.declared.key_index.KeyIndex.{KeyIndex}
 use Rattle.bpf_maps.specs.declared.key_index.KeyIndex.TheVariants.{Words, Bytes}
-use Rattle.bpf_maps.specs.declared.hash_map.HashMapIx.TheInside.{Inside}
+use Rattle.bpf_maps.specs.declared.hash_map.HashMap.TheInside.{Inside}
 
 -- the bytes of each key, with its place
 abbrev pub entries_of : KeyIndex → List (List ℕ × ℕ)

@@ -28,8 +28,8 @@ abbrev pub live_at : LiveMaps → ℕ → Option LiveMap
 live_at t k = slice_index_or t.maps k None
 
 -- the lowest handle without a map, if there is one
-abbrev pub free_place : LiveMaps → Option ℕ
-free_place t = position is_none t.maps
+abbrev pub free_handle : LiveMaps → Option ℕ
+free_handle t = position is_none t.maps
 
 -- a placeholder for the map of a handle without one, for the functions below; it means nothing
 abbrev pub no_live : LiveMap
@@ -167,11 +167,11 @@ pub record OnlyKeysChange (k : ℕ) (old new : LiveMaps) : Type 0 where
 
 -- the fault if no handle is free, or the values would take too many bytes; else None
 abbrev pub create_fault : LiveMaps → MapShape → Option MapFault
-create_fault t shape = if is_none (free_place t) || nat_lt most_bytes (areas t + area_by shape) then Some NoSpace else None
+create_fault t shape = if is_none (free_handle t) || nat_lt most_bytes (areas t + area_by shape) then Some NoSpace else None
 
 -- a new map with one reference is live with handle k, the lowest that was free, and nothing else has changed
 pub record IsCreated (old : LiveMaps) (shape : MapShape) (k : ℕ) (new : LiveMaps) : Type 0 where
-  pub lowest : free_place old ≡ Some k
+  pub lowest : free_handle old ≡ Some k
   pub was : live_at old k ≡ None
   pub live : IsSome (live_at new k)
   pub places : places_at new k ≡ new_places shape

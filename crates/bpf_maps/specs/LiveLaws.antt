@@ -7,7 +7,7 @@ use Rattle.std.proofs.lemmas.Bool.{false≢true, lt-ltb, cases_lt}
 use Rattle.std.proofs.lemmas.List.Quantifiers.{position-Some}
 use Rattle.std.proofs.lemmas.Option.{none-some}
 use Rattle.bpf_maps.specs.Sum.{weight, total}
-use Rattle.bpf_maps.specs.Live.{LiveMap, LiveMaps, live_at, live_or, shape_at, free_place, offset, offset_at, LiesInPart, IsLaid, SameAreas, OnlyKeysChange}
+use Rattle.bpf_maps.specs.Live.{LiveMap, LiveMaps, live_at, live_or, shape_at, free_handle, offset, offset_at, LiesInPart, IsLaid, SameAreas, OnlyKeysChange}
 
 -- if the numbers at each index are equal, so are the sums
 pub total_same : {A : Type 0} (f : A → ℕ) (xs ys : List (Option A)) → ((j : ℕ) → weight f (get_or ys j None) ≡ weight f (get_or xs j None)) → total f ys ≡ total f xs
@@ -58,8 +58,8 @@ slots_most (None ∷ xs) = let rest = slots_most xs in omega arith
 slots_most (Some x ∷ xs) = let rest = slots_most xs in omega arith
 
 -- n different handles of live maps are at most as many as there are
-pub few_keys : (n : ℕ) (key : ℕ → ℕ) (tenant : LiveMaps) → ((i : ℕ) → i < n → IsSome (live_at tenant (key i))) → ((i j : ℕ) → i < n → j < n → key i ≡ key j → i ≡ j) → n ≤ length tenant.maps
-few_keys n key tenant live apart = let few = few_slots n key tenant.maps live apart in let most = slots_most tenant.maps in omega arith
+pub few_handles : (n : ℕ) (handle : ℕ → ℕ) (tenant : LiveMaps) → ((i : ℕ) → i < n → IsSome (live_at tenant (handle i))) → ((i j : ℕ) → i < n → j < n → handle i ≡ handle j → i ≡ j) → n ≤ length tenant.maps
+few_handles n handle tenant live apart = let few = few_slots n handle tenant.maps live apart in let most = slots_most tenant.maps in omega arith
 
 some_within : {A : Type 0} (k : ℕ) (xs : List (Option A)) → IsSome (get_or xs k None) → k < length xs
 some_within k [] some = absurd (false≢true some)
@@ -85,8 +85,8 @@ same_front (Some x ∷ xs) (Some y ∷ ys) long same = ap (λ (n : ℕ). 1 + n) 
 pub same_lowest : {A B : Type 0} (xs : List (Option A)) (ys : List (Option B)) → length xs ≡ length ys → ((k : ℕ) → is_some (get_or xs k None) ≡ is_some (get_or ys k None)) → position is_none xs ≡ position is_none ys
 same_lowest xs ys long same = ap₂ (λ (n len : ℕ). cond (nat_lt n len) (Some n) None) (same_front xs ys long same) long
 
-pub same_free_place : (old new : LiveMaps) → length new.maps ≡ length old.maps → ((k : ℕ) → is_some (live_at new k) ≡ is_some (live_at old k)) → free_place new ≡ free_place old
-same_free_place old new long same = same_lowest new.maps old.maps long same
+pub same_free_handle : (old new : LiveMaps) → length new.maps ≡ length old.maps → ((k : ℕ) → is_some (live_at new k) ≡ is_some (live_at old k)) → free_handle new ≡ free_handle old
+same_free_handle old new long same = same_lowest new.maps old.maps long same
 
 front_most : {A : Type 0} (k : ℕ) (xs : List (Option A)) → k < length xs → get_or xs k None ≡ None → position_or_len is_none xs ≤ k
 front_most k [] within free = absurd (omega arith)
@@ -95,7 +95,7 @@ front_most zero (Some x ∷ xs) within free = absurd (none-some x (sym free))
 front_most (suc k) (Some x ∷ xs) within free = let rest = front_most k xs (omega arith) free in omega arith
 
 -- it is no higher than any free handle
-pub lowest_most : (lowest k : ℕ) (tenant : LiveMaps) → free_place tenant ≡ Some lowest → live_at tenant k ≡ None → lowest ≤ k
+pub lowest_most : (lowest k : ℕ) (tenant : LiveMaps) → free_handle tenant ≡ Some lowest → live_at tenant k ≡ None → lowest ≤ k
 lowest_most lowest k tenant is free = by_order (cases_lt k lowest)
   where
     by_order : (k < lowest) ⊎ (lowest ≤ k) → lowest ≤ k
@@ -103,8 +103,8 @@ lowest_most lowest k tenant is free = by_order (cases_lt k lowest)
     by_order (inr high) = high
 
 -- there is one if a handle has no map
-pub some_place_free : (k : ℕ) (tenant : LiveMaps) → k < length tenant.maps → live_at tenant k ≡ None → is_none (free_place tenant) ≡ false
-some_place_free k tenant within free =
+pub some_handle_free : (k : ℕ) (tenant : LiveMaps) → k < length tenant.maps → live_at tenant k ≡ None → is_none (free_handle tenant) ≡ false
+some_handle_free k tenant within free =
     let most = front_most k tenant.maps within free in
     ap (λ b. is_none (cond b (Some (position_or_len is_none tenant.maps)) None)) (lt-ltb (position_or_len is_none tenant.maps) (length tenant.maps) (omega arith))
 

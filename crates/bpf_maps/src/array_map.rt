@@ -21,6 +21,8 @@ const INDEX_SIZE: usize = 4;
 #[derive(Drop)]
 pub struct ArrayMap {
     shape: MapShape,
+    // Aligns the shape as in a hash map, so that it is read from a map of either kind without a test of the kind.
+    align: [u64; 0],
 }
 
 impl Model for ArrayMap {
@@ -42,7 +44,7 @@ impl ArrayMap {
         requires { shape.kind ≡ Array }
         ensures { result ≡ new_places shape }
     {
-        ArrayMap { shape }
+        ArrayMap { shape, align: [] }
     }
 
     /// The map's shape.
@@ -54,7 +56,7 @@ impl ArrayMap {
 
     /// A law: the array has all its indices and nothing else, and their keys have four bytes. It does nothing when it runs.
     #[inline(always)]
-    pub(crate) fn keys_are_its_indices(&self)
+    fn keys_are_its_indices(&self)
         ensures kind { self.now.shape.kind ≡ Array }
         ensures whole { self.now ≡ new_places self.now.shape }
         ensures key_size { self.now.shape.key_size ≡ 4 }
@@ -65,7 +67,7 @@ impl ArrayMap {
 
     /// The index whose key has these four bytes. The array has it if it is less than `max_entries`.
     #[inline(always)]
-    pub(crate) fn index_spelled(&self, key: &[u8]) -> u32
+    fn index_spelled(&self, key: &[u8]) -> u32
         requires { length key.now ≡ self.now.shape.key_size }
         ensures found { look_up (table_of self.now) key.now
             ≡ (if nat_lt result self.now.shape.max_entries then Some result else None) }
@@ -99,7 +101,7 @@ impl ArrayMap {
     /// Those of an update: `Invalid` if `flags` is none of `ANY`, `NOEXIST` and `EXIST`, else `TooBig` if the index is out of
     /// range, else `Exists` if `flags` is `NOEXIST`.
     #[inline(always)]
-    pub(crate) fn place_for(&self, key: &[u8], flags: u64) -> Result<u32, MapFault>
+    fn place_for(&self, key: &[u8], flags: u64) -> Result<u32, MapFault>
         requires size { length key.now ≡ self.now.shape.key_size }
         ensures claimed { Claims (verdict (table_of self.now) key.now flags) key.now self.now result
             self.now }

@@ -2,14 +2,13 @@
 
 ghost use Rattle.std.specs.Prelude.{◌≡◌, ◌<◌, ◌⊎◌, length, [], option_map, IfOk, IfSome};
 ghost use Rattle.ordered_keys.specs.Orders.{next_entry};
-ghost use Rattle.tagged_model.specs.declared.shape.MapKind.TheVariants.{Array};
 ghost use Rattle.tagged_model.specs.Table.{look_up, verdict, removal, next_of};
 ghost use Rattle.bpf_maps.specs.Places.{PlaceTable, table_of, IsSound, Claims, Removes, new_places, after_run};
 ghost use Rattle.bpf_maps.specs.KeyRef.{key_bytes, shown_entry};
 ghost use Rattle.bpf_maps.specs.BpfMap.{places_of};
 
 use crate::array_map::ArrayMap;
-use crate::hash_map::HashMapIx;
+use crate::hash_map::HashMap;
 use crate::key_ref::KeyRef;
 use crate::value_map::ValueMap;
 use seeded_hash::HashSeed;
@@ -20,7 +19,7 @@ use tagged_model::{MapFault, MapKind, MapShape};
 #[derive(Drop)]
 pub enum BpfMap {
     Array(ArrayMap),
-    Hash(HashMapIx),
+    Hash(HashMap),
 }
 
 impl BpfMap {
@@ -30,19 +29,7 @@ impl BpfMap {
     {
         match shape.kind {
             MapKind::Array => Ok(BpfMap::Array(ArrayMap::new(shape))),
-            MapKind::Hash => Ok(BpfMap::Hash(HashMapIx::new(alloc, shape, seed)?)),
-        }
-    }
-
-    /// A law: an array has all its indices and nothing else. It does nothing when it runs.
-    #[inline(always)]
-    pub(crate) fn array_has_its_indices(&self)
-        ensures { (places_of self.now).shape.kind ≡ Array
-            → places_of self.now ≡ new_places (places_of self.now).shape }
-    {
-        match self {
-            BpfMap::Array(map) => map.keys_are_its_indices(),
-            BpfMap::Hash(map) => map.places_are_distinct(),
+            MapKind::Hash => Ok(BpfMap::Hash(HashMap::new(alloc, shape, seed)?)),
         }
     }
 

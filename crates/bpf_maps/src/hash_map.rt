@@ -17,7 +17,7 @@ use tagged_model::{MapFault, MapShape};
 
 /// A map from keys of any bytes to places, in the order in which the keys were added.
 #[derive(Drop)]
-pub struct HashMapIx {
+pub struct HashMap {
     shape: MapShape,
     index: KeyIndex,
     // The places of keys that were removed in this run.
@@ -26,7 +26,7 @@ pub struct HashMapIx {
     free: Vec<u32>,
 }
 
-impl Model for HashMapIx {
+impl Model for HashMap {
     ghost use Rattle.bpf_maps.specs.Places.{PlaceTable};
 
     ghost Value = { PlaceTable };
@@ -38,17 +38,17 @@ impl Model for HashMapIx {
     ghost invariant = { IsWellFormedHash };
 }
 
-impl HashMapIx {
+impl HashMap {
     /// Makes a map of this shape without keys, whose keys are hashed with this seed. Allocates room to keep all places apart and in
     /// order. `AllocError`: out of memory.
-    pub fn new(alloc: Global, shape: MapShape, seed: HashSeed) -> Result<HashMapIx, AllocError>
+    pub fn new(alloc: Global, shape: MapShape, seed: HashSeed) -> Result<HashMap, AllocError>
         requires { shape.kind ≡ Hash }
         ensures { IfOk result (λ map. map ≡ new_places shape) }
     {
         let free = all_places(alloc, shape.max_entries)?;
         let kept = Vec::with_capacity(alloc, shape.max_entries as usize)?;
         let index = KeyIndex::new(alloc, shape.key_size as usize, shape.max_entries, seed)?;
-        Ok(HashMapIx {
+        Ok(HashMap {
             shape,
             index,
             kept,
@@ -65,7 +65,7 @@ impl HashMapIx {
 
     /// A law: no two keys have the same place. It does nothing when it runs.
     #[inline(always)]
-    pub(crate) fn places_are_distinct(&self)
+    fn places_are_distinct(&self)
         ensures kind { self.now.shape.kind ≡ Hash }
         ensures sound { IsSound self.now }
     {
@@ -112,7 +112,7 @@ impl HashMapIx {
     }
 }
 
-impl ValueMap for HashMapIx {
+impl ValueMap for HashMap {
     ghost places = { λ m. m };
 
     #[inline(never)]

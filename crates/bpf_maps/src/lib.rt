@@ -17,11 +17,11 @@
 //!
 //! - A look-up, an update, a delete and a request for the next key return and leave what the definition says, with errors in
 //!   its order. Only a new key of a hash map can be out of memory, and then nothing changes. This holds for the calls of
-//!   `ValueMap`, for `ArrayMap` and `HashMapIx`.
+//!   `ValueMap`, for `ArrayMap` and `HashMap`.
 //! - The address of a key's value is that of its place in the part, modulo 2^64, at which the whole value is, and 0 if the map has
 //!   no such key: `address`, `inside` of `address_of`.
 //! - A key is the list of its bytes, whether it is stored as a number or as bytes: `entries_of`, in the calls of `KeyIndex` and
-//!   the model of `HashMapIx`.
+//!   the model of `HashMap`.
 //! - The next key is the one of the definition, and has the size of the map's keys: `given`, `size` of `key_after`. Or it is
 //!   written at the front of a buffer for the longest key, with nothing changed after it; nothing is written if no key follows:
 //!   `given` of `next_key`.
@@ -80,7 +80,7 @@
 //! - The next key is borrowed or returned by value (`KeyRef`): a key that is stored as a number is spelled in eight bytes, a
 //!   longer one is borrowed from the map. So no request clears and fills room for the longest key, 512 bytes.
 //! - Memory is allocated in advance: a hash map allocates its lists of places and their order when it is created, and `Maps`
-//!   room for sixteen entries, so a delete and the end of a run allocate nothing.
+//!   room for sixteen maps, so a delete and the end of a run allocate nothing.
 //! - The place of a deleted key stays in a list of its own until the run ends, and counts as an entry.
 //! - The refinement between a map of objects and the map of what they represent is one record for any two kinds of object. No
 //!   clause can range over all kinds, so `calls_refine_values` states it for numbers that represent numbers and bytes.
@@ -91,36 +91,38 @@
 //!   the bytes of all later maps move down by its area: at most 262,136 bytes, by at most 65,536. A program's run closes
 //!   nothing, so no map moves between looking up an address and using it; addresses of a later run may differ, and no reply
 //!   shows one.
-//! - An entry stores the start of its area, so an access needs no sum over earlier maps. When a map is freed, those of the
-//!   later maps are reduced.
+//! - Each fact of a live map is stored once, in the slab (`StoredMap`): its kind and shape, its keys, the start of its area, the
+//!   distance of its values, and the number of references. So an access needs no sum over earlier maps; when a map is freed,
+//!   the starts of the later ones are reduced. A run without calls reads none of it.
 //! - A map of a tenant has one name, its handle, 0 to 15, and a new map gets the lowest free one. Descriptors, programs and runs
-//!   use it. The slab that stores the maps chooses keys of its own, about which nothing is known; they stay inside `Maps`.
-//! - What a call needs of a map is in a list by handle (`Layouts`): its shape, the start of its area and the distance of its
-//!   values, 32 bytes for each map. It is kept with the maps and not built in each run, so a run without calls pays nothing for
-//!   it, and a call has all with one load of the list's address. An array is only its shape, so a look-up or an update in one
-//!   reads nothing else (`arrays_have_their_indices`). The map itself stores the start of its area too: that both agree is a
-//!   clause of the invariant (`AreLaidOut`).
+//!   use it. The slab chooses keys of its own, about which nothing is known; they are in a list by handle (`SlabKeys`), and stay
+//!   inside `Maps`.
+//! - A key in this list is one word, of which the largest value means none. With an `Option<usize>`, of two words, a look-up in
+//!   an array or an update of one takes one machine instruction more.
+//! - An array's shape is at the offset of a hash map's, so reading it tests no kind (`align` of `ArrayMap`).
 #![tactic(auto)]
 
 mod array_map;
 mod bpf_map;
 mod bytes_index;
 mod contract_clients;
-mod entries;
 mod hash_map;
 mod key_index;
 mod key_ref;
 pub mod laws;
 mod long_key;
-mod map_layout;
 mod maps;
 mod part;
+mod slab_keys;
+mod stored_map;
 mod value_map;
 mod word_index;
 
 pub use array_map::ArrayMap;
 pub use bpf_map::BpfMap;
-pub use hash_map::HashMapIx;
+pub use hash_map::HashMap;
+/// Another name of `HashMap`.
+pub use hash_map::HashMap as HashMapIx;
 pub use key_ref::{KeyRef, ShortKey};
 pub use maps::{MapKey, Maps};
 pub use part::{KEY_ROOM, LARGEST_SUM, MAPS, PART, STACK_AND_CONTEXT};

@@ -6,23 +6,22 @@ ghost use Rattle.tagged_model.specs.declared.shape.MapKind.TheVariants.{Array};
 ghost use Rattle.tagged_model.specs.Table.{look_up, verdict, removal, next_of, new_table};
 ghost use Rattle.bpf_maps.specs.declared.part.TheConstants.{PART, STACK_AND_CONTEXT};
 ghost use Rattle.bpf_maps.specs.Limits.{most_maps, most_bytes};
-ghost use Rattle.bpf_maps.specs.Places.{table_of, IsSound, Claims, Removes, GivesKey, after_run, new_places};
+ghost use Rattle.bpf_maps.specs.Places.{table_of, IsSound, Claims, Removes, GivesKey, after_run};
 ghost use Rattle.bpf_maps.specs.KeyRef.{key_bytes, shown_entry};
 ghost use Rattle.bpf_maps.specs.Live.{live_at, places_at, shape_at, holds_at, held_at, offset_at, value_in, map_in, value_address, LiesInPart, IsLaid, IsPacked, ClosesUp, start_at, AreSound, SameAreas, SameValues, KeepsMap, KeepsMaps, KeepsOthers, area_by, areas, OnlyKeysChange, create_fault, Creates, one_more, one_less, is_memory};
-ghost use Rattle.bpf_maps.specs.InMaps.{live_of, layout_at};
+ghost use Rattle.bpf_maps.specs.InMaps.{live_of};
 
-use crate::array_map::ArrayMap;
 use crate::bpf_map::BpfMap;
-use crate::entries::{Entry, close_gap, free_place, key_at};
 use crate::key_ref::KeyRef;
-use crate::map_layout::{Layouts, MapLayout};
 use crate::part::{KEY_ROOM, LARGEST_SUM, MAPS, PART, STACK_AND_CONTEXT, clear};
+use crate::slab_keys::SlabKeys;
+use crate::stored_map::{StoredMap, close_gap};
 use crate::value_map::ValueMap;
 use seeded_hash::HashSeed;
 use slab::Slab;
 use std::alloc::{AllocError, Global};
 use std::marker::Model;
-use tagged_model::{MapFault, MapKind, MapShape};
+use tagged_model::{MapFault, MapShape};
 
 // A map with this number of references is freed when one of them is dropped.
 const LAST: u32 = 1;
@@ -30,15 +29,15 @@ const LAST: u32 = 1;
 /// The handle of a live map, 0 to 15. Contracts see the number.
 #[derive(Clone, Copy, Debug, PartialEq, Eq)]
 pub struct MapKey {
-    place: usize,
+    handle: usize,
 }
 
 impl Model for MapKey {
     ghost Value = { ℕ };
 
-    ghost view = { λ k. k.place };
+    ghost view = { λ k. k.handle };
 
-    ghost inverse = { λ n. record { place = n } };
+    ghost inverse = { λ n. record { handle = n } };
 }
 
 /// A tenant's live maps. Contracts see the map of each of `MAPS` handles, and the positions of its values in the tenant's part.
@@ -46,11 +45,9 @@ impl Model for MapKey {
 pub struct Maps {
     alloc: Global,
     seed: HashSeed,
-    entries: Slab<Entry>,
-    // The layout of the map of each handle. It is what calls read, and is contiguous in memory, apart from the entries.
-    layouts: Layouts,
+    maps: Slab<StoredMap>,
     // The slab's key of the map of each handle.
-    keys: [Option<usize>; MAPS],
+    keys: SlabKeys,
     // The number of bytes that the areas of all maps take. The areas lie one after another, in order of creation, after the stack
     // and the context.
     bytes: usize,
@@ -78,14 +75,12 @@ impl Maps {
         ensures bytes { IfOk result (λ maps. areas maps ≡ 0) }
         ensures refused { IfOk result (λ maps. maps.refused ≡ false) }
     {
-        let entries = Slab::with_capacity(alloc, MAPS)?;
-        let layouts = Layouts::new(alloc, MAPS)?;
+        let maps = Slab::with_capacity(alloc, MAPS)?;
         Ok(Maps {
             alloc,
             seed,
-            entries,
-            layouts,
-            keys: [None; MAPS],
+            maps,
+            keys: SlabKeys::new(),
             bytes: 0,
             refused: false,
         })
@@ -102,41 +97,17 @@ impl Maps {
         ensures maps { length self.now.maps ≡ most_maps }
         ensures bytes { areas self.now ≤ most_bytes }
     {
-        let _ = &self.entries;
+        let _ = &self.maps;
     }
 
-    /// A law: an array has all its indices and nothing else. It does nothing when it runs.
+    /// The live map of a handle.
     #[inline(always)]
-    fn arrays_have_their_indices(&self, map: MapKey)
-        requires { IsSome (live_at self.now map) }
-        ensures { (shape_at self.now map).kind ≡ Array
-            → places_at self.now map ≡ new_places (shape_at self.now map) }
-    {
-        let keys = &self.keys;
-        if let Some(key) = keys[map.place] {
-            if let Some(entry) = self.entries.get(key) {
-                entry.map.array_has_its_indices();
-            }
-        }
-    }
-
-    /// The entry of a map.
-    #[inline(always)]
-    fn entry(&self, map: MapKey) -> &Entry
+    fn stored(&self, map: MapKey) -> &StoredMap
         requires { IsSome (live_at self.now map) }
         ensures { live_at self.now map ≡ Some (live_of result.now) }
     {
-        let key = key_at(&self.keys, map.place);
-        &self.entries[key]
-    }
-
-    /// The layout of a map.
-    #[inline(always)]
-    fn layout(&self, map: MapKey) -> &MapLayout
-        requires { IsSome (live_at self.now map) }
-        ensures { result.now ≡ layout_at self.now map }
-    {
-        self.layouts.get(map.place)
+        let key = self.keys.key(map.handle);
+        &self.maps[key]
     }
 
     /// Creates a map with one reference and the lowest free handle. The map gets an area of its own in the tenant's part, `PART`
@@ -166,7 +137,7 @@ impl Maps {
         ensures unchanged { OnErr result (part.new ≡ part.old) }
     {
         let size = shape.area() as usize;
-        let Some(place) = free_place(&self.keys) else {
+        let Some(handle) = self.keys.free_handle() else {
             return Err(MapFault::NoSpace);
         };
         if self.bytes + size > LARGEST_SUM {
@@ -178,17 +149,18 @@ impl Maps {
         };
         let start = STACK_AND_CONTEXT + self.bytes;
         clear(part, start, size);
-        let entry = Entry {
+        let stored = StoredMap {
             map,
             start,
             stride: shape.value_size.next_multiple_of(8) as usize,
             holds: 1,
         };
-        let layout = entry.layout();
-        self.keys[place] = Some(self.entries.insert_reserved(entry));
-        self.layouts.put(place, layout);
+        // A key is less than the capacity.
+        let _capacity = self.maps.capacity();
+        let key = self.maps.insert_reserved(stored);
+        self.keys.put(handle, key);
         self.bytes += size;
-        Ok(MapKey { place })
+        Ok(MapKey { handle })
     }
 
     /// Adds one reference to a map, which has fewer than 2^32 - 1.
@@ -207,9 +179,9 @@ impl Maps {
         ensures refused { self.new.refused ≡ self.old.refused }
         ensures laid { IsLaid self.new }
     {
-        let key = key_at(&self.keys, map.place);
-        let entry = &mut self.entries[key];
-        entry.holds += 1;
+        let key = self.keys.key(map.handle);
+        let stored = &mut self.maps[key];
+        stored.holds += 1;
     }
 
     /// Drops one reference to a map; the last frees the map, its handle and its area. The areas after that one then move down by its
@@ -237,18 +209,18 @@ impl Maps {
         ensures front { take STACK_AND_CONTEXT part.new ≡ take STACK_AND_CONTEXT part.old }
         ensures length { length part.new ≡ PART }
     {
-        let key = key_at(&self.keys, map.place);
-        let entry = &mut self.entries[key];
-        if entry.holds > LAST {
-            entry.holds -= 1;
+        let key = self.keys.key(map.handle);
+        let stored = &mut self.maps[key];
+        if stored.holds > LAST {
+            stored.holds -= 1;
             return;
         }
-        let gone = self.entries.remove(key);
-        self.keys[map.place] = None;
+        let gone = self.maps.remove(key);
+        self.keys.clear(map.handle);
         let size = gone.map.shape().area() as usize;
         let end = gone.start + size;
         part.copy_within(end..STACK_AND_CONTEXT + self.bytes, gone.start);
-        close_gap(&self.keys, &mut self.entries, &mut self.layouts, end, size);
+        close_gap(&self.keys, &mut self.maps, end, size);
         self.bytes -= size;
     }
 
@@ -263,12 +235,9 @@ impl Maps {
     pub fn is_live(&self, map: MapKey) -> bool
         ensures { result ≡ is_some (live_at self.now map) }
     {
-        // A handle with a key in the slab has an entry.
-        let _ = &self.entries;
-        match self.keys.get(map.place) {
-            Some(key) => key.is_some(),
-            None => false,
-        }
+        // A handle with a key in the slab has a map.
+        let _ = &self.maps;
+        self.keys.get(map.handle).is_some()
     }
 
     /// The shape of a map.
@@ -277,7 +246,7 @@ impl Maps {
         requires { IsSome (live_at self.now map) }
         ensures { result ≡ shape_at self.now map }
     {
-        self.layout(map).shape
+        self.stored(map).map.shape()
     }
 
     /// The offset of the value at a place of a map in the tenant's part, in bytes. The values of all maps lie in the part, after
@@ -291,8 +260,8 @@ impl Maps {
         ensures laid { IsLaid self.now }
     {
         self.maps_are_laid();
-        let layout = self.layout(map);
-        layout.start + place as usize * layout.stride
+        let stored = self.stored(map);
+        stored.start + place as usize * stored.stride
     }
 
     /// The place of a key; `None` if the map doesn't have the key.
@@ -304,12 +273,7 @@ impl Maps {
         ensures within { IfSome result (λ place. place < (shape_at self.now map).max_entries) }
         ensures sound { IsSound (places_at self.now map) }
     {
-        self.arrays_have_their_indices(map);
-        let shape = self.shape(map);
-        match shape.kind {
-            MapKind::Array => ArrayMap::new(shape).find(key),
-            MapKind::Hash => self.entry(map).map.find(key),
-        }
+        self.stored(map).map.find(key)
     }
 
     /// The address of the value of a key, modulo 2^64, in a part that begins at address `part`; 0 if the map doesn't have the key.
@@ -323,21 +287,9 @@ impl Maps {
         ensures inside { IfSome (look_up (table_of (places_at self.now map)) key.now) (λ place.
             LiesInPart (offset_at self.now map place) (shape_at self.now map).value_size) }
     {
-        self.arrays_have_their_indices(map);
-        let shape = self.shape(map);
-        match shape.kind {
-            MapKind::Array => {
-                let index = ArrayMap::new(shape).index_spelled(key);
-                if index < shape.max_entries {
-                    part.wrapping_add(self.value_at(map, index) as u64)
-                } else {
-                    0
-                }
-            }
-            MapKind::Hash => match self.find(map, key) {
-                Some(place) => part.wrapping_add(self.value_at(map, place) as u64),
-                None => 0,
-            },
+        match self.find(map, key) {
+            Some(place) => part.wrapping_add(self.value_at(map, place) as u64),
+            None => 0,
         }
     }
 
@@ -361,20 +313,13 @@ impl Maps {
         ensures refused { self.new.refused ≡ (self.old.refused || is_memory result) }
     {
         self.maps_are_laid();
-        self.arrays_have_their_indices(map);
-        let shape = self.shape(map);
-        match shape.kind {
-            MapKind::Array => ArrayMap::new(shape).place_for(key, flags),
-            MapKind::Hash => {
-                let at = key_at(&self.keys, map.place);
-                let entry = &mut self.entries[at];
-                let answer = entry.map.claim(key, flags);
-                if matches!(answer, Err(MapFault::Memory)) {
-                    self.refused = true;
-                }
-                answer
-            }
+        let at = self.keys.key(map.handle);
+        let stored = &mut self.maps[at];
+        let answer = stored.map.claim(key, flags);
+        if matches!(answer, Err(MapFault::Memory)) {
+            self.refused = true;
         }
+        answer
     }
 
     /// Removes a key. Its place is kept apart until the run ends: until then no key gets it. Takes no memory.
@@ -391,9 +336,9 @@ impl Maps {
         ensures rest { OnlyKeysChange map self.old self.new }
         ensures refused { self.new.refused ≡ self.old.refused }
     {
-        let at = key_at(&self.keys, map.place);
-        let entry = &mut self.entries[at];
-        entry.map.remove(key)
+        let at = self.keys.key(map.handle);
+        let stored = &mut self.maps[at];
+        stored.map.remove(key)
     }
 
     /// Returns the key that follows a key, if there is one. After an empty or absent key it is the first.
@@ -405,7 +350,7 @@ impl Maps {
         ensures size { IfSome result (λ given.
             length (key_bytes given) ≡ (shape_at self.now map).key_size) }
     {
-        self.entry(map).map.key_after(key)
+        self.stored(map).map.key_after(key)
     }
 
     /// The key that follows the one of a place, or the first key if no place is given, with its place. `None` if there is none,
@@ -417,7 +362,7 @@ impl Maps {
         ensures within { IfSome result (λ e. e.1 < (shape_at self.now map).max_entries) }
     {
         self.maps_are_laid();
-        self.entry(map).map.entry_after(place)
+        self.stored(map).map.entry_after(place)
     }
 
     /// Writes the key that follows a key to the start of `next`. After an empty or absent key it is the first.
@@ -436,7 +381,7 @@ impl Maps {
         ensures given { GivesKey (next_of (table_of (places_at self.now map)) key.now) next.old
             result next.new }
     {
-        self.entry(map).map.next_key(key, next)
+        self.stored(map).map.next_key(key, next)
     }
 
     /// Ends a run on a map: the places that were kept apart are free again. Takes no memory.
@@ -446,8 +391,8 @@ impl Maps {
         ensures rest { OnlyKeysChange map self.old self.new }
         ensures refused { self.new.refused ≡ self.old.refused }
     {
-        let key = key_at(&self.keys, map.place);
-        let entry = &mut self.entries[key];
-        entry.map.end_run();
+        let key = self.keys.key(map.handle);
+        let stored = &mut self.maps[key];
+        stored.map.end_run();
     }
 }

@@ -1,5 +1,5 @@
 -- Each tenant of a host has a history, so its save restores it.
-use Rattle.std.proofs.Common.{◌≡◌, ◌≢◌, ◌⊎◌, inl, inr, ℕ, zero, suc, Bool, true, false, List, [], ◌∷◌, ◌++◌, length, Option, Some, None, Result, Ok, Err, refl, sym, ap, ap₂, subst, ◌∙◌, nat_eq, true≢false, arith, eqb-true, eq-eqb, ◌<◌, ◌^◌, map}
+use Rattle.std.proofs.Common.{◌≡◌, ◌≢◌, inl, inr, ℕ, zero, suc, Bool, true, false, List, [], ◌∷◌, ◌++◌, length, Option, Some, None, Result, Ok, Err, refl, sym, ap, ap₂, subst, ◌∙◌, nat_eq, true≢false, arith, eqb-true, eq-eqb, ◌<◌, ◌^◌, map}
 use Rattle.std.specs.Prelude.{replicate, slice_get}
 use Rattle.std.specs.List.{AllByRecursion, flat_map}
 use Rattle.std.proofs.lemmas.Grind.{flat_map-append}
@@ -21,9 +21,9 @@ use Rattle.saving.specs.Laws.{IsHistory, HistoriesAreRestored, FramesHaveOwners}
 use Rattle.saving.specs.Restored.{restored}
 use Rattle.saving.specs.SaveParts.{PartsAreWhole, parts, frames_of}
 use Rattle.saving.specs.Recorded.{RecordsFrame, births_after_frame}
-use Rattle.host_core.specs.Batch.{RunsFor, ChangesTenant}
+use Rattle.host_core.specs.Batch.{RunsFor}
 use Rattle.host_core.specs.Handled.{Handles}
-use Rattle.host_core.specs.Saving.{Records, HandlesFrame, RunsPackets, Call, Calls, AreParts, TenantsAreRestored}
+use Rattle.host_core.specs.Saving.{Records, RunsPackets, Call, Calls, AreParts, TenantsAreRestored}
 use Rattle.host_core.specs.States.{HostState, new_host}
 use Rattle.host_core.proofs.Tenants.{saved_of}
 

@@ -5,9 +5,8 @@ use Rattle.std.proofs.lemmas.Bool.Decides.{eqb_tells}
 use Rattle.std.specs.List.{AllByRecursion}
 use Rattle.std.specs.Io.KnownBytes.{Appends}
 use Rattle.command_frames.specs.Frame.{owner}
-use Rattle.tenant.specs.State.{TenantState}
-use Rattle.tenant.specs.Alone.{frames_of, replies_of}
-use Rattle.host_core.specs.Served.{Noninterference, StreamState, ServesAlone, joined_replies}
+use Rattle.tenant.specs.Alone.{replies_of}
+use Rattle.host_core.specs.Served.{Noninterference, joined_replies}
 use Rattle.host_core.specs.Laws.{SameFramesSameReplies, BeginsAlike, SameFramesSameOutput}
 
 all_to : {X : Type 0} (P Q : X → Type 0) (xs : List X) → ((x : X) → P x → Q x) → AllByRecursion P xs → AllByRecursion Q xs

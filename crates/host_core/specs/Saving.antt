@@ -1,5 +1,5 @@
 -- How a host keeps the births of its tenants' objects, and the frames that it saves of a tenant. This project's own.
-use Rattle.std.specs.Prelude.{◌≡◌, ◌≢◌, ◌⊎◌, ℕ, ◌<◌, ◌^◌, List, [], ◌∷◌, length, slice_get, Option, Some, None, option_and_then, option_map}
+use Rattle.std.specs.Prelude.{◌≡◌, ◌≢◌, ◌⊎◌, ℕ, ◌<◌, ◌^◌, List, [], ◌∷◌, length, slice_get, Option, Some, option_and_then, option_map}
 use Rattle.std.specs.List.{AllByRecursion, flat_map}
 use Rattle.command_frames.specs.Frame.{framed, owner}
 use Rattle.tenant.specs.Batch.{BatchInput}

@@ -109,8 +109,16 @@ fn join_other_kind(known: &mut Kind, edge: &Kind)
     match (&mut *known, edge) {
         (Kind::Scalar(range), Kind::Scalar(other)) => *range = hull(*range, *other),
         (Kind::Value(p), Kind::Value(q)) if p.map == q.map => *p = offsets_hull(*p, *q),
-        _ => *known = known.join(*edge),
+        _ => join_any_kinds(known, edge),
     }
+}
+
+/// Joins two kinds. It is out of line, so that `join_other_kind` saves no registers.
+#[inline(never)]
+fn join_any_kinds(known: &mut Kind, edge: &Kind)
+    ensures { known.new ≡ kind_join known.old edge.now }
+{
+    *known = known.join(*edge);
 }
 
 /// Joins the kind `edge` into `known` in place. Nothing is written if that changes nothing.
@@ -218,9 +226,23 @@ fn join_slot(known: &mut Slot, edge: &Slot) -> bool
     }
 }
 
-/// Joins stack slots whose join is not the first.
+/// Joins stack slots whose join is not the first. The joins that a program can force in many slots are done in place.
 #[inline(never)]
 fn join_other_slots(known: &mut Slot, edge: &Slot)
+    ensures { known.new ≡ slot_join known.old edge.now }
+{
+    match (&mut *known, edge) {
+        (Slot::Spill(Kind::Value(p)), Slot::Spill(Kind::Value(q))) if p.map == q.map => {
+            *p = offsets_hull(*p, *q);
+        }
+        (Slot::Spill(_), Slot::Bytes(_)) => *known = Slot::Bytes(0),
+        _ => join_any_slots(known, edge),
+    }
+}
+
+/// Joins two stack slots. It is out of line, so that `join_other_slots` saves no registers.
+#[inline(never)]
+fn join_any_slots(known: &mut Slot, edge: &Slot)
     ensures { known.new ≡ slot_join known.old edge.now }
 {
     *known = known.join(*edge);

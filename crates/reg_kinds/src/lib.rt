@@ -9,7 +9,7 @@
 //!   `read_stack`, `write_stack`. A store changes only the slot that it returns. The same holds for what a helper reads and
 //!   writes over many slots: `read_many`, `fill_stack`.
 //! - The facts after a call are those of the definition: `facts_after_call`.
-//! - A null test settles each copy of the result of one look-up and no other: `settle`.
+//! - A null test settles each copy of the result of one look-up and no other: `settle`, and `settle_both` for both edges at once.
 //!
 //! # Decisions
 //!
@@ -22,6 +22,9 @@
 //! - A part of the stack is a type, `StackPart`, whose number is below that of the parts, so `join_part` has no precondition.
 //! - `join_registers` has a call for each register. A join that changes nothing is found inline; only other kinds are joined out of
 //!   line. As a loop, which the compiler does not unroll, it takes 50 machine instructions more.
+//! - Joins that extend a pointer's range of offsets, or replace a spill by bytes, are done in place, and the general join is out of line.
+//!   A program can force such a join in all slots of the stack at most jumps. One takes 59 machine instructions, and took 93 before.
+//! - `settle_both` copies the facts and finds the copies of a look-up's result once for both edges of a null test.
 //! - Alignment is that of a byte's offset in the stack; 512 is a multiple of each size, so it is that of the offset from the
 //!   frame pointer.
 #![tactic(auto)]
@@ -40,6 +43,6 @@ pub use facts::Facts;
 pub use joins::{PART_SLOTS, STACK_PARTS, StackPart, join, join_into, join_part, join_registers};
 pub use kind::{Kind, Slot, ValuePointer};
 pub use many::{facts_after_call, fill_stack, read_many};
-pub use null_tests::settle;
+pub use null_tests::{settle, settle_both};
 pub use reason::Reason;
 pub use stack::{loaded, read_stack, write_stack};

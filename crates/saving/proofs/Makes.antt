@@ -17,7 +17,7 @@ use Rattle.tagged_model.specs.declared.shape.MapShape.{MapShape}
 use Rattle.tagged_model.specs.Shape.{is_shape, fits, has_key, is_from_to, longest_value, most_entries}
 use Rattle.tagged_model.specs.State.{set_at}
 use Rattle.tagged_model.specs.Table as call
-use Rattle.tagged_model.specs.Table.{Table, is_key, found, with_key, index_key, indexed, new_entries, look_up, verdict, with_new, with_object}
+use Rattle.tagged_model.specs.Table.{is_key, found, index_key, indexed, new_entries, verdict, with_new, with_object}
 use Rattle.tagged_model.specs.declared.fault.MapFault.TheVariants.{TooBig}
 use Rattle.tenant.specs.declared.errno.Errno.{Errno}
 use Rattle.tenant.specs.declared.errno.Errno.TheVariants.{Invalid}

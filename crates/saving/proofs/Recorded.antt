@@ -1,10 +1,9 @@
 -- The invariant of a tenant holds for all bytes of its part, and each command preserves it.
-use Rattle.std.proofs.Common.{◌≡◌, ℕ, ◌+◌, ◌≤◌, Bool, List, [], ◌∷◌, ◌++◌, true, false, length, reverse, filter, get_or, Option, Some, None, IsSome, is_some, Result, Ok, Err, OnOk, OnErr, refl, sym, ap, subst, ◌∙◌}
+use Rattle.std.proofs.Common.{◌≡◌, ℕ, ◌+◌, ◌≤◌, Bool, List, [], ◌∷◌, ◌++◌, true, false, length, reverse, filter, IsSome, Result, Ok, Err, OnOk, OnErr, refl, sym, ap, subst, ◌∙◌}
 use Rattle.byteorder.specs.Endian.{little_bytes}
 use Rattle.std.specs.Prelude.{if◌then◌else◌}
 use Rattle.std.proofs.lemmas.List.{reverse-append, append-nil}
 use Rattle.std.proofs.lemmas.List.Elements.{filter-append}
-use Rattle.bpf_maps.specs.Live.{LiveMaps, LiveMap, live_at}
 use Rattle.command_frames.specs.declared.command.Head.{Head}
 use Rattle.command_frames.specs.Command.{Command, prog_test_run}
 use Rattle.fd_table.specs.Table.{most}
@@ -13,7 +12,7 @@ use Rattle.tenant.specs.declared.errno.Errno.TheVariants.{NotPermitted, NoEntry,
 use Rattle.tenant.specs.declared.reply.Reply.{Reply}
 use Rattle.tenant.specs.declared.reply.Reply.TheVariants as reply
 use Rattle.tenant.specs.Errno.{status_of}
-use Rattle.tenant.specs.Kept.{KeptTenant, state_in, at_places, map_at}
+use Rattle.tenant.specs.Kept.{KeptTenant, state_in, map_at}
 use Rattle.tenant.specs.Batch.{BatchInput, RunsInOrder, RunsBatch}
 use Rattle.tenant.specs.Machine.{Answer, Answers, cause_errno, gives}
 use Rattle.tenant.specs.Replies.{shown_answer}
@@ -23,7 +22,7 @@ use Rattle.tenant.specs.KeptLaws.{length-at, some_at_each}
 use Rattle.saving.specs.Alike.{HoldsItsMaps}
 use Rattle.saving.specs.Births.{Birth, AreBirths, with_opened, births_after}
 use Rattle.saving.specs.Laws.{MapsAreHeld, BirthsAreKept}
-use Rattle.saving.specs.Recorded.{RecordedTenant, IsRecorded}
+use Rattle.saving.specs.Recorded.{IsRecorded}
 use Rattle.saving.specs.inside.Frames.{AnswersCommand}
 use Rattle.saving.specs.inside.Opened.{with_told}
 use Rattle.saving.proofs.Births.{same_births}

@@ -1,20 +1,17 @@
 -- The loops that write a part of a save: the frames so far and the frames that are left.
-use Rattle.std.proofs.Common.{◌≡◌, ℕ, ◌+◌, ◌-◌, ◌<◌, ◌≤◌, List, [], ◌∷◌, ◌++◌, map, length, Option, Some, None, Result, Ok, Err, OnOk, refl, sym, ap, ◌∙◌, arith}
+use Rattle.std.proofs.Common.{◌≡◌, ℕ, ◌<◌, ◌≤◌, List, [], ◌∷◌, ◌++◌, map, length, Option, Some, None, Result, Ok, Err, OnOk, refl, sym, ap, ◌∙◌, arith}
 use Rattle.std.specs.Map.{values_of}
 use Rattle.std.proofs.lemmas.Grind.{flat_map-append}
 use Rattle.command_frames.specs.Command.{Command}
 use Rattle.command_frames.specs.Frame.{framed}
-use Rattle.fd_table.specs.Table.{first_descriptor, most, named}
 use Rattle.ordered_keys.specs.Orders.{occurrences, next_entry}
-use Rattle.tenant.specs.declared.object.OpenObject.{OpenObject}
 use Rattle.bpf_maps.specs.Live.{LiveMaps, places_at, value_in, map_in}
 use Rattle.tenant.specs.Entry.{PlacedEntry, placed_entries}
-use Rattle.saving.specs.Filler.{filler}
 use Rattle.saving.specs.Frames.{frame_of}
-use Rattle.saving.specs.Restored.{load_of, put_of, filled, closings}
+use Rattle.saving.specs.Restored.{put_of}
 use Rattle.saving.specs.SaveParts.{frames_of}
-use Rattle.saving.specs.inside.Puts.{closing, puts, rest_after}
-use Rattle.saving.proofs.Saves.{then_more, one_less, nothing_left, filled_next, filled_none, closings_next, closings_none, first_of_rest, none_first, rest_of_next}
+use Rattle.saving.specs.inside.Puts.{puts, rest_after}
+use Rattle.saving.proofs.Saves.{then_more, one_less, nothing_left, first_of_rest, none_first, rest_of_next}
 
 frames_append : (n : ℕ) (cs ds : List Command) → frames_of n (cs ++ ds) ≡ frames_of n cs ++ frames_of n ds
 frames_append n cs ds = flat_map-append (λ (c : Command). framed (frame_of n c)) cs ds

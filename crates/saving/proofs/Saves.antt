@@ -1,13 +1,12 @@
 -- The parts of a save, and the frames of a part so far.
-use Rattle.std.proofs.Common.{◌≡◌, ◌≢◌, ℕ, zero, suc, ◌+◌, ◌-◌, ◌<◌, ◌≤◌, Bool, true, false, List, [], ◌∷◌, ◌++◌, map, length, reverse, Option, Some, None, option_map, refl, sym, ap, ◌∙◌, nat_eq, if◌then◌else◌, arith, eqb-true, eq-eqb}
+use Rattle.std.proofs.Common.{◌≡◌, ◌≢◌, ℕ, zero, suc, ◌+◌, ◌-◌, ◌<◌, ◌≤◌, Bool, true, false, List, [], ◌∷◌, ◌++◌, map, length, reverse, Option, Some, None, refl, sym, ap, ◌∙◌, nat_eq, if◌then◌else◌, arith, eq-eqb}
 use Rattle.std.specs.Prelude.{slice_get}
 use Rattle.std.specs.List.{flat_map}
 use Rattle.std.specs.Map.{values_of}
 use Rattle.std.proofs.lemmas.Grind.{flat_map-append}
 use Rattle.std.proofs.lemmas.List.{append_assoc, append-nil, reverse-append, length-reverse}
-use Rattle.std.proofs.lemmas.Option.{none-some, same_Some, slice_get_past}
+use Rattle.std.proofs.lemmas.Option.{none-some, same_Some}
 use Rattle.command_frames.specs.Command.{Command}
-use Rattle.command_frames.specs.Frame.{framed}
 use Rattle.fd_table.specs.Table.{first_descriptor, most, named}
 use Rattle.insn_set.specs.Program.{program_bytes}
 use Rattle.insn_set.specs.Spelling.{spelling}
@@ -16,9 +15,8 @@ use Rattle.tenant.specs.declared.object.OpenObject.{OpenObject}
 use Rattle.tenant.specs.State.{TenantState}
 use Rattle.saving.specs.Births.{Birth}
 use Rattle.saving.specs.Filler.{filler}
-use Rattle.saving.specs.Frames.{frame_of}
-use Rattle.saving.specs.Restored.{load_of, filled, born, closings, restored}
-use Rattle.saving.specs.SaveParts.{birth_commands, parts, frames_of, PartsAreWhole}
+use Rattle.saving.specs.Restored.{load_of, filled, born, closings}
+use Rattle.saving.specs.SaveParts.{birth_commands, parts, PartsAreWhole}
 use Rattle.saving.specs.inside.Puts.{closing, rest_behind, rest_after}
 
 -- ---- all parts

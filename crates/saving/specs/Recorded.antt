@@ -1,5 +1,5 @@
 -- A tenant with the births of its objects. This project's own.
-use Rattle.std.specs.Prelude.{◌≡◌, ℕ, Bool, List, Option, Some, Result, Ok, Err}
+use Rattle.std.specs.Prelude.{◌≡◌, ℕ, Bool, List, Result, Ok, Err}
 use Rattle.command_frames.specs.declared.command.BadFrame.{BadFrame}
 use Rattle.command_frames.specs.Command.{Command, parsed}
 use Rattle.command_frames.specs.Frame.{reply_to}

@@ -51,14 +51,14 @@ same_some : (part : List ℕ) (o : Option LiveMap) → is_some (map_if part o) �
 same_some part None = refl
 same_some part (Some l) = refl
 
-free_is : (part : List ℕ) (k : KeptTenant) → length k.live.maps ≡ MAPS → free_place (state_in part k) ≡ live.free_place k.live
+free_is : (part : List ℕ) (k : KeptTenant) → length k.live.maps ≡ MAPS → free_place (state_in part k) ≡ live.free_handle k.live
 free_is part k all = free_at (map_at part k.live) k.live.maps all (λ i. same_some part (live_at k.live i))
 
 abbrev fault_if : Option ℕ → Bool → Option MapFault
 fault_if o large = if is_none o || large then Some fault.NoSpace else None
 
 room_is : (part : List ℕ) (k : KeptTenant) (shape : MapShape) → AreHeld k.live → length k.live.maps ≡ MAPS
-    → room_for (state_in part k) (shape_area shape) ≡ (if nat_lt LARGEST_SUM (areas k.live + area_by shape) then None else live.free_place k.live)
+    → room_for (state_in part k) (shape_area shape) ≡ (if nat_lt LARGEST_SUM (areas k.live + area_by shape) then None else live.free_handle k.live)
 room_is part k shape is all =
     ap₂ (λ (bytes : ℕ) (place : Option ℕ). if nat_lt most_bytes (bytes + shape_area shape) then None else place) (areas_are part k is) (free_is part k all)
 
@@ -108,7 +108,7 @@ less_weight place (object.Map p) = omega arith
 less_weight place (object.Program l) = omega arith
 
 -- the place was free
-room_within : (k : KeptTenant) (m : ℕ) → length k.live.maps ≡ MAPS → live.free_place k.live ≡ Some m → m < most_maps
+room_within : (k : KeptTenant) (m : ℕ) → length k.live.maps ≡ MAPS → live.free_handle k.live ≡ Some m → m < most_maps
 room_within k m all low = let (within, free) = place_free k.live.maps m low in omega (arith, within, all)
 
 abbrev pub kept_created : KeptTenant → LiveMaps → ℕ → ℕ → KeptTenant
@@ -176,10 +176,10 @@ state_created part later k {t} {shape} {m} fd all new fresh keeps =
     other_map i other (inl live) = let (now, same) = keeps i live in same_map_at part later k.live t i live now same
     other_map i other (inr none) = none_there later t i (new.others i other ∙ none) ∙ sym (none_there part k.live i none)
 
-pub created_is : (refused : Bool) (part : List ℕ) (k : KeptTenant) (shape : MapShape) {place fd : ℕ} → AreHeld k.live → length k.live.maps ≡ MAPS → lowest k.objects ≡ Some fd → create_fault k.live shape ≡ None → live.free_place k.live ≡ Some place
+pub created_is : (refused : Bool) (part : List ℕ) (k : KeptTenant) (shape : MapShape) {place fd : ℕ} → AreHeld k.live → length k.live.maps ≡ MAPS → lowest k.objects ≡ Some fd → create_fault k.live shape ≡ None → live.free_handle k.live ≡ Some place
     → created refused (state_in part k) (Ok shape) ≡ created_at refused (state_in part k) shape fd place
 created_is refused part k shape {place} {fd} is all low none free =
-    let (p, lowest_is, room_there) = room (live.free_place k.live) (nat_lt LARGEST_SUM (areas k.live + area_by shape)) none in
+    let (p, lowest_is, room_there) = room (live.free_handle k.live) (nat_lt LARGEST_SUM (areas k.live + area_by shape)) none in
     ap (λ (o : Option ℕ). created_under refused (state_in part k) shape o) low
     ∙ ap (λ (o : Option ℕ). created_as refused (state_in part k) shape fd o) (room_is part k shape is all ∙ room_there ∙ sym lowest_is ∙ free)
 
@@ -191,13 +191,13 @@ create_refused part k t shape f {fd} is all low made = by_cause (created_err (cr
     by_cause : ((create_fault k.live shape ≡ Some f) × (t ≡ k.live)) ⊎ ((create_fault k.live shape ≡ None) × (f ≡ fault.Memory) × (t ≡ record { maps = k.live.maps; refused = true }))
         → (refused : Bool) × (refuses (map_errno f) (state_in part (with_live k t)) ≡ created refused (state_in part k) (Ok shape))
     by_cause (inl (full, same)) =
-        let (which, none) = lost (live.free_place k.live) (nat_lt LARGEST_SUM (areas k.live + area_by shape)) f full in (
+        let (which, none) = lost (live.free_handle k.live) (nat_lt LARGEST_SUM (areas k.live + area_by shape)) f full in (
           false,
           ap₂ (λ (g : MapFault) (u : LiveMaps). refuses (map_errno g) (state_in part (with_live k u))) which same
               ∙ sym (ap (λ (o : Option ℕ). created_under false (state_in part k) shape o) low ∙ ap (λ (o : Option ℕ). created_as false (state_in part k) shape fd o) (room_is part k shape is all ∙ none)),
         )
     by_cause (inr (none, which, flagged)) =
-        let (place, free, room_there) = room (live.free_place k.live) (nat_lt LARGEST_SUM (areas k.live + area_by shape)) none in (
+        let (place, free, room_there) = room (live.free_handle k.live) (nat_lt LARGEST_SUM (areas k.live + area_by shape)) none in (
           true,
           ap₂ (λ (g : MapFault) (u : LiveMaps). refuses (map_errno g) (state_in part (with_live k u))) which flagged
               ∙ ap (λ (b : Bool). refuses NoMemory (record { objects = k.objects; maps = at_places (map_at part k.live); refused = b })) (or-true k.refused)

@@ -3,9 +3,9 @@ use Rattle.std.proofs.Common.{◌≡◌, ℕ, ◌+◌, ◌≤◌, Bool, true, fa
 use Rattle.std.specs.Map.{values_of}
 use Rattle.bpf_maps.specs.Limits.{most_maps}
 use Rattle.bpf_maps.specs.Live.{LiveMaps, live_at, places_at, value_in, map_in}
-use Rattle.bpf_maps.specs.Places.{PlaceTable, IsSound, occurrences}
+use Rattle.bpf_maps.specs.Places.{IsSound, occurrences}
 use Rattle.ordered_keys.specs.Orders.{first_entry, entry_behind, next_entry}
-use Rattle.tenant.specs.Entry.{PlacedEntry, placed_entries}
+use Rattle.tenant.specs.Entry.{placed_entries}
 use Rattle.tenant.specs.Kept.{KeptTenant, AreHeld, state_in}
 use Rattle.tenant.specs.State.{Map, live}
 use Rattle.tenant.proofs.AtPlaces.{map_there, live_is as lives}

@@ -1,13 +1,13 @@
 //! Whether each instruction may be run with the facts before it.
 
-ghost use Rattle.std.specs.Prelude.{◌≡◌, ◌⊎◌, ◌+◌, ◌*◌, ◌<◌, ℕ, not, option_map, if◌then◌else◌, Some, None, IfSome, IfOk, IfErr, OnOk};
+ghost use Rattle.std.specs.Prelude.{◌≡◌, ◌⊎◌, ◌+◌, ◌*◌, ◌<◌, ℕ, option_map, if◌then◌else◌, Some, None, IfSome, IfOk, IfErr, OnOk};
 ghost use Rattle.tagged_model.specs.Named.{shapes_named};
 ghost use Rattle.interval.specs.Refine.{RangePair};
 ghost use Rattle.reg_kinds.specs.Laws.{SlotsAbsorb};
 ghost use Rattle.verifier.specs.inside.Edges.{falling_from, jumping_from, MayRun};
 ghost use Rattle.verifier.specs.inside.Arriving.{Brings, arriving_at};
 ghost use Rattle.verifier.specs.inside.Jumps.{JumpsLand};
-ghost use Rattle.verifier.specs.inside.Numbers.{facts_on, with_ranges, settled, on_falling_edge, on_jumping_edge, IsSent, IsSentIf, IsPast, IsPastIf, AreNumbered};
+ghost use Rattle.verifier.specs.inside.Numbers.{facts_on, with_ranges, falls_settled, jumps_settled, on_falling_edge, on_jumping_edge, IsSent, IsSentIf, IsPast, IsPastIf, AreNumbered};
 ghost use Rattle.verifier.specs.inside.Telling.{IsFaultTold, IsFirstTold, StopsTelling};
 ghost use Rattle.insn_set.specs.Flow.{jump_target};
 ghost use Rattle.insn_set.specs.Program.{slot_count};
@@ -21,7 +21,7 @@ use crate::target_facts::TargetFacts;
 use crate::watcher::Watcher;
 use insn_codec::{Insn, MAX_SLOTS, Operand, Program, Reg};
 use interval::Range;
-use reg_kinds::{laws, settle};
+use reg_kinds::{laws, settle_both};
 use std::alloc::{AllocError, Global};
 use tagged_model::Named;
 use transfer::{Flow, apply, set_ranges};
@@ -104,14 +104,12 @@ fn leave_null_test(
 ) -> Result<(), AllocError>
     requires room { slot < MAX_SLOTS }
     requires lands { IfSome target (λ to. to < MAX_SLOTS) }
-    ensures falls { OnOk result (hand.new ≡ settled site (not jumps_on_null) (8 * slot + 5) hand.old) }
+    ensures falls { OnOk result (hand.new ≡ falls_settled site jumps_on_null slot hand.old) }
     ensures sent { OnOk result (IsSent target (8 * slot + 6)
-        (settled site jumps_on_null (8 * slot + 4) hand.old) entries.old entries.new) }
+        (jumps_settled site jumps_on_null slot hand.old) entries.old entries.new) }
 {
-    *taken = *hand;
-    settle(&mut taken.facts, site, jumps_on_null);
+    settle_both(&mut hand.facts, &mut taken.facts, site, jumps_on_null);
     taken.renumber(8 * slot + 4);
-    settle(&mut hand.facts, site, !jumps_on_null);
     hand.renumber(8 * slot + 5);
     entries.send(target, taken, 8 * slot + 6)
 }

@@ -9,7 +9,12 @@ use Rattle.arena.specs.Memory.{Memory, base, part_start, with_bytes}
 use Rattle.bpf_maps.specs.Places.{table_of, Claims, Removes}
 use Rattle.bpf_maps.specs.Live.{LiveMaps, places_at, shape_at, offset_at, OnlyKeysChange, is_memory}
 use Rattle.bpf_helpers.specs.Named.{NamedKey, NamedPair, key_named, unnamed_answer}
-use Rattle.bpf_helpers.specs.States.{CallSite, CallAnswer}
+use Rattle.bpf_helpers.specs.declared.caller.Caller.{Caller}
+use Rattle.bpf_helpers.specs.States.{CallSite, CallAnswer, site}
+
+-- the inputs of a call by this caller
+abbrev pub site_of : Caller → Memory → LiveMaps → CallSite
+site_of caller memory maps = site caller.tenant caller.bind.now caller.packet.now memory maps
 
 -- the key, and the value, of the map under a key, at an offset of the part
 abbrev pub key_bytes : CallSite → ℕ → ℕ → List ℕ

@@ -6,7 +6,6 @@ use Rattle.tenant.specs.declared.object.OpenObject.{OpenObject}
 use Rattle.tenant.specs.declared.reply.Reply.{Reply}
 use Rattle.tenant.specs.declared.reply.Reply.TheVariants as reply
 use Rattle.saving.specs.Births.{Birth, with_birth}
-use Rattle.tenant.specs.State.{TenantState}
 
 -- the object that a reply opens has the latest birth
 abbrev pub with_told : Result Reply Errno → List (Option OpenObject) → List Birth → List Birth

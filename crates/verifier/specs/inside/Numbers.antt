@@ -121,6 +121,13 @@ with_ranges x dst src ranges = record { facts = with_pair x.facts dst src ranges
 abbrev pub settled : ℕ → Bool → ℕ → NumberedFacts → NumberedFacts
 settled site null fresh x = numbered_by fresh (facts_settled site null x.facts)
 
+-- the facts on the falling edge and on the jumping edge of a null test at slot n
+abbrev pub falls_settled : ℕ → Bool → ℕ → NumberedFacts → NumberedFacts
+falls_settled site jumps_on_null n x = settled site (not jumps_on_null) (8 * n + 5) x
+
+abbrev pub jumps_settled : ℕ → Bool → ℕ → NumberedFacts → NumberedFacts
+jumps_settled site jumps_on_null n x = settled site jumps_on_null (8 * n + 4) x
+
 -- the facts on the falling edge, from the facts that the code leaves
 abbrev pub on_falling_edge : Flow → ℕ → NumberedFacts → Option NumberedFacts
 on_falling_edge Ends fresh x = None

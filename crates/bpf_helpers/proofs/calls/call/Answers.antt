@@ -1,14 +1,45 @@
-use Rattle.std.proofs.Common.{◌≡◌, Some, Option, option_map, ℤ, refl, sym, ap, subst, ◌∙◌, w32, SFits, to_z, of_z}
+use Rattle.std.proofs.Common.{◌≡◌, ℕ, eqb, List, Some, None, Option, option_map, Result, Ok, Err, ℤ, refl, sym, ap, subst, ◌∙◌, ⊎_elim, w32, SFits, to_z, of_z}
+use Rattle.std.proofs.lemmas.Bool.{eqb-true, eqb-false, cases_Bool}
 use Rattle.std.specs.Prelude.{slice_index, unwrap_or}
 use Rattle.std.proofs.lemmas.Int.{to_z-of_z}
 use Rattle.std.proofs.lemmas.Option.{same_Some}
 use Rattle.tagged_model.specs.declared.helper.Helper.{Helper}
 use Rattle.tagged_model.specs.declared.helper.Helper.TheVariants.{LookUp, Update, Delete, LoadBytes}
 use Rattle.tagged_model.specs.Helpers.{helper_of}
+use Rattle.tagged_model.specs.declared.fault.MapFault.{MapFault}
+use Rattle.tagged_model.specs.declared.fault.MapFault.TheVariants.{NoEntry, TooBig, Memory, Exists, Invalid, NoSpace}
+use Rattle.tagged_model.specs.Table.{Verdict, Refused, Present, New, verdict}
+use Rattle.bpf_maps.specs.Places.{PlaceTable, table_of, Claims}
+use Rattle.bpf_maps.specs.Live.{LiveMaps, LiveMap, live_or, places_at}
+use Rattle.bpf_helpers.specs.Named.{NamedPair}
+use Rattle.bpf_helpers.specs.Calls.{SameApart}
 use Rattle.bpf_helpers.specs.inside.Flat.{key_word, UpdatesNamed, DeletesNamed, LoadsAt}
 use Rattle.bpf_helpers.proofs.Followed.{look_up_follows, update_follows, delete_follows, load_follows}
 use Rattle.bpf_helpers.proofs.calls.call.Goals as goal
-use Rattle.bpf_helpers.specs.States.{answers, site}
+use Rattle.bpf_helpers.specs.States.{CallSite, CallAnswer, answers, site}
+
+-- an update keeps no place apart
+
+claims_apart : (v : Verdict ℕ) (key : List ℕ) (old : PlaceTable) (answer : Result ℕ MapFault) (new : PlaceTable) → Claims v key old answer new → new.kept ≡ old.kept
+claims_apart (Refused fault) key old answer new claims = ap (λ (t : PlaceTable). t.kept) claims.1
+claims_apart (Present p) key old answer new claims = ap (λ (t : PlaceTable). t.kept) claims.1
+claims_apart New key old (Ok p) new claims = ap (λ (t : PlaceTable). t.kept) claims.1
+claims_apart New key old (Err Memory) new claims = ap (λ (t : PlaceTable). t.kept) claims
+claims_apart New key old (Err NoEntry) new claims = absurd claims
+claims_apart New key old (Err TooBig) new claims = absurd claims
+claims_apart New key old (Err Exists) new claims = absurd claims
+claims_apart New key old (Err Invalid) new claims = absurd claims
+claims_apart New key old (Err NoSpace) new claims = absurd claims
+
+updates_apart : (here : CallSite) (pair : Option NamedPair) (flags : ℕ) (answer : CallAnswer) → UpdatesNamed here pair flags answer → SameApart here.maps answer.maps
+updates_apart here None flags answer nothing key = ap (λ (maps : LiveMaps). (places_at maps key).kept) nothing.2
+updates_apart here (Some pair) flags answer updates key =
+    ⊎_elim
+    (λ b.
+    let claimed = claims_apart (verdict (table_of (places_at here.maps pair.map)) pair.key flags) pair.key (places_at here.maps pair.map) updates.claim (places_at answer.maps pair.map) updates.claimed in
+    subst (λ (k : ℕ). (places_at answer.maps k).kept ≡ (places_at here.maps k).kept) (sym (eqb-true key pair.map b)) claimed)
+    (λ b. ap (λ (o : Option LiveMap). (live_or o).places.kept) (updates.rest.others key (eqb-false key pair.map b)))
+    (cases_Bool (eqb key pair.map))
 
 -- a number names one function
 of_helper : (P : Helper → Type 0) (h : Helper) {id : ℤ} {found : Option Helper} {field : Helper} → SFits w32 id → found ≡ helper_of (to_z w32 (of_z w32 id)) → found ≡ Some field → field ≡ h → P h → (helper : Helper) → helper_of id ≡ Some helper → P helper
@@ -56,3 +87,23 @@ returns-in-Some-LoadBytes-clause-unnamed c =
     let here = site c.args.tenant c.args.bind.now c.args.packet.now c.args.arena.now c.args.maps.now in
     of_helper _ LoadBytes c.ranges.id c.known_helper.ensures c.in-Some-LoadBytes.is c.in-Some-LoadBytes.field-0-is
     (λ nothing. let loaded = subst (λ o. LoadsAt here (slice_index c.args.words.now 1) (slice_index c.args.words.now 3) o c.load_bytes.result c.load_bytes.new.arena) nothing (c.load_bytes.ensures.loaded c.args.maps.now) in (loaded.0, loaded.1, refl))
+
+pub returns-in-Some-LookUp-clause-apart : goal.returns-in-Some-LookUp-clause-apart
+returns-in-Some-LookUp-clause-apart c =
+    of_helper _ LookUp c.ranges.id c.known_helper.ensures c.in-Some-LookUp.is c.in-Some-LookUp.field-0-is
+    (λ kept key. refl)
+
+pub returns-in-Some-Update-clause-apart : goal.returns-in-Some-Update-clause-apart
+returns-in-Some-Update-clause-apart c =
+    of_helper _ Update c.ranges.id c.known_helper.ensures c.in-Some-Update.is c.in-Some-Update.field-0-is
+    (λ kept. updates_apart (site c.args.tenant c.args.bind.now c.args.packet.now c.args.arena.now c.args.maps.now) _ _ (answers c.update.result c.update.new.arena c.update.new.maps) c.update.ensures.updated)
+
+pub returns-in-Some-Delete-clause-apart : goal.returns-in-Some-Delete-clause-apart
+returns-in-Some-Delete-clause-apart c =
+    of_helper _ Delete c.ranges.id c.known_helper.ensures c.in-Some-Delete.is c.in-Some-Delete.field-0-is
+    (λ kept. absurd (kept refl))
+
+pub returns-in-Some-LoadBytes-clause-apart : goal.returns-in-Some-LoadBytes-clause-apart
+returns-in-Some-LoadBytes-clause-apart c =
+    of_helper _ LoadBytes c.ranges.id c.known_helper.ensures c.in-Some-LoadBytes.is c.in-Some-LoadBytes.field-0-is
+    (λ kept key. refl)

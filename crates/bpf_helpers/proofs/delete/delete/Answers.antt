@@ -1,7 +1,6 @@
 use Rattle.std.proofs.Common.{Ok, Err, refl, sym, ap, subst, ◌∙◌}
 use Rattle.tagged_model.specs.declared.shape.MapShape.{MapShape}
-use Rattle.bpf_helpers.specs.States.{site_of}
-use Rattle.bpf_helpers.specs.inside.Flat.{DeletesNamed}
+use Rattle.bpf_helpers.specs.inside.Flat.{site_of, DeletesNamed}
 use Rattle.bpf_helpers.proofs.Words.{no_map, no_key, key_there}
 use Rattle.bpf_helpers.proofs.delete.delete.Goals as goal
 

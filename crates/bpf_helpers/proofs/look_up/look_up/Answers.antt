@@ -5,10 +5,10 @@ use Rattle.tagged_model.specs.Table.{look_up}
 use Rattle.arena.specs.Memory.{base, part_start}
 use Rattle.bpf_maps.specs.Places.{table_of}
 use Rattle.bpf_maps.specs.Live.{places_at, shape_at, offset_at, value_address, LiesInPart}
-use Rattle.bpf_helpers.specs.inside.Flat.{key_word, value_word}
+use Rattle.bpf_helpers.specs.inside.Flat.{site_of, key_word, value_word}
 use Rattle.bpf_helpers.proofs.Words.{no_map, no_key, key_there}
 use Rattle.bpf_helpers.proofs.look_up.look_up.Goals as goal
-use Rattle.bpf_helpers.specs.States.{CallSite, site_of}
+use Rattle.bpf_helpers.specs.States.{CallSite}
 
 -- an address in the part of a tenant is below 2^64
 address_word : (site : CallSite) (k part : ℕ) (o : Option ℕ) → part ≡ base + part_start site.memory site.tenant → part_start site.memory site.tenant ≤ 2 ^ 28

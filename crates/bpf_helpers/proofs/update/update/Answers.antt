@@ -1,9 +1,9 @@
 use Rattle.std.proofs.Common.{refl, sym, ap, subst, ◌∙◌}
 use Rattle.tagged_model.specs.declared.shape.MapShape.{MapShape}
-use Rattle.bpf_helpers.specs.inside.Flat.{UpdatesNamed}
+use Rattle.bpf_helpers.specs.inside.Flat.{site_of, UpdatesNamed}
 use Rattle.bpf_helpers.proofs.Words.{no_map, no_key, key_found, no_pair, no_value, pair_found}
 use Rattle.bpf_helpers.proofs.update.update.Goals as goal
-use Rattle.bpf_helpers.specs.States.{answers, site_of}
+use Rattle.bpf_helpers.specs.States.{answers}
 
 pub returns-in_default-clause-updated : goal.returns-in_default-clause-updated
 returns-in_default-clause-updated c =

@@ -1,7 +1,7 @@
 use Rattle.std.proofs.Common.{◌≡◌, ◌+◌, ◌<◌, ◌≤◌, length, sym, ap, ◌∙◌, arith}
 use Rattle.bpf_maps.specs.declared.part.TheConstants.{LARGEST_SUM}
 use Rattle.bpf_maps.specs.Live.{area_by, areas, create_fault}
-use Rattle.bpf_maps.specs.LiveLaws.{live_within, some_place_free}
+use Rattle.bpf_maps.specs.LiveLaws.{live_within, some_handle_free}
 use Rattle.bpf_maps.proofs.Created.{no_fault, not_full, made_low}
 use Rattle.bpf_maps.proofs.contract_clients.make_again.Goals as goal
 
@@ -16,7 +16,7 @@ returns-clause-room c =
     let most = c.maps_are_laid.ensures.bytes in
     let fits : areas mid + area_by c.shape-shape.result ≤ LARGEST_SUM = omega arith in
     not_full mid c.create.new.self c.shape-shape.result c.create.result
-    (no_fault mid c.shape-shape.result (some_place_free c.args.map mid below (c.release.ensures.gone c.requires.last)) fits)
+    (no_fault mid c.shape-shape.result (some_handle_free c.args.map mid below (c.release.ensures.gone c.requires.last)) fits)
     c.create.ensures.created
 
 pub returns-clause-lowest : goal.returns-clause-lowest

@@ -3,7 +3,7 @@ use Rattle.std.specs.Prelude.{is_none, position}
 use Rattle.bpf_maps.specs.Sum.{total}
 use Rattle.bpf_maps.specs.Places.{PlaceTable}
 use Rattle.bpf_maps.specs.Live.{live_at, holds_at, area_of, area_by, areas, create_fault, IsCreated}
-use Rattle.bpf_maps.specs.LiveLaws.{same_free_place}
+use Rattle.bpf_maps.specs.LiveLaws.{same_free_handle}
 use Rattle.bpf_maps.proofs.Slots.{same_or_other}
 use Rattle.bpf_maps.proofs.Created.{created, maps_refused, same_fault}
 use Rattle.bpf_maps.proofs.Stays.{some_held}
@@ -22,7 +22,7 @@ returns-in-Ok-clause-room c =
     let freed : areas mid ≡ areas new + area_by c.args.shape = c.release.ensures.freed last ∙ ap (λ (t : PlaceTable). areas new + area_by t.shape) made.places in
     let bytes : areas new ≡ areas old = omega arith in
     same_fault old new other
-    (same_free_place old new (c.maps_are_laid-in-Ok.ensures.maps ∙ sym c.maps_are_laid.ensures.maps)
+    (same_free_handle old new (c.maps_are_laid-in-Ok.ensures.maps ∙ sym c.maps_are_laid.ensures.maps)
     (λ k. same_or_other k map
     (λ (s : k ≡ map). ap (λ (i : ℕ). is_some (live_at new i)) s ∙ ap is_some (c.release.ensures.gone last ∙ sym made.was) ∙ ap (λ (i : ℕ). is_some (live_at old i)) (sym s))
     (λ (ne : k ≢ map). sym (some_held (live_at new k)) ∙ ap is_some (c.release.ensures.others k ne) ∙ some_held (live_at mid k) ∙ ap is_some (made.others k ne))))

@@ -1,6 +1,5 @@
-use Rattle.std.proofs.Common.{◌≡◌, ℕ, ◌+◌, ◌<◌, ◌≤◌, ◌∙◌, List, Option, Some, sym, ap, arith}
+use Rattle.std.proofs.Common.{◌≡◌, ℕ, ◌+◌, ◌<◌, ◌≤◌, ◌∙◌, Option, sym, ap, arith}
 use Rattle.std.specs.Option.{option_map_or}
-use Rattle.words.specs.Bytes.{low_bytes}
 use Rattle.ordered_keys.specs.Orders.{next_entry}
 use Rattle.tagged_model.specs.Table.{index_key, indexed}
 use Rattle.bpf_maps.specs.Places.{PlaceTable}

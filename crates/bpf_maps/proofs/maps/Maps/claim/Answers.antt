@@ -1,28 +1,24 @@
 use Rattle.std.proofs.Common.{◌<◌, IfOk, subst, ◌∙◌}
 use Rattle.bpf_maps.specs.Places.{PlaceTable}
-use Rattle.bpf_maps.proofs.Placed.{has_key}
+use Rattle.bpf_maps.proofs.ByHandle.{has_key}
 use Rattle.bpf_maps.proofs.Changes.{told_of, is_under, live_under}
-use Rattle.bpf_maps.proofs.KeyChanges.{IsKeyChange, places_before, places_after, keys_whole, only_keys, no_keys}
+use Rattle.bpf_maps.proofs.KeyChanges.{IsKeyChange, places_before, places_after, keys_whole, only_keys}
 use Rattle.bpf_maps.proofs.Along.{claims_shape, claims_along}
 use Rattle.bpf_maps.proofs.maps.Maps.claim.Goals as goal
 use Rattle.bpf_maps.proofs.maps.Maps.claim.Goals.{After-claim-answer}
 
-pub key_at-at-requires : goal.key_at-at-requires
-key_at-at-requires c = has_key c.self.inside c.self.view_is c.map.view_is c.requires.live
+pub key-at-requires : goal.key-at-requires
+key-at-requires c = has_key c.self.inside c.self.view_is c.map.view_is c.requires.live
 
 pub claim-answer-requires : goal.claim-answer-requires
 claim-answer-requires c =
-    let here = live_under (is_under c.self.view_is c.self.invariant c.map.view_is c.key_at-at.ensures c.index_mut-entry.ensures.value) in
+    let here = live_under (is_under c.self.view_is c.self.invariant c.map.view_is c.key-at.ensures c.index_mut-stored.ensures.value) in
     record { size = c.requires.size ∙ told_of (λ l. l.places.shape.key_size) here }
 
--- an array keeps its indices
-pub returns-in-Array-clause-rest : goal.returns-in-Array-clause-rest
-returns-in-Array-clause-rest c = no_keys c.args.self.now c.args.map c.requires.live (c.maps_are_laid.ensures.sound c.args.map c.requires.live) c.maps_are_laid.ensures.laid
-
--- the table of a hash map changes
-change : (c : After-claim-answer) → IsKeyChange c.self.inside c.args.self.now c.map.inside.place c.args.map c.key_at-at.result c.index_mut-entry.result.now c.claim-answer.new.self
+-- the table of the map changes
+change : (c : After-claim-answer) → IsKeyChange c.self.inside c.args.self.now c.map.inside.handle c.args.map c.key-at.result c.index_mut-stored.result.now c.claim-answer.new.self
 change c = record {
-  under = is_under c.self.view_is c.self.invariant c.map.view_is c.key_at-at.ensures c.index_mut-entry.ensures.value;
+  under = is_under c.self.view_is c.self.invariant c.map.view_is c.key-at.ensures c.index_mut-stored.ensures.value;
   shape = claims_shape _ c.args.key.now _ _ c.claim-answer.result c.claim-answer.ensures.claimed;
   sound = c.claim-answer.ensures.sound;
 }

@@ -1,7 +1,6 @@
-use Rattle.std.proofs.Common.{◌≡◌, ◌+◌, ◌*◌, ◌/◌, refl, sym, ap, subst, ◌∙◌, arith, inl, inr}
-use Rattle.std.specs.Prelude.{slice_set}
+use Rattle.std.proofs.Common.{◌≡◌, ◌+◌, ◌*◌, ◌/◌, refl, sym, subst, ◌∙◌, arith, inl, inr}
 use Rattle.bpf_maps.specs.declared.part.TheConstants.{STACK_AND_CONTEXT}
-use Rattle.bpf_maps.specs.declared.entries.Entry.{Entry}
+use Rattle.bpf_maps.specs.declared.stored_map.StoredMap.{StoredMap}
 use Rattle.bpf_maps.specs.Live.{IsLaid}
 use Rattle.bpf_maps.proofs.Created.{IsRoom, IsAdded, creates_full, creates_none, has_room, older_stay, creates_one, whole_one, laid_one, last_one, more_one, front_kept, cleared_one, values_kept, fresh_one, maps_kept}
 use Rattle.bpf_maps.proofs.Whole.{laid, whole_refused}
@@ -13,7 +12,7 @@ use Rattle.bpf_maps.proofs.maps.Maps.create.Goals.{Else-self-size-gt-LARGEST_SUM
 pub returns-in_default-clause-created : goal.returns-in_default-clause-created
 returns-in_default-clause-created c =
     creates_full c.args.shape c.self.view_is c.self.invariant c.area-size.ensures.value
-    (inl (sym c.free_place.ensures ∙ c.in_default.is))
+    (inl (sym c.free_handle.ensures ∙ c.in_default.is))
 
 pub returns-in_default-clause-laid : goal.returns-in_default-clause-laid
 returns-in_default-clause-laid c = subst IsLaid c.self.view_is (laid c.self.invariant)
@@ -28,12 +27,12 @@ returns-then-self-size-gt-LARGEST_SUM-clause-laid c = subst IsLaid c.self.view_i
 
 -- ---- there is room
 
-room : (c : Else-self-size-gt-LARGEST_SUM) → IsRoom c.self.inside c.args.self.now c.args.shape c.area-size.result c.in-Some.place
+room : (c : Else-self-size-gt-LARGEST_SUM) → IsRoom c.self.inside c.args.self.now c.args.shape c.area-size.result c.in-Some.handle
 room c = record {
   view = c.self.view_is;
   whole = c.self.invariant;
   size_is = c.area-size.ensures.value;
-  free = sym c.free_place.ensures ∙ c.in-Some.is;
+  free = sym c.free_handle.ensures ∙ c.in-Some.is;
   room = let l = c.if-self-size-gt-LARGEST_SUM.false in omega arith;
 }
 
@@ -47,15 +46,15 @@ returns-in_default-new-clause-laid c = laid (whole_refused c.self.invariant)
 
 -- the map is made
 
-pub insert_reserved-requires : goal.insert_reserved-requires
-insert_reserved-requires c = has_room (room (goal.at.insert_reserved-requires c).Else-self-size-gt-LARGEST_SUM)
+pub insert_reserved-key-requires : goal.insert_reserved-key-requires
+insert_reserved-key-requires c = has_room (room (goal.at.insert_reserved-key-requires c).Else-self-size-gt-LARGEST_SUM)
 
 module _ (c : goal.After-self-2-1) where
-  has : IsRoom c.self.inside c.args.self.now c.args.shape c.area-size.result c.in-Some.place
+  has : IsRoom c.self.inside c.args.self.now c.args.shape c.area-size.result c.in-Some.handle
   has = room (goal.at.invariant_of-self-2 c).Else-self-size-gt-LARGEST_SUM
 
-  abbrev entry : Entry
-  entry = record { map = c.in-Ok.map; start = STACK_AND_CONTEXT + c.self.inside.bytes; stride = c.next_multiple_of.result; holds = 1 }
+  abbrev stored : StoredMap
+  stored = record { map = c.in-Ok.map; start = STACK_AND_CONTEXT + c.self.inside.bytes; stride = c.next_multiple_of.result; holds = 1 }
 
   stride : c.next_multiple_of.result ≡ (c.args.shape.value_size + 7) / 8 * 8
   stride =
@@ -64,18 +63,18 @@ module _ (c : goal.After-self-2-1) where
       let m = c.next_multiple_of.ensures.multiple in
       omega arith
 
-  added : IsAdded c.self.inside c.args.shape c.insert_reserved.new.self c.put.new.self c.in-Some.place c.insert_reserved.result entry
+  added : IsAdded c.self.inside c.args.shape c.put.new.self c.insert_reserved-key.new.self c.in-Some.handle c.insert_reserved-key.result stored
   added = record {
-    was = c.insert_reserved.ensures.was_vacant;
-    there = c.insert_reserved.ensures.updates.changed;
-    others = c.insert_reserved.ensures.updates.others;
-    len = c.insert_reserved.ensures.len;
-    capacity = c.insert_reserved.ensures.capacity;
+    keys_are = c.put.ensures;
+    was = c.insert_reserved-key.ensures.was_vacant;
+    there = c.insert_reserved-key.ensures.updates.changed;
+    others = c.insert_reserved-key.ensures.updates.others;
+    len = c.insert_reserved-key.ensures.len;
+    capacity = c.insert_reserved-key.ensures.capacity;
     places = c.in-Ok.ensures;
     start = refl;
     stride = stride;
     holds = refl;
-    layout = c.put.ensures ∙ ap (slice_set c.self.inside.layouts c.in-Some.place) c.layout-layout.ensures;
   }
 
 pub invariant_of-self-2 : goal.invariant_of-self-2

@@ -1,16 +1,16 @@
 use Rattle.std.proofs.Common.{ap, ◌∙◌, sym}
 use Rattle.bpf_maps.specs.Places.{PlaceTable, after_run}
-use Rattle.bpf_maps.proofs.Placed.{has_key}
+use Rattle.bpf_maps.proofs.ByHandle.{has_key}
 use Rattle.bpf_maps.proofs.Changes.{is_under}
 use Rattle.bpf_maps.proofs.KeyChanges.{IsKeyChange, places_before, places_after, keys_whole, only_keys}
 use Rattle.bpf_maps.proofs.maps.Maps.end_run.Goals as goal
 
-pub key_at-key-requires : goal.key_at-key-requires
-key_at-key-requires c = has_key c.self.inside c.self.view_is c.map.view_is c.requires
+pub key-key-requires : goal.key-key-requires
+key-key-requires c = has_key c.self.inside c.self.view_is c.map.view_is c.requires
 
-change : (c : goal.After-self-1) → IsKeyChange c.self.inside c.args.self.now c.map.inside.place c.args.map c.key_at-key.result c.index_mut-entry.result.now c.end_run.new.self
+change : (c : goal.After-self-1) → IsKeyChange c.self.inside c.args.self.now c.map.inside.handle c.args.map c.key-key.result c.index_mut-stored.result.now c.end_run.new.self
 change c = record {
-  under = is_under c.self.view_is c.self.invariant c.map.view_is c.key_at-key.ensures c.index_mut-entry.ensures.value;
+  under = is_under c.self.view_is c.self.invariant c.map.view_is c.key-key.ensures c.index_mut-stored.ensures.value;
   shape = ap (λ (t : PlaceTable). t.shape) c.end_run.ensures.ended;
   sound = c.end_run.ensures.sound;
 }

@@ -8,7 +8,7 @@ use Rattle.bpf_maps.proofs.maps.Maps.entry_after.Goals as goal
 
 pub returns : goal.returns
 returns c =
-    let same = sym (told_of (λ l. l.places) c.entry.ensures) in
+    let same = sym (told_of (λ l. l.places) c.stored.ensures) in
     let entry = subst (λ (t : PlaceTable). option_map shown_entry c.entry_after.result ≡ next_entry c.args.place t.entries) same c.entry_after.ensures in
     let sound = c.maps_are_laid.ensures.sound c.args.map c.requires in
     record {

@@ -1,27 +1,27 @@
 use Rattle.std.proofs.Common.{refl, ap, sym, ◌∙◌, ◌+◌, arith, option_map, ℕ, is_some}
 use Rattle.bpf_maps.specs.Live.{one_more}
-use Rattle.bpf_maps.specs.declared.entries.Entry.{Entry}
-use Rattle.bpf_maps.proofs.Placed.{has_key}
+use Rattle.bpf_maps.specs.declared.stored_map.StoredMap.{StoredMap}
+use Rattle.bpf_maps.proofs.ByHandle.{has_key}
 use Rattle.bpf_maps.proofs.Changes.{told_of, IsUnder, is_under, live_under, placed_under, IsChange, live_old, live_new, others_stay, areas_stay, whole_stays, laid_stays, room_stays, part_stays}
 use Rattle.bpf_maps.proofs.maps.Maps.hold.Goals as goal
 
-pub key_at-key-requires : goal.key_at-key-requires
-key_at-key-requires c = has_key c.self.inside c.self.view_is c.map.view_is c.requires.live
+pub key-key-requires : goal.key-key-requires
+key-key-requires c = has_key c.self.inside c.self.view_is c.map.view_is c.requires.live
 
-pub overflow_add-entry : goal.overflow_add-entry
-overflow_add-entry c =
-    let held = told_of (λ l. l.holds) (live_under (is_under c.self.view_is c.self.invariant c.map.view_is c.key_at-key.ensures c.index_mut-entry.ensures.value)) in
+pub overflow_add-stored : goal.overflow_add-stored
+overflow_add-stored c =
+    let held = told_of (λ l. l.holds) (live_under (is_under c.self.view_is c.self.invariant c.map.view_is c.key-key.ensures c.index_mut-stored.ensures.value)) in
     let few = c.requires.few in
     record { fits = omega arith }
 
 module _ (c : goal.After-self-1) where
-  abbrev old : Entry
-  old = c.index_mut-entry.result.now
+  abbrev old : StoredMap
+  old = c.index_mut-stored.result.now
 
-  under : IsUnder c.self.inside c.args.self.now c.map.inside.place c.args.map c.key_at-key.result old
-  under = is_under c.self.view_is c.self.invariant c.map.view_is c.key_at-key.ensures c.index_mut-entry.ensures.value
+  under : IsUnder c.self.inside c.args.self.now c.map.inside.handle c.args.map c.key-key.result old
+  under = is_under c.self.view_is c.self.invariant c.map.view_is c.key-key.ensures c.index_mut-stored.ensures.value
 
-  change : IsChange c.self.inside c.args.self.now c.map.inside.place c.args.map c.key_at-key.result old (record { map = old.map; start = old.start; stride = old.stride; holds = old.holds + 1 })
+  change : IsChange c.self.inside c.args.self.now c.map.inside.handle c.args.map c.key-key.result old (record { map = old.map; start = old.start; stride = old.stride; holds = old.holds + 1 })
   change = record { under = under; start = refl; stride = refl; shape = refl; held = omega arith; sound = (placed_under under).sound }
 
 pub invariant_of-self : goal.invariant_of-self

@@ -7,7 +7,7 @@ use Rattle.bpf_maps.proofs.maps.Maps.key_after.Goals as goal
 
 pub returns : goal.returns
 returns c =
-    let is = c.entry.ensures in
+    let is = c.stored.ensures in
     let same = sym (told_of (λ l. l.places) is) in
     record {
       given = subst (λ (t : PlaceTable). option_map key_bytes c.key_after.result ≡ next_of (table_of t) c.args.key.now) same c.key_after.ensures.given;

@@ -2,7 +2,7 @@ use Rattle.std.proofs.Common.{◌≡◌, ◌≤◌, length, subst, arith}
 use Rattle.bpf_maps.specs.declared.part.TheConstants.{LARGEST_SUM, MAPS}
 use Rattle.bpf_maps.specs.Live.{LiveMaps, IsLaid, IsPacked, AreSound, areas}
 use Rattle.bpf_maps.specs.InMaps.{as_live_maps}
-use Rattle.bpf_maps.proofs.Placed.{places_are}
+use Rattle.bpf_maps.proofs.ByHandle.{handles_are}
 use Rattle.bpf_maps.proofs.Whole.{laid, packed, sound_at}
 use Rattle.bpf_maps.proofs.maps.Maps.maps_are_laid.Goals as goal
 
@@ -16,6 +16,6 @@ returns c =
       laid = subst IsLaid c.self.view_is (laid is);
       packed = subst IsPacked c.self.view_is (packed is);
       sound = subst AreSound c.self.view_is (sound_at is);
-      maps = subst (λ (t : LiveMaps). length t.maps ≡ MAPS) c.self.view_is (places_are c.self.inside.keys c.self.inside.entries is.keys);
+      maps = subst (λ (t : LiveMaps). length t.maps ≡ MAPS) c.self.view_is (handles_are c.self.inside.keys c.self.inside.maps is.keys);
       bytes = subst (λ (t : LiveMaps). areas t ≤ LARGEST_SUM) c.self.view_is bytes;
     }

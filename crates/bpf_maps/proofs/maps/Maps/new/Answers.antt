@@ -1,50 +1,61 @@
-use Rattle.std.proofs.Common.{◌≡◌, ℕ, zero, suc, List, Option, Some, None, refl, sym, ap, ◌∙◌, arith, get_or, replicate, is_some, count_by}
+use Rattle.std.proofs.Common.{◌≡◌, ℕ, zero, suc, List, Option, Some, None, refl, sym, ap, ◌∙◌, arith, get_or, replicate, length, is_some, count_by}
 use Rattle.std.proofs.lemmas.Option.{none-some}
 use Rattle.slab.specs.Slab.{Slab}
 use Rattle.bpf_maps.specs.declared.part.TheConstants.{MAPS}
-use Rattle.bpf_maps.specs.declared.entries.Entry.{Entry}
-use Rattle.bpf_maps.specs.Live.{LiveMap}
+use Rattle.bpf_maps.specs.declared.stored_map.StoredMap.{StoredMap}
+use Rattle.bpf_maps.specs.Live.{LiveMap, area_of}
 use Rattle.bpf_maps.specs.Sum.{total}
-use Rattle.bpf_maps.specs.InMaps.{placed}
-use Rattle.bpf_maps.proofs.Placed.{no_key}
+use Rattle.bpf_maps.specs.InMaps.{live_maps_of, by_handle}
+use Rattle.bpf_maps.proofs.ByHandle.{no_key}
 use Rattle.bpf_maps.proofs.maps.Maps.new.Goals as goal
 
--- no place has a key, or an entry
+-- no handle has a key, or a map
 none_at : {A : Type 0} (n p : ℕ) → get_or (replicate n (let none : Option A = None in none)) p None ≡ None
 none_at zero p = refl
 none_at (suc n) zero = refl
 none_at (suc n) (suc p) = none_at n p
 
-unkeyed : (p key : ℕ) → get_or (replicate MAPS None) p None ≡ Some key → ⊥
-unkeyed p key at = none-some key (sym (none_at MAPS p) ∙ at)
+module _ {keys : List (Option ℕ)} (none : keys ≡ replicate MAPS None) (maps : Slab StoredMap) where
+  without_key : (k : ℕ) → get_or keys k None ≡ None
+  without_key k = ap (λ (xs : List (Option ℕ)). get_or xs k None) none ∙ none_at MAPS k
 
-empty : (entries : Slab Entry) (p : ℕ) (e : Entry) → get_or (placed (replicate MAPS None) entries) p None ≡ Some e → ⊥
-empty entries p e at = none-some e (sym (no_key entries (replicate MAPS None) p (none_at MAPS p)) ∙ at)
+  unkeyed : (k key : ℕ) → get_or keys k None ≡ Some key → ⊥
+  unkeyed k key at = none-some key (sym (without_key k) ∙ at)
+
+  empty : (k : ℕ) (e : StoredMap) → get_or (by_handle keys maps) k None ≡ Some e → ⊥
+  empty k e at = none-some e (sym (no_key maps keys k (without_key k)) ∙ at)
+
+  no_maps : live_maps_of (by_handle keys maps) ≡ replicate MAPS None
+  no_maps = ap (λ (xs : List (Option ℕ)). live_maps_of (by_handle xs maps)) none
+
+  no_bytes : total area_of (live_maps_of (by_handle keys maps)) ≡ 0
+  unfolding total
+  no_bytes = ap (λ (lives : List (Option LiveMap)). total area_of lives) no_maps
 
 pub invariant_of-result : goal.invariant_of-result
-unfolding total
-invariant_of-result c = record {
-  keys = record {
-    long = refl;
-    there = λ p key at. absurd (unkeyed p key at);
-    own = λ p q key at bt. absurd (unkeyed p key at);
-    all = ap (λ (xs : List (Option Entry)). count_by is_some xs) c.in_ok-entries.ensures.empty;
-  };
-  room = c.in_ok-entries.ensures.capacity;
-  placed = λ p e at. absurd (empty c.in_ok-entries.entries p e at);
-  apart = λ p q e f at bt ne. absurd (empty c.in_ok-entries.entries p e at);
-  sum = refl;
-  few = omega arith;
-  aligned = refl;
-  laid_out = record { long = c.in_ok-layouts.ensures; each = λ p e other at. absurd (empty c.in_ok-entries.entries p e at) };
-}
+invariant_of-result c =
+    let none = c.new.ensures in
+    let maps = c.in_ok-maps.maps in
+    record {
+      keys = record {
+        long = ap (λ (xs : List (Option ℕ)). length xs) none;
+        there = λ k key at. absurd (unkeyed none maps k key at);
+        own = λ k j key at bt. absurd (unkeyed none maps k key at);
+        all = ap (λ (xs : List (Option StoredMap)). count_by is_some xs) c.in_ok-maps.ensures.empty ∙ sym (ap (λ (xs : List (Option ℕ)). count_by is_some xs) none);
+      };
+      room = c.in_ok-maps.ensures.capacity;
+      placed = λ k e at. absurd (empty none maps k e at);
+      apart = λ k j e f at bt ne. absurd (empty none maps k e at);
+      sum = sym (no_bytes none maps);
+      few = omega arith;
+      aligned = refl;
+    }
 
 pub returns-clause-maps : goal.returns-clause-maps
-returns-clause-maps c = refl
+returns-clause-maps c = no_maps c.new.ensures c.in_ok-maps.maps
 
 pub returns-clause-none : goal.returns-clause-none
-returns-clause-none c = λ k. none_at {A = LiveMap} MAPS k
+returns-clause-none c = λ k. ap (λ (lives : List (Option LiveMap)). get_or lives k None) (no_maps c.new.ensures c.in_ok-maps.maps) ∙ none_at MAPS k
 
 pub returns-clause-bytes : goal.returns-clause-bytes
-unfolding total
-returns-clause-bytes c = refl
+returns-clause-bytes c = no_bytes c.new.ensures c.in_ok-maps.maps

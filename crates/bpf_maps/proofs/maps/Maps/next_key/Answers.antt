@@ -6,7 +6,7 @@ use Rattle.bpf_maps.proofs.maps.Maps.next_key.Goals as goal
 
 pub returns : goal.returns
 returns c =
-    let is = c.entry.ensures in
+    let is = c.stored.ensures in
     record {
       given = subst (λ (t : PlaceTable). GivesKey (next_of (table_of t) c.args.key.now) c.args.next.now c.next_key.result c.next_key.new.next) (sym (told_of (λ l. l.places) is)) c.next_key.ensures.given;
     }

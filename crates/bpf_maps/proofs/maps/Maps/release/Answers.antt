@@ -2,35 +2,35 @@ use Rattle.std.proofs.Common.{◌≡◌, ◌+◌, ◌-◌, ◌<◌, ◌≤◌, �
 use Rattle.bpf_maps.specs.declared.part.TheConstants.{STACK_AND_CONTEXT}
 use Rattle.bpf_maps.specs.Live.{holds_at, without_area, area_by, area_of}
 use Rattle.bpf_maps.specs.InMaps.{live_of}
-use Rattle.bpf_maps.specs.declared.entries.Entry.{Entry}
-use Rattle.bpf_maps.proofs.Placed.{has_key}
+use Rattle.bpf_maps.specs.declared.stored_map.StoredMap.{StoredMap}
+use Rattle.bpf_maps.proofs.ByHandle.{has_key}
 use Rattle.bpf_maps.proofs.Changes.{told_of, IsUnder, is_under, live_under, placed_under, IsChange, live_old, live_new, others_stay, areas_stay, whole_stays, laid_stays, room_stays, part_stays, values_stay, others_keep, itself_keeps, one_held_less, not_more}
 use Rattle.bpf_maps.proofs.Released.{IsTaken, IsLeft, Goes, gone_within, left_keys, size_most, whole_gone, laid_gone, less_gone, others_gone, closes_up, none_now, freed_gone, values_gone, others_kept, front_gone}
 use Rattle.bpf_maps.proofs.maps.Maps.release.Goals as goal
-use Rattle.bpf_maps.proofs.maps.Maps.release.Goals.{After-index_mut-entry, After-area-size}
+use Rattle.bpf_maps.proofs.maps.Maps.release.Goals.{After-index_mut-stored, After-area-size}
 
-pub key_at-key-requires : goal.key_at-key-requires
-key_at-key-requires c = has_key c.self.inside c.self.view_is c.map.view_is c.requires.live
+pub key-key-requires : goal.key-key-requires
+key-key-requires c = has_key c.self.inside c.self.view_is c.map.view_is c.requires.live
 
-under : (c : After-index_mut-entry) → IsUnder c.self.inside c.args.self.now c.map.inside.place c.args.map c.key_at-key.result c.index_mut-entry.result.now
-under c = is_under c.self.view_is c.self.invariant c.map.view_is c.key_at-key.ensures c.index_mut-entry.ensures.value
+under : (c : After-index_mut-stored) → IsUnder c.self.inside c.args.self.now c.map.inside.handle c.args.map c.key-key.result c.index_mut-stored.result.now
+under c = is_under c.self.view_is c.self.invariant c.map.view_is c.key-key.ensures c.index_mut-stored.ensures.value
 
 -- ---- one hold less
 
 module _ (c : goal.After-self-1) where
-  abbrev old : Entry
-  old = c.index_mut-entry.result.now
+  abbrev old : StoredMap
+  old = c.index_mut-stored.result.now
 
-  is : IsUnder c.self.inside c.args.self.now c.map.inside.place c.args.map c.key_at-key.result old
-  is = under (goal.at.invariant_of-self c).After-index_mut-entry
+  is : IsUnder c.self.inside c.args.self.now c.map.inside.handle c.args.map c.key-key.result old
+  is = under (goal.at.invariant_of-self c).After-index_mut-stored
 
-  change : IsChange c.self.inside c.args.self.now c.map.inside.place c.args.map c.key_at-key.result old (record { map = old.map; start = old.start; stride = old.stride; holds = old.holds - 1 })
+  change : IsChange c.self.inside c.args.self.now c.map.inside.handle c.args.map c.key-key.result old (record { map = old.map; start = old.start; stride = old.stride; holds = old.holds - 1 })
   change = record {
     under = is;
     start = refl;
     stride = refl;
     shape = refl;
-    held = let m = c.if-entry-gt-LAST.true in omega arith;
+    held = let m = c.if-stored-gt-LAST.true in omega arith;
     sound = (placed_under is).sound;
   }
 
@@ -38,56 +38,56 @@ module _ (c : goal.After-self-1) where
   not_last : holds_at c.args.self.now c.args.map ≤ 1 → ⊥
   not_last last =
       let held = told_of (λ l. l.holds) (live_old change) in
-      let more = c.if-entry-gt-LAST.true in
+      let more = c.if-stored-gt-LAST.true in
       absurd (omega arith)
 
 pub invariant_of-self : goal.invariant_of-self
 invariant_of-self c = whole_stays (change c)
 
-pub returns-then-entry-gt-LAST-clause-less : goal.returns-then-entry-gt-LAST-clause-less
-returns-then-entry-gt-LAST-clause-less c = one_held_less (change c) refl refl c.if-entry-gt-LAST.true
+pub returns-then-stored-gt-LAST-clause-less : goal.returns-then-stored-gt-LAST-clause-less
+returns-then-stored-gt-LAST-clause-less c = one_held_less (change c) refl refl c.if-stored-gt-LAST.true
 
-pub returns-then-entry-gt-LAST-clause-others : goal.returns-then-entry-gt-LAST-clause-others
-returns-then-entry-gt-LAST-clause-others c = λ other ne. ap (option_map without_area) (others_stay (change c) other ne)
+pub returns-then-stored-gt-LAST-clause-others : goal.returns-then-stored-gt-LAST-clause-others
+returns-then-stored-gt-LAST-clause-others c = λ other ne. ap (option_map without_area) (others_stay (change c) other ne)
 
-pub returns-then-entry-gt-LAST-clause-laid : goal.returns-then-entry-gt-LAST-clause-laid
-returns-then-entry-gt-LAST-clause-laid c = laid_stays (change c)
+pub returns-then-stored-gt-LAST-clause-laid : goal.returns-then-stored-gt-LAST-clause-laid
+returns-then-stored-gt-LAST-clause-laid c = laid_stays (change c)
 
-pub returns-then-entry-gt-LAST-clause-values : goal.returns-then-entry-gt-LAST-clause-values
-returns-then-entry-gt-LAST-clause-values c = values_stay (change c) c.args.part.now
+pub returns-then-stored-gt-LAST-clause-values : goal.returns-then-stored-gt-LAST-clause-values
+returns-then-stored-gt-LAST-clause-values c = values_stay (change c) c.args.part.now
 
-pub returns-then-entry-gt-LAST-clause-maps : goal.returns-then-entry-gt-LAST-clause-maps
-returns-then-entry-gt-LAST-clause-maps c = others_keep (change c) c.args.part.now
+pub returns-then-stored-gt-LAST-clause-maps : goal.returns-then-stored-gt-LAST-clause-maps
+returns-then-stored-gt-LAST-clause-maps c = others_keep (change c) c.args.part.now
 
-pub returns-then-entry-gt-LAST-clause-kept : goal.returns-then-entry-gt-LAST-clause-kept
-returns-then-entry-gt-LAST-clause-kept c = λ more. itself_keeps (change c) refl c.args.part.now
+pub returns-then-stored-gt-LAST-clause-kept : goal.returns-then-stored-gt-LAST-clause-kept
+returns-then-stored-gt-LAST-clause-kept c = λ more. itself_keeps (change c) refl c.args.part.now
 
-pub returns-then-entry-gt-LAST-clause-room : goal.returns-then-entry-gt-LAST-clause-room
-returns-then-entry-gt-LAST-clause-room c = λ more. room_stays (change c)
+pub returns-then-stored-gt-LAST-clause-room : goal.returns-then-stored-gt-LAST-clause-room
+returns-then-stored-gt-LAST-clause-room c = λ more. room_stays (change c)
 
-pub returns-then-entry-gt-LAST-clause-gone : goal.returns-then-entry-gt-LAST-clause-gone
-returns-then-entry-gt-LAST-clause-gone c = λ last. absurd (not_last c last)
+pub returns-then-stored-gt-LAST-clause-gone : goal.returns-then-stored-gt-LAST-clause-gone
+returns-then-stored-gt-LAST-clause-gone c = λ last. absurd (not_last c last)
 
-pub returns-then-entry-gt-LAST-clause-moved : goal.returns-then-entry-gt-LAST-clause-moved
-returns-then-entry-gt-LAST-clause-moved c = λ last. absurd (not_last c last)
+pub returns-then-stored-gt-LAST-clause-moved : goal.returns-then-stored-gt-LAST-clause-moved
+returns-then-stored-gt-LAST-clause-moved c = λ last. absurd (not_last c last)
 
-pub returns-then-entry-gt-LAST-clause-freed : goal.returns-then-entry-gt-LAST-clause-freed
-returns-then-entry-gt-LAST-clause-freed c = λ last. absurd (not_last c last)
+pub returns-then-stored-gt-LAST-clause-freed : goal.returns-then-stored-gt-LAST-clause-freed
+returns-then-stored-gt-LAST-clause-freed c = λ last. absurd (not_last c last)
 
-pub returns-then-entry-gt-LAST-clause-stays : goal.returns-then-entry-gt-LAST-clause-stays
-returns-then-entry-gt-LAST-clause-stays c = λ more. ap is_some (live_new (change c))
+pub returns-then-stored-gt-LAST-clause-stays : goal.returns-then-stored-gt-LAST-clause-stays
+returns-then-stored-gt-LAST-clause-stays c = λ more. ap is_some (live_new (change c))
 
-pub returns-then-entry-gt-LAST-clause-shape : goal.returns-then-entry-gt-LAST-clause-shape
-returns-then-entry-gt-LAST-clause-shape c = λ more. part_stays (change c) (λ l. l.places.shape) refl
+pub returns-then-stored-gt-LAST-clause-shape : goal.returns-then-stored-gt-LAST-clause-shape
+returns-then-stored-gt-LAST-clause-shape c = λ more. part_stays (change c) (λ l. l.places.shape) refl
 
-pub returns-then-entry-gt-LAST-clause-areas : goal.returns-then-entry-gt-LAST-clause-areas
-returns-then-entry-gt-LAST-clause-areas c = λ more. areas_stay (change c)
+pub returns-then-stored-gt-LAST-clause-areas : goal.returns-then-stored-gt-LAST-clause-areas
+returns-then-stored-gt-LAST-clause-areas c = λ more. areas_stay (change c)
 
 -- ---- the last one
 
 module _ (c : After-area-size) where
-  taken : IsTaken c.self.inside c.args.self.now c.map.inside.place c.args.map c.key_at-key.result c.index_mut-entry.result.now c.remove-gone.result
-  taken = record { under = is_under c.self.view_is c.self.invariant c.map.view_is c.key_at-key.ensures c.index_mut-entry.ensures.value; value = c.remove-gone.ensures.value }
+  taken : IsTaken c.self.inside c.args.self.now c.map.inside.handle c.args.map c.key-key.result c.index_mut-stored.result.now c.remove-gone.result
+  taken = record { under = is_under c.self.view_is c.self.invariant c.map.view_is c.key-key.ensures c.index_mut-stored.ensures.value; value = c.remove-gone.ensures.value }
 
   size : c.area-size.result ≡ area_of (live_of c.remove-gone.result)
   size = c.area-size.ensures.value ∙ ap area_by c.shape.ensures
@@ -95,8 +95,8 @@ module _ (c : After-area-size) where
   ends : c.remove-gone.result.start + c.area-size.result ≤ STACK_AND_CONTEXT + c.self.inside.bytes
   ends = let within = gone_within taken in let s = size in omega arith
 
-  left : IsLeft c.self.inside c.key_at-key.result c.index_mut-entry.result.now c.remove-gone.new.self
-  left = record { gap = c.remove-gone.ensures.updates.changed; others = c.remove-gone.ensures.updates.others; len = c.remove-gone.ensures.len; capacity = c.remove-gone.ensures.capacity }
+  left : IsLeft c.self.inside c.map.inside.handle c.key-key.result c.index_mut-stored.result.now c.clear.new.self c.remove-gone.new.self
+  left = record { keys_are = c.clear.ensures; gap = c.remove-gone.ensures.updates.changed; others = c.remove-gone.ensures.updates.others; len = c.remove-gone.ensures.len; capacity = c.remove-gone.ensures.capacity }
 
 pub overflow_add-end : goal.overflow_add-end
 overflow_add-end c =
@@ -124,7 +124,7 @@ module _ (c : goal.Joined-gone) where
   abbrev at : After-area-size
   at = (goal.at.invariant_of-self-2 c).After-area-size
 
-  goes : Goes c.self.inside c.args.self.now c.map.inside.place c.args.map c.key_at-key.result c.area-size.result c.index_mut-entry.result.now c.remove-gone.result c.remove-gone.new.self c.close_gap.new.entries c.close_gap.new.layouts
+  goes : Goes c.self.inside c.args.self.now c.map.inside.handle c.args.map c.key-key.result c.area-size.result c.index_mut-stored.result.now c.remove-gone.result c.clear.new.self c.remove-gone.new.self c.close_gap.new.maps
   goes = record {
     taken = taken at;
     size_is = size at;
@@ -133,7 +133,6 @@ module _ (c : goal.Joined-gone) where
       each = c.close_gap.ensures.each;
       are_keys = c.close_gap.ensures.keys;
       capacity = c.close_gap.ensures.capacity;
-      layouts_are = c.close_gap.ensures.layouts;
     };
   }
 
@@ -143,13 +142,13 @@ module _ (c : goal.Joined-gone) where
 
   -- in this case the map had no second reference
   no_more : 1 < holds_at c.args.self.now c.args.map → ⊥
-  no_more more = not_more c.args.self.now c.args.map (live_under goes.taken.under) c.if-entry-gt-LAST.false more
+  no_more more = not_more c.args.self.now c.args.map (live_under goes.taken.under) c.if-stored-gt-LAST.false more
 
 pub invariant_of-self-2 : goal.invariant_of-self-2
 invariant_of-self-2 c = whole_gone (goes c)
 
 pub returns-clause-less : goal.returns-clause-less
-returns-clause-less c = less_gone (goes c) c.if-entry-gt-LAST.false
+returns-clause-less c = less_gone (goes c) c.if-stored-gt-LAST.false
 
 pub returns-clause-stays : goal.returns-clause-stays
 returns-clause-stays c = λ more. absurd (no_more c more)

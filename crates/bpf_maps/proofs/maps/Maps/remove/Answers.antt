@@ -1,21 +1,21 @@
 use Rattle.std.proofs.Common.{◌∙◌}
-use Rattle.bpf_maps.proofs.Placed.{has_key}
+use Rattle.bpf_maps.proofs.ByHandle.{has_key}
 use Rattle.bpf_maps.proofs.Changes.{told_of, is_under, live_under}
 use Rattle.bpf_maps.proofs.KeyChanges.{IsKeyChange, places_before, places_after, keys_whole, only_keys}
 use Rattle.bpf_maps.proofs.Along.{removes_shape, removes_along}
 use Rattle.bpf_maps.proofs.maps.Maps.remove.Goals as goal
 
-pub key_at-at-requires : goal.key_at-at-requires
-key_at-at-requires c = has_key c.self.inside c.self.view_is c.map.view_is c.requires.live
+pub key-at-requires : goal.key-at-requires
+key-at-requires c = has_key c.self.inside c.self.view_is c.map.view_is c.requires.live
 
 pub remove-requires : goal.remove-requires
 remove-requires c =
-    let here = live_under (is_under c.self.view_is c.self.invariant c.map.view_is c.key_at-at.ensures c.index_mut-entry.ensures.value) in
+    let here = live_under (is_under c.self.view_is c.self.invariant c.map.view_is c.key-at.ensures c.index_mut-stored.ensures.value) in
     record { size = c.requires.size ∙ told_of (λ l. l.places.shape.key_size) here }
 
-change : (c : goal.After-self-1) → IsKeyChange c.self.inside c.args.self.now c.map.inside.place c.args.map c.key_at-at.result c.index_mut-entry.result.now c.remove.new.self
+change : (c : goal.After-self-1) → IsKeyChange c.self.inside c.args.self.now c.map.inside.handle c.args.map c.key-at.result c.index_mut-stored.result.now c.remove.new.self
 change c = record {
-  under = is_under c.self.view_is c.self.invariant c.map.view_is c.key_at-at.ensures c.index_mut-entry.ensures.value;
+  under = is_under c.self.view_is c.self.invariant c.map.view_is c.key-at.ensures c.index_mut-stored.ensures.value;
   shape = removes_shape _ c.args.key.now _ _ c.remove.result c.remove.ensures.removed;
   sound = c.remove.ensures.sound;
 }

@@ -1,4 +1,4 @@
-use Rattle.std.proofs.Common.{◌≡◌, List, reverse, filter, refl, rules, ap, ◌∙◌}
+use Rattle.std.proofs.Common.{◌≡◌, List, reverse, filter, rules, ap, ◌∙◌}
 use Rattle.std.proofs.lemmas.Fn.{filter_same}
 use Rattle.tenant.specs.Kept.{state_in}
 use Rattle.saving.specs.Births.{Birth, lives}

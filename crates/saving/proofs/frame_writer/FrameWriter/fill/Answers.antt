@@ -1,4 +1,4 @@
-use Rattle.std.proofs.Common.{ℕ, ◌+◌, ◌-◌, ◌≤◌, ◌++◌, ◌∙◌, List, sym, ap, arith}
+use Rattle.std.proofs.Common.{ℕ, ◌+◌, ◌-◌, ◌++◌, ◌∙◌, List, sym, ap, arith}
 use Rattle.command_frames.specs.Command.{prog_load}
 use Rattle.command_frames.specs.Frame.{framed}
 use Rattle.fd_table.specs.Table.{most}

@@ -1,5 +1,5 @@
-use Rattle.std.proofs.Common.{◌≡◌, ◌++◌, ℕ, List, Option, Some, None, option_map, sym, ap, ◌∙◌}
-use Rattle.tenant.specs.Entry.{PlacedEntry, placed_entries, lent_entry}
+use Rattle.std.proofs.Common.{◌++◌, ℕ, List, Some, option_map, sym, ap, ◌∙◌}
+use Rattle.tenant.specs.Entry.{placed_entries, lent_entry}
 use Rattle.command_frames.specs.Frame.{framed}
 use Rattle.saving.specs.Frames.{frame_of}
 use Rattle.saving.specs.Restored.{put_of}

@@ -1,9 +1,7 @@
-use Rattle.std.proofs.Common.{◌≡◌, Result, Ok, Err, OnOk, OnErr, sym, ap, subst, ◌∙◌}
-use Rattle.std.specs.Result.{result_err}
+use Rattle.std.proofs.Common.{OnOk, subst}
 use Rattle.arena.specs.Memory.{part_bytes}
-use Rattle.fd_table.specs.Table.{named}
-use Rattle.tenant.specs.Batch.{RunsBatch, packets_in, inputs_of, batch_refusal}
-use Rattle.tenant.specs.Kept.{KeptTenant, state_in}
+use Rattle.tenant.specs.Batch.{RunsBatch, packets_in, inputs_of}
+use Rattle.tenant.specs.Kept.{state_in}
 use Rattle.saving.specs.Recorded.{RecordedTenant, tenant_state}
 use Rattle.saving.proofs.Recorded.{recorded_runs, with_err}
 use Rattle.saving.proofs.savable.SavableTenant.run_packets.Goals as goal

@@ -1,4 +1,4 @@
-use Rattle.std.proofs.Common.{List, is_some, sym, ap, ◌∙◌}
+use Rattle.std.proofs.Common.{is_some, sym, ap, ◌∙◌}
 use Rattle.tenant.specs.Kept.{KeptTenant, state_in}
 use Rattle.tenant.specs.State.{live}
 use Rattle.tenant.proofs.AtPlaces.{live_is}

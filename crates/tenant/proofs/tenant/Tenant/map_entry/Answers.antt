@@ -1,4 +1,4 @@
-use Rattle.std.proofs.Common.{◌≡◌, ℕ, ◌+◌, ◌-◌, ◌≤◌, List, length, take, drop, Option, Some, None, IsSome, option_map, sym, ap, ap₂, subst, ◌∙◌, arith}
+use Rattle.std.proofs.Common.{◌≡◌, ℕ, ◌+◌, ◌-◌, ◌≤◌, List, take, drop, Option, Some, None, IsSome, option_map, sym, ap, ap₂, subst, ◌∙◌, arith}
 use Rattle.std.specs.Map.{values_of}
 use Rattle.bpf_maps.specs.KeyRef.{key_bytes, shown_entry}
 use Rattle.bpf_maps.specs.Live.{live_at, value_in}

@@ -1,8 +1,7 @@
-use Rattle.std.proofs.Common.{◌≡◌, List, ℕ, Option, Some, None, IsSome, option_map, sym, ap, subst, ◌∙◌}
+use Rattle.std.proofs.Common.{◌≡◌, Some, None, IsSome, sym, subst, ◌∙◌}
 use Rattle.bpf_maps.specs.Live.{live_at, shape_at, map_in}
-use Rattle.tagged_model.specs.declared.shape.MapShape.{MapShape}
 use Rattle.tenant.specs.Kept.{KeptTenant, state_in}
-use Rattle.tenant.specs.State.{Map, live}
+use Rattle.tenant.specs.State.{live}
 use Rattle.tenant.proofs.MapEntries.{live_in_state, gone_in_state}
 use Rattle.tenant.proofs.StillKept.{kept_in}
 use Rattle.tenant.proofs.tenant.Tenant.map_shape.Goals as goal

@@ -1,0 +1,100 @@
+//! The keys under which a slab stores the maps of a tenant.
+
+ghost use Rattle.std.specs.Prelude.{◌≡◌, ◌<◌, position, replicate, is_none, slice_index_or, slice_set, Some, None, IsSome};
+ghost use Rattle.bpf_maps.specs.declared.slab_keys.TheConstants.{NO_KEY};
+ghost use Rattle.bpf_maps.specs.Limits.{most_maps};
+ghost use Rattle.bpf_maps.specs.inside.SlabKeys.{key_in};
+
+use crate::part::MAPS;
+use std::marker::Model;
+
+// The word for no key: each key of a slab is less than its capacity.
+const NO_KEY: usize = usize::MAX;
+
+/// The slab's key of each handle, if it has one. Contracts see a list of `MAPS` options.
+#[derive(Drop)]
+pub(crate) struct SlabKeys {
+    words: [usize; MAPS],
+}
+
+impl Model for SlabKeys {
+    ghost use Rattle.std.specs.Prelude.{ℕ, List, Option};
+    ghost use Rattle.bpf_maps.specs.inside.SlabKeys.{keys_in};
+
+    ghost Value = { List (Option ℕ) };
+
+    ghost view = { λ k. keys_in k.words };
+}
+
+impl SlabKeys {
+    /// No handle has a key.
+    pub(crate) fn new() -> SlabKeys
+        ensures { result ≡ replicate most_maps None }
+    {
+        SlabKeys {
+            words: [NO_KEY; MAPS],
+        }
+    }
+
+    /// The key of a handle; `None` if it has none.
+    #[inline(always)]
+    pub(crate) fn get(&self, handle: usize) -> Option<usize>
+        ensures { result ≡ slice_index_or self.now handle None }
+    {
+        match self.words.get(handle) {
+            Some(&word) => key_of(word),
+            None => None,
+        }
+    }
+
+    /// The key of a handle that has one.
+    #[inline(always)]
+    pub(crate) fn key(&self, handle: usize) -> usize
+        requires { IsSome (slice_index_or self.now handle None) }
+        ensures { slice_index_or self.now handle None ≡ Some result }
+    {
+        match self.get(handle) {
+            Some(key) => key,
+            None => unreachable!(),
+        }
+    }
+
+    /// The lowest handle without a key; `None` if each has one.
+    pub(crate) fn free_handle(&self) -> Option<usize>
+        ensures { result ≡ position is_none self.now }
+    {
+        first_without_key(&self.words)
+    }
+
+    /// Gives a handle a key.
+    pub(crate) fn put(&mut self, handle: usize, key: usize)
+        requires handle { handle < most_maps }
+        requires key { key < NO_KEY }
+        ensures { self.new ≡ slice_set self.old handle (Some key) }
+    {
+        self.words[handle] = key;
+    }
+
+    /// Takes a handle's key away.
+    pub(crate) fn clear(&mut self, handle: usize)
+        requires { handle < most_maps }
+        ensures { self.new ≡ slice_set self.old handle None }
+    {
+        self.words[handle] = NO_KEY;
+    }
+}
+
+/// The key in a word, if there is one.
+#[inline(always)]
+fn key_of(word: usize) -> Option<usize>
+    ensures { result ≡ key_in word }
+{
+    if word == NO_KEY { None } else { Some(word) }
+}
+
+/// The index of the first word without a key; `None` if each has one.
+fn first_without_key(words: &[usize; MAPS]) -> Option<usize>
+    ensures { result ≡ position (λ word. is_none (key_in word)) words.now }
+{
+    words.iter().position(|&word| key_of(word).is_none())
+}

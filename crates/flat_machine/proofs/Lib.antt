@@ -17,6 +17,9 @@ pub mod Branches
 pub mod Opcodes
 pub mod Ending
 pub mod SetUp
+pub mod Several
+pub mod Sequences
+pub mod LastStep
 pub mod Clear
 pub mod GivenWords
 pub mod ContextWritten

@@ -11,6 +11,7 @@ pub mod Ended
 pub mod Ahead
 pub mod Turns
 pub mod GroupTurns
+pub mod WideLoads
 pub mod Deletions
 pub mod Distances
 pub mod Branches

@@ -1,40 +1,54 @@
--- The invariant of a hash map after a change: each place is in use, kept apart or free.
-use Rattle.std.proofs.Common.{◌≡◌, ℕ, suc, ◌+◌, ◌-◌, ◌<◌, ◌==◌, Bool, true, false, List, [], ◌∷◌, ◌++◌, length, Option, Some, slice_get, get_or, option_to_list, refl, sym, ap, subst, ◌∙◌, nat_lt, if◌then◌else◌, arith, vec_capacity, length-append}
+-- The invariant of a hash map after a change: each place is in use or spare, and the first spare ones are kept apart.
+use Rattle.std.proofs.Common.{◌≡◌, ◌≢◌, ℕ, suc, ◌+◌, ◌-◌, ◌<◌, ◌≤◌, ◌==◌, Bool, true, false, List, [], ◌∷◌, ◌++◌, length, take, drop, Option, Some, slice_get, get_or, option_to_list, refl, sym, ap, subst, ◌∙◌, nat_lt, if◌then◌else◌, arith, vec_capacity, length-append}
 use Rattle.std.proofs.lemmas.Bool.{ltb-true}
-use Rattle.std.proofs.lemmas.List.{length-map}
+use Rattle.std.proofs.lemmas.List.{append_assoc, drop-drop, length-map, length-take-le, take-append-drop, take-append-le}
+use Rattle.std.proofs.Math.Seq.{take-append_seam}
 use Rattle.std.proofs.lemmas.Option.{none-some, same_Some, get_or_from_slice_get}
 use Rattle.std.proofs.lemmas.Bool.Decides.{nat_tests}
 use Rattle.std.specs.Map.{values_of}
 use Rattle.tagged_model.specs.Table.{found, without, with_key, is_full}
 use Rattle.bpf_maps.specs.Places.{table_of, occurrences, IsSound, IsSized, IsFree}
-use Rattle.bpf_maps.specs.Index.{entries_of, bound_of, TakesKeys, IsWellFormedHash, shown}
+use Rattle.bpf_maps.specs.Index.{entries_of, bound_of, put_at, TakesKeys, IsWellFormedHash, shown}
 use Rattle.bpf_maps.specs.declared.hash_map.HashMap.TheInside.{Inside}
 use Rattle.bpf_maps.specs.declared.key_index.KeyIndex.{KeyIndex}
 use Rattle.tagged_model.specs.declared.shape.MapShape.{MapShape}
 use Rattle.bpf_maps.proofs.Counts.{IsSum, times-append, times_self, values_of-append, sum-without, sized-without, sized-with}
 use Rattle.bpf_maps.proofs.Shapes.{hash_no_array}
 
+-- ---- the first spare places
+
+-- a place occurs among the first ones at most as often as among all
+first_times : (p k : ℕ) (xs : List ℕ) → occurrences p (take k xs) ≤ occurrences p xs
+first_times p k xs =
+    let whole = ap (occurrences p) (take-append-drop k xs) in
+    let parts = times-append p (take k xs) (drop k xs) in
+    omega arith
+
 pub sound : {a : Inside} → IsWellFormedHash a → IsSound (shown a)
 sound {a} h = record {
-  once = λ p. let e = h.once p in omega arith;
-  few = let e = h.all in omega arith;
+  once = λ p. let e = h.once p in let first = first_times p a.kept a.spare.items in by _ _ _ (nat_lt p a.shape.max_entries) e first;
+  few = let e = h.all in let kept = length-take-le a.kept a.spare.items h.kept in let most = h.kept in omega arith;
   sized = h.sized;
   indices = λ array. absurd (hash_no_array a.shape.kind h.kind array);
 }
+  where
+    by : (n m l : ℕ) (b : Bool) → n + m ≡ (if b then 1 else 0) → l ≤ m → n + l ≤ (if b then 1 else 0)
+    by n m l true e first = omega arith
+    by n m l false e first = omega arith
 
 -- ---- a change of the uses of places
 
--- a sum over the places in use, those kept apart and those free
+-- a sum over the places in use and the spare ones
 abbrev sum_of : (List ℕ → ℕ) → Inside → ℕ
-sum_of f a = f (values_of (entries_of a.index)) + f a.kept.items + f a.free.items
+sum_of f a = f (values_of (entries_of a.index)) + f a.spare.items
 
 -- the lists of places have the same sums; examples are how often a place occurs, and the number of places
 abbrev SamePlaces : Inside → Inside → Type 0
 SamePlaces a b = (f : List ℕ → ℕ) → IsSum f → sum_of f b ≡ sum_of f a
 
--- the invariant holds after a change that keeps these sums, the capacities and the size of keys
-kept_whole : {a : Inside} (b : Inside) → IsWellFormedHash a → b.shape ≡ a.shape → SamePlaces a b → vec_capacity b.kept ≡ vec_capacity a.kept → vec_capacity b.free ≡ vec_capacity a.free → TakesKeys b.index a.shape.key_size → bound_of b.index ≡ bound_of a.index → IsSized a.shape.key_size (entries_of b.index) → IsWellFormedHash b
-kept_whole {a} b h shape places kept free takes bound sized =
+-- the invariant holds after a change that keeps these sums, the capacity and the size of keys
+kept_whole : {a : Inside} (b : Inside) → IsWellFormedHash a → b.shape ≡ a.shape → SamePlaces a b → b.kept ≤ length b.spare.items → vec_capacity b.spare ≡ vec_capacity a.spare → TakesKeys b.index a.shape.key_size → bound_of b.index ≡ bound_of a.index → IsSized a.shape.key_size (entries_of b.index) → IsWellFormedHash b
+kept_whole {a} b h shape places kept capacity takes bound sized =
     let most : b.shape.max_entries ≡ a.shape.max_entries = ap (λ (s : MapShape). s.max_entries) shape in
     record {
       kind = ap (λ (s : MapShape). s.kind) shape ∙ h.kind;
@@ -47,33 +61,70 @@ kept_whole {a} b h shape places kept free takes bound sized =
           let before = length-map (entries_of a.index) (λ e. e.1) in
           let all = h.all in
           omega arith;
-      kept_room = let room = h.kept_room in omega arith;
-      free_room = let room = h.free_room in omega arith;
+      kept = kept;
+      room = let room = h.room in omega arith;
       sized = subst (λ (s : MapShape). IsSized s.key_size (entries_of b.index)) (sym shape) sized;
     }
 
 -- another index with the same entries
 pub kept_by_same : {a : Inside} (index : KeyIndex) → IsWellFormedHash a → entries_of index ≡ entries_of a.index → TakesKeys index a.shape.key_size → bound_of index ≡ bound_of a.index → IsWellFormedHash (record a { index = index })
 kept_by_same {a} index h same takes bound =
-    kept_whole (record a { index = index }) h refl (λ f sum. ap (λ (es : List (List ℕ × ℕ)). f (values_of es) + f a.kept.items + f a.free.items) same) refl refl takes bound
+    kept_whole (record a { index = index }) h refl (λ f sum. ap (λ (es : List (List ℕ × ℕ)). f (values_of es) + f a.spare.items) same) h.kept refl takes bound
     (subst (IsSized a.shape.key_size) (sym same) h.sized)
 
+-- ---- a place that is put at an index
+
+-- the list after its first n elements begins with the one that is moved
+moved_first : (n : ℕ) (xs : List ℕ) → take 1 (drop n xs) ++ drop (n + 1) xs ≡ drop n xs
+moved_first n xs = ap (λ (ys : List ℕ). take 1 (drop n xs) ++ ys) (sym (drop-drop 1 n xs)) ∙ take-append-drop 1 (drop n xs)
+
+pub sum-put : (f : List ℕ → ℕ) → IsSum f → (n place : ℕ) (xs : List ℕ) → f (put_at n place xs) ≡ f xs + f (place ∷ [])
+sum-put f sum n place xs =
+    let rest = drop (n + 1) xs ++ take 1 (drop n xs) in
+    let one = sum (take n xs) (place ∷ rest) in
+    let two = sum (place ∷ []) rest in
+    let three = sum (drop (n + 1) xs) (take 1 (drop n xs)) in
+    let four = ap f (moved_first n xs) in
+    let five = sum (take 1 (drop n xs)) (drop (n + 1) xs) in
+    let six = ap f (take-append-drop n xs) in
+    let seven = sum (take n xs) (drop n xs) in
+    omega arith
+
+-- the first n + 1 elements are then the first n and that place
+pub first-put : (n place : ℕ) (xs : List ℕ) → n ≤ length xs → take (n + 1) (put_at n place xs) ≡ take n xs ++ place ∷ []
+first-put n place xs within =
+    let rest = drop (n + 1) xs ++ take 1 (drop n xs) in
+    let front = take n xs ++ place ∷ [] in
+    let count : length front ≡ n + 1 = let l = length-append (take n xs) (place ∷ []) in let m = length-take-le n xs within in omega arith in
+    ap (λ (k : ℕ). take k (put_at n place xs)) (sym count)
+    ∙ ap (λ (ys : List ℕ). take (length front) ys) (sym (append_assoc (take n xs) (place ∷ []) rest))
+    ∙ take-append_seam front rest
+
 -- a key that is taken out, and its place kept apart
-pub kept_by_remove : {a : Inside} (b : Inside) → IsWellFormedHash a → (key : List ℕ) {place : ℕ} → found key (entries_of a.index) ≡ Some place → b.shape ≡ a.shape → entries_of b.index ≡ without key (entries_of a.index) → b.kept.items ≡ a.kept.items ++ place ∷ [] → vec_capacity b.kept ≡ vec_capacity a.kept → b.free ≡ a.free
+pub kept_by_remove : {a : Inside} (b : Inside) → IsWellFormedHash a → (key : List ℕ) {place : ℕ} → found key (entries_of a.index) ≡ Some place → b.shape ≡ a.shape → entries_of b.index ≡ without key (entries_of a.index) → b.spare.items ≡ put_at a.kept place a.spare.items → vec_capacity b.spare ≡ vec_capacity a.spare → b.kept ≡ a.kept + 1
     → TakesKeys b.index a.shape.key_size → bound_of b.index ≡ bound_of a.index → IsWellFormedHash b
-kept_by_remove {a} b h key {place} at shape index kept cap free takes bound =
+kept_by_remove {a} b h key {place} at shape index spare capacity kept takes bound =
     kept_whole b h shape
     (λ f sum.
     let less = sum-without f sum key place (entries_of a.index) at in
     let now = ap (λ (es : List (List ℕ × ℕ)). f (values_of es)) index in
-    let more = ap f kept ∙ sum a.kept.items (place ∷ []) in
-    let same = ap (λ v. f v.items) free in
+    let more = ap f spare ∙ sum-put f sum a.kept place a.spare.items in
     omega arith)
-    cap (ap vec_capacity free) takes bound
+    (let more : length b.spare.items ≡ length a.spare.items + 1 = ap length spare ∙ sum-put length length-append a.kept place a.spare.items in let before = h.kept in omega arith)
+    capacity takes bound
     (subst (IsSized a.shape.key_size) (sym index) (sized-without a.shape.key_size key (entries_of a.index) h.sized))
 
--- the last free place is not in use
-module _ {a : Inside} (h : IsWellFormedHash a) (place : ℕ) (rest : List ℕ) (last : a.free.items ≡ rest ++ place ∷ []) where
+-- there is room for one place more
+pub spare_room : {a : Inside} → IsWellFormedHash a → (key : List ℕ) {place : ℕ} → found key (entries_of a.index) ≡ Some place → length a.spare.items < vec_capacity a.spare
+spare_room {a} h key {place} at =
+    let less = sum-without length length-append key place (entries_of a.index) at in
+    let count = length-map (entries_of a.index) (λ e. e.1) in
+    let all = h.all in
+    let room = h.room in
+    omega arith
+
+-- the last spare place is free if not all are kept apart
+module _ {a : Inside} (h : IsWellFormedHash a) (place : ℕ) (rest : List ℕ) (last : a.spare.items ≡ rest ++ place ∷ []) (some : a.kept ≢ length a.spare.items) where
   within_by : (b : Bool) (n k : ℕ) → nat_lt place k ≡ b → n + 1 ≡ (if b then 1 else 0) → place < k
   within_by true n k t e = ltb-true place k t
   within_by false n k t e = absurd (omega arith)
@@ -82,52 +133,61 @@ module _ {a : Inside} (h : IsWellFormedHash a) (place : ℕ) (rest : List ℕ) (
   zero_by true n e = omega arith
   zero_by false n e = absurd (omega arith)
 
-  counted : occurrences place (values_of (entries_of a.index)) + occurrences place a.kept.items + occurrences place rest + 1 ≡ (if nat_lt place a.shape.max_entries then 1 else 0)
+  counted : occurrences place (values_of (entries_of a.index)) + occurrences place rest + 1 ≡ (if nat_lt place a.shape.max_entries then 1 else 0)
   counted =
-      let t : occurrences place a.free.items ≡ occurrences place rest + occurrences place (place ∷ []) = ap (occurrences place) last ∙ times-append place rest (place ∷ []) in
+      let t : occurrences place a.spare.items ≡ occurrences place rest + occurrences place (place ∷ []) = ap (occurrences place) last ∙ times-append place rest (place ∷ []) in
       let s = times_self place in
       let g = h.once place in
       omega arith
 
+  count : length a.spare.items ≡ length rest + 1
+  count = ap length last ∙ length-append rest (place ∷ [])
+
+  before : a.kept ≤ length rest
+  before = let most = h.kept in let n = count in let other = some in omega (arith, other)
+
+  pub same_kept : take a.kept rest ≡ take a.kept a.spare.items
+  same_kept = sym (ap (λ (xs : List ℕ). take a.kept xs) last ∙ take-append-le a.kept rest (place ∷ []) before)
+
   pub is_free : IsFree (shown a) place
   is_free =
       let z = zero_by (nat_lt place a.shape.max_entries) _ counted in
+      let first = first_times place a.kept rest in
+      let same = ap (occurrences place) same_kept in
       record { within = within_by (nat_lt place a.shape.max_entries) _ a.shape.max_entries refl counted; entries = omega arith; kept = omega arith }
 
   pub not_full : is_full (table_of (shown a)) ≡ false
   not_full =
-      let l : length a.free.items ≡ length rest + length (place ∷ []) = ap length last ∙ length-append rest (place ∷ []) in
+      let n = count in
       let g = h.all in
-      let less : length (entries_of a.index) + length a.kept.items < a.shape.max_entries = omega arith in
-      unequal (length (entries_of a.index) + length a.kept.items) a.shape.max_entries less
+      let k = length-take-le a.kept a.spare.items h.kept in
+      let b = before in
+      let less : length (entries_of a.index) + length (take a.kept a.spare.items) < a.shape.max_entries = omega arith in
+      unequal (length (entries_of a.index) + length (take a.kept a.spare.items)) a.shape.max_entries less
     where
       unequal : (n m : ℕ) → n < m → (n == m) ≡ false
       unequal n m l = grind (arith, nat_tests)
 
-  -- a new key gets the last free place
-  pub kept_by_add : (b : Inside) (key : List ℕ) → length key ≡ a.shape.key_size → b.shape ≡ a.shape → entries_of b.index ≡ with_key key place (entries_of a.index) → b.kept ≡ a.kept → b.free.items ≡ rest → vec_capacity b.free ≡ vec_capacity a.free → TakesKeys b.index a.shape.key_size → bound_of b.index ≡ bound_of a.index → IsWellFormedHash b
-  kept_by_add b key size shape index kept free cap takes bound =
+  -- a new key gets the last spare place
+  pub kept_by_add : (b : Inside) (key : List ℕ) → length key ≡ a.shape.key_size → b.shape ≡ a.shape → entries_of b.index ≡ with_key key place (entries_of a.index) → b.kept ≡ a.kept → b.spare.items ≡ rest → vec_capacity b.spare ≡ vec_capacity a.spare → TakesKeys b.index a.shape.key_size → bound_of b.index ≡ bound_of a.index → IsWellFormedHash b
+  kept_by_add b key size shape index kept spare capacity takes bound =
       kept_whole b h shape
       (λ f sum.
       let added : List (List ℕ × ℕ) = (key, place) ∷ [] in
       let more = ap (λ (es : List (List ℕ × ℕ)). f (values_of es)) index ∙ ap f (values_of-append (entries_of a.index) added) ∙ sum (values_of (entries_of a.index)) (place ∷ []) in
-      let same = ap (λ v. f v.items) kept in
       let less = ap f last ∙ sum rest (place ∷ []) in
-      let now = ap f free in
+      let now = ap f spare in
       omega arith)
-      (ap vec_capacity kept) cap takes bound
+      (let first = before in let now = ap length spare in omega arith)
+      capacity takes bound
       (subst (IsSized a.shape.key_size) (sym index) (sized-with a.shape.key_size key place (entries_of a.index) size h.sized))
 
--- a place that was kept apart is free again
-pub kept_by_free : {a : Inside} (b : Inside) (place : ℕ) → IsWellFormedHash a → b.shape ≡ a.shape → b.index ≡ a.index → a.kept.items ≡ b.kept.items ++ place ∷ [] → b.free.items ≡ a.free.items ++ place ∷ [] → vec_capacity b.kept ≡ vec_capacity a.kept → vec_capacity b.free ≡ vec_capacity a.free → IsWellFormedHash b
-kept_by_free {a} b place h shape index kept free ck cf =
+-- at the end of a run no place is kept apart
+pub kept_by_none : {a : Inside} (b : Inside) → IsWellFormedHash a → b.shape ≡ a.shape → b.index ≡ a.index → b.spare ≡ a.spare → b.kept ≡ 0 → IsWellFormedHash b
+kept_by_none {a} b h shape index spare none =
     kept_whole b h shape
-    (λ f sum.
-    let same = ap (λ (i : KeyIndex). f (values_of (entries_of i))) index in
-    let less = ap f kept ∙ sum b.kept.items (place ∷ []) in
-    let more = ap f free ∙ sum a.free.items (place ∷ []) in
-    omega arith)
-    ck cf (subst (λ (i : KeyIndex). TakesKeys i a.shape.key_size) (sym index) h.takes) (ap bound_of index)
+    (λ f sum. let same = ap (λ (i : KeyIndex). f (values_of (entries_of i))) index in let all = ap (λ v. f v.items) spare in omega arith)
+    (omega arith) (ap vec_capacity spare) (subst (λ (i : KeyIndex). TakesKeys i a.shape.key_size) (sym index) h.takes) (ap bound_of index)
     (subst (λ (i : KeyIndex). IsSized a.shape.key_size (entries_of i)) (sym index) h.sized)
 
 -- the element that `pop` removes is the one that `last` returned

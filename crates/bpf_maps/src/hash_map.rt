@@ -6,6 +6,7 @@ ghost use Rattle.tagged_model.specs.declared.shape.MapKind.TheVariants.{Hash};
 ghost use Rattle.tagged_model.specs.Table.{look_up, of_absent, is_full, verdict, removal, next_of};
 ghost use Rattle.bpf_maps.specs.KeyRef.{shown_entry};
 ghost use Rattle.bpf_maps.specs.Places.{PlaceTable, table_of, IsSound, Claims, Removes, new_places, after_run, occurrences};
+ghost use Rattle.bpf_maps.specs.Index.{put_at};
 
 use crate::key_index::KeyIndex;
 use crate::key_ref::KeyRef;
@@ -20,10 +21,10 @@ use tagged_model::{MapFault, MapShape};
 pub struct HashMap {
     shape: MapShape,
     index: KeyIndex,
-    // The places of keys that were removed in this run.
-    kept: Vec<u32>,
-    // The places that are free.
-    free: Vec<u32>,
+    // The places that no key has: first those of keys that were removed in this run, and then those that are free.
+    spare: Vec<u32>,
+    // The number of places of keys that were removed in this run.
+    kept: usize,
 }
 
 impl Model for HashMap {
@@ -39,20 +40,19 @@ impl Model for HashMap {
 }
 
 impl HashMap {
-    /// Makes a map of this shape without keys, whose keys are hashed with this seed. Allocates room to keep all places apart and in
-    /// order. `AllocError`: out of memory.
+    /// Makes a map of this shape without keys, whose keys are hashed with this seed. Allocates its list of places. `AllocError`: out of
+    /// memory.
     pub fn new(alloc: Global, shape: MapShape, seed: HashSeed) -> Result<HashMap, AllocError>
         requires { shape.kind ≡ Hash }
         ensures { IfOk result (λ map. map ≡ new_places shape) }
     {
-        let free = all_places(alloc, shape.max_entries)?;
-        let kept = Vec::with_capacity(alloc, shape.max_entries as usize)?;
+        let spare = all_places(alloc, shape.max_entries)?;
         let index = KeyIndex::new(alloc, shape.key_size as usize, shape.max_entries, seed)?;
         Ok(HashMap {
             shape,
             index,
-            kept,
-            free,
+            spare,
+            kept: 0,
         })
     }
 
@@ -101,13 +101,16 @@ impl HashMap {
             result self.new }
         ensures sound { IsSound self.new }
     {
-        let Some(place) = self.free.last().copied() else {
+        if self.spare.len() == self.kept {
             return Err(MapFault::TooBig);
+        }
+        let Some(place) = self.spare.last().copied() else {
+            unreachable!()
         };
         if self.index.insert(key, place).is_err() {
             return Err(MapFault::Memory);
         }
-        self.free.pop();
+        self.spare.pop();
         Ok(place)
     }
 }
@@ -149,7 +152,8 @@ impl ValueMap for HashMap {
         let Some(place) = self.index.remove(key) else {
             return Err(MapFault::NoEntry);
         };
-        self.kept.push_reserved(place);
+        put_at(&mut self.spare, self.kept, place);
+        self.kept += 1;
         Ok(())
     }
 
@@ -158,9 +162,23 @@ impl ValueMap for HashMap {
     }
 
     fn end_run(&mut self) {
-        while let Some(place) = self.kept.pop() {
-            self.free.push_reserved(place);
+        self.kept = 0;
+    }
+}
+
+/// Puts a place at an index of a list; the place that was there goes to the end.
+fn put_at(places: &mut Vec<u32>, index: usize, place: u32)
+    requires index { index ≤ vec_len places.old }
+    requires room { vec_len places.old < vec_capacity places.old }
+    ensures items { places.new.items ≡ put_at index place places.old.items }
+    ensures capacity { vec_capacity places.new ≡ vec_capacity places.old }
+{
+    match places.get(index).copied() {
+        Some(moved) => {
+            places[index] = place;
+            places.push_reserved(moved);
         }
+        None => places.push_reserved(place),
     }
 }
 

@@ -9,11 +9,11 @@ use Rattle.bpf_maps.proofs.Answered.{claims_new, same_table}
 use Rattle.bpf_maps.proofs.hash_map.HashMap.add.Goals as goal
 
 module _ (c : goal.After-pop) where
-  last : c.self.inside.free.items ≡ c.pop.new.self.items ++ c.in-Some.place ∷ []
+  last : c.self.inside.spare.items ≡ c.pop.new.self.items ++ c.in-Some.place ∷ []
   last =
-      let shown_last : slice_get c.self.inside.free.items (length c.self.inside.free.items - 1) ≡ Some c.in-Some.place =
+      let shown_last : slice_get c.self.inside.spare.items (length c.self.inside.spare.items - 1) ≡ Some c.in-Some.place =
       subst (λ (xs : List ℕ). slice_get xs (length xs - 1) ≡ Some c.in-Some.place) c.deref.ensures.value (sym c.last.ensures.value ∙ sym c.copied.ensures ∙ c.in-Some.is) in
-      last_is c.self.inside.free.items c.pop.new.self.items c.pop.result c.self.inside.free.len c.in-Some.place c.self.inside.free.ok.0 shown_last c.pop.ensures.items c.pop.ensures.value
+      last_is c.self.inside.spare.items c.pop.new.self.items c.pop.result c.self.inside.spare.len c.in-Some.place c.self.inside.spare.ok.0 shown_last c.pop.ensures.items c.pop.ensures.value
 
   index : entries_of c.insert.new.self ≡ with_key c.args.key.now c.in-Some.place (entries_of c.self.inside.index)
   index = on_ok c.insert.result (sym c.is_err.ensures.value ∙ c.if-is_err.false) c.insert.ensures.added
@@ -22,7 +22,7 @@ module _ (c : goal.After-pop) where
   size = c.requires.size ∙ ap (λ (t : PlaceTable). t.shape.key_size) (sym c.self.view_is)
 
   abbrev after : Inside
-  after = record { shape = c.self.inside.shape; index = c.insert.new.self; kept = c.self.inside.kept; free = c.pop.new.self }
+  after = record { shape = c.self.inside.shape; index = c.insert.new.self; spare = c.pop.new.self; kept = c.self.inside.kept }
 
   whole : IsWellFormedHash after
   whole =
@@ -42,15 +42,15 @@ returns-clause-sound c = sound (whole c)
 
 pub insert-requires-clause-within : goal.insert-requires-clause-within
 insert-requires-clause-within c =
-    let shown_last : slice_get c.self.inside.free.items (length c.self.inside.free.items - 1) ≡ Some c.in-Some.place =
+    let shown_last : slice_get c.self.inside.spare.items (length c.self.inside.spare.items - 1) ≡ Some c.in-Some.place =
     subst (λ (xs : List ℕ). slice_get xs (length xs - 1) ≡ Some c.in-Some.place) c.deref.ensures.value (sym c.last.ensures.value ∙ sym c.copied.ensures ∙ c.in-Some.is) in
-    let front = ends_with c.self.inside.free.items c.in-Some.place shown_last in
+    let front = ends_with c.self.inside.spare.items c.in-Some.place shown_last in
     let free = is_free c.self.invariant c.in-Some.place front.0 front.1 in
     subst (λ (n : ℕ). c.in-Some.place < n) (sym c.self.invariant.bound) free.within
 
 pub insert-requires-clause-free : goal.insert-requires-clause-free
 insert-requires-clause-free c =
-    let shown_last : slice_get c.self.inside.free.items (length c.self.inside.free.items - 1) ≡ Some c.in-Some.place =
+    let shown_last : slice_get c.self.inside.spare.items (length c.self.inside.spare.items - 1) ≡ Some c.in-Some.place =
     subst (λ (xs : List ℕ). slice_get xs (length xs - 1) ≡ Some c.in-Some.place) c.deref.ensures.value (sym c.last.ensures.value ∙ sym c.copied.ensures ∙ c.in-Some.is) in
-    let front = ends_with c.self.inside.free.items c.in-Some.place shown_last in
+    let front = ends_with c.self.inside.spare.items c.in-Some.place shown_last in
     (is_free c.self.invariant c.in-Some.place front.0 front.1).entries

@@ -28,16 +28,16 @@ returns-in_default-clause-removed c = removes_none c.args.key.now (shown c.self.
 pub returns-in_default-clause-sound : goal.returns-in_default-clause-sound
 returns-in_default-clause-sound c = subst IsSound (sym (same_table c.self.inside.shape (same c) refl)) (sound c.self.invariant)
 
-module _ (c : goal.After-push_reserved) where
+module _ (c : goal.After-put_at) where
   found_is : found c.args.key.now (entries_of c.self.inside.index) ≡ Some c.in-Some.place
   found_is = sym c.remove.ensures.place ∙ c.in-Some.is
 
   abbrev after : Inside
-  after = record { shape = c.self.inside.shape; index = c.remove.new.self; kept = c.push_reserved.new.self; free = c.self.inside.free }
+  after = record { shape = c.self.inside.shape; index = c.remove.new.self; spare = c.put_at.new.places; kept = c.self.inside.kept + 1 }
 
   whole : IsWellFormedHash after
   whole =
-      kept_by_remove after c.self.invariant c.args.key.now found_is refl c.remove.ensures.left c.push_reserved.ensures.items c.push_reserved.ensures.capacity refl
+      kept_by_remove after c.self.invariant c.args.key.now found_is refl c.remove.ensures.left c.put_at.ensures.items c.put_at.ensures.capacity refl
       (takes (goal.at.invariant_of-self-2 c).After-remove) c.remove.ensures.bound
 
 pub invariant_of-self-2 : goal.invariant_of-self-2

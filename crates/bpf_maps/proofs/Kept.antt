@@ -1,14 +1,16 @@
 -- The invariant of a hash map after a change: each place is in use or spare, and the first spare ones are kept apart.
-use Rattle.std.proofs.Common.{◌≡◌, ◌≢◌, ℕ, suc, ◌+◌, ◌-◌, ◌<◌, ◌≤◌, ◌==◌, Bool, true, false, List, [], ◌∷◌, ◌++◌, length, take, drop, Option, Some, slice_get, get_or, option_to_list, refl, sym, ap, subst, ◌∙◌, nat_lt, if◌then◌else◌, arith, vec_capacity, length-append}
+use Rattle.std.proofs.Common.{◌≡◌, ◌≢◌, ℕ, zero, suc, ◌+◌, ◌-◌, ◌<◌, ◌≤◌, ◌==◌, Bool, true, false, List, [], ◌∷◌, ◌++◌, length, take, drop, Some, get_or, refl, sym, ap, subst, ◌∙◌, nat_lt, if◌then◌else◌, arith, vec_len, vec_capacity, length-append}
 use Rattle.std.proofs.lemmas.Bool.{ltb-true}
-use Rattle.std.proofs.lemmas.List.{append_assoc, drop-drop, length-map, length-take-le, take-append-drop, take-append-le}
-use Rattle.std.proofs.Math.Seq.{take-append_seam}
-use Rattle.std.proofs.lemmas.Option.{none-some, same_Some, get_or_from_slice_get}
+use Rattle.std.proofs.lemmas.List.{append_assoc, length-map, length-take-le, take_all, take-append-drop, take-append-le}
+use Rattle.std.specs.List.{swap}
+use Rattle.std.proofs.lemmas.List.Edits.{swap_is}
+use Rattle.std.proofs.Math.ListN.{set}
+use Rattle.std.proofs.Math.Seq.{take-append_seam, take-suc, get_or-append_seam, set-append_seam}
 use Rattle.std.proofs.lemmas.Bool.Decides.{nat_tests}
 use Rattle.std.specs.Map.{values_of}
 use Rattle.tagged_model.specs.Table.{found, without, with_key, is_full}
 use Rattle.bpf_maps.specs.Places.{table_of, occurrences, IsSound, IsSized, IsFree}
-use Rattle.bpf_maps.specs.Index.{entries_of, bound_of, put_at, TakesKeys, IsWellFormedHash, shown}
+use Rattle.bpf_maps.specs.Index.{entries_of, bound_of, TakesKeys, IsWellFormedHash, shown}
 use Rattle.bpf_maps.specs.declared.hash_map.HashMap.TheInside.{Inside}
 use Rattle.bpf_maps.specs.declared.key_index.KeyIndex.{KeyIndex}
 use Rattle.tagged_model.specs.declared.shape.MapShape.{MapShape}
@@ -72,28 +74,44 @@ kept_by_same {a} index h same takes bound =
     kept_whole (record a { index = index }) h refl (λ f sum. ap (λ (es : List (List ℕ × ℕ)). f (values_of es) + f a.spare.items) same) h.kept refl takes bound
     (subst (IsSized a.shape.key_size) (sym same) h.sized)
 
--- ---- a place that is put at an index
+-- ---- a place that is put among the spare ones
 
--- the list after its first n elements begins with the one that is moved
-moved_first : (n : ℕ) (xs : List ℕ) → take 1 (drop n xs) ++ drop (n + 1) xs ≡ drop n xs
-moved_first n xs = ap (λ (ys : List ℕ). take 1 (drop n xs) ++ ys) (sym (drop-drop 1 n xs)) ∙ take-append-drop 1 (drop n xs)
+-- the list with this place at an index, and with the place that was there at the end
+abbrev pub put_at : ℕ → ℕ → List ℕ → List ℕ
+put_at n place xs = take n xs ++ place ∷ (drop 1 (drop n xs) ++ take 1 (drop n xs))
+
+-- this is the list with the place behind it, which is then exchanged with the one at the index
+pub exchanged : (n place : ℕ) (xs : List ℕ) → n ≤ length xs → swap (xs ++ place ∷ []) n (length xs) ≡ put_at n place xs
+exchanged n place xs within =
+    let longer : List ℕ = xs ++ place ∷ [] in
+    let count = length-append xs (place ∷ []) in
+    sym (swap_is longer n (length xs) 0 (omega arith) (omega arith))
+    ∙ ap (λ (p : ℕ). set (set longer n p) (length xs) (get_or longer n 0)) (get_or-append_seam xs place [] 0)
+    ∙ by n xs within
+  where
+    by : (n : ℕ) (xs : List ℕ) → n ≤ length xs → set (set (xs ++ place ∷ []) n place) (length xs) (get_or (xs ++ place ∷ []) n 0) ≡ put_at n place xs
+    by zero [] w = refl
+    by (suc n) [] w = absurd (omega arith)
+    by zero (x ∷ xs) w = ap (λ (ys : List ℕ). place ∷ ys) (set-append_seam xs place [] x)
+    by (suc n) (x ∷ xs) w = ap (λ (ys : List ℕ). x ∷ ys) (by n xs (omega arith))
 
 pub sum-put : (f : List ℕ → ℕ) → IsSum f → (n place : ℕ) (xs : List ℕ) → f (put_at n place xs) ≡ f xs + f (place ∷ [])
 sum-put f sum n place xs =
-    let rest = drop (n + 1) xs ++ take 1 (drop n xs) in
+    let later = drop n xs in
+    let rest = drop 1 later ++ take 1 later in
     let one = sum (take n xs) (place ∷ rest) in
     let two = sum (place ∷ []) rest in
-    let three = sum (drop (n + 1) xs) (take 1 (drop n xs)) in
-    let four = ap f (moved_first n xs) in
-    let five = sum (take 1 (drop n xs)) (drop (n + 1) xs) in
+    let three = sum (drop 1 later) (take 1 later) in
+    let four = ap f (take-append-drop 1 later) in
+    let five = sum (take 1 later) (drop 1 later) in
     let six = ap f (take-append-drop n xs) in
-    let seven = sum (take n xs) (drop n xs) in
+    let seven = sum (take n xs) later in
     omega arith
 
 -- the first n + 1 elements are then the first n and that place
 pub first-put : (n place : ℕ) (xs : List ℕ) → n ≤ length xs → take (n + 1) (put_at n place xs) ≡ take n xs ++ place ∷ []
 first-put n place xs within =
-    let rest = drop (n + 1) xs ++ take 1 (drop n xs) in
+    let rest = drop 1 (drop n xs) ++ take 1 (drop n xs) in
     let front = take n xs ++ place ∷ [] in
     let count : length front ≡ n + 1 = let l = length-append (take n xs) (place ∷ []) in let m = length-take-le n xs within in omega arith in
     ap (λ (k : ℕ). take k (put_at n place xs)) (sym count)
@@ -124,7 +142,22 @@ spare_room {a} h key {place} at =
     omega arith
 
 -- the last spare place is free if not all are kept apart
-module _ {a : Inside} (h : IsWellFormedHash a) (place : ℕ) (rest : List ℕ) (last : a.spare.items ≡ rest ++ place ∷ []) (some : a.kept ≢ length a.spare.items) where
+module _ {a : Inside} (h : IsWellFormedHash a) (place : ℕ) (last : place ≡ get_or a.spare.items (vec_len a.spare - 1) place) (some : vec_len a.spare ≢ a.kept) where
+  abbrev rest : List ℕ
+  rest = take (vec_len a.spare - 1) a.spare.items
+
+  -- the number of the others
+  more : length a.spare.items ≡ suc (vec_len a.spare - 1)
+  more = let len = a.spare.ok.0 in let most = h.kept in let other = some in omega (arith, other)
+
+  all : a.spare.items ≡ rest ++ place ∷ []
+  all =
+      let n = vec_len a.spare - 1 in
+      let count = more in
+      sym (take_all (suc n) a.spare.items (omega arith))
+      ∙ take-suc a.spare.items n place (omega arith)
+      ∙ ap (λ (p : ℕ). rest ++ p ∷ []) (sym last)
+
   within_by : (b : Bool) (n k : ℕ) → nat_lt place k ≡ b → n + 1 ≡ (if b then 1 else 0) → place < k
   within_by true n k t e = ltb-true place k t
   within_by false n k t e = absurd (omega arith)
@@ -135,19 +168,19 @@ module _ {a : Inside} (h : IsWellFormedHash a) (place : ℕ) (rest : List ℕ) (
 
   counted : occurrences place (values_of (entries_of a.index)) + occurrences place rest + 1 ≡ (if nat_lt place a.shape.max_entries then 1 else 0)
   counted =
-      let t : occurrences place a.spare.items ≡ occurrences place rest + occurrences place (place ∷ []) = ap (occurrences place) last ∙ times-append place rest (place ∷ []) in
+      let t : occurrences place a.spare.items ≡ occurrences place rest + occurrences place (place ∷ []) = ap (occurrences place) all ∙ times-append place rest (place ∷ []) in
       let s = times_self place in
       let g = h.once place in
       omega arith
 
   count : length a.spare.items ≡ length rest + 1
-  count = ap length last ∙ length-append rest (place ∷ [])
+  count = ap length all ∙ length-append rest (place ∷ [])
 
   before : a.kept ≤ length rest
-  before = let most = h.kept in let n = count in let other = some in omega (arith, other)
+  before = let most = h.kept in let n = count in let len = a.spare.ok.0 in let other = some in omega (arith, other)
 
   pub same_kept : take a.kept rest ≡ take a.kept a.spare.items
-  same_kept = sym (ap (λ (xs : List ℕ). take a.kept xs) last ∙ take-append-le a.kept rest (place ∷ []) before)
+  same_kept = sym (ap (λ (xs : List ℕ). take a.kept xs) all ∙ take-append-le a.kept rest (place ∷ []) before)
 
   pub is_free : IsFree (shown a) place
   is_free =
@@ -175,7 +208,7 @@ module _ {a : Inside} (h : IsWellFormedHash a) (place : ℕ) (rest : List ℕ) (
       (λ f sum.
       let added : List (List ℕ × ℕ) = (key, place) ∷ [] in
       let more = ap (λ (es : List (List ℕ × ℕ)). f (values_of es)) index ∙ ap f (values_of-append (entries_of a.index) added) ∙ sum (values_of (entries_of a.index)) (place ∷ []) in
-      let less = ap f last ∙ sum rest (place ∷ []) in
+      let less = ap f all ∙ sum rest (place ∷ []) in
       let now = ap f spare in
       omega arith)
       (let first = before in let now = ap length spare in omega arith)
@@ -189,21 +222,3 @@ kept_by_none {a} b h shape index spare none =
     (λ f sum. let same = ap (λ (i : KeyIndex). f (values_of (entries_of i))) index in let all = ap (λ v. f v.items) spare in omega arith)
     (omega arith) (ap vec_capacity spare) (subst (λ (i : KeyIndex). TakesKeys i a.shape.key_size) (sym index) h.takes) (ap bound_of index)
     (subst (λ (i : KeyIndex). IsSized a.shape.key_size (entries_of i)) (sym index) h.sized)
-
--- the element that `pop` removes is the one that `last` returned
-pub last_is : (xs ys : List ℕ) (r : Option ℕ) (n place : ℕ) → n ≡ length xs → slice_get xs (length xs - 1) ≡ Some place → xs ≡ ys ++ option_to_list r → ((d : ℕ) → 0 < n → r ≡ Some (get_or xs (n - 1) d)) → xs ≡ ys ++ place ∷ []
-last_is [] ys r n place l h e v = absurd (none-some place h)
-last_is (x ∷ xs) ys r n place l h e v =
-    let q : r ≡ Some (get_or (x ∷ xs) (n - 1) 0) = v 0 (omega arith) in
-    let k : n - 1 ≡ length (x ∷ xs) - 1 = omega arith in
-    let s : get_or (x ∷ xs) (n - 1) 0 ≡ place = ap (λ (i : ℕ). get_or (x ∷ xs) i 0) k ∙ get_or_from_slice_get (x ∷ xs) (length (x ∷ xs) - 1) place 0 h in
-    e ∙ ap (λ (o : Option ℕ). ys ++ option_to_list o) (q ∙ ap (λ (z : ℕ). let o : Option ℕ = Some z in o) s)
-
--- the list before its last element
-pub ends_with : (xs : List ℕ) (place : ℕ) → slice_get xs (length xs - 1) ≡ Some place → (rest : List ℕ) × (xs ≡ rest ++ place ∷ [])
-ends_with [] place h = absurd (none-some place h)
-ends_with (x ∷ []) place h = ([], ap (λ (y : ℕ). y ∷ []) (same_Some x place h))
-ends_with (x ∷ y ∷ xs) place h =
-    let e : length (x ∷ y ∷ xs) - 1 ≡ suc (length (y ∷ xs) - 1) = omega arith in
-    let r = ends_with (y ∷ xs) place (subst (λ (i : ℕ). slice_get (x ∷ y ∷ xs) i ≡ Some place) e h) in
-    (x ∷ r.0, ap (λ (ys : List ℕ). x ∷ ys) r.1)

@@ -1,5 +1,5 @@
 -- The fields of a hash map: its keys with their places, and its invariant. This project's own.
-use Rattle.std.specs.Prelude.{◌≡◌, ℕ, ◌+◌, ◌≤◌, List, ◌∷◌, ◌++◌, length, take, drop, nat_lt, if◌then◌else◌, vec_capacity}
+use Rattle.std.specs.Prelude.{◌≡◌, ℕ, ◌+◌, ◌≤◌, List, length, take, nat_lt, if◌then◌else◌, vec_capacity}
 use Rattle.std.specs.Map.{values_of}
 use Rattle.tagged_model.specs.declared.shape.MapKind.TheVariants.{Hash}
 use Rattle.bpf_maps.specs.Places.{PlaceTable, occurrences, IsSized}
@@ -21,10 +21,6 @@ bound_of (Bytes keys) = keys.bound
 abbrev pub TakesKeys : KeyIndex → ℕ → Type 0
 TakesKeys (Words keys) size = size ≡ keys.size
 TakesKeys (Bytes keys) size = Unit {0}
-
--- the list with this place at an index; the place that was there is at the end
-abbrev pub put_at : ℕ → ℕ → List ℕ → List ℕ
-put_at index place places = take index places ++ place ∷ (drop (index + 1) places ++ take 1 (drop index places))
 
 -- the first of the spare places are kept apart, and the others are free
 abbrev pub shown : Inside → PlaceTable

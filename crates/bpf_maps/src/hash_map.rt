@@ -6,7 +6,6 @@ ghost use Rattle.tagged_model.specs.declared.shape.MapKind.TheVariants.{Hash};
 ghost use Rattle.tagged_model.specs.Table.{look_up, of_absent, is_full, verdict, removal, next_of};
 ghost use Rattle.bpf_maps.specs.KeyRef.{shown_entry};
 ghost use Rattle.bpf_maps.specs.Places.{PlaceTable, table_of, IsSound, Claims, Removes, new_places, after_run, occurrences};
-ghost use Rattle.bpf_maps.specs.Index.{put_at};
 
 use crate::key_index::KeyIndex;
 use crate::key_ref::KeyRef;
@@ -104,9 +103,7 @@ impl HashMap {
         if self.spare.len() == self.kept {
             return Err(MapFault::TooBig);
         }
-        let Some(place) = self.spare.last().copied() else {
-            unreachable!()
-        };
+        let place = self.spare[self.spare.len() - 1];
         if self.index.insert(key, place).is_err() {
             return Err(MapFault::Memory);
         }
@@ -152,7 +149,10 @@ impl ValueMap for HashMap {
         let Some(place) = self.index.remove(key) else {
             return Err(MapFault::NoEntry);
         };
-        put_at(&mut self.spare, self.kept, place);
+        // The first free place, if there is one, goes to the end.
+        let last = self.spare.len();
+        self.spare.push_reserved(place);
+        self.spare.swap(self.kept, last);
         self.kept += 1;
         Ok(())
     }
@@ -163,22 +163,6 @@ impl ValueMap for HashMap {
 
     fn end_run(&mut self) {
         self.kept = 0;
-    }
-}
-
-/// Puts a place at an index of a list; the place that was there goes to the end.
-fn put_at(places: &mut Vec<u32>, index: usize, place: u32)
-    requires index { index ≤ vec_len places.old }
-    requires room { vec_len places.old < vec_capacity places.old }
-    ensures items { places.new.items ≡ put_at index place places.old.items }
-    ensures capacity { vec_capacity places.new ≡ vec_capacity places.old }
-{
-    match places.get(index).copied() {
-        Some(moved) => {
-            places[index] = place;
-            places.push_reserved(moved);
-        }
-        None => places.push_reserved(place),
     }
 }
 

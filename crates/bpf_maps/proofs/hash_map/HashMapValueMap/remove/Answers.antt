@@ -1,11 +1,12 @@
-use Rattle.std.proofs.Common.{◌≡◌, ◌∙◌, sym, ap, subst, refl, Some, None}
+use Rattle.std.proofs.Common.{◌≡◌, ℕ, ◌+◌, ◌∙◌, sym, ap, subst, refl, Some, None, [], ◌∷◌, ◌++◌, List, take}
+use Rattle.std.specs.List.{swap}
 use Rattle.tagged_model.specs.Table.{found}
 use Rattle.bpf_maps.specs.Places.{PlaceTable, IsSound}
 use Rattle.bpf_maps.specs.Index.{entries_of, TakesKeys, shown, IsWellFormedHash}
 use Rattle.bpf_maps.specs.declared.hash_map.HashMap.TheInside.{Inside}
 use Rattle.bpf_maps.proofs.Counts.{without-absent}
-use Rattle.bpf_maps.proofs.Kept.{sound, kept_by_same, kept_by_remove}
-use Rattle.bpf_maps.proofs.Answered.{same_table, removes_none}
+use Rattle.bpf_maps.proofs.Kept.{sound, kept_by_same, kept_by_remove, put_at, exchanged, first-put}
+use Rattle.bpf_maps.proofs.Answered.{same_table, removes_none, removes_one}
 use Rattle.bpf_maps.proofs.hash_map.HashMapValueMap.remove.Goals as goal
 use Rattle.bpf_maps.proofs.hash_map.HashMapValueMap.remove.Goals.{After-remove}
 
@@ -28,20 +29,37 @@ returns-in_default-clause-removed c = removes_none c.args.key.now (shown c.self.
 pub returns-in_default-clause-sound : goal.returns-in_default-clause-sound
 returns-in_default-clause-sound c = subst IsSound (sym (same_table c.self.inside.shape (same c) refl)) (sound c.self.invariant)
 
-module _ (c : goal.After-put_at) where
+module _ (c : goal.After-self-1) where
   found_is : found c.args.key.now (entries_of c.self.inside.index) ≡ Some c.in-Some.place
   found_is = sym c.remove.ensures.place ∙ c.in-Some.is
 
+  spare : c.swap.new.self.items ≡ put_at c.self.inside.kept c.in-Some.place c.self.inside.spare.items
+  spare =
+      c.swap.ensures.items
+      ∙ ap (λ (places : List ℕ). swap places c.self.inside.kept c.len-last.result) c.push_reserved.ensures.items
+      ∙ ap (swap (c.self.inside.spare.items ++ c.in-Some.place ∷ []) c.self.inside.kept) (c.len-last.ensures ∙ c.self.inside.spare.ok.0)
+      ∙ exchanged c.self.inside.kept c.in-Some.place c.self.inside.spare.items c.self.invariant.kept
+
   abbrev after : Inside
-  after = record { shape = c.self.inside.shape; index = c.remove.new.self; spare = c.put_at.new.places; kept = c.self.inside.kept + 1 }
+  after = record { shape = c.self.inside.shape; index = c.remove.new.self; spare = c.swap.new.self; kept = c.self.inside.kept + 1 }
 
   whole : IsWellFormedHash after
   whole =
-      kept_by_remove after c.self.invariant c.args.key.now found_is refl c.remove.ensures.left c.put_at.ensures.items c.put_at.ensures.capacity refl
+      kept_by_remove after c.self.invariant c.args.key.now found_is refl c.remove.ensures.left spare (c.swap.ensures.capacity ∙ c.push_reserved.ensures.capacity) refl
       (takes (goal.at.invariant_of-self-2 c).After-remove) c.remove.ensures.bound
+
+  kept : take (c.self.inside.kept + 1) c.swap.new.self.items ≡ take c.self.inside.kept c.self.inside.spare.items ++ c.in-Some.place ∷ []
+  kept =
+      ap (take (c.self.inside.kept + 1)) spare
+      ∙ first-put c.self.inside.kept c.in-Some.place c.self.inside.spare.items c.self.invariant.kept
 
 pub invariant_of-self-2 : goal.invariant_of-self-2
 invariant_of-self-2 c = whole c
 
 pub returns-clause-sound : goal.returns-clause-sound
 returns-clause-sound c = sound (whole c)
+
+pub returns-clause-removed : goal.returns-clause-removed
+returns-clause-removed c =
+    removes_one c.args.key.now (shown c.self.inside) _ _ c.in-Some.place c.self.view_is c.self.invariant.kind (found_is c)
+    (same_table c.self.inside.shape c.remove.ensures.left (kept c))

@@ -132,31 +132,28 @@ kept_by_remove {a} b h key {place} at shape index spare capacity kept takes boun
     capacity takes bound
     (subst (IsSized a.shape.key_size) (sym index) (sized-without a.shape.key_size key (entries_of a.index) h.sized))
 
--- there is room for one place more
-pub spare_room : {a : Inside} → IsWellFormedHash a → (key : List ℕ) {place : ℕ} → found key (entries_of a.index) ≡ Some place → length a.spare.items < vec_capacity a.spare
-spare_room {a} h key {place} at =
-    let less = sum-without length length-append key place (entries_of a.index) at in
-    let count = length-map (entries_of a.index) (λ e. e.1) in
-    let all = h.all in
-    let room = h.room in
-    omega arith
-
 -- the last spare place is free if not all are kept apart
 module _ {a : Inside} (h : IsWellFormedHash a) (place : ℕ) (last : place ≡ get_or a.spare.items (vec_len a.spare - 1) place) (some : vec_len a.spare ≢ a.kept) where
   abbrev rest : List ℕ
   rest = take (vec_len a.spare - 1) a.spare.items
 
-  -- the number of the others
-  more : length a.spare.items ≡ suc (vec_len a.spare - 1)
-  more = let len = a.spare.ok.0 in let most = h.kept in let other = some in omega (arith, other)
+  count : length a.spare.items ≡ suc (vec_len a.spare - 1)
+  count = let len = a.spare.ok.0 in let most = h.kept in let other = some in omega (arith, other)
 
-  all : a.spare.items ≡ rest ++ place ∷ []
-  all =
+  parts : a.spare.items ≡ rest ++ place ∷ []
+  parts =
       let n = vec_len a.spare - 1 in
-      let count = more in
-      sym (take_all (suc n) a.spare.items (omega arith))
-      ∙ take-suc a.spare.items n place (omega arith)
-      ∙ ap (λ (p : ℕ). rest ++ p ∷ []) (sym last)
+      let all = count in
+      sym (take_all (suc n) a.spare.items (omega arith)) ∙ take-suc a.spare.items n place (omega arith) ∙ ap (λ (p : ℕ). rest ++ p ∷ []) (sym last)
+
+  count_parts : length a.spare.items ≡ length rest + 1
+  count_parts = ap length parts ∙ length-append rest (place ∷ [])
+
+  before : a.kept ≤ length rest
+  before = let most = h.kept in let n = count_parts in let len = a.spare.ok.0 in let other = some in omega (arith, other)
+
+  pub same_kept : take a.kept rest ≡ take a.kept a.spare.items
+  same_kept = sym (ap (λ (xs : List ℕ). take a.kept xs) parts ∙ take-append-le a.kept rest (place ∷ []) before)
 
   within_by : (b : Bool) (n k : ℕ) → nat_lt place k ≡ b → n + 1 ≡ (if b then 1 else 0) → place < k
   within_by true n k t e = ltb-true place k t
@@ -168,19 +165,10 @@ module _ {a : Inside} (h : IsWellFormedHash a) (place : ℕ) (last : place ≡ g
 
   counted : occurrences place (values_of (entries_of a.index)) + occurrences place rest + 1 ≡ (if nat_lt place a.shape.max_entries then 1 else 0)
   counted =
-      let t : occurrences place a.spare.items ≡ occurrences place rest + occurrences place (place ∷ []) = ap (occurrences place) all ∙ times-append place rest (place ∷ []) in
+      let t : occurrences place a.spare.items ≡ occurrences place rest + occurrences place (place ∷ []) = ap (occurrences place) parts ∙ times-append place rest (place ∷ []) in
       let s = times_self place in
       let g = h.once place in
       omega arith
-
-  count : length a.spare.items ≡ length rest + 1
-  count = ap length all ∙ length-append rest (place ∷ [])
-
-  before : a.kept ≤ length rest
-  before = let most = h.kept in let n = count in let len = a.spare.ok.0 in let other = some in omega (arith, other)
-
-  pub same_kept : take a.kept rest ≡ take a.kept a.spare.items
-  same_kept = sym (ap (λ (xs : List ℕ). take a.kept xs) all ∙ take-append-le a.kept rest (place ∷ []) before)
 
   pub is_free : IsFree (shown a) place
   is_free =
@@ -191,7 +179,7 @@ module _ {a : Inside} (h : IsWellFormedHash a) (place : ℕ) (last : place ≡ g
 
   pub not_full : is_full (table_of (shown a)) ≡ false
   not_full =
-      let n = count in
+      let n = count_parts in
       let g = h.all in
       let k = length-take-le a.kept a.spare.items h.kept in
       let b = before in
@@ -208,17 +196,9 @@ module _ {a : Inside} (h : IsWellFormedHash a) (place : ℕ) (last : place ≡ g
       (λ f sum.
       let added : List (List ℕ × ℕ) = (key, place) ∷ [] in
       let more = ap (λ (es : List (List ℕ × ℕ)). f (values_of es)) index ∙ ap f (values_of-append (entries_of a.index) added) ∙ sum (values_of (entries_of a.index)) (place ∷ []) in
-      let less = ap f all ∙ sum rest (place ∷ []) in
+      let less = ap f parts ∙ sum rest (place ∷ []) in
       let now = ap f spare in
       omega arith)
       (let first = before in let now = ap length spare in omega arith)
       capacity takes bound
       (subst (IsSized a.shape.key_size) (sym index) (sized-with a.shape.key_size key place (entries_of a.index) size h.sized))
-
--- at the end of a run no place is kept apart
-pub kept_by_none : {a : Inside} (b : Inside) → IsWellFormedHash a → b.shape ≡ a.shape → b.index ≡ a.index → b.spare ≡ a.spare → b.kept ≡ 0 → IsWellFormedHash b
-kept_by_none {a} b h shape index spare none =
-    kept_whole b h shape
-    (λ f sum. let same = ap (λ (i : KeyIndex). f (values_of (entries_of i))) index in let all = ap (λ v. f v.items) spare in omega arith)
-    (omega arith) (ap vec_capacity spare) (subst (λ (i : KeyIndex). TakesKeys i a.shape.key_size) (sym index) h.takes) (ap bound_of index)
-    (subst (λ (i : KeyIndex). IsSized a.shape.key_size (entries_of i)) (sym index) h.sized)

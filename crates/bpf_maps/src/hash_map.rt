@@ -39,8 +39,8 @@ impl Model for HashMap {
 }
 
 impl HashMap {
-    /// Makes a map of this shape without keys, whose keys are hashed with this seed. Allocates its list of places. `AllocError`: out of
-    /// memory.
+    /// Makes a map of this shape without keys, whose keys are hashed with this seed. Allocates its list of places and their order.
+    /// `AllocError`: out of memory.
     pub fn new(alloc: Global, shape: MapShape, seed: HashSeed) -> Result<HashMap, AllocError>
         requires { shape.kind ≡ Hash }
         ensures { IfOk result (λ map. map ≡ new_places shape) }

@@ -8,7 +8,7 @@ use Rattle.tagged_model.specs.declared.shape.MapShape.{MapShape}
 use Rattle.tagged_model.specs.declared.fault.MapFault.{MapFault}
 use Rattle.tagged_model.specs.declared.fault.MapFault.TheVariants.{NoEntry, TooBig, Exists, Invalid}
 use Rattle.tagged_model.specs.Table.{look_up, is_full, of_absent, of_found, verdict, removal, removal_of, Verdict, Refused, Present, New, no_exist, exist}
-use Rattle.bpf_maps.specs.Places.{PlaceTable, table_of, occurrences, IsSound, IsFree, with_place, with_kept, Claims, Removes}
+use Rattle.bpf_maps.specs.Places.{PlaceTable, table_of, occurrences, IsSound, IsFree, with_place, Claims, Removes}
 use Rattle.bpf_maps.proofs.Counts.{in_use}
 
 pub same_table : (s : MapShape) {es fs : List (List ℕ × ℕ)} {ks ls : List ℕ} → es ≡ fs → ks ≡ ls → (let t : PlaceTable = record { shape = s; entries = es; kept = ks } in t) ≡ (let t : PlaceTable = record { shape = s; entries = fs; kept = ls } in t)
@@ -16,17 +16,11 @@ same_table s e k i = record { shape = s; entries = e i; kept = k i }
 
 -- ---- a delete from a hash map
 
-pub removes_none : (key : List ℕ) (old seen new : PlaceTable) → old ≡ seen → old.shape.kind ≡ Hash → look_up (table_of old) key ≡ None → new ≡ old → Removes (removal (table_of seen) key) key seen (Err NoEntry) new
-removes_none key old seen new v k e h =
-    subst (λ (t : PlaceTable). Removes (removal (table_of t) key) key t (Err NoEntry) new) v
-    (subst (λ (d : MapKind). Removes (removal_of d (look_up (table_of old) key)) key old (Err NoEntry) new) (sym k)
-    (subst (λ (o : Option ℕ). Removes (removal_of Hash o) key old (Err NoEntry) new) (sym e) (refl, h)))
-
-pub removes_one : (key : List ℕ) (old seen new : PlaceTable) (p : ℕ) → old ≡ seen → old.shape.kind ≡ Hash → look_up (table_of old) key ≡ Some p → new ≡ with_kept old key p → Removes (removal (table_of seen) key) key seen (Ok tt) new
-removes_one key old seen new p v k e h =
-    subst (λ (t : PlaceTable). Removes (removal (table_of t) key) key t (Ok tt) new) v
-    (subst (λ (d : MapKind). Removes (removal_of d (look_up (table_of old) key)) key old (Ok tt) new) (sym k)
-    (subst (λ (o : Option ℕ). Removes (removal_of Hash o) key old (Ok tt) new) (sym e) (refl, h)))
+pub removes : (key : List ℕ) (old seen new : PlaceTable) (o : Option ℕ) (answer : Result (Unit {0}) MapFault) → old ≡ seen → old.shape.kind ≡ Hash → look_up (table_of old) key ≡ o → Removes (removal_of Hash o) key old answer new → Removes (removal (table_of seen) key) key seen answer new
+removes key old seen new o answer v k e h =
+    subst (λ (t : PlaceTable). Removes (removal (table_of t) key) key t answer new) v
+    (subst (λ (d : MapKind). Removes (removal_of d (look_up (table_of old) key)) key old answer new) (sym k)
+    (subst (λ (p : Option ℕ). Removes (removal_of Hash p) key old answer new) (sym e) h))
 
 -- ---- a new key of a hash map
 

@@ -1,11 +1,11 @@
 -- The invariant of a hash map after a change: each place is in use or spare, and the first spare ones are kept apart.
 use Rattle.std.proofs.Common.{◌≡◌, ◌≢◌, ℕ, zero, suc, ◌+◌, ◌-◌, ◌<◌, ◌≤◌, ◌==◌, Bool, true, false, List, [], ◌∷◌, ◌++◌, length, take, drop, Some, get_or, refl, sym, ap, subst, ◌∙◌, nat_lt, if◌then◌else◌, arith, vec_len, vec_capacity, length-append}
 use Rattle.std.proofs.lemmas.Bool.{ltb-true}
-use Rattle.std.proofs.lemmas.List.{append_assoc, length-map, length-take-le, take_all, take-append-drop, take-append-le}
+use Rattle.std.proofs.lemmas.List.{length-map, length-take-le, take_all, take-take}
 use Rattle.std.specs.List.{swap}
 use Rattle.std.proofs.lemmas.List.Edits.{swap_is}
 use Rattle.std.proofs.Math.ListN.{set}
-use Rattle.std.proofs.Math.Seq.{take-append_seam, take-suc, get_or-append_seam, set-append_seam}
+use Rattle.std.proofs.Math.Seq.{take-append-add, take-suc, get_or-append_seam, set-append_seam}
 use Rattle.std.proofs.lemmas.Bool.Decides.{nat_tests}
 use Rattle.std.specs.Map.{values_of}
 use Rattle.tagged_model.specs.Table.{found, without, with_key, is_full}
@@ -14,29 +14,16 @@ use Rattle.bpf_maps.specs.Index.{entries_of, bound_of, TakesKeys, IsWellFormedHa
 use Rattle.bpf_maps.specs.declared.hash_map.HashMap.TheInside.{Inside}
 use Rattle.bpf_maps.specs.declared.key_index.KeyIndex.{KeyIndex}
 use Rattle.tagged_model.specs.declared.shape.MapShape.{MapShape}
-use Rattle.bpf_maps.proofs.Counts.{IsSum, times-append, times_self, values_of-append, sum-without, sized-without, sized-with}
+use Rattle.bpf_maps.proofs.Counts.{IsSum, times-append, times_self, values_of-append, sum-without, sum-split, sized-without, sized-with}
 use Rattle.bpf_maps.proofs.Shapes.{hash_no_array}
-
--- ---- the first spare places
-
--- a place occurs among the first ones at most as often as among all
-first_times : (p k : ℕ) (xs : List ℕ) → occurrences p (take k xs) ≤ occurrences p xs
-first_times p k xs =
-    let whole = ap (occurrences p) (take-append-drop k xs) in
-    let parts = times-append p (take k xs) (drop k xs) in
-    omega arith
 
 pub sound : {a : Inside} → IsWellFormedHash a → IsSound (shown a)
 sound {a} h = record {
-  once = λ p. let e = h.once p in let first = first_times p a.kept a.spare.items in by _ _ _ (nat_lt p a.shape.max_entries) e first;
+  once = λ p. let e = h.once p in let first = sum-split (occurrences p) (times-append p) a.kept a.spare.items in omega arith;
   few = let e = h.all in let kept = length-take-le a.kept a.spare.items h.kept in let most = h.kept in omega arith;
   sized = h.sized;
   indices = λ array. absurd (hash_no_array a.shape.kind h.kind array);
 }
-  where
-    by : (n m l : ℕ) (b : Bool) → n + m ≡ (if b then 1 else 0) → l ≤ m → n + l ≤ (if b then 1 else 0)
-    by n m l true e first = omega arith
-    by n m l false e first = omega arith
 
 -- ---- a change of the uses of places
 
@@ -85,38 +72,29 @@ pub exchanged : (n place : ℕ) (xs : List ℕ) → n ≤ length xs → swap (xs
 exchanged n place xs within =
     let longer : List ℕ = xs ++ place ∷ [] in
     let count = length-append xs (place ∷ []) in
-    sym (swap_is longer n (length xs) 0 (omega arith) (omega arith))
-    ∙ ap (λ (p : ℕ). set (set longer n p) (length xs) (get_or longer n 0)) (get_or-append_seam xs place [] 0)
-    ∙ by n xs within
+    sym (swap_is longer n (length xs) 0 (omega arith) (omega arith)) ∙ by n xs within
   where
-    by : (n : ℕ) (xs : List ℕ) → n ≤ length xs → set (set (xs ++ place ∷ []) n place) (length xs) (get_or (xs ++ place ∷ []) n 0) ≡ put_at n place xs
+    by : (n : ℕ) (xs : List ℕ) → n ≤ length xs → set (set (xs ++ place ∷ []) n (get_or (xs ++ place ∷ []) (length xs) 0)) (length xs) (get_or (xs ++ place ∷ []) n 0) ≡ put_at n place xs
     by zero [] w = refl
     by (suc n) [] w = absurd (omega arith)
-    by zero (x ∷ xs) w = ap (λ (ys : List ℕ). place ∷ ys) (set-append_seam xs place [] x)
+    by zero (x ∷ xs) w = λ i. get_or-append_seam xs place [] 0 i ∷ set-append_seam xs place [] x i
     by (suc n) (x ∷ xs) w = ap (λ (ys : List ℕ). x ∷ ys) (by n xs (omega arith))
 
-pub sum-put : (f : List ℕ → ℕ) → IsSum f → (n place : ℕ) (xs : List ℕ) → f (put_at n place xs) ≡ f xs + f (place ∷ [])
+sum-put : (f : List ℕ → ℕ) → IsSum f → (n place : ℕ) (xs : List ℕ) → f (put_at n place xs) ≡ f xs + f (place ∷ [])
 sum-put f sum n place xs =
     let later = drop n xs in
-    let rest = drop 1 later ++ take 1 later in
-    let one = sum (take n xs) (place ∷ rest) in
-    let two = sum (place ∷ []) rest in
+    let all = sum-split f sum n xs in
+    let moved = sum-split f sum 1 later in
+    let one = sum (take n xs) (place ∷ (drop 1 later ++ take 1 later)) in
+    let two = sum (place ∷ []) (drop 1 later ++ take 1 later) in
     let three = sum (drop 1 later) (take 1 later) in
-    let four = ap f (take-append-drop 1 later) in
-    let five = sum (take 1 later) (drop 1 later) in
-    let six = ap f (take-append-drop n xs) in
-    let seven = sum (take n xs) later in
     omega arith
 
 -- the first n + 1 elements are then the first n and that place
 pub first-put : (n place : ℕ) (xs : List ℕ) → n ≤ length xs → take (n + 1) (put_at n place xs) ≡ take n xs ++ place ∷ []
 first-put n place xs within =
-    let rest = drop 1 (drop n xs) ++ take 1 (drop n xs) in
-    let front = take n xs ++ place ∷ [] in
-    let count : length front ≡ n + 1 = let l = length-append (take n xs) (place ∷ []) in let m = length-take-le n xs within in omega arith in
-    ap (λ (k : ℕ). take k (put_at n place xs)) (sym count)
-    ∙ ap (λ (ys : List ℕ). take (length front) ys) (sym (append_assoc (take n xs) (place ∷ []) rest))
-    ∙ take-append_seam front rest
+    ap (λ (k : ℕ). take (k + 1) (put_at n place xs)) (sym (length-take-le n xs within))
+    ∙ take-append-add (take n xs) (place ∷ (drop 1 (drop n xs) ++ take 1 (drop n xs))) 1
 
 -- a key that is taken out, and its place kept apart
 pub kept_by_remove : {a : Inside} (b : Inside) → IsWellFormedHash a → (key : List ℕ) {place : ℕ} → found key (entries_of a.index) ≡ Some place → b.shape ≡ a.shape → entries_of b.index ≡ without key (entries_of a.index) → b.spare.items ≡ put_at a.kept place a.spare.items → vec_capacity b.spare ≡ vec_capacity a.spare → b.kept ≡ a.kept + 1
@@ -137,23 +115,18 @@ module _ {a : Inside} (h : IsWellFormedHash a) (place : ℕ) (last : place ≡ g
   abbrev rest : List ℕ
   rest = take (vec_len a.spare - 1) a.spare.items
 
-  count : length a.spare.items ≡ suc (vec_len a.spare - 1)
-  count = let len = a.spare.ok.0 in let most = h.kept in let other = some in omega (arith, other)
+  fewer : a.kept < length a.spare.items
+  fewer = let len = a.spare.ok.0 in let most = h.kept in let other = some in omega (arith, other)
 
   parts : a.spare.items ≡ rest ++ place ∷ []
   parts =
       let n = vec_len a.spare - 1 in
-      let all = count in
+      let len = a.spare.ok.0 in
+      let more = fewer in
       sym (take_all (suc n) a.spare.items (omega arith)) ∙ take-suc a.spare.items n place (omega arith) ∙ ap (λ (p : ℕ). rest ++ p ∷ []) (sym last)
 
-  count_parts : length a.spare.items ≡ length rest + 1
-  count_parts = ap length parts ∙ length-append rest (place ∷ [])
-
-  before : a.kept ≤ length rest
-  before = let most = h.kept in let n = count_parts in let len = a.spare.ok.0 in let other = some in omega (arith, other)
-
   pub same_kept : take a.kept rest ≡ take a.kept a.spare.items
-  same_kept = sym (ap (λ (xs : List ℕ). take a.kept xs) parts ∙ take-append-le a.kept rest (place ∷ []) before)
+  same_kept = let len = a.spare.ok.0 in let more = fewer in take-take a.kept (vec_len a.spare - 1) a.spare.items (omega arith)
 
   within_by : (b : Bool) (n k : ℕ) → nat_lt place k ≡ b → n + 1 ≡ (if b then 1 else 0) → place < k
   within_by true n k t e = ltb-true place k t
@@ -173,16 +146,15 @@ module _ {a : Inside} (h : IsWellFormedHash a) (place : ℕ) (last : place ≡ g
   pub is_free : IsFree (shown a) place
   is_free =
       let z = zero_by (nat_lt place a.shape.max_entries) _ counted in
-      let first = first_times place a.kept rest in
+      let first = sum-split (occurrences place) (times-append place) a.kept rest in
       let same = ap (occurrences place) same_kept in
       record { within = within_by (nat_lt place a.shape.max_entries) _ a.shape.max_entries refl counted; entries = omega arith; kept = omega arith }
 
   pub not_full : is_full (table_of (shown a)) ≡ false
   not_full =
-      let n = count_parts in
       let g = h.all in
       let k = length-take-le a.kept a.spare.items h.kept in
-      let b = before in
+      let more = fewer in
       let less : length (entries_of a.index) + length (take a.kept a.spare.items) < a.shape.max_entries = omega arith in
       unequal (length (entries_of a.index) + length (take a.kept a.spare.items)) a.shape.max_entries less
     where
@@ -199,6 +171,6 @@ module _ {a : Inside} (h : IsWellFormedHash a) (place : ℕ) (last : place ≡ g
       let less = ap f parts ∙ sum rest (place ∷ []) in
       let now = ap f spare in
       omega arith)
-      (let first = before in let now = ap length spare in omega arith)
+      (let more = fewer in let before = ap length parts ∙ length-append rest (place ∷ []) in let now = ap length spare in omega arith)
       capacity takes bound
       (subst (IsSized a.shape.key_size) (sym index) (sized-with a.shape.key_size key place (entries_of a.index) size h.sized))

@@ -6,7 +6,7 @@ use Rattle.bpf_maps.specs.Index.{entries_of, TakesKeys, shown, IsWellFormedHash}
 use Rattle.bpf_maps.specs.declared.hash_map.HashMap.TheInside.{Inside}
 use Rattle.bpf_maps.proofs.Counts.{without-absent}
 use Rattle.bpf_maps.proofs.Kept.{sound, kept_by_same, kept_by_remove, put_at, exchanged, first-put}
-use Rattle.bpf_maps.proofs.Answered.{same_table, removes_none, removes_one}
+use Rattle.bpf_maps.proofs.Answered.{same_table, removes}
 use Rattle.bpf_maps.proofs.hash_map.HashMapValueMap.remove.Goals as goal
 use Rattle.bpf_maps.proofs.hash_map.HashMapValueMap.remove.Goals.{After-remove}
 
@@ -24,7 +24,7 @@ pub invariant_of-self : goal.invariant_of-self
 invariant_of-self c = kept_by_same c.remove.new.self c.self.invariant (same c) (takes (goal.at.invariant_of-self c).After-remove) c.remove.ensures.bound
 
 pub returns-in_default-clause-removed : goal.returns-in_default-clause-removed
-returns-in_default-clause-removed c = removes_none c.args.key.now (shown c.self.inside) _ _ c.self.view_is c.self.invariant.kind (none c) (same_table c.self.inside.shape (same c) refl)
+returns-in_default-clause-removed c = removes c.args.key.now (shown c.self.inside) _ _ None _ c.self.view_is c.self.invariant.kind (none c) (refl, same_table c.self.inside.shape (same c) refl)
 
 pub returns-in_default-clause-sound : goal.returns-in_default-clause-sound
 returns-in_default-clause-sound c = subst IsSound (sym (same_table c.self.inside.shape (same c) refl)) (sound c.self.invariant)
@@ -48,11 +48,6 @@ module _ (c : goal.After-self-1) where
       kept_by_remove after c.self.invariant c.args.key.now found_is refl c.remove.ensures.left spare (c.swap.ensures.capacity ∙ c.push_reserved.ensures.capacity) refl
       (takes (goal.at.invariant_of-self-2 c).After-remove) c.remove.ensures.bound
 
-  kept : take (c.self.inside.kept + 1) c.swap.new.self.items ≡ take c.self.inside.kept c.self.inside.spare.items ++ c.in-Some.place ∷ []
-  kept =
-      ap (take (c.self.inside.kept + 1)) spare
-      ∙ first-put c.self.inside.kept c.in-Some.place c.self.inside.spare.items c.self.invariant.kept
-
 pub invariant_of-self-2 : goal.invariant_of-self-2
 invariant_of-self-2 c = whole c
 
@@ -61,5 +56,5 @@ returns-clause-sound c = sound (whole c)
 
 pub returns-clause-removed : goal.returns-clause-removed
 returns-clause-removed c =
-    removes_one c.args.key.now (shown c.self.inside) _ _ c.in-Some.place c.self.view_is c.self.invariant.kind (found_is c)
-    (same_table c.self.inside.shape c.remove.ensures.left (kept c))
+    let kept = ap (take (c.self.inside.kept + 1)) (spare c) ∙ first-put c.self.inside.kept c.in-Some.place c.self.inside.spare.items c.self.invariant.kept in
+    removes c.args.key.now (shown c.self.inside) _ _ (Some c.in-Some.place) _ c.self.view_is c.self.invariant.kind (found_is c) (refl, same_table c.self.inside.shape c.remove.ensures.left kept)

@@ -87,7 +87,3 @@ on_ok_then (Err e) f p = p
 pub on_ok : {X E : Type 0} {P : Type 0} (r : Result X E) → is_err r ≡ false → OnOk r P → P
 on_ok (Ok x) e p = p
 on_ok (Err x) e p = absurd (true≢false e)
-
-pub if_err : {X E : Type 0} {P : Type 0} (r : Result X E) → is_err r ≡ true → OnErr r P → P
-if_err (Ok x) e p = absurd (true≢false (sym e))
-if_err (Err x) e p = p

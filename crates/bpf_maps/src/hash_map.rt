@@ -93,6 +93,7 @@ impl HashMap {
     /// nothing has changed.
     #[cold]
     #[inline(never)]
+    #[tactic(auto, using(crate::proofs::Kept::sound))]
     fn add(&mut self, key: &[u8]) -> Result<u32, MapFault>
         requires absent { look_up (table_of self.old) key.now ≡ None }
         requires size { length key.now ≡ self.old.shape.key_size }

@@ -1,9 +1,9 @@
 use Rattle.std.proofs.Common.{◌≡◌, ◌≢◌, ℕ, ◌∙◌, ◌-◌, sym, ap, subst, refl, ◌<◌, length, take, get_or, vec_len}
 use Rattle.tagged_model.specs.Table.{with_key}
-use Rattle.bpf_maps.specs.Places.{PlaceTable, IsSound, IsFree}
+use Rattle.bpf_maps.specs.Places.{PlaceTable, IsFree}
 use Rattle.bpf_maps.specs.Index.{entries_of, TakesKeys, shown, IsWellFormedHash}
 use Rattle.bpf_maps.specs.declared.hash_map.HashMap.TheInside.{Inside}
-use Rattle.bpf_maps.proofs.Shown.{on_ok, if_err}
+use Rattle.bpf_maps.proofs.Shown.{on_ok}
 use Rattle.bpf_maps.proofs.Kept.{sound, kept_by_add, not_full, is_free, same_kept}
 use Rattle.bpf_maps.proofs.Answered.{claims_new, same_table}
 use Rattle.bpf_maps.proofs.hash_map.HashMap.add.Goals as goal
@@ -25,11 +25,6 @@ insert-requires-clause-within c =
 
 pub insert-requires-clause-free : goal.insert-requires-clause-free
 insert-requires-clause-free c = (free (goal.at.insert-requires-clause-free c).After-index-place).entries
-
-pub returns-then-is_err-clause-sound : goal.returns-then-is_err-clause-sound
-returns-then-is_err-clause-sound c =
-    let same = if_err c.insert.result (sym c.is_err.ensures.value ∙ c.if-is_err.true) c.insert.ensures.refused in
-    subst IsSound (sym (same_table c.self.inside.shape same refl)) (sound c.self.invariant)
 
 module _ (c : goal.After-pop) where
   abbrev chosen : After-index-place

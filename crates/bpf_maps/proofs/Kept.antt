@@ -63,11 +63,11 @@ kept_by_same {a} index h same takes bound =
 
 -- ---- a place that is put among the spare ones
 
--- the list with this place at an index, and with the place that was there at the end
+-- the list with this place at an index, and at the end the one that it replaces
 abbrev pub put_at : ℕ → ℕ → List ℕ → List ℕ
 put_at n place xs = take n xs ++ place ∷ (drop 1 (drop n xs) ++ take 1 (drop n xs))
 
--- this is the list with the place behind it, which is then exchanged with the one at the index
+-- what a swap makes of the list with the place at its end
 pub exchanged : (n place : ℕ) (xs : List ℕ) → n ≤ length xs → swap (xs ++ place ∷ []) n (length xs) ≡ put_at n place xs
 exchanged n place xs within =
     let longer : List ℕ = xs ++ place ∷ [] in

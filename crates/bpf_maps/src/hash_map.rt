@@ -150,7 +150,7 @@ impl ValueMap for HashMap {
         let Some(place) = self.index.remove(key) else {
             return Err(MapFault::NoEntry);
         };
-        // The first free place, if there is one, goes to the end.
+        // The place joins those that are kept apart; the first free one, if any, goes to the end.
         let last = self.spare.len();
         self.spare.push_reserved(place);
         self.spare.swap(self.kept, last);

@@ -125,16 +125,27 @@ class Sizes(HostTest):
             self.assertEqual([number for number in numbers if number > 4], sizes, expression)
 
     def test_programs_that_are_made_to_take_long(self) -> None:
-        """Each instruction after tests of many first bytes of IPv4 has a view for each of them; and sums of many loads meet."""
-        lengths = [Instruction(0xB1, 0, 0, at % 120) for at in range(700)]
-        mixed = [each for at in range(600) for each in (Instruction(0xB1, 0, 0, at % 120), Instruction(0x2D, at % 7, 1, 0))]
-        loads = [each for at in range(600) for each in (Instruction(0x30, 0, 0, at % 120), Instruction(0x25, 250, 250 - at % 250, at))]
-        far = [each for at in range(1800) for each in (Instruction(0x30, 0, 0, at), Instruction(0x25, 250, 1, at))]
-        for instructions in (lengths, mixed, loads, far):
-            begun = time.process_time()
-            with contextlib.suppress(ClassicError):
-                ClassicProgram((*instructions, *[Instruction(0x87, 0, 0, 0)] * 250, Instruction(0x16, 0, 0, 0))).translated()
-            self.assertLess(time.process_time() - begun, 5)
+        """Each instruction after tests of many first bytes of IPv4 has a view for each of them; and sums of many loads meet. With twice the
+        instructions, the time grows at most with the third power, next to what does not grow."""
+        for few, many in zip(self.made(1), self.made(2), strict=True):
+            self.assertLess(self.seconds(many), 8 * self.seconds(few) + 1)
+
+    @staticmethod
+    def made(size: int) -> list[list[Instruction]]:
+        """Four programs that take long, with this many times 350 instructions or more."""
+        lengths = [Instruction(0xB1, 0, 0, at % 120) for at in range(350 * size)]
+        mixed = [each for at in range(300 * size) for each in (Instruction(0xB1, 0, 0, at % 120), Instruction(0x2D, at % 7, 1, 0))]
+        loads = [each for at in range(300 * size) for each in (Instruction(0x30, 0, 0, at % 120), Instruction(0x25, 250, 250 - at % 250, at))]
+        far = [each for at in range(900 * size) for each in (Instruction(0x30, 0, 0, at), Instruction(0x25, 250, 1, at))]
+        return [lengths, mixed, loads, far]
+
+    @staticmethod
+    def seconds(instructions: list[Instruction]) -> float:
+        """The processor time in which this program is translated, or refused."""
+        begun = time.process_time()
+        with contextlib.suppress(ClassicError):
+            ClassicProgram((*instructions, *[Instruction(0x87, 0, 0, 0)] * 250, Instruction(0x16, 0, 0, 0))).translated()
+        return time.process_time() - begun
 
     def test_too_many_slots(self) -> None:
         expression = " or ".join(f"ether[{at}] = {at % 251}" for at in range(700, 1400))

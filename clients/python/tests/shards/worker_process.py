@@ -3,16 +3,20 @@
 from __future__ import annotations
 
 import contextlib
-import multiprocessing
+import multiprocessing.connection
 import os
 import signal
 import sys
+import threading
 from pathlib import Path
 
 from bpfhost.shards.command import main
 
 _context = multiprocessing.get_context("forkserver")
 _context.set_forkserver_preload(["bpfhost.shards.command", "redis"])
+# The server of forks says only once how a process has ended, and the start of another asks for it, too. Of two threads that ask at the same
+# time, one would get 255.
+_lock = threading.Lock()
 
 
 def _run(words: list[str], errors: str) -> None:
@@ -29,7 +33,8 @@ class WorkerProcess:
     def __init__(self, words: list[str], errors: Path) -> None:
         self._errors = errors
         self._process = _context.Process(target=_run, args=(words, str(errors)), daemon=True)
-        self._process.start()
+        with _lock:
+            self._process.start()
 
     @property
     def pid(self) -> int:
@@ -38,7 +43,8 @@ class WorkerProcess:
 
     def status(self) -> int | None:
         """Its exit status, negative for a signal, or None."""
-        return self._process.exitcode
+        with _lock:
+            return self._process.exitcode
 
     def send(self, number: signal.Signals) -> None:
         """Sends a signal, if it still runs."""
@@ -56,7 +62,7 @@ class WorkerProcess:
 
     def wait(self, seconds: float) -> int | None:
         """Waits until it ends."""
-        self._process.join(seconds)
+        multiprocessing.connection.wait([self._process.sentinel], seconds)
         return self.status()
 
     def said(self) -> str:

@@ -16,11 +16,11 @@ same_table s e k i = record { shape = s; entries = e i; kept = k i }
 
 -- ---- a delete from a hash map
 
-pub removes_none : (key : List ℕ) (old seen new : PlaceTable) → old ≡ seen → old.shape.kind ≡ Hash → look_up (table_of old) key ≡ None → new ≡ old → Removes (removal (table_of seen) key) key seen (Err NoEntry) new
-removes_none key old seen new v k e h =
-    subst (λ (t : PlaceTable). Removes (removal (table_of t) key) key t (Err NoEntry) new) v
-    (subst (λ (d : MapKind). Removes (removal_of d (look_up (table_of old) key)) key old (Err NoEntry) new) (sym k)
-    (subst (λ (o : Option ℕ). Removes (removal_of Hash o) key old (Err NoEntry) new) (sym e) (refl, h)))
+pub removes : (key : List ℕ) (old seen new : PlaceTable) (o : Option ℕ) (answer : Result (Unit {0}) MapFault) → old ≡ seen → old.shape.kind ≡ Hash → look_up (table_of old) key ≡ o → Removes (removal_of Hash o) key old answer new → Removes (removal (table_of seen) key) key seen answer new
+removes key old seen new o answer v k e h =
+    subst (λ (t : PlaceTable). Removes (removal (table_of t) key) key t answer new) v
+    (subst (λ (d : MapKind). Removes (removal_of d (look_up (table_of old) key)) key old answer new) (sym k)
+    (subst (λ (p : Option ℕ). Removes (removal_of Hash p) key old answer new) (sym e) h))
 
 -- ---- a new key of a hash map
 

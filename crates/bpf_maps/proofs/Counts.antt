@@ -1,5 +1,6 @@
 -- How often a place occurs in a list, and how many entries there are.
-use Rattle.std.proofs.Common.{◌≡◌, ℕ, ◌+◌, ◌≤◌, Bool, true, false, cond, List, [], ◌∷◌, ◌++◌, length, Some, None, refl, sym, ap, subst, ◌∙◌, nat_eq, nat_lt, if◌then◌else◌, arith, eq-eqb}
+use Rattle.std.proofs.Common.{◌≡◌, ℕ, ◌+◌, ◌≤◌, Bool, true, false, cond, List, [], ◌∷◌, ◌++◌, length, take, drop, Some, None, refl, sym, ap, subst, ◌∙◌, nat_eq, nat_lt, if◌then◌else◌, arith, eq-eqb}
+use Rattle.std.proofs.lemmas.List.{take-append-drop}
 use Rattle.std.proofs.lemmas.Option.{none-some, same_Some}
 use Rattle.std.proofs.lemmas.Bool.Decides.{nat_tests}
 use Rattle.std.specs.Map.{values_of}
@@ -28,6 +29,10 @@ values_of-append (e ∷ es) fs = ap (λ r. e.1 ∷ r) (values_of-append es fs)
 
 abbrev pub IsSum : (List ℕ → ℕ) → Type 0
 IsSum f = (xs ys : List ℕ) → f (xs ++ ys) ≡ f xs + f ys
+
+-- a sum over the first n elements and the others
+pub sum-split : (f : List ℕ → ℕ) → IsSum f → (n : ℕ) (xs : List ℕ) → f (take n xs) + f (drop n xs) ≡ f xs
+sum-split f sum n xs = sym (sum (take n xs) (drop n xs)) ∙ ap f (take-append-drop n xs)
 
 -- a key with its place is taken out of the entries
 pub sum-without : (f : List ℕ → ℕ) → IsSum f → (key : List ℕ) (place : ℕ) (es : List (List ℕ × ℕ)) → found key es ≡ Some place → f (values_of (without key es)) + f (place ∷ []) ≡ f (values_of es)

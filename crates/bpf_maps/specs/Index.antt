@@ -1,5 +1,5 @@
 -- The fields of a hash map: its keys with their places, and its invariant. This project's own.
-use Rattle.std.specs.Prelude.{◌≡◌, ℕ, ◌+◌, ◌≤◌, List, length, nat_lt, if◌then◌else◌, vec_capacity}
+use Rattle.std.specs.Prelude.{◌≡◌, ℕ, ◌+◌, ◌≤◌, List, length, take, nat_lt, if◌then◌else◌, vec_capacity}
 use Rattle.std.specs.Map.{values_of}
 use Rattle.tagged_model.specs.declared.shape.MapKind.TheVariants.{Hash}
 use Rattle.bpf_maps.specs.Places.{PlaceTable, occurrences, IsSized}
@@ -22,16 +22,17 @@ abbrev pub TakesKeys : KeyIndex → ℕ → Type 0
 TakesKeys (Words keys) size = size ≡ keys.size
 TakesKeys (Bytes keys) size = Unit {0}
 
+-- the first of the spare places are kept apart, and the others are free
 abbrev pub shown : Inside → PlaceTable
-shown a = record { shape = a.shape; entries = entries_of a.index; kept = a.kept.items }
+shown a = record { shape = a.shape; entries = entries_of a.index; kept = take a.kept a.spare.items }
 
--- each place is in use, kept apart or free, and there is room to keep all places apart and to free them all
+-- each place is in use or spare, and there is room for all places
 pub record IsWellFormedHash (a : Inside) : Type 0 where
   pub kind : a.shape.kind ≡ Hash
   pub takes : TakesKeys a.index a.shape.key_size
   pub bound : bound_of a.index ≡ a.shape.max_entries
-  pub once : (p : ℕ) → occurrences p (values_of (entries_of a.index)) + occurrences p a.kept.items + occurrences p a.free.items ≡ (if nat_lt p a.shape.max_entries then 1 else 0)
-  pub all : length (entries_of a.index) + length a.kept.items + length a.free.items ≡ a.shape.max_entries
-  pub kept_room : a.shape.max_entries ≤ vec_capacity a.kept
-  pub free_room : a.shape.max_entries ≤ vec_capacity a.free
+  pub once : (p : ℕ) → occurrences p (values_of (entries_of a.index)) + occurrences p a.spare.items ≡ (if nat_lt p a.shape.max_entries then 1 else 0)
+  pub all : length (entries_of a.index) + length a.spare.items ≡ a.shape.max_entries
+  pub kept : a.kept ≤ length a.spare.items
+  pub room : a.shape.max_entries ≤ vec_capacity a.spare
   pub sized : IsSized a.shape.key_size (entries_of a.index)

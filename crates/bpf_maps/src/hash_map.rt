@@ -20,10 +20,10 @@ use tagged_model::{MapFault, MapShape};
 pub struct HashMap {
     shape: MapShape,
     index: KeyIndex,
-    // The places of keys that were removed in this run.
-    kept: Vec<u32>,
-    // The places that are free.
-    free: Vec<u32>,
+    // The places that no key has: first those of keys that were removed in this run, and then those that are free.
+    spare: Vec<u32>,
+    // The number of places of keys that were removed in this run.
+    kept: usize,
 }
 
 impl Model for HashMap {
@@ -39,20 +39,19 @@ impl Model for HashMap {
 }
 
 impl HashMap {
-    /// Makes a map of this shape without keys, whose keys are hashed with this seed. Allocates room to keep all places apart and in
-    /// order. `AllocError`: out of memory.
+    /// Makes a map of this shape without keys, whose keys are hashed with this seed. Allocates its list of places and their order.
+    /// `AllocError`: out of memory.
     pub fn new(alloc: Global, shape: MapShape, seed: HashSeed) -> Result<HashMap, AllocError>
         requires { shape.kind ≡ Hash }
         ensures { IfOk result (λ map. map ≡ new_places shape) }
     {
-        let free = all_places(alloc, shape.max_entries)?;
-        let kept = Vec::with_capacity(alloc, shape.max_entries as usize)?;
+        let spare = all_places(alloc, shape.max_entries)?;
         let index = KeyIndex::new(alloc, shape.key_size as usize, shape.max_entries, seed)?;
         Ok(HashMap {
             shape,
             index,
-            kept,
-            free,
+            spare,
+            kept: 0,
         })
     }
 
@@ -94,6 +93,7 @@ impl HashMap {
     /// nothing has changed.
     #[cold]
     #[inline(never)]
+    #[tactic(auto, using(crate::proofs::Kept::sound))]
     fn add(&mut self, key: &[u8]) -> Result<u32, MapFault>
         requires absent { look_up (table_of self.old) key.now ≡ None }
         requires size { length key.now ≡ self.old.shape.key_size }
@@ -101,13 +101,14 @@ impl HashMap {
             result self.new }
         ensures sound { IsSound self.new }
     {
-        let Some(place) = self.free.last().copied() else {
+        if self.spare.len() == self.kept {
             return Err(MapFault::TooBig);
-        };
+        }
+        let place = self.spare[self.spare.len() - 1];
         if self.index.insert(key, place).is_err() {
             return Err(MapFault::Memory);
         }
-        self.free.pop();
+        self.spare.pop();
         Ok(place)
     }
 }
@@ -149,7 +150,11 @@ impl ValueMap for HashMap {
         let Some(place) = self.index.remove(key) else {
             return Err(MapFault::NoEntry);
         };
-        self.kept.push_reserved(place);
+        // The place joins those that are kept apart; the first free one, if any, goes to the end.
+        let last = self.spare.len();
+        self.spare.push_reserved(place);
+        self.spare.swap(self.kept, last);
+        self.kept += 1;
         Ok(())
     }
 
@@ -158,9 +163,7 @@ impl ValueMap for HashMap {
     }
 
     fn end_run(&mut self) {
-        while let Some(place) = self.kept.pop() {
-            self.free.push_reserved(place);
-        }
+        self.kept = 0;
     }
 }
 

@@ -79,9 +79,11 @@
 //!   five machine instructions more.
 //! - The next key is borrowed or returned by value (`KeyRef`): a key that is stored as a number is spelled in eight bytes, a
 //!   longer one is borrowed from the map. So no request clears and fills room for the longest key, 512 bytes.
-//! - Memory is allocated in advance: a hash map allocates its lists of places and their order when it is created, and `Maps`
+//! - Memory is allocated in advance: a hash map allocates its list of places and their order when it is created, and `Maps`
 //!   room for sixteen maps, so a delete and the end of a run allocate nothing.
-//! - The place of a deleted key stays in a list of its own until the run ends, and counts as an entry.
+//! - The places that no key has are one list: first those of keys that were deleted in this run, then the free ones. A place of
+//!   the first part counts as an entry until the run ends. The end of a run only sets the length of that part to 0, so it takes
+//!   the same time however many keys were deleted.
 //! - The refinement between a map of objects and the map of what they represent is one record for any two kinds of object. No
 //!   clause can range over all kinds, so `calls_refine_values` states it for numbers that represent numbers and bytes.
 //! - A tenant's maps keep the allocator with which they were created, so `create` takes none: a new map uses it as a new key

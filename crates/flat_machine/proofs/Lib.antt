@@ -11,12 +11,16 @@ pub mod Ended
 pub mod Ahead
 pub mod Turns
 pub mod GroupTurns
+pub mod WideLoads
 pub mod Deletions
 pub mod Distances
 pub mod Branches
 pub mod Opcodes
 pub mod Ending
 pub mod SetUp
+pub mod Several
+pub mod Sequences
+pub mod LastStep
 pub mod Clear
 pub mod GivenWords
 pub mod ContextWritten

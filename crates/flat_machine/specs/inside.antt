@@ -4,6 +4,7 @@ pub mod Steps
 pub mod Ends
 pub mod Laws
 pub mod Turns
+pub mod Sequences
 pub mod Rows
 pub mod Contexts
 pub mod Packets

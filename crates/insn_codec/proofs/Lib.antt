@@ -7,6 +7,8 @@ pub mod FromSlot
 pub mod KnownOpcodes
 pub mod ByOpcode
 pub mod PrefixFree
+pub mod Marks
+pub mod Marking
 pub mod SlotsOf
 pub mod OneMore
 pub mod FaultKinds

@@ -1,3 +1,4 @@
+pub mod Sequences
 pub mod Spelled
 pub mod Fault
 pub mod ProgramFault

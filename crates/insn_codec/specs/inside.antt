@@ -3,3 +3,4 @@ pub mod Opcodes
 pub mod Form
 pub mod FirstFault
 pub mod Code
+pub mod Marking

@@ -18,8 +18,9 @@
 //!   `only` of `read_program`.
 //! - Instructions are lent by slot number, and first slots are distinguished from second ones: `code`, `get`, `is_first`,
 //!   `slots` of `Program`.
-//! - The slots that a program lends are those of its instructions in their order; from the slot of an instruction on, they
-//!   begin with its own: `length`, `slots`, `first` of `raw_slots` of `Program`, `slots_of_spelled`.
+//! - The slots that a program lends for a run are those of its instructions in their order; from the slot of an instruction on,
+//!   they begin with its own: `length`, `slots`, `first` of `run_slots` of `Program`, `slots_of_spelled`. The first slot of a
+//!   sequence may have a mark in the place of its opcode; the instructions from there on are those of its row: `marks`.
 //! - The opcode and the fields of its first slot determine an instruction, form by form; a register field that the form does
 //!   not use is zero: `arithmetic_by_opcode`, `moves_by_opcode`, `one_operand_by_opcode`, `jumps_by_opcode`,
 //!   `accesses_by_opcode`, `atomics_by_opcode`, `wide_by_opcode`.
@@ -57,6 +58,7 @@ pub mod laws;
 mod opcode;
 mod program;
 mod reading;
+mod sequences;
 mod writing;
 
 pub use fault::{CodecFault, FaultKind};

@@ -1,14 +1,20 @@
 -- The descriptors of a program's loads of maps, instruction by instruction.
-use Rattle.std.proofs.Common.{◌≡◌, ℕ, ◌<◌, ◌==◌, length, get_or, Bool, true, false, not, cond, ◌||◌, List, [], ◌∷◌, ◌++◌, Option, None, Some, refl, sym, ap, ◌∙◌, append-nil, arith}
+use Rattle.std.proofs.Common.{◌≡◌, ℕ, zero, suc, ◌<◌, ◌+◌, ◌==◌, length, get_or, Bool, true, false, not, cond, ◌||◌, List, [], ◌∷◌, ◌++◌, Option, None, Some, refl, sym, ap, ◌∙◌, append-nil, arith}
 use Rattle.std.specs.Option.{option_to_list, is_some}
-use Rattle.std.proofs.lemmas.Bool.{false≢true}
+use Rattle.std.proofs.lemmas.Bool.{eqb-true, false≢true}
 use Rattle.std.proofs.lemmas.Option.{same_Some, slice_get-get_or}
 use Rattle.std.specs.List.{slice_get, list_any, filter_map, cons_option}
 use Rattle.std.proofs.lemmas.List.Elements.{filter-append, filter_map-append}
 use Rattle.insn_set.specs.declared.insn.Insn.{Insn}
+use Rattle.insn_set.specs.Program.{slot_count, begins_at, begun_below}
 use Rattle.tagged_model.specs.Cells.{and_then}
+use Rattle.tagged_model.specs.declared.shape.Named.{Named}
+use Rattle.tagged_model.specs.Named.{target_of}
 use Rattle.insn_set.specs.Flow.{descriptor}
 use Rattle.verifier.specs.Maps.{without, distinct, maps_of}
+use Rattle.verifier.specs.Shape.{is_not_open, structure_fault}
+use Rattle.verifier.specs.ShapeLaws.{each_is_fine}
+use Rattle.verifier.specs.Verdict.{HasNoFault}
 use Rattle.verifier.specs.inside.Descriptors.{with_descriptor}
 
 -- ---- one more at the end
@@ -101,3 +107,34 @@ loaded_silent before after entries entry slot (Some i) step entry_at within here
       none_of : (d : Option ℕ) → is_some d ≡ false → d ≡ None
       none_of None e = refl
       none_of (Some fd) e = absurd (false≢true (sym e))
+
+-- ---- no descriptor names anything
+
+module _ (code : List Insn) (fine : HasNoFault (structure_fault code [])) where
+  -- an instruction of a program without a fault of its shape loads only what a descriptor names
+  loads_none : (slot : ℕ) (o : Option Insn) → begins_at code slot ≡ o → and_then o descriptor ≡ None
+  unfolding target_of
+  loads_none slot None here = refl
+  loads_none slot (Some i) here = by (descriptor i) refl
+    where
+      by : (fd : Option ℕ) → descriptor i ≡ fd → descriptor i ≡ None
+      by None e = e
+      by (Some fd) e = absurd (false≢true (sym (each_is_fine code [] fine slot i here).is_open ∙ ap (λ (o : Option ℕ). is_not_open [] o) e))
+
+  module _ (start : begun_below code 0 ≡ []) (step : (slot : ℕ) → begun_below code (slot + 1) ≡ begun_below code slot ++ option_to_list (begins_at code slot)) where
+    none_below : (slot : ℕ) → maps_of (begun_below code slot) ≡ []
+    none_below zero = ap maps_of start ∙ none_loaded
+    none_below (suc slot) =
+        let next : suc slot ≡ slot + 1 = omega arith in
+        ap (λ (n : ℕ). maps_of (begun_below code n)) next
+        ∙ sym (loaded_at (begun_below code slot) (begun_below code (slot + 1)) (begins_at code slot) (step slot))
+        ∙ ap (with_descriptor (maps_of (begun_below code slot))) (loads_none slot (begins_at code slot) refl)
+        ∙ none_below slot
+
+    pub none_named : begun_below code (slot_count code) ≡ code → maps_of code ≡ []
+    none_named all = ap maps_of (sym all) ∙ none_below (slot_count code)
+
+-- a list without elements
+pub no_names : (named : List Named) → (length named == 0) ≡ true → named ≡ []
+no_names [] e = refl
+no_names (n ∷ named) e = let none : length (n ∷ named) ≡ 0 = eqb-true _ 0 e in absurd (omega arith)

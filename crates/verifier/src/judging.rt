@@ -41,7 +41,7 @@ pub(crate) fn judge<W: Watcher>(
         (IsToldRefused program.now named.now (W.told watcher.old) (W.told watcher.new)) }
 {
     check_shape(alloc, program, named)?;
-    let maps = loaded_maps(alloc, program)?;
+    let maps = loaded_maps(alloc, program, named)?;
     let entries = entries_of(alloc, named, &maps)?;
     check_safety(alloc, program, &entries, watcher)?;
     Ok(LoadedMaps { maps, entries })

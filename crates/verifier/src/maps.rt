@@ -5,6 +5,8 @@ ghost use Rattle.insn_set.specs.Program.{begins_at};
 ghost use Rattle.tagged_model.specs.Cells.{and_then};
 ghost use Rattle.insn_set.specs.Flow.{descriptor};
 ghost use Rattle.verifier.specs.Maps.{maps_of, is_among, entries_of};
+ghost use Rattle.verifier.specs.Shape.{structure_fault};
+ghost use Rattle.verifier.specs.Verdict.{HasNoFault};
 ghost use Rattle.verifier.specs.inside.Descriptors.{with_descriptor};
 
 use insn_codec::{Insn, Program};
@@ -40,12 +42,21 @@ fn names_map(insn: &Insn) -> bool
     insn.profile().reference.descriptor().is_some()
 }
 
-/// The descriptors of the maps that a program loads, each once, in the order of their first loads.
-pub(crate) fn loaded_maps(alloc: Global, program: &Program) -> Result<Vec<u32>, AllocError>
+/// The descriptors of the maps that a program loads, each once, in the order of their first loads. Without a descriptor that names
+/// something, a program without a fault of its shape loads no map, and is not searched.
+pub(crate) fn loaded_maps(
+    alloc: Global,
+    program: &Program,
+    named: &[Named],
+) -> Result<Vec<u32>, AllocError>
+    requires { HasNoFault (structure_fault program.now named.now) }
     ensures { IfOk result (λ maps. maps.items ≡ maps_of program.now) }
 {
     program.insns_in_order();
     let mut maps = Vec::new(alloc);
+    if named.is_empty() {
+        return Ok(maps);
+    }
     let code = program.code();
     for slot in 0..code.len() {
         if names_map(&code[slot]) {

@@ -1,11 +1,14 @@
-use Rattle.std.proofs.Common.{◌+◌, arith, List, ℕ, sym, ap, ◌∙◌}
+use Rattle.std.proofs.Common.{◌+◌, arith, List, ℕ, sym, ap, subst, ◌∙◌}
 use Rattle.tagged_model.specs.Cells.{and_then}
 use Rattle.insn_set.specs.declared.insn.Insn.{Insn}
+use Rattle.tagged_model.specs.declared.shape.Named.{Named}
 use Rattle.insn_set.specs.Program.{begun_below, begins_at}
 use Rattle.insn_set.specs.Flow.{descriptor}
 use Rattle.verifier.specs.Maps.{maps_of}
 use Rattle.verifier.specs.inside.Descriptors.{with_descriptor}
-use Rattle.verifier.proofs.Loads.{none_loaded, loaded_at, loaded_silent}
+use Rattle.verifier.specs.Shape.{structure_fault}
+use Rattle.verifier.specs.Verdict.{HasNoFault}
+use Rattle.verifier.proofs.Loads.{no_names, none_named, none_loaded, loaded_at, loaded_silent}
 use Rattle.verifier.proofs.maps.loaded_maps.Goals.{then-names_map+in_ok-add_at, else-names_map}
 use Rattle.verifier.proofs.maps.loaded_maps.Goals as goal
 
@@ -30,3 +33,10 @@ loop-slot-preserved c =
           ∙ c.loop-slot.invariant
           ∙ loaded_silent before after c.code-code.result.now c.index-code-slot.result slot (begins_at is slot) step (c.code-code.ensures.insns slot) (omega arith) c.index-code-slot.is (sym c.names_map.ensures ∙ w.if-names_map.false)
     ]
+
+pub returns-then-is_empty : goal.returns-then-is_empty
+returns-then-is_empty c =
+    let code = c.args.program.now in
+    let none = no_names c.args.named.now (sym c.is_empty.ensures ∙ c.if-is_empty.true) in
+    let fine = subst (λ (named : List Named). HasNoFault (structure_fault code named)) none c.requires in
+    c.new-maps.ensures.items ∙ sym (none_named code fine c.insns_in_order.ensures.start c.insns_in_order.ensures.step c.insns_in_order.ensures.end)

@@ -1,11 +1,12 @@
-use Rattle.std.proofs.Common.{◌≡◌, ◌∙◌, sym, ap, subst, refl, Some, None}
+use Rattle.std.proofs.Common.{◌≡◌, ℕ, ◌+◌, ◌∙◌, sym, ap, subst, refl, Some, None, [], ◌∷◌, ◌++◌, List, take}
+use Rattle.std.specs.List.{swap}
 use Rattle.tagged_model.specs.Table.{found}
 use Rattle.bpf_maps.specs.Places.{PlaceTable, IsSound}
 use Rattle.bpf_maps.specs.Index.{entries_of, TakesKeys, shown, IsWellFormedHash}
 use Rattle.bpf_maps.specs.declared.hash_map.HashMap.TheInside.{Inside}
 use Rattle.bpf_maps.proofs.Counts.{without-absent}
-use Rattle.bpf_maps.proofs.Kept.{sound, kept_by_same, kept_by_remove}
-use Rattle.bpf_maps.proofs.Answered.{same_table, removes_none}
+use Rattle.bpf_maps.proofs.Kept.{sound, kept_by_same, kept_by_remove, put_at, exchanged, first-put}
+use Rattle.bpf_maps.proofs.Answered.{same_table, removes}
 use Rattle.bpf_maps.proofs.hash_map.HashMapValueMap.remove.Goals as goal
 use Rattle.bpf_maps.proofs.hash_map.HashMapValueMap.remove.Goals.{After-remove}
 
@@ -23,21 +24,28 @@ pub invariant_of-self : goal.invariant_of-self
 invariant_of-self c = kept_by_same c.remove.new.self c.self.invariant (same c) (takes (goal.at.invariant_of-self c).After-remove) c.remove.ensures.bound
 
 pub returns-in_default-clause-removed : goal.returns-in_default-clause-removed
-returns-in_default-clause-removed c = removes_none c.args.key.now (shown c.self.inside) _ _ c.self.view_is c.self.invariant.kind (none c) (same_table c.self.inside.shape (same c) refl)
+returns-in_default-clause-removed c = removes c.args.key.now (shown c.self.inside) _ _ None _ c.self.view_is c.self.invariant.kind (none c) (refl, same_table c.self.inside.shape (same c) refl)
 
 pub returns-in_default-clause-sound : goal.returns-in_default-clause-sound
 returns-in_default-clause-sound c = subst IsSound (sym (same_table c.self.inside.shape (same c) refl)) (sound c.self.invariant)
 
-module _ (c : goal.After-push_reserved) where
+module _ (c : goal.After-self-1) where
   found_is : found c.args.key.now (entries_of c.self.inside.index) ≡ Some c.in-Some.place
   found_is = sym c.remove.ensures.place ∙ c.in-Some.is
 
+  spare : c.swap.new.self.items ≡ put_at c.self.inside.kept c.in-Some.place c.self.inside.spare.items
+  spare =
+      c.swap.ensures.items
+      ∙ ap (λ (places : List ℕ). swap places c.self.inside.kept c.len-last.result) c.push_reserved.ensures.items
+      ∙ ap (swap (c.self.inside.spare.items ++ c.in-Some.place ∷ []) c.self.inside.kept) (c.len-last.ensures ∙ c.self.inside.spare.ok.0)
+      ∙ exchanged c.self.inside.kept c.in-Some.place c.self.inside.spare.items c.self.invariant.kept
+
   abbrev after : Inside
-  after = record { shape = c.self.inside.shape; index = c.remove.new.self; kept = c.push_reserved.new.self; free = c.self.inside.free }
+  after = record { shape = c.self.inside.shape; index = c.remove.new.self; spare = c.swap.new.self; kept = c.self.inside.kept + 1 }
 
   whole : IsWellFormedHash after
   whole =
-      kept_by_remove after c.self.invariant c.args.key.now found_is refl c.remove.ensures.left c.push_reserved.ensures.items c.push_reserved.ensures.capacity refl
+      kept_by_remove after c.self.invariant c.args.key.now found_is refl c.remove.ensures.left spare (c.swap.ensures.capacity ∙ c.push_reserved.ensures.capacity) refl
       (takes (goal.at.invariant_of-self-2 c).After-remove) c.remove.ensures.bound
 
 pub invariant_of-self-2 : goal.invariant_of-self-2
@@ -45,3 +53,8 @@ invariant_of-self-2 c = whole c
 
 pub returns-clause-sound : goal.returns-clause-sound
 returns-clause-sound c = sound (whole c)
+
+pub returns-clause-removed : goal.returns-clause-removed
+returns-clause-removed c =
+    let kept = ap (take (c.self.inside.kept + 1)) (spare c) ∙ first-put c.self.inside.kept c.in-Some.place c.self.inside.spare.items c.self.invariant.kept in
+    removes c.args.key.now (shown c.self.inside) _ _ (Some c.in-Some.place) _ c.self.view_is c.self.invariant.kind (found_is c) (refl, same_table c.self.inside.shape c.remove.ensures.left kept)

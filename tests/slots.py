@@ -107,7 +107,7 @@ def with_wrong_load(draw: random.Random, slots: bytes, load: WideLoad) -> bytes:
 
 
 def with_wrong_atomic(draw: random.Random, slots: bytes, atomic: Atomic) -> bytes:
-    """The number of none of the four operations, now and then a size of one byte or two, or a register above 10."""
+    """The number of none of the operations, now and then a size of one byte or two, or a register above 10."""
     at, wrong, draws = 8 * atomic.slot, bytearray(slots), draw.random()
     if draws < 0.15:
         wrong[at] = draw.choice(NO_ATOMICS)

@@ -109,7 +109,8 @@ SWAPPED = re.compile(r"r\d+ = (le|be|bswap)(16|32|64) r\d+")
 EXTENDED = re.compile(r"([rw])\d+ = \(s(8|16|32)\)[rw]\d+")
 LOADED = re.compile(r"r\d+ = \*\( ?([us]\d+) ?\*\) ?\(.*\)")
 STORED = re.compile(r"\*\( ?(u\d+) ?\*\) ?\(.*\) = (r?).*")
-ATOMIC = re.compile(r"lock ?\* ?\( ?(u32|u64) ?\* ?\) ?\(.*\) ?([+|&^]=) ?r\d+")
+ATOMIC_SIGN = "|".join(re.escape(sign) for sign in ATOMICS.values())
+ATOMIC = re.compile(rf"lock ?\* ?\( ?(u32|u64) ?\* ?\) ?\(.*\) ?({ATOMIC_SIGN}) ?r\d+")
 
 
 def key_of_text(line: str) -> Key | None:

@@ -2,6 +2,7 @@
 
 from __future__ import annotations
 
+import re
 import struct
 import sys
 import unittest
@@ -9,9 +10,11 @@ from pathlib import Path
 
 TOP = Path(__file__).resolve().parents[2]
 sys.path[:0] = [str(TOP / "tests"), str(TOP / "clients/python")]
+from atomics import OPERATIONS
+from bpfhost.objects.instructions import ATOMIC_OPERATIONS
 from bpfhost.replies import Reply
 from conformance.cases import keys_of_slots, text_lines
-from conformance.instructions import BY_KEY, INSTRUCTIONS, Key, key_of, key_of_text
+from conformance.instructions import ATOMICS, BY_KEY, INSTRUCTIONS, Key, key_of, key_of_text
 from conformance.kernel import Tally, difference, reason_in_log, with_descriptors
 from conformance.played import bytes_of, program_text
 from conformance.rules import rule_of
@@ -37,6 +40,14 @@ class Instructions(unittest.TestCase):
 
     def test_opcodes(self) -> None:
         self.assertEqual(len({each.key.opcode for each in INSTRUCTIONS if each.is_here}), 119)
+
+    def test_atomic_operations(self) -> None:
+        """The tables of the tests and of the client have the operations of the crate."""
+        rows = re.findall(r'\(AtomicOp::\w+, (0x\w+), "(.*)"\)', (TOP / "crates/insn_set/src/atomic.rt").read_text())
+        operations = {int(number, 16): sign for number, sign in rows}
+        self.assertEqual(ATOMICS, operations)
+        self.assertEqual({each.number: each.sign for each in OPERATIONS}, operations)
+        self.assertEqual(set(ATOMIC_OPERATIONS), set(operations))
 
     def test_cases(self) -> None:
         self.assertEqual(keys_of_slots("1811000003000000 0000000000000000 {4*9500000000000000}"), {Key(0x18, 1), Key(0x95)})

@@ -1,4 +1,4 @@
-//! The four helpers that a program may call, on words and bytes.
+//! The helpers that a program may call, on words and bytes.
 //!
 //! One relation (`Simulates`) says which words and bytes of the machine (`FlatState`: slot, registers, memory and live maps)
 //! simulate a state of the tagged machine, for the inputs of a run (`Environment`) and a layout that gives each object its

@@ -51,7 +51,7 @@
 //!   load of a map returns a word and no `Option`. If an `Option` passes through several inline functions, the compiler of the
 //!   proved program also keeps its tag and tests it again at the end: with an `Option` a look-up in an array took 48 machine
 //!   instructions, and 30 in a build without proofs. So measure the proved program.
-//! - What an immediate or a register field names is compared by equality, the most frequent value first: the atomic operation
+//! - What an immediate or a register field names is compared by `<` or `>`, the most frequent value first: the atomic operation
 //!   (the addition), and what a load of two slots loads (an address in a value). Equalities with several constants would become
 //!   one switch, which the compiler tests in an order of its own. Each operation and each width of a byte order has code of its
 //!   own, with the operation as a constant: as a value of an enum, the width was composed from the immediate and decomposed

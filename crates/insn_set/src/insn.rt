@@ -1,5 +1,5 @@
 //! Instructions, as RFC 9669 defines them: the groups base32, base64, divmul32 and divmul64,
-//! and the four atomic operations without FETCH.
+//! and the atomic operations without FETCH.
 //!
 //! `wide` is the width: 64 bits if true, 32 bits if false (RFC 9669, section 3.3).
 

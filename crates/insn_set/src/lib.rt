@@ -25,8 +25,8 @@
 //!   bytes are read and rejected.
 //! - A sign-extending move from 32 bits exists only in 64 bits, and a sign-extending load has no double word. An enum's
 //!   variants cannot express that, so `Insn::Movsx` and `Insn::Load` contain the structs `Movsx` and `Load`. An atomic
-//!   operation has types of its own for its size (two of the four) and its operation (four of the fourteen), so each value of
-//!   `Insn::Atomic` is an instruction.
+//!   operation has types of its own for its size, which has two values, and for its operation, so each value of `Insn::Atomic`
+//!   is an instruction.
 //! - Operators, conditions, atomic operations, loads and conversions have a table each, with a row for each value: its number
 //!   and its symbol or name (`OPERATORS`, `CONDITIONS`, `OPERATIONS`, `LOADS`, `ORDERS`, `EXTENSIONS`). Both directions between
 //!   a value and its number or symbol use the table, in the code and in the definitions, so a new value is a row. The

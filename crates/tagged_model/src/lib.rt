@@ -7,7 +7,7 @@
 //! words of the context; the packet; and whether memory was refused to a new key. A map of a run (`RunMap`) is a list of keys
 //! with the numbers of their objects, and the bytes of each object, also of a deleted one.
 //!
-//! `act` defines the step of each instruction, by the equations of `words`, and `called` that of each of the four helpers. If
+//! `act` defines the step of each instruction, by the equations of `words`, and `called` that of each helper. If
 //! they are undefined, the run faults: on reading an empty register, on an access outside its object, an absent byte, a part of
 //! a pointer, a stack access that is not aligned, or a pointer instead of a number, and on a pointer that is stored
 //! outside the stack, truncated, or moved farther than 2^29 bytes. `run` is one recursion with the outcome, the steps and the

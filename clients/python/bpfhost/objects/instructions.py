@@ -12,7 +12,7 @@ from bpfhost.slots import WIDE_LOAD, first_slots
 
 _CALL, _CALL_REGISTER = 0x85, 0x8D
 _ATOMIC = (0xC3, 0xDB)
-_ATOMIC_OPERATIONS = (0x00, 0x40, 0x50, 0xA0)
+ATOMIC_OPERATIONS = (0x00, 0x40, 0x50, 0xA0)
 _FETCH = {
     0x01: "an atomic addition with FETCH",
     0x41: "an atomic or with FETCH",
@@ -56,7 +56,7 @@ def _lacks(instruction: bytes) -> str | None:
         return _lacks_call(source, constant)
     if opcode == _CALL_REGISTER:
         return "calls a function by its address, and the host has no such calls"
-    if opcode in _ATOMIC and constant not in _ATOMIC_OPERATIONS:
+    if opcode in _ATOMIC and constant not in ATOMIC_OPERATIONS:
         return f"has {_FETCH.get(constant, f'an atomic operation {constant:#x}')}, which the host does not have"
     if opcode in _PACKET_ACCESS:
         return "reads the packet by a legacy load (ABS or IND), which the host does not have: bpf_skb_load_bytes reads it"

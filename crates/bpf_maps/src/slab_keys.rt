@@ -53,10 +53,8 @@ impl SlabKeys {
         requires { IsSome (slice_index_or self.now handle None) }
         ensures { slice_index_or self.now handle None ≡ Some result }
     {
-        match self.get(handle) {
-            Some(key) => key,
-            None => unreachable!(),
-        }
+        let words = &self.words;
+        words[handle]
     }
 
     /// The lowest handle without a key; `None` if each has one.

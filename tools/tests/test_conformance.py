@@ -11,8 +11,9 @@ from pathlib import Path
 TOP = Path(__file__).resolve().parents[2]
 sys.path[:0] = [str(TOP / "tests"), str(TOP / "clients/python")]
 from atomics import OPERATIONS
-from bpfhost.objects.instructions import ATOMIC_OPERATIONS
+from bpfhost.helpers import HELPERS
 from bpfhost.replies import Reply
+from bpfhost.slots import ATOMIC_OPERATIONS
 from conformance.cases import keys_of_slots, text_lines
 from conformance.instructions import ATOMICS, BY_KEY, INSTRUCTIONS, Key, key_of, key_of_text
 from conformance.kernel import Tally, difference, reason_in_log, with_descriptors
@@ -48,6 +49,16 @@ class Instructions(unittest.TestCase):
         self.assertEqual(ATOMICS, operations)
         self.assertEqual({each.number: each.sign for each in OPERATIONS}, operations)
         self.assertEqual(set(ATOMIC_OPERATIONS), set(operations))
+
+    def test_helpers(self) -> None:
+        """The client, the header for filters in C and the verifier's log have the helpers of the crate."""
+        helpers = [int(number) for number in re.findall(r"Helper::\w+ => (\d+),", (TOP / "crates/tagged_model/src/helper.rt").read_text())]
+        self.assertEqual(list(HELPERS), helpers)
+        declared = re.findall(r"= \(void \*\)(\d+);", (TOP / "examples/c_filter/bpfhost.h").read_text())
+        self.assertEqual([int(number) for number in declared], helpers)
+        listed = re.search(r"there is no helper \{id\}, and those are (.*) and (\d+)", (TOP / "crates/log_text/src/needs/shape.rt").read_text())
+        self.assertIsNotNone(listed)
+        self.assertEqual([int(number) for number in listed[1].split(", ") + [listed[2]]] if listed else [], helpers)
 
     def test_cases(self) -> None:
         self.assertEqual(keys_of_slots("1811000003000000 0000000000000000 {4*9500000000000000}"), {Key(0x18, 1), Key(0x95)})

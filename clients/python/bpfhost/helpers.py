@@ -1,4 +1,4 @@
-"""The names of the kernel's helpers by number, for messages; the host has four of them.
+"""The names of the kernel's helpers by number, for messages, and which of them the host has.
 
 Source: __BPF_FUNC_MAPPER of include/uapi/linux/bpf.h, which lists them in the order of their numbers.
 """

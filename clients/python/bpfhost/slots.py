@@ -1,4 +1,4 @@
-"""The slots of a program, and its wide loads of maps (docs/INSTRUCTIONS.md, "Wide loads")."""
+"""The slots of a program: its wide loads of maps, and what its atomic operations may be (docs/INSTRUCTIONS.md)."""
 
 from __future__ import annotations
 
@@ -7,6 +7,8 @@ from collections.abc import Iterator, Mapping
 from bpfhost.numbers import SLOT_SIZE
 
 WIDE_LOAD = 0x18
+# The immediates of the host's atomic operations.
+ATOMIC_OPERATIONS = (0x00, 0x40, 0x50, 0xA0)
 # The second half of the byte of registers in a wide load: of a map, or of an address in a map's value.
 _OF_MAPS = (1, 2)
 

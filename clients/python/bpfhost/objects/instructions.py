@@ -8,11 +8,10 @@ from __future__ import annotations
 from bpfhost.helpers import HELPERS, helper_name, the_helpers
 from bpfhost.numbers import SLOT_SIZE
 from bpfhost.objects.place import Place
-from bpfhost.slots import WIDE_LOAD, first_slots
+from bpfhost.slots import ATOMIC_OPERATIONS, WIDE_LOAD, first_slots
 
 _CALL, _CALL_REGISTER = 0x85, 0x8D
 _ATOMIC = (0xC3, 0xDB)
-ATOMIC_OPERATIONS = (0x00, 0x40, 0x50, 0xA0)
 _FETCH = {
     0x01: "an atomic addition with FETCH",
     0x41: "an atomic or with FETCH",

@@ -12,6 +12,7 @@ import time
 from bpfhost import Host, MapType, frames
 from bpfhost.shards import Client, ShardKeys
 from bpfhost.shards.connection import connect
+from bpfhost.shards.settings import Settings
 from tests.common import PROGRAM
 from tests.shards.common import ShardTest
 from tests.shards.redis_server import RedisServer
@@ -155,14 +156,22 @@ class Commands(ShardTest):
             self.assertEqual(called.stderr, b"bpfhost.shards: standard input or output: No space left on device\n")
             self.assertEqual(called.returncode, 1)
 
-    def test_a_worker_keeps_three_connections(self) -> None:
+    def test_connections_of_a_worker(self) -> None:
+        """Its own, one to raise the lease at the same time, one for the directory, and one for each lane in which it reads."""
         redis = connect(self.server.url)
         self.addCleanup(redis.close)
-        # One line for each connection.
-        before = redis.call("CLIENT", "LIST").count(b"\n")
+
+        def connections() -> int:
+            return bytes(redis.call("CLIENT", "LIST")).count(b"\n")
+
+        before, lanes = connections(), Settings().lanes
         self.start(0)
-        # The worker's own connection, one to raise the lease at the same time, and one for the directory.
-        self.assertLessEqual(redis.call("CLIENT", "LIST").count(b"\n"), before + 3)
+        ends = time.monotonic() + 20
+        while connections() < before + lanes and time.monotonic() < ends:
+            time.sleep(0.05)
+        # It has raised its lease once more then.
+        time.sleep(1.5)
+        self.assertIn(connections(), range(before + lanes, before + lanes + 4))
 
     def test_a_missing_package(self) -> None:
         (self.scratch / "redis.py").write_text("raise ModuleNotFoundError(name='redis')\n")

@@ -8,7 +8,7 @@ ghost use Rattle.flat_machine.specs.inside.Flat.{run_maps};
 ghost use Rattle.flat_machine.specs.inside.Turns.{HasNext, any, with_maps, in_memory, with_both};
 
 use crate::execution::Registers;
-use crate::map_words::MapTable;
+use crate::map_words::BoundMaps;
 use arena::Arena;
 use insn_codec::RawSlot;
 
@@ -30,23 +30,16 @@ pub(crate) fn bytes_fit(bytes: &[u8])
 
 /// The next instruction with these maps and this memory is also the next one if less of the two is known.
 #[inline(always)]
-pub(crate) fn has_some_next(
-    fds: &[u32],
-    table: &MapTable,
-    rest: &[RawSlot],
-    registers: &Registers,
-    arena: &Arena,
-)
+pub(crate) fn has_some_next(maps: BoundMaps, rest: &[RawSlot], registers: &Registers, arena: &Arena)
     requires { HasNext rest.now registers.now
-        (with_both (run_maps fds.now table.now.values) arena.now) }
+        (with_both (run_maps maps.fds.now maps.table.now.values) arena.now) }
     ensures some { HasNext rest.now registers.now any }
     ensures within { HasNext rest.now registers.now (in_memory arena.now) }
     ensures among { HasNext rest.now registers.now
-        (with_maps (run_maps fds.now table.now.values)) }
+        (with_maps (run_maps maps.entry.fds.now maps.entry.table.now.values)) }
 {
-    let _ = (fds.len(), rest.len(), registers[0]);
+    let _ = (maps.fds.len(), rest.len(), registers[0]);
     let _ = arena;
-    let _ = table;
 }
 
 /// If words and bytes represent a state, those after a step represent the state after the machine's step.

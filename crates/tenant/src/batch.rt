@@ -69,6 +69,7 @@ impl Tenant {
                     &mut self.maps,
                     &packets,
                     results,
+                    &mut self.table_room,
                     &mut trace,
                 );
                 Ok(())

@@ -20,6 +20,7 @@ use crate::reply::Reply;
 use crate::shape::asked_shape;
 use bpf_maps::{MapKey, Maps};
 use fd_table::{FIRST, FdTable, MOST};
+use flat_machine::TableRoom;
 use seeded_hash::HashSeed;
 use std::alloc::{AllocError, Global};
 use std::marker::Model;
@@ -32,6 +33,8 @@ pub struct Tenant {
     pub(crate) maps: Maps,
     /// Whether memory was ever refused to a load.
     pub(crate) refused: bool,
+    /// Room for what a run enters about its maps; it means nothing between runs.
+    pub(crate) table_room: TableRoom,
 }
 
 impl Model for Tenant {
@@ -91,6 +94,7 @@ impl Tenant {
             objects: FdTable::new(alloc)?,
             maps: Maps::new(alloc, seed)?,
             refused: false,
+            table_room: TableRoom::new(),
         })
     }
 

@@ -13,7 +13,7 @@ use crate::object::program_at;
 use crate::reply::Reply;
 use crate::tenant::Tenant;
 use arena::{Arena, Trace};
-use flat_machine::{GIVEN_WORDS, LONGEST_PACKET, context_words, run};
+use flat_machine::{GIVEN_WORDS, LONGEST_PACKET, context_words, run_with};
 use tagged_model::Outcome;
 use verifier::laws;
 
@@ -52,7 +52,7 @@ impl Tenant {
         }
         let context = context_words(packet.len() as u32, words);
         let mut trace = Trace::new();
-        let outcome = run(
+        let outcome = run_with(
             program.program(),
             program.maps(),
             tenant,
@@ -60,6 +60,7 @@ impl Tenant {
             &mut self.maps,
             &context,
             packet,
+            &mut self.table_room,
             &mut trace,
         );
         match outcome {

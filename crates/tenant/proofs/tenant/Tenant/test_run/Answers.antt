@@ -11,14 +11,14 @@ use Rattle.tenant.proofs.TestRunKept.{kept_after}
 use Rattle.tenant.proofs.TestRunKeys.{are_bound, bound_of}
 use Rattle.tenant.proofs.tenant.Tenant.test_run.Goals as goal
 
-pub run-outcome-requires-clause-bound : goal.run-outcome-requires-clause-bound
-run-outcome-requires-clause-bound c =
+pub run_with-outcome-requires-clause-bound : goal.run_with-outcome-requires-clause-bound
+run_with-outcome-requires-clause-bound c =
     let k = kept_in c.self.inside in
     subst (λ (ps : List ℕ). AreBound c.program.result.now ps k.live) (sym c.maps.ensures)
     (are_bound c.self.invariant (bound_of c.args.fd c.self.invariant c.in_ok-program.ensures.found) c.maps_are_listed.ensures c.program.result.now c.program.ensures.code c.program.ensures.entries)
 
 pub invariant_of-self : goal.invariant_of-self
-invariant_of-self c = kept_after c.self.invariant c.run-outcome.ensures.maps
+invariant_of-self c = kept_after c.self.invariant c.run_with-outcome.ensures.maps
 
 pub returns-clause-answer : goal.returns-clause-answer
 returns-clause-answer c =
@@ -27,7 +27,7 @@ returns-clause-answer c =
     let part = part_bytes c.args.arena.now t in
     let words = c.args.words.now in
     let packet = c.args.packet.now in
-    let run = c.run-outcome in
+    let run = c.run_with-outcome in
     let later = part_bytes run.new.arena t in
     let after = state_in later (with_live k run.new.maps) in
     let (refusals, is) = told_of c.maps_are_listed.ensures c.args.fd c.self.invariant c.in_ok-program.ensures.found c.if-packet-gt-LONGEST_PACKET.false

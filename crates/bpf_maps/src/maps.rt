@@ -110,6 +110,19 @@ impl Maps {
         &self.maps[key]
     }
 
+    /// The offset of the value at a place of a live map, which is this one, in the tenant's part.
+    #[inline(always)]
+    fn offset_in(&self, map: MapKey, stored: &StoredMap, place: u32) -> usize
+        requires stored { live_at self.now map ≡ Some (live_of stored.now) }
+        requires place { place < (shape_at self.now map).max_entries }
+        ensures offset { result ≡ offset_at self.now map place }
+        ensures inside { LiesInPart result (shape_at self.now map).value_size }
+        ensures laid { IsLaid self.now }
+    {
+        self.maps_are_laid();
+        stored.start + place as usize * stored.stride
+    }
+
     /// Creates a map with one reference and the lowest free handle. The map gets an area of its own in the tenant's part, `PART`
     /// bytes, after the areas of the live maps. A hash map has no keys, and the values of an array are zero bytes. The maps that
     /// were live are unchanged.
@@ -259,9 +272,7 @@ impl Maps {
         ensures inside { LiesInPart result (shape_at self.now map).value_size }
         ensures laid { IsLaid self.now }
     {
-        self.maps_are_laid();
-        let stored = self.stored(map);
-        stored.start + place as usize * stored.stride
+        self.offset_in(map, self.stored(map), place)
     }
 
     /// The place of a key; `None` if the map doesn't have the key.
@@ -287,8 +298,9 @@ impl Maps {
         ensures inside { IfSome (look_up (table_of (places_at self.now map)) key.now) (λ place.
             LiesInPart (offset_at self.now map place) (shape_at self.now map).value_size) }
     {
-        match self.find(map, key) {
-            Some(place) => part.wrapping_add(self.value_at(map, place) as u64),
+        let stored = self.stored(map);
+        match stored.map.find(key) {
+            Some(place) => part.wrapping_add(self.offset_in(map, stored, place) as u64),
             None => 0,
         }
     }

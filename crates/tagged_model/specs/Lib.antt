@@ -6,6 +6,7 @@ pub mod MapLaws
 pub mod Cells
 pub mod State
 pub mod Helpers
+pub mod HelperLaws
 pub mod Step
 pub mod StateInvariant
 pub mod RunLaws

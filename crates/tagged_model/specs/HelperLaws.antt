@@ -1,0 +1,171 @@
+-- Laws of helpers, of the definitions of `Helpers`: a helper's number, and what a call leaves of the state before it, whichever
+-- helper it calls. Proved here for the proofs of the crates above. This project's own. No contract cites them, so they are not
+-- part of what has to be trusted.
+use Rattle.std.proofs.Common.{◌≡◌, ℕ, zero, suc, ◌+◌, ◌==◌, ℤ, pos, negsuc, nat_le, Bool, true, false, cond, List, [], ◌∷◌, length, Option, Some, None, refl, sym, ap, subst, ◌∙◌}
+use Rattle.std.specs.Prelude.{find}
+use Rattle.std.specs.Ordering.{int_eq}
+use Rattle.std.specs.Cmp.{signed_Decides}
+use Rattle.std.proofs.lemmas.Bool.{cond_both, eqb-true, leb-true}
+use Rattle.std.proofs.lemmas.Option.{none-some, same_Some}
+use Rattle.words.specs.Bytes.{bytes_at}
+use Rattle.words.specs.ByteLaws.{length-bytes_at}
+use Rattle.words.specs.Stack.{is_in_stack, place}
+use Rattle.tagged_model.specs.declared.helper.Helper.{Helper}
+use Rattle.tagged_model.specs.declared.helper.Helper.TheVariants.{LookUp, Update, Delete, LoadBytes}
+use Rattle.tagged_model.specs.declared.value.Object.TheVariants as object
+use Rattle.tagged_model.specs.declared.value.Tagged.{Tagged}
+use Rattle.tagged_model.specs.declared.value.Tagged.TheVariants.{Scalar, Pointer}
+use Rattle.tagged_model.specs.Table.{look_up}
+use Rattle.tagged_model.specs.Cells.{and_then, gathered, cell_over}
+use Rattle.tagged_model.specs.State.{RunState, RunMap, set_at, stack_byte, value_bytes, value_written, with_cells, with_value, with_map, input, output}
+use Rattle.tagged_model.specs.Helpers.{id_of, known_helpers, helper_of, MapReply, updated, removed, looked_up, packet_bytes, packet_answer, number_given, length_given, map_given, context_given, argument, GivenMap, map_argument, returns, replies, called}
+
+-- ---- the number
+
+found_passes : {A : Type 0} (test : A → Bool) (xs : List A) (x : A) → find test xs ≡ Some x → test x ≡ true
+found_passes test [] x e = absurd (none-some x e)
+found_passes test (y ∷ ys) x e = by (found_passes test ys x) (test y) refl e
+  where
+    by : (find test ys ≡ Some x → test x ≡ true) → (b : Bool) → test y ≡ b → cond b (Some y) (find test ys) ≡ Some x → test x ≡ true
+    by rest true is e = ap test (sym (same_Some y x e)) ∙ is
+    by rest false is e = rest e
+
+-- a helper is found only by its own number
+pub number_of_found : (id : ℤ) (helper : Helper) → helper_of id ≡ Some helper → id ≡ pos (id_of helper)
+number_of_found id helper e = (signed_Decides id (pos (id_of helper))).0 (found_passes (λ h. int_eq id (pos (id_of h))) known_helpers helper e)
+
+-- ---- what a call leaves
+
+-- a map after a call: the same, or with bytes written into a value, or after an update or a delete, whatever its result
+pub data MapAfterCall (t : RunMap) : RunMap → Type 0 where
+  unchanged : MapAfterCall t t
+  written : (number : ℕ) (offset : ℤ) (bs value : List ℕ) → value_written (t.values number) offset bs ≡ Some value → MapAfterCall t (with_value t number value)
+  after_update : (refused : Bool) (key value : List ℕ) (flags : ℕ) → length key ≡ t.table.shape.key_size → length value ≡ t.table.shape.value_size → MapAfterCall t (updated refused t key value flags).map
+  after_delete : (key : List ℕ) → MapAfterCall t (removed t key).map
+
+-- a descriptor has a map after a call exactly if it had one before
+abbrev pub EntryAfterCall : Option RunMap → Option RunMap → Type 0
+EntryAfterCall None None = Unit {0}
+EntryAfterCall (Some t) (Some u) = MapAfterCall t u
+EntryAfterCall _ _ = ⊥
+
+-- a state after a call, from the state before it: the words of the context are the same, and each map is one after a call
+pub record IsAfterCall (s t : RunState) : Type 0 where
+  pub words : t.words ≡ s.words
+  pub maps : (m : ℕ) → EntryAfterCall (s.maps m) (t.maps m)
+
+-- the state after a call, if there is one
+abbrev pub LeavesAfterCall : RunState → Option RunState → Type 0
+LeavesAfterCall s None = Unit {0}
+LeavesAfterCall s (Some t) = IsAfterCall s t
+
+-- ---- a state and its parts
+
+entry_same : (o : Option RunMap) → EntryAfterCall o o
+entry_same None = tt
+entry_same (Some t) = unchanged
+
+state_same : (s : RunState) → IsAfterCall s s
+state_same s = record { words = refl; maps = λ m. entry_same (s.maps m) }
+
+-- one map changes
+entry_set : (s : RunState) (m : ℕ) (t u : RunMap) → s.maps m ≡ Some t → MapAfterCall t u → (k : ℕ) → EntryAfterCall (s.maps k) (set_at s.maps m (Some u) k)
+entry_set s m t u there change k =
+    cond_both (k == m) (Some u) (s.maps k) (EntryAfterCall (s.maps k))
+    (λ b. subst (λ (o : Option RunMap). EntryAfterCall o (Some u)) (sym (ap s.maps (eqb-true k m b) ∙ there)) change)
+    (λ _. entry_same (s.maps k))
+
+map_changed : (s : RunState) (m : ℕ) (t u : RunMap) → s.maps m ≡ Some t → MapAfterCall t u → IsAfterCall s (with_map s m u)
+map_changed s m t u there change = record { words = refl; maps = entry_set s m t u there change }
+
+returned : (s t : RunState) (v : Tagged) → IsAfterCall s t → IsAfterCall s (returns t v)
+returned s t v h = record { words = h.words; maps = h.maps }
+
+replied : (s : RunState) (m : ℕ) (t : RunMap) (reply : MapReply) → s.maps m ≡ Some t → MapAfterCall t reply.map → IsAfterCall s (replies s m reply)
+replied s m t reply there change = record { words = refl; maps = entry_set s m t reply.map there change }
+
+then_leaves : {A : Type 0} (s : RunState) (o : Option A) (f : A → Option RunState) → ((x : A) → o ≡ Some x → LeavesAfterCall s (f x)) → LeavesAfterCall s (and_then o f)
+then_leaves s None f h = tt
+then_leaves s (Some x) f h = h x refl
+
+return_leaves : (s : RunState) (o : Option RunState) (v : Tagged) → LeavesAfterCall s o → LeavesAfterCall s (and_then o (λ t. Some (returns t v)))
+return_leaves s None v h = tt
+return_leaves s (Some t) v h = returned s t v h
+
+-- ---- arguments
+
+-- a map is the one of its descriptor
+map_leaves : (s : RunState) (r : ℕ) (f : GivenMap → Option RunState) → ((m : ℕ) (t : RunMap) → s.maps m ≡ Some t → LeavesAfterCall s (f (record { descriptor = m; map = t }))) → LeavesAfterCall s (and_then (map_argument s r) f)
+map_leaves s r f h = by (argument s r map_given)
+  where
+    at : (m : ℕ) (o : Option RunMap) → s.maps m ≡ o → LeavesAfterCall s (and_then (and_then o (λ t. Some (record { descriptor = m; map = t }))) f)
+    at m None e = tt
+    at m (Some t) e = h m t e
+
+    by : (o : Option ℕ) → LeavesAfterCall s (and_then (and_then o (λ m. and_then (s.maps m) (λ t. Some (record { descriptor = m; map = t })))) f)
+    by None = tt
+    by (Some m) = at m (s.maps m) refl
+
+abbrev HasLength : ℕ → Option (List ℕ) → Type 0
+HasLength n None = Unit {0}
+HasLength n (Some bs) = length bs ≡ n
+
+gathered_long : (byte : ℕ → Option ℕ) (p n : ℕ) → HasLength n (gathered byte p n)
+unfolding gathered
+gathered_long byte p zero = refl
+gathered_long byte p (suc n) = by (byte p) (gathered byte (suc p) n) (gathered_long byte (suc p) n)
+  where
+    by : (o : Option ℕ) (rest : Option (List ℕ)) → HasLength n rest → HasLength (suc n) (and_then o (λ b. and_then rest (λ bs. Some (b ∷ bs))))
+    by None rest h = tt
+    by (Some b) None h = tt
+    by (Some b) (Some bs) h = ap suc h
+
+value_long : (value : List ℕ) (y : ℤ) (n : ℕ) → HasLength n (value_bytes value y n)
+value_long value (pos y) n = cond_both (nat_le (y + n) (length value)) (Some (bytes_at value y n)) None (HasLength n) (λ fits. length-bytes_at value y n (leb-true (y + n) (length value) fits)) (λ _. tt)
+value_long value (negsuc y) n = tt
+
+object_long : (o : Option RunMap) (number : ℕ) (y : ℤ) (n : ℕ) → HasLength n (and_then o (λ t. value_bytes (t.values number) y n))
+object_long None number y n = tt
+object_long (Some t) number y n = value_long (t.values number) y n
+
+input_long : (s : RunState) (p : Tagged) (n : ℕ) → HasLength n (input s p n)
+input_long s (Pointer object.Stack x) n = cond_both (is_in_stack x n) (gathered (stack_byte s) (place x) n) None (HasLength n) (λ _. gathered_long (stack_byte s) (place x) n) (λ _. tt)
+input_long s (Pointer (object.Value m number) x) n = object_long (s.maps m) number x n
+input_long s p n = tt
+
+-- a helper reads as many bytes as it requests
+bytes_leave : (s : RunState) (r n : ℕ) (f : List ℕ → Option RunState) → ((bs : List ℕ) → length bs ≡ n → LeavesAfterCall s (f bs)) → LeavesAfterCall s (and_then (argument s r (λ p. input s p n)) f)
+bytes_leave s r n f h = by (s.registers r)
+  where
+    read : (o : Option (List ℕ)) → HasLength n o → LeavesAfterCall s (and_then o f)
+    read None long = tt
+    read (Some bs) long = h bs long
+
+    by : (o : Option Tagged) → LeavesAfterCall s (and_then (and_then o (λ p. input s p n)) f)
+    by None = tt
+    by (Some p) = read (input s p n) (input_long s p n)
+
+output_leaves : (s : RunState) (p : Tagged) (bs : List ℕ) → LeavesAfterCall s (output s p bs)
+output_leaves s (Pointer object.Stack x) bs =
+    cond_both (is_in_stack x (length bs)) (Some (with_cells s (λ i. cell_over i (s.cells i) (place x) bs))) None (LeavesAfterCall s)
+    (λ _. record { words = refl; maps = λ m. entry_same (s.maps m) })
+    (λ _. tt)
+output_leaves s (Pointer (object.Value m number) x) bs =
+    then_leaves s (s.maps m) _ (λ t there. then_leaves s (value_written (t.values number) x bs) _ (λ value is. map_changed s m t (with_value t number value) there (written number x bs value is)))
+output_leaves s p bs = tt
+
+-- ---- the calls
+
+-- a call of any helper leaves such a state
+pub call_leaves : (refused : Bool) (helper : Helper) (s : RunState) → LeavesAfterCall s (called refused helper s)
+call_leaves refused LookUp s =
+    map_leaves s 1 _ (λ m t _. bytes_leave s 2 t.table.shape.key_size _ (λ key _. returned s s (looked_up m (look_up t.table key)) (state_same s)))
+call_leaves refused Update s =
+    map_leaves s 1 _ (λ m t there. bytes_leave s 2 t.table.shape.key_size _ (λ key key_size. bytes_leave s 3 t.table.shape.value_size _ (λ value value_size. then_leaves s (argument s 4 number_given) _
+    (λ flags _. replied s m t (updated refused t key value flags) there (after_update refused key value flags key_size value_size)))))
+call_leaves refused Delete s =
+    map_leaves s 1 _ (λ m t there. bytes_leave s 2 t.table.shape.key_size _ (λ key _. replied s m t (removed t key) there (after_delete key)))
+call_leaves refused LoadBytes s =
+    then_leaves s (argument s 1 context_given) _ (λ _ _. then_leaves s (argument s 2 number_given) _ (λ offset _. then_leaves s (argument s 4 length_given) _ (λ n _.
+    let bs = packet_bytes s.packet offset n in
+    return_leaves s (argument s 3 (λ p. output s p bs)) (Scalar (packet_answer s.packet offset n)) (then_leaves s (s.registers 3) _ (λ p _. output_leaves s p bs)))))

@@ -3,8 +3,27 @@
 Source: __BPF_FUNC_MAPPER of include/uapi/linux/bpf.h, which lists them in the order of their numbers.
 """
 
-# The host's helpers, from docs/VERIFIER.md ("Calls").
-HELPERS = (1, 2, 3, 26)
+from __future__ import annotations
+
+from collections.abc import Mapping
+from dataclasses import dataclass
+
+
+@dataclass(frozen=True)
+class Room:
+    """Memory that a helper writes: the register with a pointer to it, and the register with its length."""
+
+    pointer: int
+    length: int
+
+
+# The host's helpers, from docs/VERIFIER.md ("Calls"), each with the memory of the program that it writes.
+HELPERS: Mapping[int, Room | None] = {
+    1: None,
+    2: None,
+    3: None,
+    26: Room(pointer=3, length=4),
+}
 
 _NAMES = """
     unspec map_lookup_elem map_update_elem map_delete_elem probe_read ktime_get_ns trace_printk get_prandom_u32

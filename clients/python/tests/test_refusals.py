@@ -51,6 +51,7 @@ outside a map's value: it changes bytes 8 to 15 of a value of 8 bytes (map sizes
     def test_helpers(self) -> None:
         self.assertEqual((helper_name(6), helper_name(26), helper_name(9999)), ("bpf_trace_printk (6)", "bpf_skb_load_bytes (26)", "number 9999"))
         self.assertEqual(the_helpers().count("bpf_"), len(HELPERS))
+        self.assertRegex(the_helpers(), r"^bpf_map_lookup_elem \(1\)(, bpf_\w+ \(\d+\))+ and bpf_\w+ \(\d+\)$")
 
     def test_what_was_needed(self) -> None:
         self.assertEqual(need_of(OF_THE_PAGE, {3: "sizes"}), "it changes bytes 8 to 15 of a value of 8 bytes (map sizes)")

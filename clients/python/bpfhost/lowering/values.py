@@ -9,12 +9,12 @@ from __future__ import annotations
 from collections.abc import Iterable, Mapping
 from dataclasses import dataclass, field
 
+from bpfhost.helpers import HELPERS
 from bpfhost.lowering import instructions as op
 from bpfhost.lowering.instructions import FRAME_POINTER, Instruction
 from bpfhost.lowering.ranges import ANY_NUMBER, Range, constant, cut, full, hull, refine, result, signed
 
 STACK_SIZE = 512
-_LOAD_BYTES, _READ_ONLY = 26, (1, 2, 3)
 # A greater offset is not tracked: no stack is that large.
 _FARTHEST = 1 << 29
 
@@ -127,12 +127,18 @@ class State:
         for other, length in [key for key in self.stack if key[0] < at + size and at < key[0] + key[1]]:
             del self.stack[other, length]
 
-    def _call(self, found: Instruction) -> None:
-        if found.constant == _LOAD_BYTES and isinstance(self.registers[3], Place):
-            length = self.registers[4]
-            self._forget(self.registers[3].offset, length.hi if isinstance(length, Range) else STACK_SIZE)
-        elif found.constant not in _READ_ONLY and not (found.constant == _LOAD_BYTES and isinstance(self.registers[3], Range)):
+    def _fill(self, pointer: Value, length: Value) -> None:
+        """Forgets what a helper may write over."""
+        if isinstance(pointer, Place):
+            self._forget(pointer.offset, length.hi if isinstance(length, Range) else STACK_SIZE)
+        elif isinstance(pointer, Unknown):
             self.stack.clear()
+
+    def _call(self, found: Instruction) -> None:
+        if found.constant not in HELPERS:
+            self.stack.clear()
+        elif (room := HELPERS[found.constant]) is not None:
+            self._fill(self.registers[room.pointer], self.registers[room.length])
         self.registers[:6] = [ANY_NUMBER] + [UNKNOWN] * 5
 
 

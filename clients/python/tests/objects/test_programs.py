@@ -2,6 +2,7 @@
 
 from __future__ import annotations
 
+from bpfhost.helpers import the_helpers
 from bpfhost.objects import CallSlot, Form, MapSlot, ObjectError, ObjectFile, load_object
 from tests.objects.common import ClangTest, ObjectTest, compile_object
 from tests.objects.elf_builder import ALLOC, EXECINSTR, SECTION, ElfBuilder
@@ -9,7 +10,6 @@ from tests.objects.elf_builder import ALLOC, EXECINSTR, SECTION, ElfBuilder
 # What llvm-objdump shows of sections.c.
 LENGTH = "6110000000000000 9500000000000000"
 NONE = "b700000000000000 9500000000000000"
-HELPERS = "bpf_map_lookup_elem (1), bpf_map_update_elem (2), bpf_map_delete_elem (3) and bpf_skb_load_bytes (26)"
 MARK = "6110080000000000 6700000001000000 9500000000000000"
 
 
@@ -54,7 +54,7 @@ class Lacking(ClangTest):
         self.assertEqual(told, f"function f in section socket {what}, at slot {slot} (filter.c:4: {line})")
 
     def test_helpers(self) -> None:
-        self.lacks(f"calls helper bpf_ktime_get_ns (5), and the host has {HELPERS}", 0, "return bpf_ktime_get_ns();")
+        self.lacks(f"calls helper bpf_ktime_get_ns (5), and the host has {the_helpers()}", 0, "return bpf_ktime_get_ns();")
 
     def test_calls_of_functions(self) -> None:
         no_calls = "and calls between functions are not supported"
@@ -188,7 +188,7 @@ class Calls(ClangTest):
             "NOINLINE int now(int x) { return bpf_ktime_get_ns() + x; }\n"
             'SEC("socket") int f(struct __sk_buff *skb) { return now(skb->len); }'
         )
-        self.assertIn(f"function now in section .text calls helper bpf_ktime_get_ns (5), and the host has {HELPERS}, at slot ", told)
+        self.assertIn(f"function now in section .text calls helper bpf_ktime_get_ns (5), and the host has {the_helpers()}, at slot ", told)
 
 
 class Built(ObjectTest):
@@ -233,7 +233,7 @@ class Built(ObjectTest):
         self.assertEqual(
             self.built("8d00000000000000"), f"{where} calls a function by its address, and the host has no such calls, at slot 0"
         )
-        self.assertEqual(self.built("85000000ffffffff"), f"{where} calls helper number -1, and the host has {HELPERS}, at slot 0")
+        self.assertEqual(self.built("85000000ffffffff"), f"{where} calls helper number -1, and the host has {the_helpers()}, at slot 0")
 
     def test_calls_with_relocations(self) -> None:
         """By a symbol of a section the distance counts from the section's first slot, and by one of a function from the function."""

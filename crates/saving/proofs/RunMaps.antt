@@ -10,20 +10,18 @@ use Rattle.insn_set.specs.declared.insn.Insn.{Insn}
 use Rattle.insn_set.specs.declared.insn.Insn.TheVariants.{Alu, Movsx, Neg, End, Ja, Jal, Jump, Call, Exit, Load, Store, Atomic, Const, MapFd, MapValue}
 use Rattle.insn_set.specs.Program.{begins_at, slot_count}
 use Rattle.words.specs.declared.stack.AccessSize.{AccessSize}
-use Rattle.words.specs.Bytes.{low_bytes, bytes_at, written_at}
-use Rattle.words.specs.Stack.{bytes_of, is_in_stack, place}
+use Rattle.words.specs.Bytes.{low_bytes, written_at}
+use Rattle.words.specs.Stack.{bytes_of}
 use Rattle.words.specs.Words.{unsigned}
-use Rattle.tagged_model.specs.declared.helper.Helper.{Helper}
-use Rattle.tagged_model.specs.declared.helper.Helper.TheVariants.{LookUp, Update, Delete, LoadBytes}
 use Rattle.tagged_model.specs.declared.value.Object.TheVariants as object
 use Rattle.tagged_model.specs.declared.value.Tagged.{Tagged}
 use Rattle.tagged_model.specs.declared.value.Tagged.TheVariants.{Scalar, Map, Pointer}
-use Rattle.tagged_model.specs.Cells.{Cell, and_then, gathered, cell_over, write_cell}
-use Rattle.tagged_model.specs.Table.{Table, Verdict, Refused, Present, New, look_up, verdict, removal, direct_object}
+use Rattle.tagged_model.specs.Cells.{Cell, and_then, write_cell}
+use Rattle.tagged_model.specs.Table.{Table, Verdict, Refused, Present, New, verdict, removal, direct_object}
 use Rattle.tagged_model.specs.declared.fault.MapFault.{MapFault}
 use Rattle.tagged_model.specs.StateInvariant.{KeysHaveObjects}
 use Rattle.tagged_model.specs.StateLaws.{owns_more, owns_with, owns_without}
-use Rattle.words.specs.ByteLaws.{length-bytes_at, length-written_at}
+use Rattle.words.specs.ByteLaws.{length-written_at}
 use Rattle.saving.specs.Restorable.{IsWholeTable, IsWholeMap}
 use Rattle.saving.proofs.Wholes.{whole_with_new, whole_with_deleted, whole_after_run, whole_by_keys}
 use Rattle.tagged_model.specs.Values.{of_numbers, arithmetic, first_operand, compared}
@@ -31,8 +29,9 @@ use Rattle.insn_set.specs.declared.atomic.AtomicSize.{AtomicSize}
 use Rattle.insn_set.specs.declared.atomic.AtomicOp.{AtomicOp}
 use Rattle.insn_set.specs.Atomic.{atomic_operator, is_wide_atomic, access_size}
 use Rattle.insn_set.specs.Flow.{natural}
-use Rattle.tagged_model.specs.State.{RunState, RunMap, stack_byte, value_bytes, at_slot, with_cell, with_cells, with_map, input, stack_place, stack_store, object_written, object_stored, value_written, with_value, store, output, load, is_aligned_at}
-use Rattle.tagged_model.specs.Helpers.{GivenMap, map_argument, map_given, argument, context_given, number_given, length_given, called, helper_of, MapReply, put, taken_out, updated, removed, replies, returns, looked_up, packet_bytes, packet_answer}
+use Rattle.tagged_model.specs.State.{RunState, RunMap, at_slot, with_cell, with_map, stack_place, stack_store, object_written, object_stored, value_written, with_value, store, load, is_aligned_at}
+use Rattle.tagged_model.specs.Helpers.{called, helper_of, put, taken_out}
+use Rattle.tagged_model.specs.HelperLaws.{MapAfterCall, unchanged, written, after_update, after_delete, EntryAfterCall, LeavesAfterCall, call_leaves}
 use Rattle.tagged_model.specs.Step.{Step, goes, ends, faults, or_fault, assigned, operand_value, jumped, branched, ended, changed, act, step, run, Ending, ending_after, refused_at_first, refused_later, MapsByDescriptor, start_of_run, numbered, first_map, last_map, left_with, run_with}
 
 -- ---- a map of a run
@@ -153,75 +152,7 @@ store_same s size (Pointer object.Stack x) off v = stack_same s (x +ℤ off) siz
 store_same s size (Pointer object.Context x) off v = tt
 store_same s size (Pointer (object.Value m number) x) off v = stored_same s size m number (x +ℤ off) v
 
-output_same : (s : RunState) (p : Tagged) (bs : List ℕ) → StateHasSame s (output s p bs)
-output_same s (Scalar n) bs = tt
-output_same s (Map m) bs = tt
-output_same s (Pointer object.Context x) bs = tt
-output_same s (Pointer object.Stack x) bs = cells_if (is_in_stack x (length bs))
-  where
-    cells_if : (b : Bool) → StateHasSame s (if b then Some (with_cells s (λ i. cell_over i (s.cells i) (place x) bs)) else None)
-    cells_if true = λ m. same_self (s.maps m)
-    cells_if false = tt
-output_same s (Pointer (object.Value m number) x) bs = object_same s m number x bs
-
 -- ---- calls
-
-given_there : (s : RunState) (r : ℕ) (g : GivenMap) → map_argument s r ≡ Some g → s.maps g.descriptor ≡ Some g.map
-given_there s r g e = by (argument s r map_given) e
-  where
-    inner : (m : ℕ) (o : Option RunMap) → s.maps m ≡ o → and_then o (λ t. Some (record { descriptor = m; map = t })) ≡ Some g → s.maps g.descriptor ≡ Some g.map
-    inner m None at e = absurd (none-some g e)
-    inner m (Some t) at e =
-        let same : record { descriptor = m; map = t } ≡ g = same_Some (record { descriptor = m; map = t }) g e in
-        subst (λ (x : GivenMap). s.maps x.descriptor ≡ Some x.map) same at
-
-    by : (o : Option ℕ) → and_then o (λ m. and_then (s.maps m) (λ t. Some (record { descriptor = m; map = t }))) ≡ Some g → s.maps g.descriptor ≡ Some g.map
-    by None e = absurd (none-some g e)
-    by (Some m) e = inner m (s.maps m) refl e
-
-reply_same : (s : RunState) (r : ℕ) (g : GivenMap) (reply : MapReply) → map_argument s r ≡ Some g → IsLater g.map reply.map → HasSame s (replies s g.descriptor reply)
-reply_same s r g reply e later m = set_same s g.descriptor g.map reply.map (given_there s r g e) later m
-
--- a helper reads as many bytes as it requests
-gathered_long : (byte : ℕ → Option ℕ) (p n : ℕ) (bs : List ℕ) → gathered byte p n ≡ Some bs → length bs ≡ n
-unfolding gathered
-gathered_long byte p zero bs e = ap length (sym (same_Some [] bs e))
-gathered_long byte p (suc n) bs e = by (byte p) (gathered byte (suc p) n) (λ cs f. gathered_long byte (suc p) n cs f) e
-  where
-    by : (o : Option ℕ) (rest : Option (List ℕ)) → ((cs : List ℕ) → rest ≡ Some cs → length cs ≡ n) → and_then o (λ b. and_then rest (λ cs. Some (b ∷ cs))) ≡ Some bs → length bs ≡ suc n
-    by None rest h e = absurd (none-some bs e)
-    by (Some b) None h e = absurd (none-some bs e)
-    by (Some b) (Some cs) h e = ap length (sym (same_Some (b ∷ cs) bs e)) ∙ (let long = h cs refl in omega arith)
-
-value_long : (value : List ℕ) (y : ℤ) (n : ℕ) (bs : List ℕ) → value_bytes value y n ≡ Some bs → length bs ≡ n
-value_long value (pos y) n bs e = by (nat_le (y + n) (length value)) refl e
-  where
-    by : (b : Bool) → nat_le (y + n) (length value) ≡ b → (if b then Some (bytes_at value y n) else None) ≡ Some bs → length bs ≡ n
-    by true fits e = ap length (sym (same_Some (bytes_at value y n) bs e)) ∙ length-bytes_at value y n (leb-true (y + n) (length value) fits)
-    by false fits e = absurd (none-some bs e)
-value_long value (negsuc y) n bs e = absurd (none-some bs e)
-
-input_long : (s : RunState) (p : Tagged) (n : ℕ) (bs : List ℕ) → input s p n ≡ Some bs → length bs ≡ n
-input_long s (Scalar k) n bs e = absurd (none-some bs e)
-input_long s (Map m) n bs e = absurd (none-some bs e)
-input_long s (Pointer object.Context x) n bs e = absurd (none-some bs e)
-input_long s (Pointer object.Stack x) n bs e = by (is_in_stack x n) e
-  where
-    by : (b : Bool) → (if b then gathered (stack_byte s) (place x) n else None) ≡ Some bs → length bs ≡ n
-    by true e = gathered_long (stack_byte s) (place x) n bs e
-    by false e = absurd (none-some bs e)
-input_long s (Pointer (object.Value m number) x) n bs e = by (s.maps m) e
-  where
-    by : (o : Option RunMap) → and_then o (λ t. value_bytes (t.values number) x n) ≡ Some bs → length bs ≡ n
-    by None e = absurd (none-some bs e)
-    by (Some t) e = value_long (t.values number) x n bs e
-
-argument_long : (s : RunState) (r n : ℕ) (bs : List ℕ) → argument s r (λ p. input s p n) ≡ Some bs → length bs ≡ n
-argument_long s r n bs e = by (s.registers r) e
-  where
-    by : (o : Option Tagged) → and_then o (λ p. input s p n) ≡ Some bs → length bs ≡ n
-    by None e = absurd (none-some bs e)
-    by (Some p) e = input_long s p n bs e
 
 -- an update, and a deletion
 later_put : (refused : Bool) (t : RunMap) (key value : List ℕ) (flags : ℕ) (v : Verdict ℕ) → verdict t.table key flags ≡ v → length key ≡ t.table.shape.key_size → length value ≡ t.table.shape.value_size → IsLater t (put refused t key value v).map
@@ -245,32 +176,22 @@ later_taken : (t : RunMap) (key : List ℕ) (r : Result ℕ MapFault) → remova
 later_taken t key (Err fault) is = later_self t
 later_taken t key (Ok number) is = record { shape = refl; whole = λ whole. record { table = whole_with_deleted whole.table key number is; owns = owns_without t.count key t.table.entries whole.owns; sized = whole.sized } }
 
-returns_same : (s : RunState) (v : Tagged) → StateHasSame s (Some (returns s v))
-returns_same s v m = same_self (s.maps m)
+-- whichever helper is called
+later_called : (t : RunMap) {u : RunMap} → MapAfterCall t u → IsLater t u
+later_called t unchanged = later_self t
+later_called t (written number y bs value is) = later_value t number value (λ whole lt. written_long (t.values number) y bs value is ∙ whole.sized number lt)
+later_called t (after_update refused key value flags key_size value_size) = later_put refused t key value flags (verdict t.table key flags) refl key_size value_size
+later_called t (after_delete key) = later_taken t key (removal t.table key) refl
 
--- bytes are written before the call returns
-after_output : (s : RunState) (p : Tagged) (bs : List ℕ) (v : Tagged) → StateHasSame s (and_then (output s p bs) (λ t. Some (returns t v)))
-after_output s p bs v = by (output s p bs) (output_same s p bs)
-  where
-    by : (o : Option RunState) → StateHasSame s o → StateHasSame s (and_then o (λ t. Some (returns t v)))
-    by None h = tt
-    by (Some t) h = h
+entry_called : (o p : Option RunMap) → EntryAfterCall o p → IsSameMap o p
+entry_called None None h = tt
+entry_called None (Some u) h = h
+entry_called (Some t) None h = h
+entry_called (Some t) (Some u) h = later_called t h
 
-called_same : (refused : Bool) (h : Helper) (s : RunState) → StateHasSame s (called refused h s)
-called_same refused LookUp s =
-    then_same s (map_argument s 1) _ (λ g e. then_same s (argument s 2 (λ p. input s p g.map.table.shape.key_size)) _ (λ key _. returns_same s (looked_up g.descriptor (look_up g.map.table key))))
-called_same refused Update s =
-    then_same s (map_argument s 1) _ (λ g e. then_same s (argument s 2 (λ p. input s p g.map.table.shape.key_size)) _ (λ key key_is. then_same s (argument s 3 (λ p. input s p g.map.table.shape.value_size)) _ (λ value value_is. then_same s (argument s 4 number_given) _
-    (λ flags _. reply_same s 1 g (updated refused g.map key value flags) e
-    (later_put refused g.map key value flags (verdict g.map.table key flags) refl (argument_long s 2 g.map.table.shape.key_size key key_is) (argument_long s 3 g.map.table.shape.value_size value value_is))))))
-called_same refused Delete s =
-    then_same s (map_argument s 1) _ (λ g e. then_same s (argument s 2 (λ p. input s p g.map.table.shape.key_size)) _ (λ key _. reply_same s 1 g (removed g.map key) e (later_taken g.map key (removal g.map.table key) refl)))
-called_same refused LoadBytes s =
-    then_same s (argument s 1 context_given) _ (λ c _. then_same s (argument s 2 number_given) _ (λ offset _. then_same s (argument s 4 length_given) _ (λ n _. loaded offset n (s.registers 3))))
-  where
-    loaded : (offset n : ℕ) (o : Option Tagged) → StateHasSame s (and_then (and_then o (λ p. output s p (packet_bytes s.packet offset n))) (λ t. Some (returns t (Scalar (packet_answer s.packet offset n)))))
-    loaded offset n None = tt
-    loaded offset n (Some p) = after_output s p (packet_bytes s.packet offset n) (Scalar (packet_answer s.packet offset n))
+called_same : (s : RunState) (o : Option RunState) → LeavesAfterCall s o → StateHasSame s o
+called_same s None h = tt
+called_same s (Some t) h = λ m. entry_called (s.maps m) (t.maps m) (h.maps m)
 
 -- ---- steps
 
@@ -307,7 +228,7 @@ act_same refused (Ja off) s = jumped_same s off
 act_same refused (Jal off) s = jumped_same s off
 act_same refused (Jump wide condition dst src off) s =
     or_fault_same s (s.registers dst) _ (λ a. or_fault_same s (operand_value s wide src) _ (λ b. or_fault_same s (compared wide condition src a b) _ (λ yes. branched_same s off yes)))
-act_same refused (Call id) s = or_fault_same s (helper_of id) _ (λ h. goes_same s (called refused h s) 1 (called_same refused h s))
+act_same refused (Call id) s = or_fault_same s (helper_of id) _ (λ h. goes_same s (called refused h s) 1 (called_same s (called refused h s) (call_leaves refused h s)))
 act_same refused Exit s = or_fault_same s (s.registers 0) _ (λ v. ended_same s v)
 act_same refused (Load l) s = or_fault_same s (s.registers l.src) _ (λ p. assigned_same s 1 l.dst _)
 act_same refused (Store size dst src off) s = or_fault_same s (s.registers dst) _ (λ p. or_fault_same s (operand_value s true src) _ (λ v. goes_same s (store s size p off v) 1 (store_same s size p off v)))

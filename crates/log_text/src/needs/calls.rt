@@ -32,25 +32,35 @@ enum Role {
 
 /// An argument: its register and its role.
 #[derive(Clone, Copy)]
-struct Argument {
-    register: u8,
-    role: Role,
+struct Argument(u8, Role);
+
+/// The arguments of a helper, in the order of its checks.
+fn arguments_of(helper: Helper) -> &'static [Argument] {
+    match helper {
+        Helper::LookUp | Helper::Delete => &[Argument(1, Role::Map), Argument(2, Role::Key)],
+        Helper::Update => &[
+            Argument(1, Role::Map),
+            Argument(2, Role::Key),
+            Argument(3, Role::Value),
+            Argument(4, Role::Number),
+        ],
+        Helper::LoadBytes => &[
+            Argument(1, Role::Context),
+            Argument(2, Role::Number),
+            Argument(4, Role::Length),
+            Argument(3, Role::Room),
+        ],
+    }
 }
 
-/// The argument that a helper checks at this place of its order, counted from 0.
-fn argument_at(helper: Helper, place: u8) -> Option<Argument> {
-    let (register, role) = match (helper, place) {
-        (Helper::LoadBytes, 0) => (1, Role::Context),
-        (Helper::LoadBytes, 1) => (2, Role::Number),
-        (Helper::LoadBytes, 2) => (4, Role::Length),
-        (Helper::LoadBytes, 3) => (3, Role::Room),
-        (_, 0) => (1, Role::Map),
-        (_, 1) => (2, Role::Key),
-        (Helper::Update, 2) => (3, Role::Value),
-        (Helper::Update, 3) => (4, Role::Number),
-        _ => return None,
-    };
-    Some(Argument { register, role })
+/// Whether the helper with this number has an argument in a register.
+pub(crate) fn has_argument(id: i32, register: u8) -> bool {
+    match known_helper(id) {
+        Some(helper) => arguments_of(helper)
+            .iter()
+            .any(|argument| argument.0 == register),
+        None => false,
+    }
 }
 
 /// How many bytes an argument points to: the size of a key or a value of the map in register 1, or the length in register 4.
@@ -93,8 +103,9 @@ fn bytes_reason(named: &[Named], facts: &Facts, role: Role, kind: Kind) -> Optio
 
 /// Why an argument is rejected, if it is.
 fn argument_reason(named: &[Named], facts: &Facts, argument: Argument) -> Option<Reason> {
-    let kind = kind_of(facts, argument.register);
-    match (argument.role, kind) {
+    let Argument(register, role) = argument;
+    let kind = kind_of(facts, register);
+    match (role, kind) {
         (Role::Map, Kind::MapRef(_)) => None,
         (Role::Context, Kind::Ctx) => None,
         (Role::Number, Kind::Scalar(_)) => None,
@@ -111,11 +122,9 @@ fn argument_reason(named: &[Named], facts: &Facts, argument: Argument) -> Option
 
 /// The first argument that is rejected.
 fn refused_argument(refusal: &RefusedProgram<'_>, helper: Helper) -> Option<Argument> {
-    for place in 0..4 {
-        if let Some(argument) = argument_at(helper, place)
-            && argument_reason(refusal.named, refusal.facts, argument).is_some()
-        {
-            return Some(argument);
+    for argument in arguments_of(helper) {
+        if argument_reason(refusal.named, refusal.facts, *argument).is_some() {
+            return Some(*argument);
         }
     }
     None
@@ -150,7 +159,7 @@ fn write_argument(
     refusal: &RefusedProgram<'_>,
     argument: Argument,
 ) -> Result<(), AllocError> {
-    let (register, role, facts) = (argument.register, argument.role, refusal.facts);
+    let (Argument(register, role), facts) = (argument, refusal.facts);
     let kind = kind_of(facts, register);
     let count = count_of(refusal.named, facts, role);
     let (first, last) = touched(kind, 0, i64::from(count));

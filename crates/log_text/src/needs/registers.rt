@@ -2,12 +2,12 @@
 
 use crate::kinds::write_kind;
 use crate::needs::RefusedProgram;
+use crate::needs::calls::has_argument;
 use crate::ways::{Wanted, write_way};
 use insn_codec::{Insn, Operand, Reference, Reg};
 use reg_kinds::{Facts, Kind};
 use std::alloc::AllocError;
 use std::fmt::Write;
-use tagged_model::{Helper, known_helper};
 use words::REGISTERS;
 
 /// The kind of a register, by its number.
@@ -38,15 +38,6 @@ pub(crate) fn register_of(src: Operand) -> Option<u8> {
     }
 }
 
-/// The number of arguments of a helper, from register 1 on.
-fn argument_count(id: i32) -> u8 {
-    match known_helper(id) {
-        Some(Helper::LookUp | Helper::Delete) => 2,
-        Some(Helper::Update | Helper::LoadBytes) => 4,
-        None => 0,
-    }
-}
-
 /// The first register if it is unreadable, else the second.
 fn unreadable_of(facts: &Facts, first: Option<u8>, second: Option<u8>) -> Option<u8> {
     match first {
@@ -57,8 +48,8 @@ fn unreadable_of(facts: &Facts, first: Option<u8>, second: Option<u8>) -> Option
 
 /// The first unreadable argument of a helper.
 fn unreadable_argument(facts: &Facts, id: i32) -> Option<u8> {
-    for register in 1..=argument_count(id) {
-        if kind_of(facts, register) == Kind::Unreadable {
+    for register in 1..=5 {
+        if has_argument(id, register) && kind_of(facts, register) == Kind::Unreadable {
             return Some(register);
         }
     }

@@ -32,24 +32,57 @@ enum Role {
 
 /// An argument: its register and its role.
 #[derive(Clone, Copy)]
-struct Argument(u8, Role);
+struct Argument {
+    register: u8,
+    role: Role,
+}
+
+const MAP: Argument = Argument {
+    register: 1,
+    role: Role::Map,
+};
+
+const KEY: Argument = Argument {
+    register: 2,
+    role: Role::Key,
+};
+
+const VALUE: Argument = Argument {
+    register: 3,
+    role: Role::Value,
+};
+
+const FLAGS: Argument = Argument {
+    register: 4,
+    role: Role::Number,
+};
+
+const CONTEXT: Argument = Argument {
+    register: 1,
+    role: Role::Context,
+};
+
+const OFFSET: Argument = Argument {
+    register: 2,
+    role: Role::Number,
+};
+
+const ROOM: Argument = Argument {
+    register: 3,
+    role: Role::Room,
+};
+
+const LENGTH: Argument = Argument {
+    register: 4,
+    role: Role::Length,
+};
 
 /// The arguments of a helper, in the order of its checks.
 fn arguments_of(helper: Helper) -> &'static [Argument] {
     match helper {
-        Helper::LookUp | Helper::Delete => &[Argument(1, Role::Map), Argument(2, Role::Key)],
-        Helper::Update => &[
-            Argument(1, Role::Map),
-            Argument(2, Role::Key),
-            Argument(3, Role::Value),
-            Argument(4, Role::Number),
-        ],
-        Helper::LoadBytes => &[
-            Argument(1, Role::Context),
-            Argument(2, Role::Number),
-            Argument(4, Role::Length),
-            Argument(3, Role::Room),
-        ],
+        Helper::LookUp | Helper::Delete => &[MAP, KEY],
+        Helper::Update => &[MAP, KEY, VALUE, FLAGS],
+        Helper::LoadBytes => &[CONTEXT, OFFSET, LENGTH, ROOM],
     }
 }
 
@@ -58,7 +91,7 @@ pub(crate) fn has_argument(id: i32, register: u8) -> bool {
     match known_helper(id) {
         Some(helper) => arguments_of(helper)
             .iter()
-            .any(|argument| argument.0 == register),
+            .any(|argument| argument.register == register),
         None => false,
     }
 }
@@ -103,9 +136,8 @@ fn bytes_reason(named: &[Named], facts: &Facts, role: Role, kind: Kind) -> Optio
 
 /// Why an argument is rejected, if it is.
 fn argument_reason(named: &[Named], facts: &Facts, argument: Argument) -> Option<Reason> {
-    let Argument(register, role) = argument;
-    let kind = kind_of(facts, register);
-    match (role, kind) {
+    let kind = kind_of(facts, argument.register);
+    match (argument.role, kind) {
         (Role::Map, Kind::MapRef(_)) => None,
         (Role::Context, Kind::Ctx) => None,
         (Role::Number, Kind::Scalar(_)) => None,
@@ -159,7 +191,7 @@ fn write_argument(
     refusal: &RefusedProgram<'_>,
     argument: Argument,
 ) -> Result<(), AllocError> {
-    let (Argument(register, role), facts) = (argument, refusal.facts);
+    let (register, role, facts) = (argument.register, argument.role, refusal.facts);
     let kind = kind_of(facts, register);
     let count = count_of(refusal.named, facts, role);
     let (first, last) = touched(kind, 0, i64::from(count));

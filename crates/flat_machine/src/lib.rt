@@ -15,6 +15,8 @@
 //! - Every other part is unchanged, and so are the sizes: `memory` of `run`.
 //! - If the flag of the live maps is clear after a run, memory was refused to no new key, and the run is the one without
 //!   refusals: `clear_runs_have_no_refusal`.
+//! - `run_with`, which a tenant calls, promises what `run` does. It is given room for the table of the program's maps, which
+//!   means nothing afterwards.
 //! - Runs on many packets are those of `run` one after another, each on the maps that the previous one leaves (`RunsOnEach`).
 //!   The results are at the front of the room, whose rest is unchanged; packets for whose results there is no room are not run;
 //!   the statements above on steps, ranges, memory and maps hold for all of them together: `runs`, `few`, `ranges`, `memory`,

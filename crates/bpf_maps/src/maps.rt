@@ -123,6 +123,21 @@ impl Maps {
         stored.start + place as usize * stored.stride
     }
 
+    /// The address of the value at a place of a live map, which is this one, modulo 2^64; 0 if there is no place.
+    #[inline(always)]
+    fn address_at(&self, map: MapKey, stored: &StoredMap, place: Option<u32>, part: u64) -> u64
+        requires stored { live_at self.now map ≡ Some (live_of stored.now) }
+        requires place { IfSome place (λ p. p < (shape_at self.now map).max_entries) }
+        ensures address { result ≡ value_address part self.now map place }
+        ensures inside { IfSome place (λ p.
+            LiesInPart (offset_at self.now map p) (shape_at self.now map).value_size) }
+    {
+        match place {
+            Some(place) => part.wrapping_add(self.offset_in(map, stored, place) as u64),
+            None => 0,
+        }
+    }
+
     /// Creates a map with one reference and the lowest free handle. The map gets an area of its own in the tenant's part, `PART`
     /// bytes, after the areas of the live maps. A hash map has no keys, and the values of an array are zero bytes. The maps that
     /// were live are unchanged.
@@ -299,9 +314,9 @@ impl Maps {
             LiesInPart (offset_at self.now map place) (shape_at self.now map).value_size) }
     {
         let stored = self.stored(map);
-        match stored.map.find(key) {
-            Some(place) => part.wrapping_add(self.offset_in(map, stored, place) as u64),
-            None => 0,
+        match &stored.map {
+            BpfMap::Array(array) => self.address_at(map, stored, array.find(key), part),
+            BpfMap::Hash(hash) => self.address_at(map, stored, hash.find(key), part),
         }
     }
 

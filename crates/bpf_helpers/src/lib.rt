@@ -13,6 +13,8 @@
 //!   that the run does not name their keys and values, and the other parts all bytes: `follows` of `call`.
 //! - If a word names no map of the run, or bytes that are not in the tenant's part, a look-up returns null, an update and a
 //!   delete EINVAL, a load of bytes EFAULT, and nothing changes: `unnamed` of `call`.
+//! - A run that knows which of its maps are arrays, and the addresses of their elements, looks keys up like `call`: `follows`, `unnamed`
+//!   of `call_look_up`.
 //! - Each range that a call requests is in the tenant's part: `asks` of `call`.
 //! - When the machine loads or stores a value, the address of the access is in the part; the bytes there are a word that
 //!   simulates the loaded value, and with the word of the stored value they simulate the next state: `loads_give_words`,
@@ -39,6 +41,7 @@
 //!   each update. What `put` copies is known to be in the part (`copy_inside` of `arena`), and eight bytes are one number.
 #![tactic(auto)]
 
+mod arrays;
 mod caller;
 mod calls;
 mod copying;
@@ -49,4 +52,5 @@ mod look_up;
 mod output;
 mod update;
 
-pub use calls::call;
+pub use arrays::Arrays;
+pub use calls::{call, call_look_up};

@@ -2,15 +2,16 @@
 
 ghost use Rattle.std.specs.Prelude.{◌≡◌, ◌+◌, ◌-◌, ◌<◌, ◌≤◌, length, slice_index, unwrap_or, IfSome};
 ghost use Rattle.arena.specs.Ranges.{IsInside};
-ghost use Rattle.bpf_maps.specs.declared.part.TheConstants.{PART};
+ghost use Rattle.bpf_maps.specs.declared.part.TheConstants.{MAPS, PART};
 ghost use Rattle.bpf_helpers.specs.Named.{bound_map, place_named};
-ghost use Rattle.bpf_helpers.specs.Calls.{AreLive};
+ghost use Rattle.bpf_helpers.specs.Calls.{AreArrays, AreLive};
 ghost use Rattle.bpf_helpers.specs.Parts.{IsPartOf, AsksInside};
 ghost use Rattle.bpf_helpers.specs.inside.Flat.{site_of, flat_look_up};
 
+use crate::arrays::Arrays;
 use crate::caller::Caller;
 use arena::{Arena, Trace};
-use bpf_maps::{MapKey, Maps, PART, laws};
+use bpf_maps::{Elements, MapKey, Maps, PART, laws};
 
 /// The handle of the bound map that a word names; `None` if it names none.
 #[inline(always)]
@@ -92,4 +93,42 @@ pub(crate) fn look_up(
     };
     let part = arena.part(caller.tenant);
     maps.address_of(map, &part[at..at + size], arena.address(caller.tenant))
+}
+
+/// The same for a run that knows which of its maps are arrays.
+#[inline(always)]
+pub(crate) fn look_up_among(
+    arrays: Arrays<'_>,
+    map: u64,
+    key: u64,
+    caller: Caller<'_>,
+    arena: &Arena,
+    maps: &Maps,
+    trace: &mut Trace,
+) -> u64
+    requires part { IsPartOf caller.tenant arena.now }
+    requires live { AreLive maps.now caller.bind.now }
+    requires few { length caller.bind.now ≤ MAPS }
+    requires arrays { AreArrays arrays.elements.now arrays.values.now caller.bind.now
+        arena.now caller.tenant maps.now }
+    ensures value { result
+        ≡ unwrap_or (flat_look_up (site_of caller.entry arena.now maps.now) map key) 0 }
+    ensures asks { AsksInside arena.now caller.entry.tenant trace.old trace.new }
+{
+    laws::sizes_fit_in_parts();
+    arena.memory_is_its_parts();
+    let Some(handle) = bound(caller.bind, map) else {
+        return 0;
+    };
+    let index = map.wrapping_sub(1) as usize;
+    let array = Elements::of_word(maps, handle, arrays.elements[index]);
+    if array.count == 0 {
+        return look_up(map, key, caller, arena, maps, trace);
+    }
+    let size = array.key_size(maps, handle);
+    let Some(at) = traced_place(arena, caller.tenant, size, key, trace) else {
+        return 0;
+    };
+    let part = arena.part(caller.tenant);
+    array.address_of(maps, handle, &part[at..at + size], arrays.values[index])
 }

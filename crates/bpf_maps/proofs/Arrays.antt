@@ -1,6 +1,6 @@
 -- A new array is the list of its indices, and no call changes it.
 use Rattle.std.proofs.Common.{◌≡◌, ℕ, ◌+◌, ◌*◌, ◌<◌, ◌^◌, ◌/◌, ◌%◌, ◌==◌, Bool, true, List, [], ◌∷◌, length, Some, None, refl, sym, ap, subst, ◌∙◌, nat_lt, if◌then◌else◌, arith, get_or, eqb-true}
-use Rattle.std.specs.Map.{keys_of, values_of}
+use Rattle.std.specs.Map.{values_of}
 use Rattle.words.specs.Bytes.{low_bytes}
 use Rattle.tagged_model.specs.declared.shape.MapKind.{MapKind}
 use Rattle.tagged_model.specs.declared.shape.MapKind.TheVariants.{Array, Hash}
@@ -23,7 +23,7 @@ module _ (s : MapShape) (array : s.kind ≡ Array) where
         omega arith;
     few = let e : length (new_entries (λ i. i) s.kind s.max_entries) ≡ s.max_entries = ap length entries_are ∙ length_indexed 0 s.max_entries in omega arith;
     sized = subst (λ (es : List (List ℕ × ℕ)). IsSized s.key_size es) (sym entries_are) (subst (λ (n : ℕ). IsSized n (indexed (λ i. i) 0 s.max_entries)) (sym (array_key s array)) (sized_indexed 0 s.max_entries));
-    indices = λ _. ap keys_of entries_are;
+    array = λ _. refl;
   }
 
   -- an index is found if it is in range
@@ -112,7 +112,7 @@ sound_hash s hash = record {
   once = λ p. let e : occurrences p (values_of (new_entries (λ i. i) s.kind s.max_entries)) ≡ 0 = ap (λ (es : List (List ℕ × ℕ)). occurrences p (values_of es)) (no_keys s hash) in omega arith;
   few = let e : length (new_entries (λ i. i) s.kind s.max_entries) ≡ 0 = ap length (no_keys s hash) in omega arith;
   sized = subst (λ (es : List (List ℕ × ℕ)). IsSized s.key_size es) (sym (no_keys s hash)) tt;
-  indices = λ array. absurd (hash_no_array s.kind hash array);
+  array = λ array. absurd (hash_no_array s.kind hash array);
 }
 
 pub sound_new : (s : MapShape) → IsSound (new_places s)

@@ -22,7 +22,7 @@ sound {a} h = record {
   once = λ p. let e = h.once p in let first = sum-split (occurrences p) (times-append p) a.kept a.spare.items in omega arith;
   few = let e = h.all in let kept = length-take-le a.kept a.spare.items h.kept in let most = h.kept in omega arith;
   sized = h.sized;
-  indices = λ array. absurd (hash_no_array a.shape.kind h.kind array);
+  array = λ array. absurd (hash_no_array a.shape.kind h.kind array);
 }
 
 -- ---- a change of the uses of places

@@ -7,6 +7,7 @@ pub mod Shapes
 pub mod Following
 pub mod Indices
 pub mod Arrays
+pub mod ElementAddresses
 pub mod Slots
 pub mod ByHandle
 pub mod Totals

@@ -9,6 +9,7 @@ pub mod LiveLaws
 pub mod BpfMap
 pub mod Sum
 pub mod Live
+pub mod Elements
 pub mod InMaps
 pub mod InPart
 pub mod inside

@@ -3,12 +3,12 @@
 -- The number of times that a list has a place is `occurrences`.
 pub use Rattle.ordered_keys.specs.Orders.{occurrences}
 use Rattle.std.specs.Prelude.{◌≡◌, ℕ, ◌+◌, ◌<◌, ◌≤◌, nat_lt, if◌then◌else◌, List, [], ◌∷◌, ◌++◌, drop, length, Option, Some, None, Result, Ok, Err}
-use Rattle.std.specs.Map.{keys_of, values_of}
+use Rattle.std.specs.Map.{values_of}
 use Rattle.tagged_model.specs.declared.shape.MapKind.TheVariants.{Array}
 use Rattle.tagged_model.specs.declared.shape.MapShape.{MapShape}
 use Rattle.tagged_model.specs.declared.fault.MapFault.{MapFault}
 use Rattle.tagged_model.specs.declared.fault.MapFault.TheVariants.{NoEntry, TooBig, Memory, Exists, Invalid, NoSpace}
-use Rattle.tagged_model.specs.Table.{Table, Verdict, Refused, Present, New, with_key, without, indexed, new_entries}
+use Rattle.tagged_model.specs.Table.{Table, Verdict, Refused, Present, New, with_key, without, new_entries}
 
 -- the keys in order, each with its place, and the places that are kept apart
 pub record PlaceTable : Type 0 where
@@ -32,12 +32,12 @@ IsSized n [] = Unit {0}
 IsSized n (e ∷ es) = (length e.0 ≡ n) × IsSized n es
 
 -- each place less than `max_entries` is in use at most once, and no other place is; being kept apart is a use. Each key has the
--- map's key size, and an array has all its indices
+-- map's key size, and an array is as when it was new: it has all its indices, each with itself for its place
 pub record IsSound (t : PlaceTable) : Type 0 where
   pub once : (p : ℕ) → occurrences p (values_of t.entries) + occurrences p t.kept ≤ (if nat_lt p t.shape.max_entries then 1 else 0)
   pub few : length t.entries + length t.kept ≤ t.shape.max_entries
   pub sized : IsSized t.shape.key_size t.entries
-  pub indices : t.shape.kind ≡ Array → keys_of t.entries ≡ keys_of (indexed (λ i. i) 0 t.shape.max_entries)
+  pub array : t.shape.kind ≡ Array → t ≡ new_places t.shape
 
 -- ---- the calls
 

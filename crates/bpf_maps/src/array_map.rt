@@ -15,7 +15,7 @@ use std::marker::Model;
 use tagged_model::{MapFault, MapShape};
 
 /// The size of an index in bytes.
-const INDEX_SIZE: usize = 4;
+pub(crate) const INDEX_SIZE: usize = 4;
 
 /// An array, which has all its indices from the start. The place of an index is the index.
 #[derive(Drop)]
@@ -200,7 +200,7 @@ impl ValueMap for ArrayMap {
 
 /// The index in the four bytes of a key, little-endian.
 #[inline(always)]
-fn index_of(key: &[u8]) -> u32
+pub(crate) fn index_of(key: &[u8]) -> u32
     requires { length key.now ≡ 4 }
     ensures { index_key result ≡ key.now }
 {

@@ -19,7 +19,8 @@
 //!   its order. Only a new key of a hash map can be out of memory, and then nothing changes. This holds for the calls of
 //!   `ValueMap`, for `ArrayMap` and `HashMap`.
 //! - The address of a key's value is that of its place in the part, modulo 2^64, at which the whole value is, and 0 if the map has
-//!   no such key: `address`, `inside` of `address_of`.
+//!   no such key: `address`, `inside` of `Maps::address_of`. In an array it is found from the number of its elements, their distance
+//!   and the address of the first: `Elements::of`, `Elements::address_of`.
 //! - A key is the list of its bytes, whether it is stored as a number or as bytes: `entries_of`, in the calls of `KeyIndex` and
 //!   the model of `HashMap`.
 //! - The next key is the one of the definition, and has the size of the map's keys: `given`, `size` of `key_after`. Or it is
@@ -108,6 +109,7 @@ mod array_map;
 mod bpf_map;
 mod bytes_index;
 mod contract_clients;
+mod elements;
 mod hash_map;
 mod key_index;
 mod key_ref;
@@ -122,6 +124,7 @@ mod word_index;
 
 pub use array_map::ArrayMap;
 pub use bpf_map::BpfMap;
+pub use elements::Elements;
 pub use hash_map::HashMap;
 /// Another name of `HashMap`.
 pub use hash_map::HashMap as HashMapIx;

@@ -23,6 +23,7 @@ pub mod Sequences
 pub mod LastStep
 pub mod Clear
 pub mod GivenWords
+pub mod Exits
 pub mod ContextWritten
 pub mod PacketEnds
 pub mod Batches

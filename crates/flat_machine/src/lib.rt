@@ -71,6 +71,7 @@
 
 mod batch;
 mod calls;
+mod constant;
 mod dispatch;
 mod execution;
 mod fetch;

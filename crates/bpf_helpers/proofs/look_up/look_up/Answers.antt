@@ -1,26 +1,13 @@
-use Rattle.std.proofs.Common.{◌≡◌, ℕ, ◌+◌, ◌%◌, ◌^◌, ◌<◌, ◌≤◌, Option, Some, None, IfSome, option_map, slice_range, refl, sym, ap, ◌∙◌, arith}
+use Rattle.std.proofs.Common.{◌+◌, option_map, slice_range, sym, ap, ◌∙◌, arith}
 use Rattle.std.specs.Prelude.{unwrap_or}
 use Rattle.tagged_model.specs.declared.shape.MapShape.{MapShape}
 use Rattle.tagged_model.specs.Table.{look_up}
-use Rattle.arena.specs.Memory.{base, part_start}
 use Rattle.bpf_maps.specs.Places.{table_of}
-use Rattle.bpf_maps.specs.Live.{places_at, shape_at, offset_at, value_address, LiesInPart}
-use Rattle.bpf_helpers.specs.inside.Flat.{site_of, key_word, value_word}
+use Rattle.bpf_maps.specs.Live.{places_at}
+use Rattle.bpf_helpers.specs.inside.Flat.{site_of, key_word}
 use Rattle.bpf_helpers.proofs.Words.{no_map, no_key, key_there}
+use Rattle.bpf_helpers.proofs.Addresses.{address_word}
 use Rattle.bpf_helpers.proofs.look_up.look_up.Goals as goal
-use Rattle.bpf_helpers.specs.States.{CallSite}
-
--- an address in the part of a tenant is below 2^64
-address_word : (site : CallSite) (k part : ℕ) (o : Option ℕ) → part ≡ base + part_start site.memory site.tenant → part_start site.memory site.tenant ≤ 2 ^ 28
-    → IfSome o (λ p. LiesInPart (offset_at site.maps k p) (shape_at site.maps k).value_size) → value_address part site.maps k o ≡ value_word site k o
-address_word site k part None is low inside = refl
-address_word site k part (Some p) is low inside =
-    let within = inside.within in
-    let below : part + offset_at site.maps k p < 2 ^ 64 = omega (arith, is, low) in
-    same (part + offset_at site.maps k p) below ∙ omega (arith, is)
-  where
-    same : (n : ℕ) → n < 2 ^ 64 → n % 2 ^ 64 ≡ n
-    same n h = omega arith
 
 pub returns-in_default-clause-value : goal.returns-in_default-clause-value
 returns-in_default-clause-value c =

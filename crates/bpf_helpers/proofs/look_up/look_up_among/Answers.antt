@@ -1,0 +1,48 @@
+use Rattle.std.proofs.Common.{◌≡◌, ℕ, zero, suc, ◌+◌, ◌-◌, ◌%◌, ◌^◌, ◌<◌, ◌≤◌, List, Some, option_map, slice_range, get_or, refl, sym, ap, ◌∙◌, arith}
+use Rattle.std.specs.Prelude.{slice_index, unwrap_or}
+use Rattle.std.proofs.lemmas.Option.{none-some}
+use Rattle.tagged_model.specs.Table.{look_up}
+use Rattle.arena.specs.Memory.{base, part_start}
+use Rattle.arena.specs.PartLaws.{part_within}
+use Rattle.bpf_maps.specs.Places.{table_of}
+use Rattle.bpf_maps.specs.Live.{places_at, offset_at}
+use Rattle.bpf_maps.specs.Elements.{elements_at, word_of}
+use Rattle.bpf_helpers.specs.Named.{bound_map}
+use Rattle.bpf_helpers.specs.inside.Flat.{site_of, key_word}
+use Rattle.bpf_helpers.proofs.Words.{key_there}
+use Rattle.bpf_helpers.proofs.Addresses.{address_word}
+use Rattle.bpf_helpers.proofs.look_up.look_up_among.Goals as goal
+
+-- a word that names a map is not 0
+some_word : (bind : List ℕ) (w k : ℕ) → Some k ≡ bound_map bind w → 1 ≤ w
+some_word bind zero k e = absurd (none-some k (sym e))
+some_word bind (suc w) k e = omega arith
+
+-- what is listed for the map that a word names
+listed_at : (list bind : List ℕ) (w k : ℕ) (of : ℕ → ℕ) → w < 2 ^ 64 → 1 ≤ w → k ≡ slice_index bind (w - 1) → slice_index list (w - 1) ≡ of (slice_index bind (w - 1))
+    → get_or list ((w + 18446744073709551615) % 18446744073709551616) 0 ≡ of k
+listed_at list bind w k of small some is there =
+    let place : (w + 18446744073709551615) % 18446744073709551616 ≡ w - 1 = omega arith in
+    ap (λ (i : ℕ). get_or list i 0) place ∙ there ∙ ap of (sym is)
+
+pub of_word-array-requires-clause-word : goal.of_word-array-requires-clause-word
+of_word-array-requires-clause-word c =
+    let (within, handle_is) = c.in-Some.ensures.listed in
+    listed_at c.args.arrays.elements.now c.args.caller.bind.now c.args.map c.in-Some.handle (λ key. word_of (elements_at c.args.maps.now key)) c.ranges.map.fits (some_word c.args.caller.bind.now c.args.map c.in-Some.handle c.in-Some.ensures.value) handle_is (c.requires.arrays.elements (c.args.map - 1) within)
+
+pub returns-clause-value : goal.returns-clause-value
+returns-clause-value c =
+    let site = site_of c.args.caller c.args.arena.now c.args.maps.now in
+    let k = c.in-Some.handle in
+    let at = c.in-Some-traced_place.at in
+    let n = c.key_size-size.result in
+    let part = c.part-part.result.now in
+    let start = base + part_start site.memory site.tenant in
+    let o = look_up (table_of (places_at site.maps k)) (slice_range part at (at + n)) in
+    let there = key_there site c.args.map c.args.key (sym c.in-Some.ensures.value) c.key_size-size.ensures at c.in-Some-traced_place.ensures.value c.part-part.ensures.bytes c.in-Some-traced_place.ensures.within in
+    let whole = part_within site.memory site.tenant (c.memory_is_its_parts.ensures.parts, c.requires.part.0) in
+    let bound = c.memory_is_its_parts.ensures.bound in
+    let (within, handle_is) = c.in-Some.ensures.listed in
+    c.address_of.ensures.address start (listed_at c.args.arrays.values.now c.args.caller.bind.now c.args.map k (λ key. start + offset_at site.maps key 0) c.ranges.map.fits (some_word c.args.caller.bind.now c.args.map k c.in-Some.ensures.value) handle_is (c.requires.arrays.values (c.args.map - 1) within ∙ omega arith))
+    ∙ address_word site k start o refl (omega arith) c.address_of.ensures.inside
+    ∙ sym (ap (λ o. unwrap_or (option_map (key_word site) o) 0) there)

@@ -57,7 +57,7 @@ MOST: dict[str, int] = {
     "crates/cases_logs": 1,
     "crates/cases_texts": 1,
     "crates/cases_verdicts": 1,
-    "crates/flat_machine": 3,
+    "crates/flat_machine": 1,
     "crates/insn_codec": 1,
     "crates/insn_set": 1,
     "crates/interval": 1,

@@ -18,8 +18,8 @@ use Rattle.insn_set.specs.declared.insn.Insn.TheVariants.{Alu, Const, MapFd, Map
 use Rattle.insn_set.specs.declared.atomic.AtomicOp.{AtomicOp}
 use Rattle.insn_codec.specs.declared.opcode.SourceBit.{SourceBit}
 use Rattle.insn_codec.specs.declared.opcode.SourceBit.TheVariants as source
-use Rattle.insn_codec.specs.declared.form.OpcodeForm.{OpcodeForm}
-use Rattle.insn_codec.specs.declared.form.OpcodeForm.TheVariants as form
+use Rattle.insn_codec.specs.inside.OpcodeForm.{OpcodeForm}
+use Rattle.insn_codec.specs.inside.OpcodeForm as form
 use Rattle.insn_set.specs.Sizes.{is_short}
 use Rattle.insn_set.specs.Numbers.{opcode, alu_class, offset_bits, imm_bits}
 use Rattle.insn_set.specs.Operator.{alu_number, alu_offset}

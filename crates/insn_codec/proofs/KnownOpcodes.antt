@@ -8,8 +8,8 @@ use Rattle.insn_set.specs.declared.slot.SlotFields.{SlotFields}
 use Rattle.insn_set.specs.declared.insn.Insn.{Insn}
 use Rattle.insn_codec.specs.declared.opcode.SourceBit.TheVariants as source
 use Rattle.words.specs.declared.operator.AluOp.TheVariants as op
-use Rattle.insn_codec.specs.declared.form.OpcodeForm.{OpcodeForm}
-use Rattle.insn_codec.specs.declared.form.OpcodeForm.TheVariants as form
+use Rattle.insn_codec.specs.inside.OpcodeForm.{OpcodeForm}
+use Rattle.insn_codec.specs.inside.OpcodeForm as form
 use Rattle.insn_set.specs.Slot.{slot}
 use Rattle.insn_set.specs.Slot.{slot_of}
 use Rattle.insn_set.specs.Spelling.{first, spelling, IsInsn}

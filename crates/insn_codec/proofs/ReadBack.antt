@@ -19,8 +19,8 @@ use Rattle.insn_set.specs.declared.insn.Operand.{Operand}
 use Rattle.insn_set.specs.declared.insn.Operand.TheVariants as operand
 use Rattle.insn_set.specs.declared.insn.Insn.{Insn}
 use Rattle.insn_set.specs.declared.insn.Insn.TheVariants.{Alu, Movsx, Neg, End, Ja, Jal, Jump, Call, Exit, Load, Store, Atomic, Const, MapFd, MapValue}
-use Rattle.insn_codec.specs.declared.form.OpcodeForm.{OpcodeForm}
-use Rattle.insn_codec.specs.declared.form.OpcodeForm.TheVariants as form
+use Rattle.insn_codec.specs.inside.OpcodeForm.{OpcodeForm}
+use Rattle.insn_codec.specs.inside.OpcodeForm as form
 use Rattle.insn_set.specs.Sizes.{is_short}
 use Rattle.words.specs.Stack.{is_double}
 use Rattle.insn_codec.specs.Spelled.{operand_at}

@@ -40,19 +40,21 @@
 //!   opcode and the fields of its first slot.
 //! - The instructions are one vector by slot, with `exit` as a filler at the second slot of a wide instruction. A filler is
 //!   never wide, so one look at the previous slot identifies a second slot.
-//! - The forms of opcodes (`OpcodeForm`) and of lines (`Form` of the crate for lines of text) are enums of their own, apart
-//!   from `Insn`. An opcode determines less than an instruction, and a line may name a label in place of an instruction's
-//!   distance. The order of the codec's faults and the laws by opcode are about the first, the law of one reading about the
-//!   second.
+//! - The forms of opcodes (`OpcodeForm` of the definitions) and of lines (`Form` of the crate for lines of text) are apart from `Insn`.
+//!   An opcode determines less than an instruction, and a line may name a label in place of an instruction's distance. The order
+//!   of the codec's faults and the laws by opcode are about the first, the law of one reading about the second.
+//! - A slot is decoded by the class of its opcode, each form by a function of its own (`by_class`), and no value of the code names a
+//!   form. With an enum of forms, decoding took 58 machine instructions a slot of straight code, with an instruction whose other
+//!   fields are zero in the place of a form 72, and now 55 (callgrind, builds without proofs).
 //! - `read_program` copies the slots from the bytes first, a word of eight bytes each. Then it decodes each instruction from its
 //!   slot in that list, into an entry of a vector with room for all, so no entry needs a test of the capacity. Operators and
 //!   conditions are looked up by their code (`insn_set`). Machine instructions a slot (callgrind, builds without proofs):
-//!   58 of straight code, and 98 when each slot was decoded and added in one step.
+//!   55 of straight code, and 98 when each slot was decoded and added in one step.
 #![tactic(auto)]
 
+mod by_class;
 mod code;
 mod fault;
-mod form;
 mod known_answers;
 pub mod laws;
 mod opcode;

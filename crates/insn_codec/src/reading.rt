@@ -1,19 +1,20 @@
 //! Decoding of bytes.
 
-ghost use Rattle.std.specs.Prelude.{List, ℕ, ◌≡◌, ◌≢◌, ◌≤◌, [], ◌∷◌, length, map, IfOk, OnOk, IfErr, IsErrAnd, Ok, Some, None, IsTrue};
+ghost use Rattle.std.specs.Prelude.{List, ℕ, ◌≡◌, ◌≢◌, ◌≤◌, ◌%◌, [], ◌∷◌, length, map, IfOk, OnOk, IfErr, IsErrAnd, Ok, Some, None, IsTrue};
 ghost use Rattle.std.specs.Option.{option_to_list};
 ghost use Rattle.insn_set.specs.Slot.{fields, slot_of};
 ghost use Rattle.insn_codec.specs.inside.Code.{IsSecond};
-ghost use Rattle.insn_codec.specs.inside.Form.{listed, is_form};
-ghost use Rattle.insn_codec.specs.inside.Opcodes.{opcode_of};
+ghost use Rattle.insn_codec.specs.inside.Form.{listed, form_at};
 ghost use Rattle.insn_set.specs.Spelling.{slots, is_wide, IsInsn, Begins};
 ghost use Rattle.insn_codec.specs.Fault.{HasFault};
-ghost use Rattle.insn_codec.specs.inside.FirstFault.{fault_in_form, IsFaultOf, first_fault, second_fault};
+ghost use Rattle.insn_codec.specs.inside.FirstFault.{fault_in_form, fault_by_form, IsFaultAt, first_fault, second_fault};
 ghost use Rattle.insn_codec.specs.declared.fault.FaultKind.{FaultKind as AnyKind};
-ghost use Rattle.insn_codec.specs.declared.form.OpcodeForm.TheVariants.{Wide};
+ghost use Rattle.insn_codec.specs.inside.OpcodeForm.{Wide};
 
+use crate::by_class::{
+    check_fields, read_alu, read_jump, read_load, read_register_store, read_store,
+};
 use crate::fault::{CodecFault, FaultKind};
-use crate::form::OpcodeForm;
 use crate::opcode::{SourceBit, lists_second};
 use insn_set::{Insn, RawSlot, Reg};
 
@@ -55,105 +56,50 @@ fn read_wide(entry: &mut Insn, slot: &RawSlot, dst: Reg, rest: &[u8]) -> Result<
     Ok(next)
 }
 
-/// Checks that the fields of a slot have values that its form allows, and that both registers exist.
-#[inline(always)]
-#[tactic(auto, unfolding(crate::specs::inside::FirstFault::fault_in_form))]
-fn check_fields(form: OpcodeForm, slot: &RawSlot) -> Result<(), FaultKind>
-    ensures listed { OnOk result (IsTrue (listed form (fields slot.now))) }
-    ensures dst { OnOk result ((fields slot.now).dst ≤ 10) }
-    ensures src { OnOk result ((fields slot.now).src ≤ 10) }
-    ensures fault { IfErr result (λ kind. IsFaultOf form (fields slot.now) kind) }
-{
-    if !form.lists(slot) {
-        return Err(FaultKind::Reserved);
-    }
-    if slot.dst() > 10 || slot.src() > 10 {
-        return Err(FaultKind::Register);
-    }
-    Ok(())
-}
-
-/// Reads the instruction of a slot of this form into an entry. It has no second slot.
-#[inline(always)]
-fn read_as(form: OpcodeForm, entry: &mut Insn, slot: &RawSlot) -> Result<Option<RawSlot>, FaultKind>
-    requires single { form ≢ Wide }
-    requires opcode { slot.now.opcode ≡ opcode_of form }
-    requires form { IsTrue (is_form form) }
-    ensures value { OnOk result (IsInsn entry.new) }
-    ensures slots { OnOk result (slots entry.new ≡ fields slot.now ∷ []) }
-    ensures none { IfOk result (λ second. second ≡ None) }
-    ensures fault { IfErr result (λ kind. IsFaultOf form (fields slot.now) kind) }
-{
-    check_fields(form, slot)?;
-    form.put(entry, slot, Reg::new(slot.dst()), Reg::new(slot.src()));
-    Ok(None)
-}
-
-/// Reads the instruction of this form and first slot into an entry, with the bytes after that slot, and returns its second slot, if it
-/// is wide. Each form has an arm of its own, and so has each source of the most frequent ones: with the form known, only its own tests
-/// remain of the two functions above.
-#[inline(always)]
-fn read_form(
-    form: OpcodeForm,
+/// Reads an instruction of class LD, which is a wide load, into an entry, with the bytes after its first slot, and returns its second
+/// slot.
+#[tactic(auto, unfolding(crate::specs::inside::Form::form_at))]
+fn read_class_ld(
     entry: &mut Insn,
     slot: &RawSlot,
     rest: &[u8],
 ) -> Result<Option<RawSlot>, FaultKind>
-    requires opcode { slot.now.opcode ≡ opcode_of form }
-    requires form { IsTrue (is_form form) }
+    requires class { slot.now.opcode % 8 ≡ 0 }
     ensures value { OnOk result (IsInsn entry.new) }
     ensures slots { IfOk result (λ second. slots entry.new
         ≡ map fields (slot.now ∷ option_to_list second)) }
     ensures second { IfOk result (λ second. IsSecond rest.now second) }
-    ensures fault { IfErr result (λ kind. fault_in_form form (fields slot.now) rest.now
-        ≡ Some kind) }
+    ensures fault { IfErr result (λ kind. fault_by_form (form_at slot.now.opcode) (fields slot.now)
+        rest.now ≡ Some kind) }
 {
-    match form {
-        OpcodeForm::Alu { wide, op, source } => match source {
-            SourceBit::Imm => {
-                let source = SourceBit::Imm;
-                read_as(OpcodeForm::Alu { wide, op, source }, entry, slot)
-            }
-            SourceBit::Reg => {
-                let source = SourceBit::Reg;
-                read_as(OpcodeForm::Alu { wide, op, source }, entry, slot)
-            }
-        },
-        OpcodeForm::Neg { wide } => read_as(OpcodeForm::Neg { wide }, entry, slot),
-        OpcodeForm::End { how } => read_as(OpcodeForm::End { how }, entry, slot),
-        OpcodeForm::Ja => read_as(OpcodeForm::Ja, entry, slot),
-        OpcodeForm::Jal => read_as(OpcodeForm::Jal, entry, slot),
-        OpcodeForm::Jump { wide, cond, source } => match source {
-            SourceBit::Imm => {
-                let source = SourceBit::Imm;
-                read_as(OpcodeForm::Jump { wide, cond, source }, entry, slot)
-            }
-            SourceBit::Reg => {
-                let source = SourceBit::Reg;
-                read_as(OpcodeForm::Jump { wide, cond, source }, entry, slot)
-            }
-        },
-        OpcodeForm::Call => read_as(OpcodeForm::Call, entry, slot),
-        OpcodeForm::Exit => read_as(OpcodeForm::Exit, entry, slot),
-        OpcodeForm::Load { size, signed } => {
-            read_as(OpcodeForm::Load { size, signed }, entry, slot)
-        }
-        OpcodeForm::Store { size, source } => match source {
-            SourceBit::Imm => {
-                let source = SourceBit::Imm;
-                read_as(OpcodeForm::Store { size, source }, entry, slot)
-            }
-            SourceBit::Reg => {
-                let source = SourceBit::Reg;
-                read_as(OpcodeForm::Store { size, source }, entry, slot)
-            }
-        },
-        OpcodeForm::Atomic { size } => read_as(OpcodeForm::Atomic { size }, entry, slot),
-        OpcodeForm::Wide => {
-            check_fields(OpcodeForm::Wide, slot)?;
-            let next = read_wide(entry, slot, Reg::new(slot.dst()), rest)?;
-            Ok(Some(next))
-        }
+    if slot.opcode != 0x18 {
+        return Err(FaultKind::Opcode);
+    }
+    check_fields(slot.offset == 0 && slot.src() <= 2, slot)?;
+    let next = read_wide(entry, slot, Reg::new(slot.dst()), rest)?;
+    Ok(Some(next))
+}
+
+/// Reads the instruction of a first slot into an entry, with the bytes after that slot, and returns its second slot, if it is wide.
+#[inline(always)]
+#[tactic(auto, unfolding(crate::specs::inside::Form::form_at))]
+fn read_slot(entry: &mut Insn, slot: &RawSlot, rest: &[u8]) -> Result<Option<RawSlot>, FaultKind>
+    ensures value { OnOk result (IsInsn entry.new) }
+    ensures slots { IfOk result (λ second. slots entry.new
+        ≡ map fields (slot.now ∷ option_to_list second)) }
+    ensures second { IfOk result (λ second. IsSecond rest.now second) }
+    ensures fault { IfErr result (λ kind. fault_by_form (form_at slot.now.opcode) (fields slot.now)
+        rest.now ≡ Some kind) }
+{
+    match slot.opcode % 8 {
+        0 => read_class_ld(entry, slot, rest),
+        1 => read_load(entry, slot),
+        2 => read_store(SourceBit::Imm, entry, slot),
+        3 => read_register_store(entry, slot),
+        4 => read_alu(false, entry, slot),
+        5 => read_jump(true, entry, slot),
+        6 => read_jump(false, entry, slot),
+        _ => read_alu(true, entry, slot),
     }
 }
 
@@ -168,11 +114,8 @@ pub(crate) fn read_from(entry: &mut Insn, first: &RawSlot, bytes: &[u8]) -> Resu
     ensures wide { IfOk result (λ wide. wide ≡ is_wide entry.new) }
     ensures fault { IfErr result (λ kind. first_fault bytes.now ≡ Some kind) }
 {
-    let Some(form) = OpcodeForm::of(first.opcode) else {
-        return Err(FaultKind::Opcode);
-    };
     let (_, rest) = bytes.split_at(8);
-    let second = read_form(form, entry, first, rest)?;
+    let second = read_slot(entry, first, rest)?;
     Ok(second.is_some())
 }
 

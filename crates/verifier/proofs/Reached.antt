@@ -1,11 +1,14 @@
 -- The pass of the shape check agrees with the definitions of reachable slots and of shape faults.
-use Rattle.std.proofs.Common.{◌≡◌, ℕ, ◌+◌, ◌<◌, Bool, true, false, ◌&&◌, ◌||◌, List, [], ◌∷◌, length, get_or, set, replicate, Option, Some, None, refl, sym, ap, ◌∙◌, add-one, arith, inl, inr}
+use Rattle.std.proofs.Common.{◌≡◌, ℕ, ◌+◌, ◌<◌, zero, suc, Bool, true, false, ◌&&◌, ◌||◌, List, [], ◌∷◌, length, get_or, set, replicate, Option, Some, None, refl, sym, ap, ◌∙◌, add-one, arith, inl, inr}
 use Rattle.std.specs.Prelude.{IfSome, is_some, if◌then◌else◌}
 use Rattle.std.proofs.lemmas.Bool.{not-false, false≢true, cases_Bool, cond-true, cond-false, cases_eq, eq-eqb, ne_eqb}
+use Rattle.std.specs.List.{slice_get}
+use Rattle.std.proofs.lemmas.Option.{get_or_from_slice_get}
 use Rattle.std.proofs.lemmas.List.{get_or-set_same, get_or-set_other, get_or-replicate, length-replicate}
 use Rattle.insn_set.specs.declared.insn.Insn.{Insn}
-use Rattle.insn_set.specs.Program.{begins_at, slot_count}
-use Rattle.insn_set.specs.BeginLaws.{begins_within}
+use Rattle.std.specs.Option.{IsSome}
+use Rattle.insn_set.specs.Program.{begins_at, slot_count, Adjoins}
+use Rattle.insn_set.specs.BeginLaws.{begins_within, first_begins}
 use Rattle.reg_kinds.specs.declared.reason.Reason.{Reason}
 use Rattle.tagged_model.specs.declared.shape.Named.{Named}
 use Rattle.insn_set.specs.Flow.{jumps_to, jumps, jump_target}
@@ -98,6 +101,31 @@ marked_past code i n old begins was =
     ∙ sym (or_neither (reached_from code i n) (reached_from code n n))
     ∙ sym (ap (λ (o : Option Insn). reached_from code i n || (reached_from code n n && leads_into o n i)) begins)
     ∙ sym (reached_next code i n)
+
+-- slots at which no instruction begins mark nothing
+pub marked_through : (code : List Insn) (i n m : ℕ) (old : Bool) → ((k : ℕ) → n < k → k < n + 1 + m → begins_at code k ≡ None) → old ≡ reached_from code i (n + 1) → old ≡ reached_from code i (n + 1 + m)
+marked_through code i n zero old none was = let same : n + 1 + 0 ≡ n + 1 = omega arith in was ∙ sym (ap (reached_from code i) same)
+marked_through code i n (suc m) old none was =
+    let so_far = marked_through code i n m old (λ k after before. none k after (omega arith)) was in
+    let next : n + 1 + m + 1 ≡ n + 1 + suc m = omega arith in
+    marked_past code i (n + 1 + m) old (none (n + 1 + m) (omega arith) (omega arith)) so_far ∙ ap (reached_from code i) next
+
+-- ---- from one instruction to the next
+
+-- an instruction begins at slot 0
+pub begins_first : (code : List Insn) → 0 < slot_count code → Adjoins code 0
+begins_first code some = inr (some, first_begins code some)
+
+begun_of : (code : List Insn) (n : ℕ) (o : Option Insn) → begins_at code n ≡ o → IsSome o → (i : Insn) × (begins_at code n ≡ Some i)
+begun_of code n None is some = absurd (false≢true some)
+begun_of code n (Some i) is some = (i, is)
+
+-- at a slot that is not the end begins the instruction that a list by slots has there
+pub begun_there : (code by_slot : List Insn) (n : ℕ) (insn : Insn) → Adjoins code n → n < slot_count code → ((k : ℕ) (i : Insn) → begins_at code k ≡ Some i → slice_get by_slot k ≡ Some i) → insn ≡ get_or by_slot n insn → begins_at code n ≡ Some insn
+begun_there code by_slot n insn (inl end) lt listed is = absurd (omega arith)
+begun_there code by_slot n insn (inr begins) lt listed is =
+    let found = begun_of code n (begins_at code n) refl begins.1 in
+    found.1 ∙ ap (λ (i : Insn). Some i) (sym (is ∙ get_or_from_slice_get by_slot n found.0 insn (listed n found.0 found.1)))
 
 -- ---- the fault at a slot
 

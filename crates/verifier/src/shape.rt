@@ -191,14 +191,16 @@ pub(crate) fn check_shape(
     let slots = program.slots();
     let mut reached = vec![in alloc; false; slots]?;
     reached[0] = true;
-    for slot in 0..slots {
-        if let Some(insn) = program.get(slot) {
-            let row = insn.profile();
-            if let Some(reason) = shape_reason(program, named, insn, &row, slot, reached[slot]) {
-                return Err(VerifyFault { slot, reason });
-            }
-            mark_edges(&mut reached, insn, &row, slot);
+    let code = program.code();
+    let mut slot = 0;
+    while slot < slots {
+        let insn = &code[slot];
+        let row = insn.profile();
+        if let Some(reason) = shape_reason(program, named, insn, &row, slot, reached[slot]) {
+            return Err(VerifyFault { slot, reason });
         }
+        mark_edges(&mut reached, insn, &row, slot);
+        slot += row.slots;
     }
     Ok(())
 }

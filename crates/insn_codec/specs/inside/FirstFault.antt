@@ -2,8 +2,8 @@
 -- proved. The fields are those of RFC 9669, sections 3 to 5; the order is this project's own.
 use Rattle.std.specs.Prelude.{◌≡◌, ℕ, Bool, ◌&&◌, ◌||◌, not, List, length, drop, Option, Some, None, nat_lt, nat_le, ◌==◌, if◌then◌else◌}
 use Rattle.insn_set.specs.declared.slot.SlotFields.{SlotFields}
-use Rattle.insn_codec.specs.declared.form.OpcodeForm.{OpcodeForm}
-use Rattle.insn_codec.specs.declared.form.OpcodeForm.TheVariants as form
+use Rattle.insn_codec.specs.inside.OpcodeForm.{OpcodeForm}
+use Rattle.insn_codec.specs.inside.OpcodeForm as form
 use Rattle.insn_codec.specs.declared.fault.FaultKind.{FaultKind}
 use Rattle.insn_codec.specs.declared.fault.FaultKind.TheVariants.{Opcode, Reserved, Register, SecondSlot, Ragged}
 use Rattle.insn_set.specs.Slot.{slot_of}
@@ -33,6 +33,10 @@ IsFaultOf f s kind = (rest : List ℕ) → fault_in_form f s rest ≡ Some kind
 abbrev pub fault_by_form : Option OpcodeForm → SlotFields → List ℕ → Option FaultKind
 fault_by_form None s rest = Some Opcode
 fault_by_form (Some f) s rest = fault_in_form f s rest
+
+-- the same for the form of an opcode, if it has one
+abbrev pub IsFaultAt : Option OpcodeForm → SlotFields → FaultKind → Type 0
+IsFaultAt o s kind = (rest : List ℕ) → fault_by_form o s rest ≡ Some kind
 
 -- the fault at the front of the bytes; None if an instruction begins there
 unfoldable pub first_fault : List ℕ → Option FaultKind

@@ -15,8 +15,8 @@ use Rattle.insn_set.specs.ConditionRows.{condition_by_number}
 use Rattle.insn_set.specs.AtomicRows.{atomic_by_number}
 use Rattle.insn_codec.specs.declared.opcode.SourceBit.{SourceBit}
 use Rattle.insn_codec.specs.declared.opcode.SourceBit.TheVariants.{Imm, Reg}
-use Rattle.insn_codec.specs.declared.form.OpcodeForm.{OpcodeForm}
-use Rattle.insn_codec.specs.declared.form.OpcodeForm.TheVariants as form
+use Rattle.insn_codec.specs.inside.OpcodeForm.{OpcodeForm}
+use Rattle.insn_codec.specs.inside.OpcodeForm as form
 
 -- the forms that an opcode has: of two operators with one opcode the unsigned one is named, and a double word has no sign extension
 abbrev pub is_form : OpcodeForm → Bool

@@ -1,7 +1,7 @@
 -- The numbers of opcodes by their parts, as a decoder takes them apart: RFC 9669, sections 4 and 5.
 use Rattle.std.specs.Prelude.{ℕ, ◌+◌}
-use Rattle.insn_codec.specs.declared.form.OpcodeForm.{OpcodeForm}
-use Rattle.insn_codec.specs.declared.form.OpcodeForm.TheVariants as form
+use Rattle.insn_codec.specs.inside.OpcodeForm.{OpcodeForm}
+use Rattle.insn_codec.specs.inside.OpcodeForm as form
 use Rattle.insn_set.specs.Atomic.{access_size}
 use Rattle.insn_set.specs.Numbers.{opcode, alu_class, jump_class, end_opcode, memory_opcode}
 use Rattle.insn_set.specs.Operator.{alu_number}

@@ -1,0 +1,411 @@
+//! Decoding of a slot by the class of its opcode (RFC 9669, section 3.3). The class and the code determine the form of an instruction; a
+//! function for each form checks the fields and writes the instruction to an entry. Each returns the second slot of the instruction, which
+//! none of them has: so that `read_slot` returns their results as they are, and a success is known in each arm.
+
+ghost use Rattle.std.specs.Prelude.{◌≡◌, ◌≢◌, ◌+◌, ◌*◌, ◌/◌, ◌%◌, ◌≤◌, [], ◌∷◌, None, Bool, true, IfSome, IfOk, IfErr, OnOk, IsTrue};
+ghost use Rattle.insn_set.specs.Slot.{fields};
+ghost use Rattle.insn_set.specs.Spelling.{slots, IsInsn};
+ghost use Rattle.insn_set.specs.Numbers.{alu_class, jump_class};
+ghost use Rattle.insn_set.specs.OperatorRows.{alu_by_number as alu_by};
+ghost use Rattle.insn_set.specs.ConditionRows.{condition_by_number as condition_by};
+ghost use Rattle.insn_codec.specs.Spelled.{source_number};
+ghost use Rattle.insn_codec.specs.inside.Opcodes.{opcode_of};
+ghost use Rattle.insn_codec.specs.inside.OpcodeForm.{OpcodeForm};
+ghost use Rattle.insn_codec.specs.inside.OpcodeForm as form;
+ghost use Rattle.insn_codec.specs.inside.Form.{listed, is_form, alu_at, jump_at, load_at, store_at, register_store_at, source_at};
+ghost use Rattle.insn_codec.specs.inside.FirstFault.{fault_in_form, IsFaultOf, IsFaultAt};
+
+use crate::fault::FaultKind;
+use crate::opcode::{SourceBit, lists_offset, signed_form, size_at};
+use insn_set::{
+    AtomicOp, AtomicSize, Insn, Load, Movsx, RawSlot, Reg, alu_by_number, condition_by_number,
+    load_by_opcode,
+};
+use words::{AluOp, ByteOrder, Condition, ExtendedBits, KeptBits};
+
+/// Checks that the fields of a slot have values that its form allows, which is given, and that both registers exist.
+#[inline(always)]
+#[tactic(auto, unfolding(crate::specs::inside::FirstFault::fault_in_form))]
+pub(crate) fn check_fields(is_listed: bool, slot: &RawSlot) -> Result<(), FaultKind>
+    ensures listed { OnOk result (IsTrue is_listed) }
+    ensures dst { OnOk result ((fields slot.now).dst ≤ 10) }
+    ensures src { OnOk result ((fields slot.now).src ≤ 10) }
+    ensures fault { IfErr result (λ kind. (f : OpcodeForm) → listed f (fields slot.now) ≡ is_listed
+        → IsFaultOf f (fields slot.now) kind) }
+{
+    if !is_listed {
+        return Err(FaultKind::Reserved);
+    }
+    if slot.dst() > 10 || slot.src() > 10 {
+        return Err(FaultKind::Register);
+    }
+    Ok(())
+}
+
+/// Reads an operation on two operands. Of two operators with one opcode, the unsigned one is given.
+#[inline(always)]
+fn read_operation(
+    wide: bool,
+    op: AluOp,
+    source: SourceBit,
+    entry: &mut Insn,
+    slot: &RawSlot,
+) -> Result<Option<RawSlot>, FaultKind>
+    requires opcode { slot.now.opcode ≡ opcode_of (form.Alu wide op source) }
+    requires form { IsTrue (is_form (form.Alu wide op source)) }
+    ensures value { OnOk result (IsInsn entry.new) }
+    ensures slots { OnOk result (slots entry.new ≡ fields slot.now ∷ []) }
+    ensures none { IfOk result (λ second. second ≡ None) }
+    ensures fault { IfErr result (IsFaultOf (form.Alu wide op source) (fields slot.now)) }
+{
+    let is_listed = source.lists_operand(slot) && lists_offset(op, wide, source, slot.offset);
+    check_fields(is_listed, slot)?;
+    let (dst, src) = (Reg::new(slot.dst()), Reg::new(slot.src()));
+    if slot.offset == 0 {
+        *entry = Insn::Alu {
+            wide,
+            op,
+            dst,
+            src: source.operand(slot, src),
+        };
+    } else if let AluOp::Mov = op {
+        let bits = match slot.offset {
+            8 => ExtendedBits::Bits8,
+            16 => ExtendedBits::Bits16,
+            _ => ExtendedBits::Bits32,
+        };
+        *entry = Insn::Movsx(Movsx {
+            wide,
+            bits,
+            dst,
+            src,
+        });
+    } else {
+        *entry = Insn::Alu {
+            wide,
+            op: signed_form(op),
+            dst,
+            src: source.operand(slot, src),
+        };
+    }
+    Ok(None)
+}
+
+/// Reads a negation.
+#[inline(always)]
+fn read_negation(wide: bool, entry: &mut Insn, slot: &RawSlot) -> Result<Option<RawSlot>, FaultKind>
+    requires opcode { slot.now.opcode ≡ opcode_of (form.Neg wide) }
+    ensures value { OnOk result (IsInsn entry.new) }
+    ensures slots { OnOk result (slots entry.new ≡ fields slot.now ∷ []) }
+    ensures none { IfOk result (λ second. second ≡ None) }
+    ensures fault { IfErr result (IsFaultOf (form.Neg wide) (fields slot.now)) }
+{
+    let is_listed = slot.src() == 0 && slot.offset == 0 && slot.imm == 0;
+    check_fields(is_listed, slot)?;
+    *entry = Insn::Neg {
+        wide,
+        dst: Reg::new(slot.dst()),
+    };
+    Ok(None)
+}
+
+/// Reads a byte-order conversion.
+#[inline(always)]
+fn read_byte_order(
+    how: ByteOrder,
+    entry: &mut Insn,
+    slot: &RawSlot,
+) -> Result<Option<RawSlot>, FaultKind>
+    requires opcode { slot.now.opcode ≡ opcode_of (form.End how) }
+    ensures value { OnOk result (IsInsn entry.new) }
+    ensures slots { OnOk result (slots entry.new ≡ fields slot.now ∷ []) }
+    ensures none { IfOk result (λ second. second ≡ None) }
+    ensures fault { IfErr result (IsFaultOf (form.End how) (fields slot.now)) }
+{
+    let is_width = slot.imm == 16 || slot.imm == 32 || slot.imm == 64;
+    let is_listed = slot.src() == 0 && slot.offset == 0 && is_width;
+    check_fields(is_listed, slot)?;
+    let bits = match slot.imm {
+        16 => KeptBits::Bits16,
+        32 => KeptBits::Bits32,
+        _ => KeptBits::Bits64,
+    };
+    *entry = Insn::End {
+        how,
+        bits,
+        dst: Reg::new(slot.dst()),
+    };
+    Ok(None)
+}
+
+/// Reads a negation or a byte-order conversion, whose codes no operator with two operands has.
+fn read_one_operand(
+    wide: bool,
+    entry: &mut Insn,
+    slot: &RawSlot,
+) -> Result<Option<RawSlot>, FaultKind>
+    requires class { slot.now.opcode % 8 ≡ alu_class wide }
+    requires code { alu_by (slot.now.opcode / 16) ≡ None }
+    ensures value { OnOk result (IsInsn entry.new) }
+    ensures slots { OnOk result (slots entry.new ≡ fields slot.now ∷ []) }
+    ensures none { IfOk result (λ second. second ≡ None) }
+    ensures fault { IfErr result (IsFaultAt
+        (alu_at wide (source_at slot.now.opcode) (slot.now.opcode / 16)) (fields slot.now)) }
+{
+    match (slot.opcode / 16, wide, SourceBit::of(slot.opcode)) {
+        (8, _, SourceBit::Imm) => read_negation(wide, entry, slot),
+        (13, false, SourceBit::Imm) => read_byte_order(ByteOrder::Little, entry, slot),
+        (13, false, SourceBit::Reg) => read_byte_order(ByteOrder::Big, entry, slot),
+        (13, true, SourceBit::Imm) => read_byte_order(ByteOrder::Swap, entry, slot),
+        _ => Err(FaultKind::Opcode),
+    }
+}
+
+/// Reads an instruction of class ALU or ALU64 (RFC 9669, section 4.1).
+#[inline(always)]
+pub(crate) fn read_alu(
+    wide: bool,
+    entry: &mut Insn,
+    slot: &RawSlot,
+) -> Result<Option<RawSlot>, FaultKind>
+    requires class { slot.now.opcode % 8 ≡ alu_class wide }
+    ensures value { OnOk result (IsInsn entry.new) }
+    ensures slots { OnOk result (slots entry.new ≡ fields slot.now ∷ []) }
+    ensures none { IfOk result (λ second. second ≡ None) }
+    ensures fault { IfErr result (IsFaultAt
+        (alu_at wide (source_at slot.now.opcode) (slot.now.opcode / 16)) (fields slot.now)) }
+{
+    match (alu_by_number(slot.opcode / 16), SourceBit::of(slot.opcode)) {
+        (Some(op), SourceBit::Imm) => read_operation(wide, op, SourceBit::Imm, entry, slot),
+        (Some(op), SourceBit::Reg) => read_operation(wide, op, SourceBit::Reg, entry, slot),
+        (None, _) => read_one_operand(wide, entry, slot),
+    }
+}
+
+/// Reads a jump that is taken if a condition holds.
+#[inline(always)]
+fn read_branch(
+    wide: bool,
+    cond: Condition,
+    source: SourceBit,
+    entry: &mut Insn,
+    slot: &RawSlot,
+) -> Result<Option<RawSlot>, FaultKind>
+    requires opcode { slot.now.opcode ≡ opcode_of (form.Jump wide cond source) }
+    ensures value { OnOk result (IsInsn entry.new) }
+    ensures slots { OnOk result (slots entry.new ≡ fields slot.now ∷ []) }
+    ensures none { IfOk result (λ second. second ≡ None) }
+    ensures fault { IfErr result (IsFaultOf (form.Jump wide cond source) (fields slot.now)) }
+{
+    check_fields(source.lists_operand(slot), slot)?;
+    *entry = Insn::Jump {
+        wide,
+        cond,
+        dst: Reg::new(slot.dst()),
+        src: source.operand(slot, Reg::new(slot.src())),
+        off: slot.offset.cast_signed(),
+    };
+    Ok(None)
+}
+
+/// Reads a jump of class JMP.
+fn read_goto(entry: &mut Insn, slot: &RawSlot) -> Result<Option<RawSlot>, FaultKind>
+    requires opcode { slot.now.opcode ≡ opcode_of form.Ja }
+    ensures value { OnOk result (IsInsn entry.new) }
+    ensures slots { OnOk result (slots entry.new ≡ fields slot.now ∷ []) }
+    ensures none { IfOk result (λ second. second ≡ None) }
+    ensures fault { IfErr result (IsFaultOf form.Ja (fields slot.now)) }
+{
+    check_fields(slot.has_no_register() && slot.imm == 0, slot)?;
+    *entry = Insn::Ja {
+        off: slot.offset.cast_signed(),
+    };
+    Ok(None)
+}
+
+/// Reads a jump of class JMP32.
+fn read_goto_far(entry: &mut Insn, slot: &RawSlot) -> Result<Option<RawSlot>, FaultKind>
+    requires opcode { slot.now.opcode ≡ opcode_of form.Jal }
+    ensures value { OnOk result (IsInsn entry.new) }
+    ensures slots { OnOk result (slots entry.new ≡ fields slot.now ∷ []) }
+    ensures none { IfOk result (λ second. second ≡ None) }
+    ensures fault { IfErr result (IsFaultOf form.Jal (fields slot.now)) }
+{
+    check_fields(slot.has_no_register() && slot.offset == 0, slot)?;
+    *entry = Insn::Jal {
+        off: slot.imm.cast_signed(),
+    };
+    Ok(None)
+}
+
+/// Reads a call.
+fn read_call(entry: &mut Insn, slot: &RawSlot) -> Result<Option<RawSlot>, FaultKind>
+    requires opcode { slot.now.opcode ≡ opcode_of form.Call }
+    ensures value { OnOk result (IsInsn entry.new) }
+    ensures slots { OnOk result (slots entry.new ≡ fields slot.now ∷ []) }
+    ensures none { IfOk result (λ second. second ≡ None) }
+    ensures fault { IfErr result (IsFaultOf form.Call (fields slot.now)) }
+{
+    check_fields(slot.has_no_register() && slot.offset == 0, slot)?;
+    *entry = Insn::Call {
+        id: slot.imm.cast_signed(),
+    };
+    Ok(None)
+}
+
+/// Reads the exit.
+fn read_exit(entry: &mut Insn, slot: &RawSlot) -> Result<Option<RawSlot>, FaultKind>
+    requires opcode { slot.now.opcode ≡ opcode_of form.Exit }
+    ensures value { OnOk result (IsInsn entry.new) }
+    ensures slots { OnOk result (slots entry.new ≡ fields slot.now ∷ []) }
+    ensures none { IfOk result (λ second. second ≡ None) }
+    ensures fault { IfErr result (IsFaultOf form.Exit (fields slot.now)) }
+{
+    check_fields(
+        slot.has_no_register() && slot.offset == 0 && slot.imm == 0,
+        slot,
+    )?;
+    *entry = Insn::Exit;
+    Ok(None)
+}
+
+/// Reads a jump without a condition, a call or the exit, whose codes no condition has.
+fn read_unconditional(
+    wide: bool,
+    entry: &mut Insn,
+    slot: &RawSlot,
+) -> Result<Option<RawSlot>, FaultKind>
+    requires class { slot.now.opcode % 8 ≡ jump_class wide }
+    requires code { condition_by (slot.now.opcode / 16) ≡ None }
+    ensures value { OnOk result (IsInsn entry.new) }
+    ensures slots { OnOk result (slots entry.new ≡ fields slot.now ∷ []) }
+    ensures none { IfOk result (λ second. second ≡ None) }
+    ensures fault { IfErr result (IsFaultAt
+        (jump_at wide (source_at slot.now.opcode) (slot.now.opcode / 16)) (fields slot.now)) }
+{
+    match (slot.opcode / 16, wide, SourceBit::of(slot.opcode)) {
+        (0, true, SourceBit::Imm) => read_goto(entry, slot),
+        (0, false, SourceBit::Imm) => read_goto_far(entry, slot),
+        (8, true, SourceBit::Imm) => read_call(entry, slot),
+        (9, true, SourceBit::Imm) => read_exit(entry, slot),
+        _ => Err(FaultKind::Opcode),
+    }
+}
+
+/// Reads an instruction of class JMP or JMP32 (RFC 9669, section 4.3).
+#[inline(always)]
+pub(crate) fn read_jump(
+    wide: bool,
+    entry: &mut Insn,
+    slot: &RawSlot,
+) -> Result<Option<RawSlot>, FaultKind>
+    requires class { slot.now.opcode % 8 ≡ jump_class wide }
+    ensures value { OnOk result (IsInsn entry.new) }
+    ensures slots { OnOk result (slots entry.new ≡ fields slot.now ∷ []) }
+    ensures none { IfOk result (λ second. second ≡ None) }
+    ensures fault { IfErr result (IsFaultAt
+        (jump_at wide (source_at slot.now.opcode) (slot.now.opcode / 16)) (fields slot.now)) }
+{
+    match (
+        condition_by_number(slot.opcode / 16),
+        SourceBit::of(slot.opcode),
+    ) {
+        (Some(cond), SourceBit::Imm) => read_branch(wide, cond, SourceBit::Imm, entry, slot),
+        (Some(cond), SourceBit::Reg) => read_branch(wide, cond, SourceBit::Reg, entry, slot),
+        (None, _) => read_unconditional(wide, entry, slot),
+    }
+}
+
+/// Reads a load (RFC 9669, sections 5.1 and 5.2).
+#[inline(always)]
+pub(crate) fn read_load(entry: &mut Insn, slot: &RawSlot) -> Result<Option<RawSlot>, FaultKind>
+    ensures value { OnOk result (IsInsn entry.new) }
+    ensures slots { OnOk result (slots entry.new ≡ fields slot.now ∷ []) }
+    ensures none { IfOk result (λ second. second ≡ None) }
+    ensures fault { IfErr result (IsFaultAt (load_at slot.now.opcode) (fields slot.now)) }
+{
+    let Some((signed, size)) = load_by_opcode(slot.opcode) else {
+        return Err(FaultKind::Opcode);
+    };
+    check_fields(slot.imm == 0, slot)?;
+    *entry = Insn::Load(Load {
+        size,
+        signed,
+        dst: Reg::new(slot.dst()),
+        src: Reg::new(slot.src()),
+        off: slot.offset.cast_signed(),
+    });
+    Ok(None)
+}
+
+/// Reads a store (RFC 9669, section 5.1).
+#[inline(always)]
+pub(crate) fn read_store(
+    source: SourceBit,
+    entry: &mut Insn,
+    slot: &RawSlot,
+) -> Result<Option<RawSlot>, FaultKind>
+    requires class { slot.now.opcode % 8 ≡ 2 + source_number source }
+    ensures value { OnOk result (IsInsn entry.new) }
+    ensures slots { OnOk result (slots entry.new ≡ fields slot.now ∷ []) }
+    ensures none { IfOk result (λ second. second ≡ None) }
+    ensures fault { IfErr result (IsFaultAt (store_at slot.now.opcode source) (fields slot.now)) }
+{
+    if slot.opcode / 32 != 3 {
+        return Err(FaultKind::Opcode);
+    }
+    check_fields(source.lists_operand(slot), slot)?;
+    *entry = Insn::Store {
+        size: size_at(slot.opcode / 8 % 4),
+        dst: Reg::new(slot.dst()),
+        src: source.operand(slot, Reg::new(slot.src())),
+        off: slot.offset.cast_signed(),
+    };
+    Ok(None)
+}
+
+/// Reads an atomic operation (RFC 9669, section 5.3).
+fn read_atomic(
+    size: AtomicSize,
+    entry: &mut Insn,
+    slot: &RawSlot,
+) -> Result<Option<RawSlot>, FaultKind>
+    requires opcode { slot.now.opcode ≡ opcode_of (form.Atomic size) }
+    ensures value { OnOk result (IsInsn entry.new) }
+    ensures slots { OnOk result (slots entry.new ≡ fields slot.now ∷ []) }
+    ensures none { IfOk result (λ second. second ≡ None) }
+    ensures fault { IfErr result (IsFaultOf (form.Atomic size) (fields slot.now)) }
+{
+    let found = AtomicOp::from_number(slot.imm);
+    check_fields(found.is_some(), slot)?;
+    let Some(op) = found else {
+        unreachable!();
+    };
+    *entry = Insn::Atomic {
+        size,
+        op,
+        dst: Reg::new(slot.dst()),
+        src: Reg::new(slot.src()),
+        off: slot.offset.cast_signed(),
+    };
+    Ok(None)
+}
+
+/// Reads an atomic operation or a store of a register.
+#[inline(always)]
+pub(crate) fn read_register_store(
+    entry: &mut Insn,
+    slot: &RawSlot,
+) -> Result<Option<RawSlot>, FaultKind>
+    requires class { slot.now.opcode % 8 ≡ 3 }
+    ensures value { OnOk result (IsInsn entry.new) }
+    ensures slots { OnOk result (slots entry.new ≡ fields slot.now ∷ []) }
+    ensures none { IfOk result (λ second. second ≡ None) }
+    ensures fault { IfErr result (IsFaultAt (register_store_at slot.now.opcode) (fields slot.now)) }
+{
+    match slot.opcode {
+        0xc3 => read_atomic(AtomicSize::Word, entry, slot),
+        0xdb => read_atomic(AtomicSize::Double, entry, slot),
+        _ => read_store(SourceBit::Reg, entry, slot),
+    }
+}

@@ -13,6 +13,9 @@ use Rattle.insn_set.specs.declared.insn.Insn.{Insn}
 use Rattle.insn_set.specs.declared.insn.Insn.TheVariants.{Alu}
 use Rattle.insn_set.specs.Spelling.{slots}
 use Rattle.insn_set.specs.Program.{slot_count}
+use Rattle.text_line.specs.declared.form.Operation.TheVariants as operation
+use Rattle.text_line.specs.declared.form.Access.TheVariants as access
+use Rattle.text_line.specs.declared.form.WideValue.TheVariants as value
 use Rattle.text_line.specs.declared.form.Form.{Form}
 use Rattle.text_line.specs.declared.form.Form.TheVariants as form
 use Rattle.text_line.specs.declared.form.Line.{Line as CodeLine}
@@ -156,7 +159,9 @@ forms_are all labels slot (_ ∷ lines) finds room = ap (λ (n : ℕ). kept_form
 -- ---- how many slots the instructions take
 
 resolved_slots : (distance : ℤ) (form : Form) → form_slots (resolved distance form) ≡ form_slots form
-resolved_slots z (form.Alu wide op dst src) = refl
+resolved_slots z (form.Operation wide dst (operation.Binary op src)) = refl
+resolved_slots z (form.Access (access.Store size src) at) = refl
+resolved_slots z (form.WideLoad dst (value.MapFd fd)) = refl
 resolved_slots z _ = refl
 
 pub written_slots : (insn : Insn) → form_slots (written insn) ≡ length (slots insn)

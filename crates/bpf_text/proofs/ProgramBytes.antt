@@ -12,7 +12,7 @@ use Rattle.words.specs.declared.stack.AccessSize.TheVariants as size
 use Rattle.insn_set.specs.declared.insn.Operand.{Operand}
 use Rattle.insn_set.specs.declared.insn.Operand.TheVariants.{Imm, Reg}
 use Rattle.insn_set.specs.declared.insn.Insn.{Insn}
-use Rattle.insn_set.specs.declared.insn.Insn.TheVariants.{Alu, Movsx, Neg, End, Ja, Jal, Jump, Call, Exit, Load, Store, Atomic, Const, MapFd, MapValue}
+use Rattle.insn_set.specs.declared.insn.Insn.TheVariants.{Alu, Movsx, Neg, End, Jump, Load, Store, Atomic, Const, MapFd, MapValue}
 use Rattle.insn_set.specs.declared.slot.SlotFields.{SlotFields}
 use Rattle.insn_set.specs.Slot.{slot, slot_bytes}
 use Rattle.insn_set.specs.Atomic.{access_size}
@@ -89,17 +89,14 @@ first_small (Alu wide op dst src) h = record { opcode = opcode_small _ _ _ (alu_
 first_small (Movsx m) h = record { opcode = opcode_small 11 1 (alu_class m.wide) (lit≤ tt) (lit≤ tt) (alu_class_le m.wide); dst = h.0; src = h.1 }
 first_small (Neg wide dst) h = record { opcode = opcode_small 8 0 (alu_class wide) (lit≤ tt) (lit≤ tt) (alu_class_le wide); dst = h; src = lit≤ tt }
 first_small (End how width dst) h = record { opcode = end_small how; dst = h; src = lit≤ tt }
-first_small (Ja off) h = record { opcode = lit< tt; dst = lit≤ tt; src = lit≤ tt }
-first_small (Jal off) h = record { opcode = lit< tt; dst = lit≤ tt; src = lit≤ tt }
 first_small (Jump wide cond dst src off) h = record { opcode = opcode_small _ _ _ (condition_number_le cond) (source_small src) (jump_class_le wide); dst = h.0; src = src_small src h.1 }
-first_small (Call id) h = record { opcode = lit< tt; dst = lit≤ tt; src = lit≤ tt }
-first_small Exit h = record { opcode = lit< tt; dst = lit≤ tt; src = lit≤ tt }
 first_small (Load l) h = record { opcode = memory_small (load_mode l.signed) 1 l.size (mode_small l.signed) (lit≤ tt); dst = h.0; src = h.1 }
 first_small (Store s dst src off) h = record { opcode = memory_small 3 (2 + source_bit src) s (lit≤ tt) (omega (arith, source_small src)); dst = h.0; src = src_small src h.1 }
 first_small (Atomic size op dst src off) h = record { opcode = memory_small 6 3 (access_size size) (lit≤ tt) (lit≤ tt); dst = h.0; src = h.1 }
 first_small (Const dst value) h = record { opcode = lit< tt; dst = h.0; src = lit≤ tt }
 first_small (MapFd dst fd) h = record { opcode = lit< tt; dst = h.0; src = lit≤ tt }
 first_small (MapValue dst fd off) h = record { opcode = lit< tt; dst = h.0; src = lit≤ tt }
+first_small _ h = record { opcode = lit< tt; dst = lit≤ tt; src = lit≤ tt }
 
 none_small : (imm : ℕ) → IsSmall (slot 0 0 0 0 imm)
 none_small imm = record { opcode = lit< tt; dst = lit≤ tt; src = lit≤ tt }

@@ -9,6 +9,8 @@ use Rattle.insn_set.specs.declared.atomic.AtomicOp.TheVariants as atomic
 use Rattle.insn_set.specs.declared.insn.Insn.TheVariants.{Alu, Jump, Exit, Load, Store, Atomic, Const, MapFd, MapValue}
 use Rattle.std.specs.Fmt.{digits}
 use Rattle.hex.proofs.OnLiterals.{hex_on_literals}
+use Rattle.text_line.specs.declared.form.Access.TheVariants as access
+use Rattle.text_line.specs.declared.form.WideValue.TheVariants as value
 use Rattle.text_line.specs.declared.form.Form.{Form}
 use Rattle.text_line.specs.declared.form.Form.TheVariants as form
 use Rattle.text_line.specs.Ranges.{form_fits, form_slots}
@@ -50,7 +52,7 @@ printed_atomics = (refl, refl, refl, refl)
 
 -- an offset has 15 bits and a sign
 addition_at : Bool → Option ℕ → Form
-addition_at negative offset = form.Atomic atomic_size.Double atomic.Add 10 1 (record { negative = negative; magnitude = offset })
+addition_at negative offset = form.Access (access.Atomic atomic_size.Double atomic.Add 1) (record { base = 10; offset = record { negative = negative; magnitude = offset } })
 
 ranges_of_atomics :
     (form_fits (addition_at false (Some 0)) ≡ true)
@@ -70,7 +72,7 @@ slots_of_atomics = refl
 
 -- a descriptor has 31 bits and a sign, the offset in a map's value 32 bits and none
 load_of_value : Bool → ℕ → Option ℕ → Form
-load_of_value negative fd off = form.MapValue 1 (record { negative = negative; magnitude = Some fd }) off
+load_of_value negative fd off = form.WideLoad 1 (value.MapValue (record { negative = negative; magnitude = Some fd }) off)
 
 ranges_of_map_values :
     (form_fits (load_of_value false 3 (Some 4294967295)) ≡ true)

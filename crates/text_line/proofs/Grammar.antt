@@ -3,7 +3,7 @@ use Rattle.std.proofs.Common.{◌≡◌, ℕ, ◌≤◌, Bool, true, false, cond
 use Rattle.std.specs.Prelude.{codes, IsTrue, ◌||◌, ◌&&◌, not}
 use Rattle.std.specs.Str.{bytes_eq}
 use Rattle.std.proofs.lemmas.Slice.Eq.{bytes_eq-Decides}
-use Rattle.std.proofs.lemmas.Bool.{false≢true, eqb-true, leb-true}
+use Rattle.std.proofs.lemmas.Bool.{false≢true, and_parts, eqb-true, leb-true}
 use Rattle.std.proofs.lemmas.Option.{none-some, same_Some, cond_some, option_and_then_some}
 use Rattle.words.specs.declared.operator.AluOp.{AluOp}
 use Rattle.words.specs.declared.operator.AluOp.TheVariants.{Mov}
@@ -27,14 +27,17 @@ use Rattle.words.specs.Stack.{is_double}
 use Rattle.text_line.specs.declared.form.Number.{Number}
 use Rattle.text_line.specs.declared.form.SourceOperand.{SourceOperand}
 use Rattle.text_line.specs.declared.form.JumpTarget.{JumpTarget}
+use Rattle.text_line.specs.declared.form.Operation.{Operation}
+use Rattle.text_line.specs.declared.form.Operation.TheVariants as operation
+use Rattle.text_line.specs.declared.form.WideValue.{WideValue}
 use Rattle.text_line.specs.declared.form.Form.{Form}
 use Rattle.text_line.specs.declared.form.Form.TheVariants as form
 use Rattle.text_line.specs.declared.form.Address.{Address}
 use Rattle.text_line.specs.Token.{Token, name, number, symbol}
-use Rattle.text_line.specs.Names.{register_name, sign_name}
-use Rattle.text_line.specs.Form.{TokenLayout, layout, sign, word, space, tokens_of, reg, to_label, constant, operand_layout, destination, address, IsForm, IsSource, names_label}
+use Rattle.text_line.specs.Names.{register_name, sign_name, jump_name}
+use Rattle.text_line.specs.Form.{TokenLayout, layout, operation_layout, value_layout, sign, word, space, tokens_of, reg, to_label, constant, operand_layout, destination, address, IsForm, IsOperation, IsSource, names_label}
 use Rattle.text_line.specs.Line.{Line, blank, label, spelled, IsWellFormed, NoLabel}
-use Rattle.text_line.specs.inside.Reading.{registers, leading_symbol, leading_name, leading_number, after_symbol, after_word, leading_register, number_from, leading_constant, leading_signed_number, leading_operand, parsed_destination, leading_address, atomic_size_of, at_end, match_option, parsed_jump, parsed_load, parsed_store, parsed_atomic, parsed_movsx, parsed_neg, parsed_end, parsed_constant_load, parsed_map_fd, parsed_map_value, parsed_wide_move, parsed_special_move, is_move, parsed_alu, parsed_assignment, parsed_assigned, parsed_goto, parsed_gotol, parsed_call, without_label, parsed_form, parsed_label, line_of, bool_eq, ◌>>=◌}
+use Rattle.text_line.specs.inside.Reading.{registers, leading_symbol, leading_name, leading_number, after_symbol, after_word, leading_register, number_from, leading_constant, leading_signed_number, leading_operand, parsed_destination, leading_address, leading_wide_value, atomic_size_of, at_end, match_option, parsed_binary, parsed_sign_extension, parsed_in_place, parsed_end, parsed_unary, is_move, parsed_operation, parsed_load, parsed_store, parsed_atomic, parsed_wide_load, parsed_loaded, parsed_assigned, parsed_jump, parsed_branch, parsed_call, without_label, parsed_form, parsed_label, line_of, bool_eq, ◌>>=◌}
 
 -- ---- options and tests that have a value
 
@@ -182,12 +185,12 @@ destination_read ts p e = elim (either (leading_signed_number ts) _ _ p e) [
       subst (DestinationRead ts) same (signed_number_read ts n found ∙ ap (λ l. symbol (sign_name n.0.negative) ∷ number n.0.magnitude ∷ l) end, refl)
 ]
 
-abbrev AddressRead : List Token → Address × List Token → Type 0
+abbrev AddressRead : List Token → ((Bool × AccessSize) × Address) × List Token → Type 0
 AddressRead ts p =
-    ((rest : TokenLayout) → tokens_of rest ≡ p.1 → ts ≡ tokens_of (address (size_name p.0.signed p.0.size) p.0.base p.0.offset rest))
-    × (p.0.base ≤ 10) × IsTrue (not (p.0.signed && is_double p.0.size))
+    ((rest : TokenLayout) → tokens_of rest ≡ p.1 → ts ≡ tokens_of (address (size_name p.0.0.0 p.0.0.1) p.0.1 rest))
+    × (p.0.1.base ≤ 10) × IsTrue (not (p.0.0.0 && is_double p.0.0.1))
 
-address_read : (ts : List Token) (p : Address × List Token) → leading_address ts ≡ Some p → AddressRead ts p
+address_read : (ts : List Token) (p : ((Bool × AccessSize) × Address) × List Token) → leading_address ts ≡ Some p → AddressRead ts p
 unfolding leading_address
 address_read ts p e =
     after_symbol_then (codes "*") ts _ p e (λ a is_a e.
@@ -205,6 +208,90 @@ address_read ts p e =
     let is_r = signed_number_read r.1 o signed in
     subst (AddressRead ts) (same_Some _ p e) ((λ rest after. cc), bound, size_listed n s found)))))))))))
 
+abbrev ValueRead : List Token → WideValue × List Token → Type 0
+ValueRead ts p = (rest : TokenLayout) → tokens_of rest ≡ p.1 → ts ≡ tokens_of (value_layout p.0 rest)
+
+wide_value_read : (ts : List Token) (p : WideValue × List Token) → leading_wide_value ts ≡ Some p → ValueRead ts p
+unfolding leading_wide_value
+wide_value_read ts p e =
+    let P : List Token → Type 0 = λ ts. ValueRead ts p in
+    word_or P (codes "map_fd") ts _ _ p e (λ us e.
+    option_and_then_some _ (leading_constant us) p e (λ n found e.
+    subst (ValueRead (name (codes "map_fd") ∷ us)) (same_Some _ p e) (λ rest after. ap (λ l. name (codes "map_fd") ∷ l) (constant_read us n found rest after)))) (λ e.
+    word_or P (codes "map_value") ts _ _ p e (λ us e.
+    option_and_then_some _ (leading_constant us) p e (λ n found e.
+    after_symbol_then (codes "+") n.1 _ p e (λ a is_n e.
+    number_then a _ p e (λ off b is_a e.
+    subst (ValueRead (name (codes "map_value") ∷ us)) (same_Some _ p e) (λ rest after. ap (λ l. name (codes "map_value") ∷ l) (constant_read us n found (space ∷ sign (codes "+") ∷ space ∷ Some (number off) ∷ rest) cc)))))) (λ e.
+    number_then ts _ p e (λ v us is e. subst (ValueRead ts) (same_Some _ p e) (λ rest after. cc))))
+
+-- ---- operations
+
+-- the tokens after the destination spell the operation
+abbrev Operated : Bool → ℕ → List Token → Operation → Type 0
+Operated wide dst ts o = (ts ≡ tokens_of (operation_layout wide dst o)) × IsOperation wide o
+
+binary_is : (wide : Bool) (op : AluOp) (dst : ℕ) (ts : List Token) (o : Operation) → parsed_binary wide op ts ≡ Some o → Operated wide dst (symbol (alu_symbol op) ∷ ts) o
+unfolding parsed_binary
+binary_is wide op dst ts o e =
+    option_and_then_some _ (leading_operand wide ts) o e (λ src found e.
+    let (end, same) = end_is src.1 _ o e in
+    let (is, source) = operand_read wide ts src found in
+    subst (Operated wide dst (symbol (alu_symbol op) ∷ ts)) same (ap (λ l. symbol (alu_symbol op) ∷ l) (is [] (sym end)), source))
+
+sign_extension_is : (wide : Bool) (dst : ℕ) (ts : List Token) (o : Operation) → parsed_sign_extension wide ts ≡ Some o → Operated wide dst (symbol (codes "=") ∷ symbol (codes "(") ∷ ts) o
+unfolding parsed_sign_extension
+sign_extension_is wide dst ts o e =
+    name_then ts _ o e (λ n a is_n e.
+    option_and_then_some _ (narrow_by_name n) o e (λ from found_from e.
+    let is_from = narrow_name_is n from found_from in
+    after_symbol_then (codes ")") a _ o e (λ b is_a e.
+    option_and_then_some _ (leading_register wide b) o e (λ src found e.
+    let (listed, e) = if_true (wide || is_short from) _ o e in
+    let (end, same) = end_is src.1 _ o e in
+    let (is_src, bound) = register_read wide b src found in
+    subst (Operated wide dst (symbol (codes "=") ∷ symbol (codes "(") ∷ ts)) same (cc, (bound, listed))))))
+
+-- the destination again
+in_place_is : (wide : Bool) (dst : ℕ) (ts : List Token) (made o : Operation) → parsed_in_place wide dst made ts ≡ Some o → (ts ≡ name (register_name wide dst) ∷ []) × (made ≡ o)
+unfolding parsed_in_place
+in_place_is wide dst ts made o e =
+    option_and_then_some _ (leading_register wide ts) o e (λ r found e.
+    let (again, e) = if_true (eqb r.0 dst) _ o e in
+    let (end, same) = end_is r.1 _ o e in
+    let (is_r, _) = register_read wide ts r found in
+    (cc (eqb-true r.0 dst again), same))
+
+end_operation_is : (dst : ℕ) (ts : List Token) (o : Operation) → parsed_end dst ts ≡ Some o → Operated true dst (symbol (codes "=") ∷ ts) o
+end_operation_is dst ts o e =
+    name_then ts _ o e (λ n a is_n e.
+    option_and_then_some _ (order_by_name n) o e (λ order found e.
+    let is_order = order_name_is n order found in
+    let (is, same) = in_place_is true dst a _ o e in
+    subst (Operated true dst (symbol (codes "=") ∷ ts)) same (cc, refl)))
+
+unary_is : (wide : Bool) (dst : ℕ) (ts : List Token) (o : Operation) → parsed_unary wide dst ts ≡ Some o → Operated wide dst (symbol (codes "=") ∷ ts) o
+unfolding parsed_unary
+unary_is wide dst ts o e =
+    let P : List Token → Type 0 = λ ts. Operated wide dst (symbol (codes "=") ∷ ts) o in
+    symbol_or P (codes "(") ts _ _ o e (λ rest e. sign_extension_is wide dst rest o e) (λ e.
+    symbol_or P (codes "-") ts _ _ o e (λ rest e.
+    let (is, same) = in_place_is wide dst rest operation.Neg o e in
+    subst (Operated wide dst (symbol (codes "=") ∷ symbol (codes "-") ∷ rest)) same (ap (λ l. symbol (codes "=") ∷ symbol (codes "-") ∷ l) is, tt)) (λ e.
+    let (is_wide, e) = if_true wide _ o e in
+    rw is_wide (end_operation_is dst ts o e)))
+
+move_name : (op : AluOp) → is_move op ≡ true → alu_symbol op ≡ codes "="
+move_name Mov e = refl
+move_name _ e = absurd (false≢true e)
+
+operation_is : (wide : Bool) (op : AluOp) (dst : ℕ) (ts : List Token) (o : Operation) → parsed_operation wide op dst ts ≡ Some o → Operated wide dst (symbol (alu_symbol op) ∷ ts) o
+unfolding parsed_operation
+operation_is wide op dst ts o e = elim (either (parsed_binary wide op ts) _ _ o e) [
+  | inr (p, found, e) ↦ binary_is wide op dst ts o (found ∙ e)
+  | inl e ↦ let (moves, e) = if_true (is_move op) _ o e in rw (move_name op moves) (unary_is wide dst ts o e)
+]
+
 -- ---- forms
 
 -- the tokens spell the form, and the form is well formed
@@ -216,23 +303,22 @@ abbrev Whole : List Token → Form × List ℕ → Type 0
 Whole ts f = (ts ≡ tokens_of (layout f.0 f.1)) × IsForm f.0 × NoLabel (names_label f.0) f.1
 
 -- a register, `=` and more
-abbrev assigned : Bool → ℕ → List Token → List Token
-assigned wide dst ts = name (register_name wide dst) ∷ symbol (codes "=") ∷ ts
+abbrev assigned : ℕ → List Token → List Token
+assigned dst ts = name (register_name true dst) ∷ symbol (codes "=") ∷ ts
 
 call_is : (ts : List Token) (f : Form) → parsed_call ts ≡ Some f → Spelled (name (codes "call") ∷ ts) f
-unfolding parsed_call
 call_is ts f e =
     option_and_then_some _ (leading_constant ts) f e (λ n found e.
     let (end, same) = end_is n.1 _ f e in
     subst (Spelled (name (codes "call") ∷ ts)) same (ap (λ l. name (codes "call") ∷ l) (constant_read ts n found [] (sym end)), tt))
 
-load_is : (dst : ℕ) (ts : List Token) (f : Form) → dst ≤ 10 → parsed_load dst ts ≡ Some f → Spelled (assigned true dst ts) f
+load_is : (dst : ℕ) (ts : List Token) (f : Form) → dst ≤ 10 → parsed_load dst ts ≡ Some f → Spelled (assigned dst ts) f
 unfolding parsed_load
 load_is dst ts f fits e =
     option_and_then_some _ (leading_address ts) f e (λ a found e.
     let (end, same) = end_is a.1 _ f e in
     let (is, bound, listed) = address_read ts a found in
-    subst (Spelled (assigned true dst ts)) same (ap (assigned true dst) (is [] (sym end)), (fits, bound, listed)))
+    subst (Spelled (assigned dst ts)) same (ap (assigned dst) (is [] (sym end)), (bound, (fits, listed))))
 
 store_is : (ts : List Token) (f : Form) → parsed_store ts ≡ Some f → Spelled ts f
 unfolding parsed_store
@@ -240,13 +326,13 @@ store_is ts f e =
     option_and_then_some _ (leading_address ts) f e (λ a found e.
     after_symbol_then (codes "=") a.1 _ f e (λ b is_b e.
     option_and_then_some _ (leading_operand true b) f e (λ src read e.
-    let (unsigned, e) = if_false a.0.signed _ f e in
+    let (unsigned, e) = if_false a.0.0.0 _ f e in
     let (end, same) = end_is src.1 _ f e in
     let (is, bound, _) = address_read ts a found in
     let (is_src, source) = operand_read true b src read in
     let rest : TokenLayout = space ∷ sign (codes "=") ∷ space ∷ operand_layout true src.0 [] in
     let after : tokens_of rest ≡ a.1 = sym (is_b ∙ ap (λ l. symbol (codes "=") ∷ l) (is_src [] (sym end))) in
-    subst (Spelled ts) same (is rest after ∙ ap (λ signed. tokens_of (address (size_name signed a.0.size) a.0.base a.0.offset rest)) unsigned, (bound, source)))))
+    subst (Spelled ts) same (is rest after ∙ ap (λ signed. tokens_of (address (size_name signed a.0.0.1) a.0.1 rest)) unsigned, (bound, source)))))
 
 -- the size that is written is that of the operation's load and store
 atomic_size_is : (signed : Bool) (s : AccessSize) (z : AtomicSize) → atomic_size_of signed s ≡ Some z → size_name signed s ≡ size_name false (access_size z)
@@ -258,7 +344,7 @@ atomic_is : (ts : List Token) (f : Form) → parsed_atomic ts ≡ Some f → Spe
 unfolding parsed_atomic
 atomic_is ts f e =
     option_and_then_some _ (leading_address ts) f e (λ a found e.
-    option_and_then_some _ (atomic_size_of a.0.signed a.0.size) f e (λ z is_z e.
+    option_and_then_some _ (atomic_size_of a.0.0.0 a.0.0.1) f e (λ z is_z e.
     symbol_then a.1 _ f e (λ s b is_a e.
     option_and_then_some _ (atomic_by_symbol s) f e (λ op found_op e.
     let is_op = atomic_symbol_is s op found_op in
@@ -268,12 +354,12 @@ atomic_is ts f e =
     let (is_src, src_bound) = register_read true b src read in
     let rest : TokenLayout = space ∷ sign (atomic_symbol op) ∷ space ∷ reg true src.0 ∷ [] in
     let after : tokens_of rest ≡ a.1 = cc in
-    let size = ap (λ n. tokens_of (address n a.0.base a.0.offset rest)) (atomic_size_is a.0.signed a.0.size z is_z) in
+    let size = ap (λ n. tokens_of (address n a.0.1 rest)) (atomic_size_is a.0.0.0 a.0.0.1 z is_z) in
     subst (Spelled (name (codes "lock") ∷ ts)) same (ap (λ l. name (codes "lock") ∷ l) (is rest after ∙ size), (bound, src_bound)))))))
 
-jump_is : (ts : List Token) (f : Form × List ℕ) → parsed_jump ts ≡ Some f → Whole (name (codes "if") ∷ ts) f
-unfolding parsed_jump
-jump_is ts f e =
+branch_is : (ts : List Token) (f : Form × List ℕ) → parsed_branch ts ≡ Some f → Whole (name (codes "if") ∷ ts) f
+unfolding parsed_branch
+branch_is ts f e =
     name_then ts _ f e (λ n a is_n e.
     option_and_then_some _ (named registers n) f e (λ r found e.
     symbol_then a _ f e (λ s b is_s e.
@@ -289,146 +375,53 @@ jump_is ts f e =
     let is_b = is_src rest cc in
     subst (Whole (name (codes "if") ∷ ts)) (same_Some _ f e) (cc, (bound, source), labelled))))))))
 
-movsx_is : (wide : Bool) (dst : ℕ) (ts : List Token) (f : Form) → dst ≤ 10 → parsed_movsx wide dst ts ≡ Some f → Spelled (assigned wide dst (symbol (codes "(") ∷ ts)) f
-unfolding parsed_movsx
-movsx_is wide dst ts f fits e =
-    name_then ts _ f e (λ n a is_n e.
-    option_and_then_some _ (narrow_by_name n) f e (λ b found_b e.
-    let is_b = narrow_name_is n b found_b in
-    after_symbol_then (codes ")") a _ f e (λ c is_c e.
-    option_and_then_some _ (leading_register wide c) f e (λ src found e.
-    let (listed, e) = if_true (wide || is_short b) _ f e in
-    let (end, same) = end_is src.1 _ f e in
-    let (is_src, bound) = register_read wide c src found in
-    subst (Spelled (assigned wide dst (symbol (codes "(") ∷ ts))) same (cc, (fits, bound, listed))))))
-
-neg_is : (wide : Bool) (dst : ℕ) (ts : List Token) (f : Form) → dst ≤ 10 → parsed_neg wide dst ts ≡ Some f → Spelled (assigned wide dst (symbol (codes "-") ∷ ts)) f
-unfolding parsed_neg
-neg_is wide dst ts f fits e =
-    option_and_then_some _ (leading_register wide ts) f e (λ r found e.
-    let (again, e) = if_true (eqb r.0 dst) _ f e in
-    let (end, same) = end_is r.1 _ f e in
-    let (is_r, _) = register_read wide ts r found in
-    subst (Spelled (assigned wide dst (symbol (codes "-") ∷ ts))) same (cc (eqb-true r.0 dst again), fits))
-
-end_form_is : (dst : ℕ) (ts : List Token) (f : Form) → dst ≤ 10 → parsed_end dst ts ≡ Some f → Spelled (assigned true dst ts) f
-unfolding parsed_end
-end_form_is dst ts f fits e =
-    name_then ts _ f e (λ n a is_n e.
-    option_and_then_some _ (order_by_name n) f e (λ o found_o e.
-    let is_o = order_name_is n o found_o in
-    option_and_then_some _ (leading_register true a) f e (λ r found e.
-    let (again, e) = if_true (eqb r.0 dst) _ f e in
-    let (end, same) = end_is r.1 _ f e in
-    let (is_r, _) = register_read true a r found in
-    subst (Spelled (assigned true dst ts)) same (cc (eqb-true r.0 dst again), fits))))
-
-const_is : (dst : ℕ) (ts : List Token) (f : Form) → dst ≤ 10 → parsed_constant_load dst ts ≡ Some f → Spelled (assigned true dst ts) f
-unfolding parsed_constant_load
-const_is dst ts f fits e =
-    number_then ts _ f e (λ v a is_v e.
-    after_word_then (codes "ll") a _ f e (λ b is_a e.
-    let (end, same) = end_is b _ f e in
-    subst (Spelled (assigned true dst ts)) same (cc, fits)))
-
-map_fd_is : (dst : ℕ) (ts : List Token) (f : Form) → dst ≤ 10 → parsed_map_fd dst ts ≡ Some f → Spelled (assigned true dst (name (codes "map_fd") ∷ ts)) f
-unfolding parsed_map_fd
-map_fd_is dst ts f fits e =
-    option_and_then_some _ (leading_constant ts) f e (λ n found e.
-    after_word_then (codes "ll") n.1 _ f e (λ a is_n e.
+wide_load_is : (dst : ℕ) (ts : List Token) (f : Form) → dst ≤ 10 → parsed_wide_load dst ts ≡ Some f → Spelled (assigned dst ts) f
+unfolding parsed_wide_load
+wide_load_is dst ts f fits e =
+    option_and_then_some _ (leading_wide_value ts) f e (λ v found e.
+    after_word_then (codes "ll") v.1 _ f e (λ a is_v e.
     let (end, same) = end_is a _ f e in
-    let is = constant_read ts n found (space ∷ word (codes "ll") ∷ []) cc in
-    subst (Spelled (assigned true dst (name (codes "map_fd") ∷ ts))) same (ap (λ l. assigned true dst (name (codes "map_fd") ∷ l)) is, fits)))
+    subst (Spelled (assigned dst ts)) same (ap (assigned dst) (wide_value_read ts v found (space ∷ word (codes "ll") ∷ []) cc), fits)))
 
-map_value_is : (dst : ℕ) (ts : List Token) (f : Form) → dst ≤ 10 → parsed_map_value dst ts ≡ Some f → Spelled (assigned true dst (name (codes "map_value") ∷ ts)) f
-unfolding parsed_map_value
-map_value_is dst ts f fits e =
-    option_and_then_some _ (leading_constant ts) f e (λ n found e.
-    after_symbol_then (codes "+") n.1 _ f e (λ a is_n e.
-    number_then a _ f e (λ off b is_a e.
-    after_word_then (codes "ll") b _ f e (λ c is_b e.
-    let (end, same) = end_is c _ f e in
-    let is = constant_read ts n found (space ∷ sign (codes "+") ∷ space ∷ Some (number off) ∷ space ∷ word (codes "ll") ∷ []) cc in
-    subst (Spelled (assigned true dst (name (codes "map_value") ∷ ts))) same (ap (λ l. assigned true dst (name (codes "map_value") ∷ l)) is, fits)))))
-
-wide_is : (dst : ℕ) (ts : List Token) (f : Form) → dst ≤ 10 → parsed_wide_move dst ts ≡ Some f → Spelled (assigned true dst ts) f
-unfolding parsed_wide_move
-wide_is dst ts f fits e =
-    let P : List Token → Type 0 = λ ts. Spelled (assigned true dst ts) f in
-    word_or P (codes "map_fd") ts _ _ f e (λ rest e. map_fd_is dst rest f fits e) (λ e.
-    word_or P (codes "map_value") ts _ _ f e (λ rest e. map_value_is dst rest f fits e) (λ e.
-    elim (either (parsed_end dst ts) _ _ f e) [
-      | inr (g, found, e) ↦ end_form_is dst ts f fits (found ∙ e)
-      | inl e ↦ elim (either (parsed_constant_load dst ts) _ _ f e) [
-        | inr (g, found, e) ↦ const_is dst ts f fits (found ∙ e)
-        | inl e ↦ load_is dst ts f fits e
-      ]
-    ]))
-
-moved_is : (wide : Bool) (dst : ℕ) (ts : List Token) (f : Form) → dst ≤ 10 → parsed_special_move wide dst ts ≡ Some f → Spelled (assigned wide dst ts) f
-unfolding parsed_special_move
-moved_is wide dst ts f fits e =
-    let P : List Token → Type 0 = λ ts. Spelled (assigned wide dst ts) f in
-    symbol_or P (codes "(") ts _ _ f e (λ rest e. movsx_is wide dst rest f fits e) (λ e.
-    symbol_or P (codes "-") ts _ _ f e (λ rest e. neg_is wide dst rest f fits e) (λ e.
-    let (is_wide, e) = if_true wide _ f e in
-    rw is_wide (wide_is dst ts f fits e)))
-
-alu_is : (wide : Bool) (op : AluOp) (dst : ℕ) (ts : List Token) (f : Form) → dst ≤ 10 → parsed_alu wide op dst ts ≡ Some f → Spelled (name (register_name wide dst) ∷ symbol (alu_symbol op) ∷ ts) f
-unfolding parsed_alu
-alu_is wide op dst ts f fits e =
-    option_and_then_some _ (leading_operand wide ts) f e (λ src found e.
-    let (end, same) = end_is src.1 _ f e in
-    let (is, source) = operand_read wide ts src found in
-    let front : List Token → List Token = λ l. name (register_name wide dst) ∷ symbol (alu_symbol op) ∷ l in
-    subst (Spelled (front ts)) same (ap front (is [] (sym end)), (fits, source)))
-
-move_name : (op : AluOp) → is_move op ≡ true → alu_symbol op ≡ codes "="
-move_name Mov e = refl
-move_name _ e = absurd (false≢true e)
+loaded_is : (dst : ℕ) (ts : List Token) (f : Form) → dst ≤ 10 → parsed_loaded dst ts ≡ Some f → Spelled (assigned dst ts) f
+loaded_is dst ts f fits e = elim (either (parsed_wide_load dst ts) _ _ f e) [
+  | inr (g, found, e) ↦ wide_load_is dst ts f fits (found ∙ e)
+  | inl e ↦ load_is dst ts f fits e
+]
 
 -- after the register and the operator
 operated_is : (wide : Bool) (dst : ℕ) (op : AluOp) (ts : List Token) (f : Form) → dst ≤ 10
-    → match_option (parsed_alu wide op dst ts) (cond (is_move op) (parsed_special_move wide dst ts) None) (λ f. Some f) ≡ Some f → Spelled (name (register_name wide dst) ∷ symbol (alu_symbol op) ∷ ts) f
-operated_is wide dst op ts f fits e = elim (either (parsed_alu wide op dst ts) _ _ f e) [
-  | inr (g, found, e) ↦ alu_is wide op dst ts f fits (found ∙ e)
-  | inl e ↦ let (moves, e) = if_true (is_move op) _ f e in rw (move_name op moves) (moved_is wide dst ts f fits e)
+    → match_option (parsed_operation wide op dst ts) (cond (wide && is_move op) (parsed_loaded dst ts) None) (λ o. Some (form.Operation wide dst o)) ≡ Some f → Spelled (name (register_name wide dst) ∷ symbol (alu_symbol op) ∷ ts) f
+operated_is wide dst op ts f fits e = elim (either (parsed_operation wide op dst ts) _ _ f e) [
+  | inr (o, found, e) ↦
+      let (is, listed) = operation_is wide op dst ts o found in
+      subst (Spelled (name (register_name wide dst) ∷ symbol (alu_symbol op) ∷ ts)) (same_Some _ f e) (ap (λ l. name (register_name wide dst) ∷ l) is, (fits, listed))
+  | inl e ↦
+      let (both, e) = if_true (wide && is_move op) _ f e in
+      let (is_wide, moves) = and_parts wide (is_move op) both in
+      rw (is_wide, move_name op moves) (loaded_is dst ts f fits e)
 ]
-
-assignment_is : (wide : Bool) (dst : ℕ) (ts : List Token) (f : Form) → dst ≤ 10 → parsed_assignment wide dst ts ≡ Some f → Spelled (name (register_name wide dst) ∷ ts) f
-unfolding parsed_assignment
-assignment_is wide dst ts f fits e =
-    symbol_then ts _ f e (λ s a is_s e.
-    option_and_then_some _ (alu_by_symbol s) f e (λ op found e.
-    let is_op = alu_symbol_is s op found in
-    let whole : symbol (alu_symbol op) ∷ a ≡ ts = cc in
-    subst (λ ts. Spelled (name (register_name wide dst) ∷ ts) f) whole (operated_is wide dst op a f fits e)))
 
 assigned_is : (ts : List Token) (f : Form) → parsed_assigned ts ≡ Some f → Spelled ts f
 unfolding parsed_assigned
 assigned_is ts f e =
     name_then ts _ f e (λ n a is_n e.
     option_and_then_some _ (named registers n) f e (λ r found e.
+    symbol_then a _ f e (λ s b is_a e.
+    option_and_then_some _ (alu_by_symbol s) f e (λ op found_op e.
     let (is_r, bound) = register_is n r found in
-    let whole : name (register_name r.0 r.1) ∷ a ≡ ts = cc in
-    subst (λ l. Spelled l f) whole (assignment_is r.0 r.1 a f bound e)))
+    let is_op = alu_symbol_is s op found_op in
+    let whole : name (register_name r.0 r.1) ∷ symbol (alu_symbol op) ∷ b ≡ ts = cc in
+    subst (λ l. Spelled l f) whole (operated_is r.0 r.1 op b f bound e)))))
 
-goto_is : (ts : List Token) (f : Form × List ℕ) → parsed_goto ts ≡ Some f → Whole (name (codes "goto") ∷ ts) f
-unfolding parsed_goto
-goto_is ts f e =
+jump_is : (long : Bool) (ts : List Token) (f : Form × List ℕ) → parsed_jump long ts ≡ Some f → Whole (name (jump_name long) ∷ ts) f
+jump_is long ts f e =
     let (to, found, same) = map_some (parsed_destination ts) _ f e in
     let (is, labelled) = destination_read ts to found in
-    subst (Whole (name (codes "goto") ∷ ts)) same (ap (λ l. name (codes "goto") ∷ l) is, tt, labelled)
-
-gotol_is : (ts : List Token) (f : Form × List ℕ) → parsed_gotol ts ≡ Some f → Whole (name (codes "gotol") ∷ ts) f
-unfolding parsed_gotol
-gotol_is ts f e =
-    let (to, found, same) = map_some (parsed_destination ts) _ f e in
-    let (is, labelled) = destination_read ts to found in
-    subst (Whole (name (codes "gotol") ∷ ts)) same (ap (λ l. name (codes "gotol") ∷ l) is, tt, labelled)
+    subst (Whole (name (jump_name long) ∷ ts)) same (ap (λ l. name (jump_name long) ∷ l) is, tt, labelled)
 
 -- forms without a jump name no label
-no_label : (b : Bool) → NoLabel b []
+pub no_label : (b : Bool) → NoLabel b []
 no_label true = tt
 no_label false = refl
 
@@ -442,9 +435,9 @@ form_is : (ts : List Token) (f : Form × List ℕ) → parsed_form ts ≡ Some f
 unfolding parsed_form
 form_is ts f e =
     let P : List Token → Type 0 = λ ts. Whole ts f in
-    word_or P (codes "if") ts _ _ f e (λ rest e. jump_is rest f e) (λ e.
-    word_or P (codes "goto") ts _ _ f e (λ rest e. goto_is rest f e) (λ e.
-    word_or P (codes "gotol") ts _ _ f e (λ rest e. gotol_is rest f e) (λ e.
+    word_or P (codes "if") ts _ _ f e (λ rest e. branch_is rest f e) (λ e.
+    word_or P (codes "goto") ts _ _ f e (λ rest e. jump_is false rest f e) (λ e.
+    word_or P (codes "gotol") ts _ _ f e (λ rest e. jump_is true rest f e) (λ e.
     word_or P (codes "call") ts _ _ f e (λ rest e. plain (name (codes "call") ∷ rest) (parsed_call rest) f e (call_is rest)) (λ e.
     word_or P (codes "exit") ts _ _ f e (λ rest e. exit_is rest f e) (λ e.
     word_or P (codes "lock") ts _ _ f e (λ rest e. plain (name (codes "lock") ∷ rest) (parsed_atomic rest) f e (atomic_is rest)) (λ e.

@@ -1,6 +1,6 @@
 -- The printed text of an instruction is read as this instruction.
-use Rattle.std.proofs.Common.{◌≡◌, ◌≤◌, ◌<◌, ◌^◌, ℕ, suc, Bool, true, false, ℤ, pos, negsuc, [], ◌∷◌, codes, Some, FitsSigned, refl, arith, w16, w32}
-use Rattle.std.proofs.lemmas.Int.{ints}
+use Rattle.std.proofs.Common.{◌≡◌, ◌≤◌, ◌<◌, ◌^◌, ℕ, Bool, true, false, cond, [], ◌∷◌, codes, Option, Some, None, refl, sym, arith, lit<}
+use Rattle.std.proofs.lemmas.Bool.{false≢true, and_parts, leb-true}
 use Rattle.words.specs.declared.operator.AluOp.{AluOp}
 use Rattle.words.specs.declared.operator.AluOp.TheVariants.{Add}
 use Rattle.words.specs.declared.operator.Condition.{Condition}
@@ -18,22 +18,35 @@ use Rattle.insn_set.specs.declared.atomic.AtomicOp.TheVariants as atomic
 use Rattle.insn_set.specs.declared.insn.Operand.{Operand}
 use Rattle.insn_set.specs.declared.insn.Operand.TheVariants.{Imm, Reg}
 use Rattle.insn_set.specs.declared.insn.Insn.{Insn}
-use Rattle.insn_set.specs.declared.insn.Insn.TheVariants.{Alu, Movsx, Neg, End, Ja, Jal, Jump, Call, Exit, Load, Store, Atomic, Const, MapFd, MapValue}
+use Rattle.insn_set.specs.declared.insn.Insn.TheVariants.{Alu, Movsx, Neg, End, Jump, Load, Store, Atomic, Const, MapFd, MapValue}
 use Rattle.insn_set.specs.Spelling.{IsInsn, IsOperand}
 use Rattle.insn_set.specs.Operator.{alu_symbol}
 use Rattle.insn_set.specs.Conversion.{order_name, narrow_name}
 use Rattle.insn_set.specs.Load.{size_name}
 use Rattle.insn_set.specs.Condition.{condition_symbol}
 use Rattle.insn_set.specs.Atomic.{access_size, atomic_symbol}
+use Rattle.text_line.specs.declared.form.Number.{Number}
+use Rattle.text_line.specs.declared.form.SourceOperand.{SourceOperand}
+use Rattle.text_line.specs.declared.form.SourceOperand.TheVariants as source
+use Rattle.text_line.specs.declared.form.JumpTarget.{JumpTarget}
 use Rattle.text_line.specs.declared.form.JumpTarget.TheVariants as target
+use Rattle.text_line.specs.declared.form.Operation.{Operation}
+use Rattle.text_line.specs.declared.form.Operation.TheVariants as operation
+use Rattle.text_line.specs.declared.form.Access.TheVariants as access
+use Rattle.text_line.specs.declared.form.Address.{Address}
+use Rattle.text_line.specs.declared.form.WideValue.{WideValue}
+use Rattle.text_line.specs.declared.form.WideValue.TheVariants as value
+use Rattle.text_line.specs.declared.form.Form.{Form}
+use Rattle.text_line.specs.declared.form.Form.TheVariants as form
 use Rattle.text_line.specs.Names.{register_name, sign_name}
-use Rattle.text_line.specs.Form.{TokenLayout, layout, sign, word, reg, space, constant, operand_layout, destination, address, IsSource}
-use Rattle.text_line.specs.Line.{code, IsWellFormed}
+use Rattle.text_line.specs.Form.{TokenLayout, layout, operation_layout, value_layout, sign, word, reg, space, minus, constant, operand_layout, destination, address, IsSource, IsOperation, IsForm, to_label, names_label}
+use Rattle.text_line.specs.Ranges.{is_at_most, imm_fits, offset_fits, next_imm_fits, source_fits, target_fits, form_fits}
 use Rattle.text_line.specs.Token.{number}
-use Rattle.text_line.specs.Written.{number_of, source_of, written, printed_insn}
-use Rattle.text_line.specs.Law.{IsPrinted}
+use Rattle.text_line.specs.Written.{source_of, written, printed_insn}
+use Rattle.text_line.specs.Law.{IsPrinted, IsWrittenInRange}
 use Rattle.text_line.proofs.Fronts.{is_long_name}
 use Rattle.text_line.proofs.Layouts.{IsApart, is_sign, ends_word, ends_sign, laid_tokens, laid_ascii, laid_one_line}
+use Rattle.text_line.proofs.Grammar.{no_label}
 use Rattle.text_line.proofs.Spelled.{above_ten}
 
 -- ---- names
@@ -80,97 +93,109 @@ register_word _ _ fits = refl
 abbrev Follows : TokenLayout → Type 0
 Follows rest = (ends_word rest ≡ true) × IsApart rest
 
-register_apart : (wide : Bool) (r : ℕ) (rest : TokenLayout) → r ≤ 10 → Follows rest → IsApart (reg wide r ∷ rest)
-register_apart wide r rest fits h = (register_word wide r fits, h.0, h.1)
+-- a number that is at most `most`
+number_apart : (most : ℕ) (n : Option ℕ) (rest : TokenLayout) → most < 2 ^ 64 → is_at_most most n ≡ true → Follows rest → IsApart (Some (number n) ∷ rest)
+number_apart most None rest small fits h = absurd (false≢true fits)
+number_apart most (Some n) rest small fits h = (omega (arith, leb-true n most fits), h.0, h.1)
 
--- the two widths of numbers in an instruction
-abbrev Fits : ℤ → Type 0
-Fits (pos n) = n < 2 ^ 64
-Fits (negsuc n) = suc n < 2 ^ 64
+imm_apart : (negative : Bool) (n : Option ℕ) (rest : TokenLayout) → is_at_most (cond negative 2147483648 2147483647) n ≡ true → Follows rest → IsApart (Some (number n) ∷ rest)
+imm_apart true n rest fits h = number_apart 2147483648 n rest (lit< tt) fits h
+imm_apart false n rest fits h = number_apart 2147483647 n rest (lit< tt) fits h
 
-fits_16 : (z : ℤ) → FitsSigned w16 z → Fits z
-fits_16 (pos n) h = omega (arith, ints)
-fits_16 (negsuc n) h = omega (arith, ints)
+offset_apart : (negative : Bool) (n : Option ℕ) (rest : TokenLayout) → is_at_most (cond negative 32768 32767) n ≡ true → Follows rest → IsApart (Some (number n) ∷ rest)
+offset_apart true n rest fits h = number_apart 32768 n rest (lit< tt) fits h
+offset_apart false n rest fits h = number_apart 32767 n rest (lit< tt) fits h
 
-fits_32 : (z : ℤ) → FitsSigned w32 z → Fits z
-fits_32 (pos n) h = omega (arith, ints)
-fits_32 (negsuc n) h = omega (arith, ints)
+minus_apart : (negative : Bool) (l : TokenLayout) → ends_sign l ≡ true → IsApart l → IsApart (minus negative l)
+minus_apart true l ends h = (refl, ends, h)
+minus_apart false l ends h = h
 
-constant_apart : (z : ℤ) (rest : TokenLayout) → Fits z → Follows rest → IsApart (constant (number_of z) rest)
-constant_apart (pos n) rest fits h = (fits, h.0, h.1)
-constant_apart (negsuc n) rest fits h = (refl, refl, (fits, h.0, h.1))
+constant_apart : (n : Number) (rest : TokenLayout) → imm_fits n ≡ true → Follows rest → IsApart (constant n rest)
+constant_apart n rest fits h = minus_apart n.negative (Some (number n.magnitude) ∷ rest) refl (imm_apart n.negative n.magnitude rest fits h)
 
-operand_apart : (wide : Bool) (src : Operand) (rest : TokenLayout) → IsOperand src → Follows rest → IsApart (operand_layout wide (source_of src) rest)
-operand_apart wide (Imm z) rest fits h = constant_apart z rest (fits_32 z fits) h
-operand_apart wide (Reg r) rest fits h = register_apart wide r rest fits h
+operand_apart : (wide : Bool) (src : SourceOperand) (rest : TokenLayout) → IsSource src → source_fits src ≡ true → Follows rest → IsApart (operand_layout wide src rest)
+operand_apart wide (source.Number n) rest s fits h = constant_apart n rest fits h
+operand_apart wide (source.Reg r) rest s fits h = (register_word wide r s, h.0, h.1)
 
--- a sign, a number, and the rest
-signed_apart : (z : ℤ) (rest : TokenLayout) → Fits z → Follows rest → IsApart (sign (sign_name (number_of z).negative) ∷ Some (number (number_of z).magnitude) ∷ rest)
-signed_apart (pos n) rest fits h = (refl, refl, (fits, h.0, h.1))
-signed_apart (negsuc n) rest fits h = (refl, refl, (fits, h.0, h.1))
+-- with its number in range, and no label
+destination_apart : (long : Bool) (to : JumpTarget) → target_fits long to ≡ true → to_label to ≡ false → IsApart (destination to [])
+destination_apart true (target.Number n) fits none = (sign_sign n.negative, refl, imm_apart n.negative n.magnitude [] fits (refl, tt))
+destination_apart false (target.Number n) fits none = (sign_sign n.negative, refl, offset_apart n.negative n.magnitude [] fits (refl, tt))
+destination_apart long target.Label fits none = absurd (false≢true (sym none))
 
-spaced_apart : (z : ℤ) (rest : TokenLayout) → Fits z → Follows rest → IsApart (sign (sign_name (number_of z).negative) ∷ space ∷ Some (number (number_of z).magnitude) ∷ rest)
-spaced_apart (pos n) rest fits h = (refl, refl, (fits, h.0, h.1))
-spaced_apart (negsuc n) rest fits h = (refl, refl, (fits, h.0, h.1))
+address_apart : (signed : Bool) (s : AccessSize) (at : Address) (rest : TokenLayout) → at.base ≤ 10 → offset_fits at.offset ≡ true → ends_sign rest ≡ true → IsApart rest → IsApart (address (size_name signed s) at rest)
+address_apart signed s at rest base fits ends h =
+    let digits : IsApart (Some (number at.offset.magnitude) ∷ sign (codes ")") ∷ rest) = offset_apart at.offset.negative at.offset.magnitude (sign (codes ")") ∷ rest) fits (refl, (refl, ends, h)) in
+    (refl, refl, (refl, refl, (size_word signed s, refl, (refl, refl, (refl, refl, (refl, refl, (register_word true at.base base, refl, (sign_sign at.offset.negative, refl, digits))))))))
 
-destination_apart : (z : ℤ) → Fits z → IsApart (destination (target.Number (number_of z)) [])
-destination_apart z fits = signed_apart z [] fits (refl, tt)
+-- ---- forms: registers up to 10, and numbers in range
 
-address_apart : (signed : Bool) (s : AccessSize) (base : ℕ) (z : ℤ) (rest : TokenLayout) → base ≤ 10 → Fits z → ends_sign rest ≡ true → IsApart rest → IsApart (address (size_name signed s) base (number_of z) rest)
-address_apart signed s base z rest base_fits fits ends h =
-    let offset : IsApart (sign (sign_name (number_of z).negative) ∷ space ∷ Some (number (number_of z).magnitude) ∷ sign (codes ")") ∷ rest) = spaced_apart z (sign (codes ")") ∷ rest) fits (refl, (refl, ends, h)) in
-    let place : IsApart (reg true base ∷ space ∷ sign (sign_name (number_of z).negative) ∷ space ∷ Some (number (number_of z).magnitude) ∷ sign (codes ")") ∷ rest) = (register_word true base base_fits, refl, offset) in
-    (refl, refl, (refl, refl, (size_word signed s, refl, (refl, refl, (refl, refl, (refl, refl, place))))))
+operation_apart : (wide : Bool) (dst : ℕ) (o : Operation) → dst ≤ 10 → IsOperation wide o → form_fits (form.Operation wide dst o) ≡ true → IsApart (operation_layout wide dst o)
+operation_apart wide dst (operation.Binary op src) d h fits = (alu_sign op, refl, operand_apart wide src [] h fits (refl, tt))
+operation_apart wide dst (operation.SignExtend from src) d h fits = (refl, refl, (refl, refl, (narrow_word from, refl, (refl, refl, (register_word wide src h.0, refl, tt)))))
+operation_apart wide dst operation.Neg d h fits = (refl, refl, (refl, refl, (register_word wide dst d, refl, tt)))
+operation_apart wide dst (operation.End how bits) d h fits = (refl, refl, (order_word how bits, refl, (register_word wide dst d, refl, tt)))
 
--- ---- forms
+-- a constant is below 2 ^ 64
+abbrev IsShortForm : Form → Type 0
+IsShortForm (form.WideLoad dst (value.Number (Some n))) = n < 2 ^ 64
+IsShortForm _ = Unit {0}
 
-pub printed_apart : (i : Insn) → IsInsn i → IsApart (layout (written i) [])
-printed_apart (Alu wide op dst src) h = (register_word wide dst h.0, refl, (alu_sign op, refl, operand_apart wide src [] h.1 (refl, tt)))
-printed_apart (Movsx m) h = (register_word m.wide m.dst h.0, refl, (refl, refl, (refl, refl, (narrow_word m.bits, refl, (refl, refl, (register_word m.wide m.src h.1, refl, tt))))))
-printed_apart (Neg wide dst) h = (register_word wide dst h, refl, (refl, refl, (refl, refl, (register_word wide dst h, refl, tt))))
-printed_apart (End how width dst) h = (register_word true dst h, refl, (refl, refl, (order_word how width, refl, (register_word true dst h, refl, tt))))
-printed_apart (Ja off) h = (refl, refl, destination_apart off (fits_16 off h))
-printed_apart (Jal off) h = (refl, refl, destination_apart off (fits_32 off h))
-printed_apart (Jump wide cond dst src off) h = (refl, refl, (register_word wide dst h.0, refl, (condition_sign cond, refl, operand_apart wide src (space ∷ word (codes "goto") ∷ space ∷ destination (target.Number (number_of off)) []) h.1 (refl, (refl, refl, destination_apart off (fits_16 off h.2))))))
-printed_apart (Call id) h = (refl, refl, constant_apart id [] (fits_32 id h) (refl, tt))
-printed_apart Exit h = (refl, refl, tt)
-printed_apart (Load l) h = (register_word true l.dst h.0, refl, (refl, refl, address_apart l.signed l.size l.src l.off [] h.1 (fits_16 l.off h.2) refl tt))
-printed_apart (Store s dst src off) h = address_apart false s dst off (space ∷ sign (codes "=") ∷ space ∷ operand_layout true (source_of src) []) h.0 (fits_16 off h.2) refl (refl, refl, operand_apart true src [] h.1 (refl, tt))
-printed_apart (Atomic size op dst src off) h = (refl, refl, address_apart false (access_size size) dst off (space ∷ sign (atomic_symbol op) ∷ space ∷ reg true src ∷ []) h.0 (fits_16 off h.2) refl (atomic_sign op, refl, register_apart true src [] h.1 (refl, tt)))
-printed_apart (Const dst value) h = (register_word true dst h.0, refl, (refl, refl, (h.1, refl, (refl, refl, tt))))
-printed_apart (MapFd dst fd) h = (register_word true dst h.0, refl, (refl, refl, (refl, refl, constant_apart fd (space ∷ word (codes "ll") ∷ []) (fits_32 fd h.1) (refl, (refl, refl, tt)))))
-printed_apart (MapValue dst fd off) h =
-    let number_apart : IsApart (Some (number (Some off)) ∷ space ∷ word (codes "ll") ∷ []) = (omega (arith, h.2), refl, (refl, refl, tt)) in
-    let offset : IsApart (space ∷ sign (codes "+") ∷ space ∷ Some (number (Some off)) ∷ space ∷ word (codes "ll") ∷ []) = (refl, refl, number_apart) in
-    (register_word true dst h.0, refl, (refl, refl, (refl, refl, constant_apart fd (space ∷ sign (codes "+") ∷ space ∷ Some (number (Some off)) ∷ space ∷ word (codes "ll") ∷ []) (fits_32 fd h.1) (refl, offset))))
+value_apart : (dst : ℕ) (v : WideValue) (rest : TokenLayout) → IsShortForm (form.WideLoad dst v) → form_fits (form.WideLoad dst v) ≡ true → Follows rest → IsApart (value_layout v rest)
+value_apart dst (value.Number None) rest k fits h = absurd (false≢true fits)
+value_apart dst (value.Number (Some n)) rest k fits h = (k, h.0, h.1)
+value_apart dst (value.MapFd fd) rest k fits h = (refl, refl, constant_apart fd rest fits h)
+value_apart dst (value.MapValue fd off) rest k fits h =
+    let both = and_parts (imm_fits fd) (next_imm_fits off) fits in
+    (refl, refl, constant_apart fd (space ∷ sign (codes "+") ∷ space ∷ Some (number off) ∷ rest) both.0 (refl, (refl, refl, number_apart 4294967295 off rest (lit< tt) both.1 h)))
+
+form_apart : (f : Form) → IsForm f → IsShortForm f → form_fits f ≡ true → names_label f ≡ false → IsApart (layout f [])
+form_apart (form.Operation wide dst o) h k fits none = (register_word wide dst h.0, refl, operation_apart wide dst o h.0 h.1 fits)
+form_apart (form.Jump true to) h k fits none = (refl, refl, destination_apart true to fits none)
+form_apart (form.Jump false to) h k fits none = (refl, refl, destination_apart false to fits none)
+form_apart (form.Branch wide cond dst src to) h k fits none =
+    let both = and_parts (source_fits src) (target_fits false to) fits in
+    (refl, refl, (register_word wide dst h.0, refl, (condition_sign cond, refl, operand_apart wide src (space ∷ word (codes "goto") ∷ space ∷ destination to []) h.1 both.0 (refl, (refl, refl, destination_apart false to both.1 none)))))
+form_apart (form.Access (access.Load size signed dst) at) h k fits none = (register_word true dst h.1.0, refl, (refl, refl, address_apart signed size at [] h.0 fits refl tt))
+form_apart (form.Access (access.Store size src) at) h k fits none =
+    let both = and_parts (source_fits src) (offset_fits at.offset) fits in
+    address_apart false size at (space ∷ sign (codes "=") ∷ space ∷ operand_layout true src []) h.0 both.1 refl (refl, refl, operand_apart true src [] h.1 both.0 (refl, tt))
+form_apart (form.Access (access.Atomic size op src) at) h k fits none =
+    (refl, refl, address_apart false (access_size size) at (space ∷ sign (atomic_symbol op) ∷ space ∷ reg true src ∷ []) h.0 fits refl (atomic_sign op, refl, (register_word true src h.1, refl, tt)))
+form_apart (form.WideLoad dst v) h k fits none = (register_word true dst h, refl, (refl, refl, value_apart dst v (space ∷ word (codes "ll") ∷ []) k fits (refl, (refl, refl, tt))))
+form_apart (form.Call id) h k fits none = (refl, refl, constant_apart id [] fits (refl, tt))
+form_apart form.Exit h k fits none = (refl, refl, tt)
+
+-- ---- instructions
 
 is_source : (src : Operand) → IsOperand src → IsSource (source_of src)
 is_source (Imm z) h = tt
 is_source (Reg r) h = h
 
-is_form : (i : Insn) → IsInsn i → IsWellFormed (code (written i) [])
-is_form (Alu wide op dst src) h = ((h.0, is_source src h.1), refl)
-is_form (Movsx m) h = ((h.0, h.1, m.listed), refl)
-is_form (Neg wide dst) h = (h, refl)
-is_form (End how width dst) h = (h, refl)
-is_form (Ja off) h = (tt, refl)
-is_form (Jal off) h = (tt, refl)
-is_form (Jump wide cond dst src off) h = ((h.0, is_source src h.1), refl)
-is_form (Call id) h = (tt, refl)
-is_form Exit h = (tt, refl)
-is_form (Load l) h = ((h.0, h.1, l.listed), refl)
-is_form (Store s dst src off) h = ((h.0, is_source src h.1), refl)
-is_form (Atomic size op dst src off) h = ((h.0, h.1), refl)
-is_form (Const dst value) h = (h.0, refl)
-is_form (MapFd dst fd) h = (h.0, refl)
-is_form (MapValue dst fd off) h = (h.0, refl)
+is_form : (i : Insn) → IsInsn i → IsForm (written i)
+is_form (Alu wide op dst src) h = (h.0, is_source src h.1)
+is_form (Movsx m) h = (h.0, (h.1, m.listed))
+is_form (Neg wide dst) h = (h, tt)
+is_form (End how bits dst) h = (h, refl)
+is_form (Jump wide condition dst src off) h = (h.0, is_source src h.1)
+is_form (Load l) h = (h.1, (h.0, l.listed))
+is_form (Store size dst src off) h = (h.0, is_source src h.1)
+is_form (Atomic size op dst src off) h = (h.0, h.1)
+is_form (Const dst n) h = h.0
+is_form (MapFd dst fd) h = h.0
+is_form (MapValue dst fd off) h = h.0
+is_form _ h = tt
 
-pub printed : (i : Insn) → IsInsn i → IsPrinted i
+is_short_form : (i : Insn) → IsInsn i → IsShortForm (written i)
+is_short_form (Const dst n) h = h.1
+is_short_form _ h = tt
+
+pub printed : (i : Insn) → IsInsn i → IsWrittenInRange i → IsPrinted i
 unfolding printed_insn
-printed i h =
-    let apart = printed_apart i h in
+printed i h range =
+    let apart = form_apart (written i) (is_form i h) (is_short_form i h) range.fits range.no_label in
     let l : TokenLayout = layout (written i) [] in
     record {
       one_line = laid_one_line l apart;
-      read = (is_form i h, (laid_ascii l apart, laid_tokens l apart));
+      read = ((is_form i h, no_label (names_label (written i))), (laid_ascii l apart, laid_tokens l apart));
     }

@@ -12,10 +12,17 @@ use Rattle.text_line.specs.declared.form.SourceOperand.{SourceOperand}
 use Rattle.text_line.specs.declared.form.SourceOperand.TheVariants as source
 use Rattle.text_line.specs.declared.form.JumpTarget.{JumpTarget}
 use Rattle.text_line.specs.declared.form.JumpTarget.TheVariants as target
+use Rattle.text_line.specs.declared.form.Operation.{Operation}
+use Rattle.text_line.specs.declared.form.Operation.TheVariants as operation
+use Rattle.text_line.specs.declared.form.Access.{Access}
+use Rattle.text_line.specs.declared.form.Access.TheVariants as access
+use Rattle.text_line.specs.declared.form.Address.{Address}
+use Rattle.text_line.specs.declared.form.WideValue.{WideValue}
+use Rattle.text_line.specs.declared.form.WideValue.TheVariants as value
 use Rattle.text_line.specs.declared.form.Form.{Form}
-use Rattle.text_line.specs.declared.form.Form.TheVariants.{Alu, Movsx, Neg, End, Ja, Jal, Jump, Call, Exit, Load, Store, Atomic, Const, MapFd, MapValue}
+use Rattle.text_line.specs.declared.form.Form.TheVariants as form
 use Rattle.text_line.specs.Token.{Token, name, number, symbol}
-use Rattle.text_line.specs.Names.{register_name, sign_name}
+use Rattle.text_line.specs.Names.{register_name, sign_name, jump_name}
 
 -- A line is laid out as tokens and single spaces (`None`). On reading, any blanks may be between tokens.
 abbrev pub TokenLayout : Type 0
@@ -52,28 +59,36 @@ abbrev pub destination : JumpTarget → List ℕ → TokenLayout
 destination (target.Number n) label = sign (sign_name n.negative) ∷ Some (number n.magnitude) ∷ []
 destination target.Label label = word label ∷ []
 
-abbrev pub address : List ℕ → ℕ → Number → TokenLayout → TokenLayout
-address size base offset rest =
+-- a memory operand, by the name of its size
+abbrev pub address : List ℕ → Address → TokenLayout → TokenLayout
+address size at rest =
     sign (codes "*") ∷ sign (codes "(") ∷ word size ∷ space ∷ sign (codes "*") ∷ sign (codes ")")
-    ∷ sign (codes "(") ∷ reg true base ∷ space ∷ sign (sign_name offset.negative) ∷ space ∷ Some (number offset.magnitude) ∷ sign (codes ")") ∷ rest
+    ∷ sign (codes "(") ∷ reg true at.base ∷ space ∷ sign (sign_name at.offset.negative) ∷ space ∷ Some (number at.offset.magnitude) ∷ sign (codes ")") ∷ rest
+
+-- what follows the destination of an operation
+abbrev pub operation_layout : Bool → ℕ → Operation → TokenLayout
+operation_layout wide dst (operation.Binary op src) = sign (alu_symbol op) ∷ space ∷ operand_layout wide src []
+operation_layout wide dst (operation.SignExtend from src) = sign (codes "=") ∷ space ∷ sign (codes "(") ∷ word (narrow_name from) ∷ sign (codes ")") ∷ reg wide src ∷ []
+operation_layout wide dst operation.Neg = sign (codes "=") ∷ space ∷ sign (codes "-") ∷ reg wide dst ∷ []
+operation_layout wide dst (operation.End how bits) = sign (codes "=") ∷ space ∷ word (order_name how bits) ∷ space ∷ reg wide dst ∷ []
+
+-- the value of a wide load
+abbrev pub value_layout : WideValue → TokenLayout → TokenLayout
+value_layout (value.Number n) rest = Some (number n) ∷ rest
+value_layout (value.MapFd fd) rest = word (codes "map_fd") ∷ space ∷ constant fd rest
+value_layout (value.MapValue fd off) rest = word (codes "map_value") ∷ space ∷ constant fd (space ∷ sign (codes "+") ∷ space ∷ Some (number off) ∷ rest)
 
 -- the table: a line for each form, with the label that its jump names, if it names one
 abbrev pub layout : Form → List ℕ → TokenLayout
-layout (Alu wide op dst src) label = reg wide dst ∷ space ∷ sign (alu_symbol op) ∷ space ∷ operand_layout wide src []
-layout (Movsx wide bits dst src) label = reg wide dst ∷ space ∷ sign (codes "=") ∷ space ∷ sign (codes "(") ∷ word (narrow_name bits) ∷ sign (codes ")") ∷ reg wide src ∷ []
-layout (Neg wide dst) label = reg wide dst ∷ space ∷ sign (codes "=") ∷ space ∷ sign (codes "-") ∷ reg wide dst ∷ []
-layout (End how bits dst) label = reg true dst ∷ space ∷ sign (codes "=") ∷ space ∷ word (order_name how bits) ∷ space ∷ reg true dst ∷ []
-layout (Ja to) label = word (codes "goto") ∷ space ∷ destination to label
-layout (Jal to) label = word (codes "gotol") ∷ space ∷ destination to label
-layout (Jump wide cond dst src to) label = word (codes "if") ∷ space ∷ reg wide dst ∷ space ∷ sign (condition_symbol cond) ∷ space ∷ operand_layout wide src (space ∷ word (codes "goto") ∷ space ∷ destination to label)
-layout (Call id) label = word (codes "call") ∷ space ∷ constant id []
-layout Exit label = word (codes "exit") ∷ []
-layout (Load size signed dst src offset) label = reg true dst ∷ space ∷ sign (codes "=") ∷ space ∷ address (size_name signed size) src offset []
-layout (Store size dst src offset) label = address (size_name false size) dst offset (space ∷ sign (codes "=") ∷ space ∷ operand_layout true src [])
-layout (Atomic size op dst src offset) label = word (codes "lock") ∷ space ∷ address (size_name false (access_size size)) dst offset (space ∷ sign (atomic_symbol op) ∷ space ∷ reg true src ∷ [])
-layout (Const dst value) label = reg true dst ∷ space ∷ sign (codes "=") ∷ space ∷ Some (number value) ∷ space ∷ word (codes "ll") ∷ []
-layout (MapFd dst fd) label = reg true dst ∷ space ∷ sign (codes "=") ∷ space ∷ word (codes "map_fd") ∷ space ∷ constant fd (space ∷ word (codes "ll") ∷ [])
-layout (MapValue dst fd off) label = reg true dst ∷ space ∷ sign (codes "=") ∷ space ∷ word (codes "map_value") ∷ space ∷ constant fd (space ∷ sign (codes "+") ∷ space ∷ Some (number off) ∷ space ∷ word (codes "ll") ∷ [])
+layout (form.Operation wide dst o) label = reg wide dst ∷ space ∷ operation_layout wide dst o
+layout (form.Jump long to) label = word (jump_name long) ∷ space ∷ destination to label
+layout (form.Branch wide cond dst src to) label = word (codes "if") ∷ space ∷ reg wide dst ∷ space ∷ sign (condition_symbol cond) ∷ space ∷ operand_layout wide src (space ∷ word (codes "goto") ∷ space ∷ destination to label)
+layout (form.Access (access.Load size signed dst) at) label = reg true dst ∷ space ∷ sign (codes "=") ∷ space ∷ address (size_name signed size) at []
+layout (form.Access (access.Store size src) at) label = address (size_name false size) at (space ∷ sign (codes "=") ∷ space ∷ operand_layout true src [])
+layout (form.Access (access.Atomic size op src) at) label = word (codes "lock") ∷ space ∷ address (size_name false (access_size size)) at (space ∷ sign (atomic_symbol op) ∷ space ∷ reg true src ∷ [])
+layout (form.WideLoad dst v) label = reg true dst ∷ space ∷ sign (codes "=") ∷ space ∷ value_layout v (space ∷ word (codes "ll") ∷ [])
+layout (form.Call id) label = word (codes "call") ∷ space ∷ constant id []
+layout form.Exit label = word (codes "exit") ∷ []
 
 -- without the spaces
 abbrev pub tokens_of : TokenLayout → List Token
@@ -81,23 +96,28 @@ tokens_of [] = []
 tokens_of (None ∷ rest) = tokens_of rest
 tokens_of (Some t ∷ rest) = t ∷ tokens_of rest
 
--- the values of the type that are forms: registers up to 10, sign extension from fewer bits than the register has
+-- the values of the types that are forms: registers up to 10, sign extension from fewer bits than the register has, a byte-order
+-- conversion of 64 bits, a load without sign extension of a double word
 abbrev pub IsSource : SourceOperand → Type 0
 IsSource (source.Number n) = Unit {0}
 IsSource (source.Reg r) = r ≤ 10
 
+abbrev pub IsOperation : Bool → Operation → Type 0
+IsOperation wide (operation.Binary op src) = IsSource src
+IsOperation wide (operation.SignExtend from src) = (src ≤ 10) × IsTrue (wide || is_short from)
+IsOperation wide operation.Neg = Unit {0}
+IsOperation wide (operation.End how bits) = IsTrue wide
+
+abbrev pub IsAccess : Access → Type 0
+IsAccess (access.Load size signed dst) = (dst ≤ 10) × IsTrue (not (signed && is_double size))
+IsAccess (access.Store size src) = IsSource src
+IsAccess (access.Atomic size op src) = src ≤ 10
+
 abbrev pub IsForm : Form → Type 0
-IsForm (Alu wide op dst src) = (dst ≤ 10) × IsSource src
-IsForm (Movsx wide bits dst src) = (dst ≤ 10) × (src ≤ 10) × IsTrue (wide || is_short bits)
-IsForm (Neg wide dst) = dst ≤ 10
-IsForm (End how bits dst) = dst ≤ 10
-IsForm (Jump wide cond dst src to) = (dst ≤ 10) × IsSource src
-IsForm (Load size signed dst src offset) = (dst ≤ 10) × (src ≤ 10) × IsTrue (not (signed && is_double size))
-IsForm (Store size dst src offset) = (dst ≤ 10) × IsSource src
-IsForm (Atomic size op dst src offset) = (dst ≤ 10) × (src ≤ 10)
-IsForm (Const dst value) = dst ≤ 10
-IsForm (MapFd dst fd) = dst ≤ 10
-IsForm (MapValue dst fd off) = dst ≤ 10
+IsForm (form.Operation wide dst o) = (dst ≤ 10) × IsOperation wide o
+IsForm (form.Branch wide cond dst src to) = (dst ≤ 10) × IsSource src
+IsForm (form.Access a at) = (at.base ≤ 10) × IsAccess a
+IsForm (form.WideLoad dst v) = dst ≤ 10
 IsForm _ = Unit {0}
 
 -- whether its jump names a label
@@ -106,7 +126,6 @@ to_label (target.Number n) = false
 to_label target.Label = true
 
 abbrev pub names_label : Form → Bool
-names_label (Ja to) = to_label to
-names_label (Jal to) = to_label to
-names_label (Jump wide cond dst src to) = to_label to
+names_label (form.Jump long to) = to_label to
+names_label (form.Branch wide cond dst src to) = to_label to
 names_label _ = false

@@ -1,4 +1,4 @@
--- How registers and signs are written. This project's own.
+-- How registers, signs and jumps are written. This project's own.
 use Rattle.std.specs.Prelude.{ℕ, ◌+◌, ◌==◌, Bool, true, false, List, [], ◌∷◌, codes, if◌then◌else◌}
 
 -- a register's 64 bits, or its low half
@@ -12,3 +12,8 @@ register_name wide r = register_letter wide ∷ (if r == 10 then 49 ∷ 48 ∷ [
 abbrev pub sign_name : Bool → List ℕ
 sign_name true = codes "-"
 sign_name false = codes "+"
+
+-- a jump, and a long one
+abbrev pub jump_name : Bool → List ℕ
+jump_name false = codes "goto"
+jump_name true = codes "gotol"

@@ -6,8 +6,12 @@ use Rattle.text_line.specs.declared.form.SourceOperand.{SourceOperand}
 use Rattle.text_line.specs.declared.form.SourceOperand.TheVariants as source
 use Rattle.text_line.specs.declared.form.JumpTarget.{JumpTarget}
 use Rattle.text_line.specs.declared.form.JumpTarget.TheVariants as target
+use Rattle.text_line.specs.declared.form.Operation.TheVariants as operation
+use Rattle.text_line.specs.declared.form.Access.TheVariants as access
+use Rattle.text_line.specs.declared.form.Address.{Address}
+use Rattle.text_line.specs.declared.form.WideValue.TheVariants as value
 use Rattle.text_line.specs.declared.form.Form.{Form}
-use Rattle.text_line.specs.declared.form.Form.TheVariants.{Alu, Ja, Jal, Jump, Call, Load, Store, Atomic, Const, MapFd, MapValue}
+use Rattle.text_line.specs.declared.form.Form.TheVariants as form
 use Rattle.text_line.specs.Written.{number_of}
 
 -- ---- ranges
@@ -31,27 +35,22 @@ abbrev pub source_fits : SourceOperand → Bool
 source_fits (source.Number n) = imm_fits n
 source_fits (source.Reg r) = true
 
-abbrev pub target_fits : JumpTarget → Bool
-target_fits (target.Number n) = offset_fits n
-target_fits target.Label = true
-
-abbrev pub long_target_fits : JumpTarget → Bool
-long_target_fits (target.Number n) = imm_fits n
-long_target_fits target.Label = true
+-- the target of a jump, or of a long one
+abbrev pub target_fits : Bool → JumpTarget → Bool
+target_fits long (target.Number n) = if long then imm_fits n else offset_fits n
+target_fits long target.Label = true
 
 -- each number of a form is in its range
 abbrev pub form_fits : Form → Bool
-form_fits (Alu wide op dst src) = source_fits src
-form_fits (Ja to) = target_fits to
-form_fits (Jal to) = long_target_fits to
-form_fits (Jump wide cond dst src to) = source_fits src && target_fits to
-form_fits (Call id) = imm_fits id
-form_fits (Load size signed dst src offset) = offset_fits offset
-form_fits (Store size dst src offset) = source_fits src && offset_fits offset
-form_fits (Atomic size op dst src offset) = offset_fits offset
-form_fits (Const dst value) = is_some value
-form_fits (MapFd dst fd) = imm_fits fd
-form_fits (MapValue dst fd off) = imm_fits fd && next_imm_fits off
+form_fits (form.Operation wide dst (operation.Binary op src)) = source_fits src
+form_fits (form.Jump long to) = target_fits long to
+form_fits (form.Branch wide cond dst src to) = source_fits src && target_fits false to
+form_fits (form.Access (access.Store size src) at) = source_fits src && offset_fits at.offset
+form_fits (form.Access a at) = offset_fits at.offset
+form_fits (form.WideLoad dst (value.Number n)) = is_some n
+form_fits (form.WideLoad dst (value.MapFd fd)) = imm_fits fd
+form_fits (form.WideLoad dst (value.MapValue fd off)) = imm_fits fd && next_imm_fits off
+form_fits (form.Call id) = imm_fits id
 form_fits _ = true
 
 -- ---- labels, as numbers
@@ -68,6 +67,19 @@ abbrev pub normal_source : SourceOperand → SourceOperand
 normal_source (source.Number n) = source.Number (normal n)
 normal_source (source.Reg r) = source.Reg r
 
+abbrev pub normal_address : Address → Address
+normal_address at = record { base = at.base; offset = normal at.offset }
+
+-- a form with a minus only before negative numbers
+abbrev pub normal_form : Form → Form
+normal_form (form.Operation wide dst (operation.Binary op src)) = form.Operation wide dst (operation.Binary op (normal_source src))
+normal_form (form.Access (access.Store size src) at) = form.Access (access.Store size (normal_source src)) (normal_address at)
+normal_form (form.Access a at) = form.Access a (normal_address at)
+normal_form (form.WideLoad dst (value.MapFd fd)) = form.WideLoad dst (value.MapFd (normal fd))
+normal_form (form.WideLoad dst (value.MapValue fd off)) = form.WideLoad dst (value.MapValue (normal fd) off)
+normal_form (form.Call id) = form.Call (normal id)
+normal_form f = f
+
 -- a label is replaced by its distance
 abbrev pub placed : ℤ → JumpTarget → JumpTarget
 placed distance (target.Number n) = target.Number (normal n)
@@ -75,21 +87,11 @@ placed distance target.Label = target.Number (number_of distance)
 
 -- the form with its label replaced, and with a minus only before negative numbers
 abbrev pub resolved : ℤ → Form → Form
-resolved distance (Alu wide op dst src) = Alu wide op dst (normal_source src)
-resolved distance (Ja to) = Ja (placed distance to)
-resolved distance (Jal to) = Jal (placed distance to)
-resolved distance (Jump wide cond dst src to) = Jump wide cond dst (normal_source src) (placed distance to)
-resolved distance (Call id) = Call (normal id)
-resolved distance (Load size signed dst src offset) = Load size signed dst src (normal offset)
-resolved distance (Store size dst src offset) = Store size dst (normal_source src) (normal offset)
-resolved distance (Atomic size op dst src offset) = Atomic size op dst src (normal offset)
-resolved distance (MapFd dst fd) = MapFd dst (normal fd)
-resolved distance (MapValue dst fd off) = MapValue dst (normal fd) off
-resolved distance form = form
+resolved distance (form.Jump long to) = form.Jump long (placed distance to)
+resolved distance (form.Branch wide cond dst src to) = form.Branch wide cond dst (normal_source src) (placed distance to)
+resolved distance f = normal_form f
 
 -- the number of slots of a form's instruction
 abbrev pub form_slots : Form → ℕ
-form_slots (Const dst value) = 2
-form_slots (MapFd dst fd) = 2
-form_slots (MapValue dst fd off) = 2
+form_slots (form.WideLoad dst v) = 2
 form_slots _ = 1

@@ -10,6 +10,10 @@ use Rattle.text_line.specs.declared.form.Number.{Number}
 use Rattle.text_line.specs.declared.form.SourceOperand.{SourceOperand}
 use Rattle.text_line.specs.declared.form.SourceOperand.TheVariants as source
 use Rattle.text_line.specs.declared.form.JumpTarget.TheVariants as target
+use Rattle.text_line.specs.declared.form.Operation.TheVariants as operation
+use Rattle.text_line.specs.declared.form.Access.TheVariants as access
+use Rattle.text_line.specs.declared.form.Address.{Address}
+use Rattle.text_line.specs.declared.form.WideValue.TheVariants as value
 use Rattle.text_line.specs.declared.form.Form.{Form}
 use Rattle.text_line.specs.declared.form.Form.TheVariants as form
 use Rattle.text_line.specs.Token.{Token, name, number, symbol}
@@ -24,23 +28,26 @@ abbrev pub source_of : Operand → SourceOperand
 source_of (Imm z) = source.Number (number_of z)
 source_of (Reg r) = source.Reg r
 
+abbrev pub address_of : ℕ → ℤ → Address
+address_of base off = record { base = base; offset = number_of off }
+
 -- the written form of an instruction, without labels
 abbrev pub written : Insn → Form
-written (Alu wide op dst src) = form.Alu wide op dst (source_of src)
-written (Movsx m) = form.Movsx m.wide m.bits m.dst m.src
-written (Neg wide dst) = form.Neg wide dst
-written (End how width dst) = form.End how width dst
-written (Ja off) = form.Ja (target.Number (number_of off))
-written (Jal off) = form.Jal (target.Number (number_of off))
-written (Jump wide cond dst src off) = form.Jump wide cond dst (source_of src) (target.Number (number_of off))
+written (Alu wide op dst src) = form.Operation wide dst (operation.Binary op (source_of src))
+written (Movsx m) = form.Operation m.wide m.dst (operation.SignExtend m.bits m.src)
+written (Neg wide dst) = form.Operation wide dst operation.Neg
+written (End how bits dst) = form.Operation true dst (operation.End how bits)
+written (Ja off) = form.Jump false (target.Number (number_of off))
+written (Jal off) = form.Jump true (target.Number (number_of off))
+written (Jump wide cond dst src off) = form.Branch wide cond dst (source_of src) (target.Number (number_of off))
 written (Call id) = form.Call (number_of id)
 written Exit = form.Exit
-written (Load l) = form.Load l.size l.signed l.dst l.src (number_of l.off)
-written (Store size dst src off) = form.Store size dst (source_of src) (number_of off)
-written (Atomic size op dst src off) = form.Atomic size op dst src (number_of off)
-written (Const dst value) = form.Const dst (Some value)
-written (MapFd dst fd) = form.MapFd dst (number_of fd)
-written (MapValue dst fd off) = form.MapValue dst (number_of fd) (Some off)
+written (Load l) = form.Access (access.Load l.size l.signed l.dst) (address_of l.src l.off)
+written (Store size dst src off) = form.Access (access.Store size (source_of src)) (address_of dst off)
+written (Atomic size op dst src off) = form.Access (access.Atomic size op src) (address_of dst off)
+written (Const dst n) = form.WideLoad dst (value.Number (Some n))
+written (MapFd dst fd) = form.WideLoad dst (value.MapFd (number_of fd))
+written (MapValue dst fd off) = form.WideLoad dst (value.MapValue (number_of fd) (Some off))
 
 -- a token's bytes, its number in decimal
 abbrev pub lexeme : Token → List ℕ

@@ -1,17 +1,18 @@
-//! Written numbers as the fields of an instruction.
+//! The instruction of a form: written numbers as its fields.
 
 ghost use Rattle.std.specs.Prelude.{◌≡◌, IfSome, IfNone, Some, true, false};
-ghost use Rattle.text_line.specs.Ranges.{next_imm_fits};
+ghost use Rattle.text_line.specs.declared.form.JumpTarget.TheVariants as target;
+ghost use Rattle.text_line.specs.declared.form.Form.TheVariants as form;
+ghost use Rattle.text_line.specs.Form.{IsForm};
+ghost use Rattle.text_line.specs.Ranges.{imm_fits, offset_fits, next_imm_fits, source_fits, target_fits, form_fits, normal, normal_source, normal_form, placed, resolved};
+ghost use Rattle.text_line.specs.Written.{number_of, source_of, written};
 
-use crate::form::{JumpTarget, Number, SourceOperand};
-use insn_set::Operand;
+use crate::form::{Access, Address, Form, JumpTarget, Number, Operation, SourceOperand, WideValue};
+use insn_set::{Insn, Load, Movsx, Operand, Reg};
 
 impl Number {
-    ghost use Rattle.text_line.specs.Ranges.{imm_fits, offset_fits, normal};
-    ghost use Rattle.text_line.specs.Written.{number_of};
-
     /// The number as a signed 32-bit field; `None` if it is out of range.
-    pub(crate) fn imm(self) -> Option<i32>
+    fn imm(self) -> Option<i32>
         ensures found { IfSome result (λ n. number_of n ≡ normal self) }
         ensures fits { IfSome result (λ _. imm_fits self ≡ true) }
         ensures none { IfNone result (imm_fits self ≡ false) }
@@ -31,7 +32,7 @@ impl Number {
     }
 
     /// The number as a signed 16-bit field; `None` if it is out of range.
-    pub(crate) fn offset(self) -> Option<i16>
+    fn offset(self) -> Option<i16>
         ensures found { IfSome result (λ n. number_of n ≡ normal self) }
         ensures fits { IfSome result (λ _. offset_fits self ≡ true) }
         ensures none { IfNone result (offset_fits self ≡ false) }
@@ -52,7 +53,7 @@ impl Number {
 }
 
 /// A number without a sign as an unsigned 32-bit field; `None` if it is out of range.
-pub(crate) fn next_imm(magnitude: Option<u64>) -> Option<u32>
+fn next_imm(magnitude: Option<u64>) -> Option<u32>
     ensures found { IfSome result (λ n. Some n ≡ magnitude) }
     ensures fits { IfSome result (λ _. next_imm_fits magnitude ≡ true) }
     ensures none { IfNone result (next_imm_fits magnitude ≡ false) }
@@ -61,11 +62,8 @@ pub(crate) fn next_imm(magnitude: Option<u64>) -> Option<u32>
 }
 
 impl SourceOperand {
-    ghost use Rattle.text_line.specs.Ranges.{source_fits, normal_source};
-    ghost use Rattle.text_line.specs.Written.{source_of};
-
     /// The operand; `None` if its number is out of range.
-    pub(crate) fn operand(self) -> Option<Operand>
+    fn operand(self) -> Option<Operand>
         ensures found { IfSome result (λ src. source_of src ≡ normal_source self) }
         ensures fits { IfSome result (λ _. source_fits self ≡ true) }
         ensures none { IfNone result (source_fits self ≡ false) }
@@ -81,15 +79,11 @@ impl SourceOperand {
 }
 
 impl JumpTarget {
-    ghost use Rattle.text_line.specs.Ranges.{target_fits, long_target_fits, placed};
-    ghost use Rattle.text_line.specs.Written.{number_of};
-    ghost use Rattle.text_line.specs.declared.form.JumpTarget.TheVariants as target;
-
     /// The offset of a jump in slots: its number, or `distance` for a label. `None` if the number doesn't fit 16 bits.
-    pub(crate) fn offset(self, distance: i16) -> Option<i16>
+    fn offset(self, distance: i16) -> Option<i16>
         ensures found { IfSome result (λ n. target.Number (number_of n) ≡ placed distance self) }
-        ensures fits { IfSome result (λ _. target_fits self ≡ true) }
-        ensures none { IfNone result (target_fits self ≡ false) }
+        ensures fits { IfSome result (λ _. target_fits false self ≡ true) }
+        ensures none { IfNone result (target_fits false self ≡ false) }
     {
         match self {
             JumpTarget::Number(number) => number.offset(),
@@ -98,14 +92,160 @@ impl JumpTarget {
     }
 
     /// The offset of a long jump in slots: its number, or `distance` for a label. `None` if the number doesn't fit 32 bits.
-    pub(crate) fn long_offset(self, distance: i16) -> Option<i32>
+    fn long_offset(self, distance: i16) -> Option<i32>
         ensures found { IfSome result (λ n. target.Number (number_of n) ≡ placed distance self) }
-        ensures fits { IfSome result (λ _. long_target_fits self ≡ true) }
-        ensures none { IfNone result (long_target_fits self ≡ false) }
+        ensures fits { IfSome result (λ _. target_fits true self ≡ true) }
+        ensures none { IfNone result (target_fits true self ≡ false) }
     {
         match self {
             JumpTarget::Number(number) => number.imm(),
             JumpTarget::Label => Some(i32::from(distance)),
+        }
+    }
+}
+
+impl Operation {
+    /// The instruction of this operation on `dst`; `None` if its number is out of range.
+    fn insn(self, wide: bool, dst: Reg) -> Option<Insn>
+        requires { IsForm (form.Operation wide dst self) }
+        ensures found { IfSome result (λ insn. written insn
+            ≡ normal_form (form.Operation wide dst self)) }
+        ensures fits { IfSome result (λ _. form_fits (form.Operation wide dst self) ≡ true) }
+        ensures none { IfNone result (form_fits (form.Operation wide dst self) ≡ false) }
+    {
+        match self {
+            Operation::Binary { op, src } => {
+                let src = src.operand()?;
+                Some(Insn::Alu { wide, op, dst, src })
+            }
+            Operation::SignExtend { from, src } => {
+                Some(Insn::Movsx(Movsx {
+                    wide,
+                    bits: from,
+                    dst,
+                    src,
+                }))
+            }
+            Operation::Neg => Some(Insn::Neg { wide, dst }),
+            Operation::End { how, bits } => Some(Insn::End { how, bits, dst }),
+        }
+    }
+}
+
+impl Access {
+    /// The instruction of this access at an address; `None` if a number is out of range.
+    fn insn(self, address: Address) -> Option<Insn>
+        requires { IsForm (form.Access self address) }
+        ensures found { IfSome result (λ insn. written insn
+            ≡ normal_form (form.Access self address)) }
+        ensures fits { IfSome result (λ _. form_fits (form.Access self address) ≡ true) }
+        ensures none { IfNone result (form_fits (form.Access self address) ≡ false) }
+    {
+        let base = address.base;
+        let off = address.offset.offset()?;
+        match self {
+            Access::Load { size, signed, dst } => {
+                Some(Insn::Load(Load {
+                    size,
+                    signed,
+                    dst,
+                    src: base,
+                    off,
+                }))
+            }
+            Access::Store { size, src } => {
+                let src = src.operand()?;
+                Some(Insn::Store {
+                    size,
+                    dst: base,
+                    src,
+                    off,
+                })
+            }
+            Access::Atomic { size, op, src } => {
+                Some(Insn::Atomic {
+                    size,
+                    op,
+                    dst: base,
+                    src,
+                    off,
+                })
+            }
+        }
+    }
+}
+
+impl WideValue {
+    /// The instruction that loads this value into `dst`; `None` if a number is out of range.
+    fn insn(self, dst: Reg) -> Option<Insn>
+        ensures found { IfSome result (λ insn. written insn
+            ≡ normal_form (form.WideLoad dst self)) }
+        ensures fits { IfSome result (λ _. form_fits (form.WideLoad dst self) ≡ true) }
+        ensures none { IfNone result (form_fits (form.WideLoad dst self) ≡ false) }
+    {
+        match self {
+            WideValue::Number(value) => {
+                let value = value?;
+                Some(Insn::Const { dst, value })
+            }
+            WideValue::MapFd(fd) => {
+                let fd = fd.imm()?;
+                Some(Insn::MapFd { dst, fd })
+            }
+            WideValue::MapValue { fd, off } => {
+                let fd = fd.imm()?;
+                let off = next_imm(off)?;
+                Some(Insn::MapValue { dst, fd, off })
+            }
+        }
+    }
+}
+
+impl Form {
+    /// The instruction of this form. A label that its jump names is taken to be `distance` slots from the next slot.
+    ///
+    /// `None` if a number is out of its field's range.
+    pub fn insn(self, distance: i16) -> Option<Insn>
+        requires { IsForm self }
+        ensures found { IfSome result (λ insn. written insn ≡ resolved distance self) }
+        ensures fits { IfSome result (λ _. form_fits self ≡ true) }
+        ensures none { IfNone result (form_fits self ≡ false) }
+    {
+        match self {
+            Form::Operation { wide, dst, op } => op.insn(wide, dst),
+            Form::Jump { long, to } => {
+                if long {
+                    let off = to.long_offset(distance)?;
+                    Some(Insn::Jal { off })
+                } else {
+                    let off = to.offset(distance)?;
+                    Some(Insn::Ja { off })
+                }
+            }
+            Form::Branch {
+                wide,
+                cond,
+                dst,
+                src,
+                to,
+            } => {
+                let src = src.operand()?;
+                let off = to.offset(distance)?;
+                Some(Insn::Jump {
+                    wide,
+                    cond,
+                    dst,
+                    src,
+                    off,
+                })
+            }
+            Form::Access { access, address } => access.insn(address),
+            Form::WideLoad { dst, value } => value.insn(dst),
+            Form::Call { id } => {
+                let id = id.imm()?;
+                Some(Insn::Call { id })
+            }
+            Form::Exit => Some(Insn::Exit),
         }
     }
 }

@@ -23,4 +23,6 @@ pub fn written_in_range()
 /// The printed text of an instruction is one line, and that line is read as the instruction.
 pub fn printed_is_read()
     ensures { (insn : Insn) → IsInsn insn → IsPrinted insn }
-{}
+{
+    written_in_range();
+}

@@ -18,6 +18,8 @@
 //!   part of the grammar.
 //! - The grammar of a line and its parser are the larger half of the assembler and depend only on instructions, so they are a
 //!   crate of their own.
+//! - A form is one of seven groups, by what is written alike, though there are fifteen instructions. So a definition or a
+//!   proof has a case for each group.
 //! - Numbers from 2^64 on have no value, since no field can hold one: such a number is out of each range.
 #![tactic(auto)]
 
@@ -32,5 +34,7 @@ mod reader;
 mod token;
 
 pub use blanks::stripped;
-pub use form::{Form, JumpTarget, Line, Number, SourceOperand};
+pub use form::{
+    Access, Address, Form, JumpTarget, Line, Number, Operation, SourceOperand, WideValue,
+};
 pub use reader::read_line;

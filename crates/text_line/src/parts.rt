@@ -2,12 +2,12 @@
 
 ghost use Rattle.std.specs.Prelude.{◌≡◌};
 ghost use Rattle.text_line.specs.inside.Shown.{shown_tokens};
-ghost use Rattle.text_line.specs.inside.Reading.{leading_symbol, leading_name, leading_number, after_symbol, after_word, leading_register, number_from, leading_constant, leading_signed_number, leading_operand, parsed_destination, leading_address, is_ended, at_end, seen, seen_pair, seen_label, seen_destination};
+ghost use Rattle.text_line.specs.inside.Reading.{leading_symbol, leading_name, leading_number, after_symbol, after_word, leading_register, number_from, leading_constant, leading_signed_number, leading_operand, parsed_destination, leading_address, leading_wide_value, is_ended, at_end, seen, seen_pair, seen_label, seen_destination};
 
-use crate::form::{Address, JumpTarget, Number, SourceOperand};
+use crate::form::{Address, JumpTarget, Number, SourceOperand, WideValue};
 use crate::names::register_named;
 use crate::token::Token;
-use insn_set::{Reg, size_by_name};
+use insn_set::{AccessSize, Reg, size_by_name};
 
 // ---- one token, and the tokens after it
 
@@ -162,15 +162,17 @@ pub(crate) fn destination<'a>(tokens: &[Token<'a>]) -> Option<(JumpTarget, &'a s
     }
 }
 
-/// A memory operand, as `*(u32 *)(r6 + 0)`.
+/// A memory operand, as `*(u32 *)(r6 + 0)`: whether its size is written as signed, the size, and the address.
 #[tactic(auto, unfolding(crate::specs::inside::Reading::leading_address))]
-pub(crate) fn address<'t, 'a>(tokens: &'t [Token<'a>]) -> Option<(Address, &'t [Token<'a>])>
+pub(crate) fn address<'t, 'a>(
+    tokens: &'t [Token<'a>],
+) -> Option<(((bool, AccessSize), Address), &'t [Token<'a>])>
     ensures { seen_pair result ≡ leading_address (shown_tokens tokens.now) }
 {
     let rest = after_symbol(tokens, "*")?;
     let rest = after_symbol(rest, "(")?;
     let (name, rest) = name(rest)?;
-    let (signed_size, size) = size_by_name(name)?;
+    let size = size_by_name(name)?;
     let rest = after_symbol(rest, "*")?;
     let rest = after_symbol(rest, ")")?;
     let rest = after_symbol(rest, "(")?;
@@ -179,13 +181,24 @@ pub(crate) fn address<'t, 'a>(tokens: &'t [Token<'a>]) -> Option<(Address, &'t [
     };
     let (offset, rest) = signed(rest)?;
     let rest = after_symbol(rest, ")")?;
-    Some((
-        Address {
-            signed: signed_size,
-            size,
-            base,
-            offset,
-        },
-        rest,
-    ))
+    Some(((size, Address { base, offset }), rest))
+}
+
+/// The value of a wide load.
+#[tactic(auto, unfolding(crate::specs::inside::Reading::leading_wide_value))]
+pub(crate) fn wide_value<'t, 'a>(tokens: &'t [Token<'a>]) -> Option<(WideValue, &'t [Token<'a>])>
+    ensures { seen_pair result ≡ leading_wide_value (shown_tokens tokens.now) }
+{
+    if let Some(rest) = after_word(tokens, "map_fd") {
+        let (fd, rest) = constant(rest)?;
+        return Some((WideValue::MapFd(fd), rest));
+    }
+    if let Some(rest) = after_word(tokens, "map_value") {
+        let (fd, rest) = constant(rest)?;
+        let rest = after_symbol(rest, "+")?;
+        let (off, rest) = number(rest)?;
+        return Some((WideValue::MapValue { fd, off }, rest));
+    }
+    let (value, rest) = number(tokens)?;
+    Some((WideValue::Number(value), rest))
 }

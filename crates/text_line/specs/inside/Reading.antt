@@ -1,5 +1,5 @@
 -- How the tokens of a line are read, from the left. This project's own.
-use Rattle.std.specs.Prelude.{ℕ, ◌==◌, Bool, true, false, ◌||◌, List, [], ◌∷◌, codes, Option, Some, None, option_and_then, option_map, not, if◌then◌else◌}
+use Rattle.std.specs.Prelude.{ℕ, ◌==◌, Bool, true, false, ◌||◌, ◌&&◌, List, [], ◌∷◌, codes, Option, Some, None, option_and_then, option_map, not, if◌then◌else◌}
 use Rattle.std.specs.Str.{bytes_eq}
 use Rattle.words.specs.declared.operator.AluOp.{AluOp}
 use Rattle.words.specs.declared.operator.AluOp.TheVariants.{Mov}
@@ -16,6 +16,11 @@ use Rattle.insn_set.specs.AtomicRows.{atomic_by_symbol}
 use Rattle.text_line.specs.declared.form.Number.{Number}
 use Rattle.text_line.specs.declared.form.SourceOperand.{SourceOperand}
 use Rattle.text_line.specs.declared.form.SourceOperand.TheVariants as source
+use Rattle.text_line.specs.declared.form.Operation.{Operation}
+use Rattle.text_line.specs.declared.form.Operation.TheVariants as operation
+use Rattle.text_line.specs.declared.form.Access.TheVariants as access
+use Rattle.text_line.specs.declared.form.WideValue.{WideValue}
+use Rattle.text_line.specs.declared.form.WideValue.TheVariants as value
 use Rattle.text_line.specs.declared.form.Form.{Form}
 use Rattle.text_line.specs.declared.form.Form.TheVariants as form
 use Rattle.text_line.specs.declared.form.Address.{Address}
@@ -120,7 +125,7 @@ at_end x ts = if is_ended ts then Some x else None
 unfoldable pub parsed_destination : List Token → Option (JumpTarget × List ℕ)
 parsed_destination ts = match_option (leading_signed_number ts) (leading_name ts >>= λ n. at_end (target.Label, n.0) n.1) (λ n. at_end (target.Number n.0, []) n.1)
 
-unfoldable pub leading_address : List Token → Option (Address × List Token)
+unfoldable pub leading_address : List Token → Option (((Bool × AccessSize) × Address) × List Token)
 leading_address ts = do
   ts ← after_symbol (codes "*") ts
   ts ← after_symbol (codes "(") ts
@@ -132,7 +137,21 @@ leading_address ts = do
   r ← leading_register true ts
   o ← leading_signed_number r.1
   ts ← after_symbol (codes ")") o.1
-  Some (record { signed = s.0; size = s.1; base = r.0; offset = o.0 }, ts)
+  Some ((s, record { base = r.0; offset = o.0 }), ts)
+
+-- after `map_value`
+abbrev pub leading_map_value : List Token → Option (WideValue × List Token)
+leading_map_value ts = do
+  n ← leading_constant ts
+  ts ← after_symbol (codes "+") n.1
+  off ← leading_number ts
+  Some (value.MapValue n.0 off.0, off.1)
+
+unfoldable pub leading_wide_value : List Token → Option (WideValue × List Token)
+leading_wide_value ts =
+    match_option (after_word (codes "map_fd") ts)
+    (match_option (after_word (codes "map_value") ts) (leading_number ts >>= λ n. Some (value.Number n.0, n.1)) (λ rest. leading_map_value rest))
+    (λ rest. leading_constant rest >>= λ n. Some (value.MapFd n.0, n.1))
 
 -- the size of an atomic operation whose memory operand has this size: neither signed nor below 4 bytes (RFC 9669, section 5.3)
 abbrev pub atomic_size_of : Bool → AccessSize → Option AtomicSize
@@ -140,11 +159,93 @@ atomic_size_of false size.Word = Some atomic_size.Word
 atomic_size_of false size.Double = Some atomic_size.Double
 atomic_size_of _ _ = None
 
+-- ---- operations
+
+-- one operand, and nothing more
+unfoldable pub parsed_binary : Bool → AluOp → List Token → Option Operation
+parsed_binary wide op ts = leading_operand wide ts >>= λ src. at_end (operation.Binary op src.0) src.1
+
+-- after `(`
+unfoldable pub parsed_sign_extension : Bool → List Token → Option Operation
+parsed_sign_extension wide ts = do
+  n ← leading_name ts
+  from ← narrow_by_name n.0
+  ts ← after_symbol (codes ")") n.1
+  src ← leading_register wide ts
+  if wide || is_short from then at_end (operation.SignExtend from src.0) src.1 else None
+
+-- the destination again, and nothing more
+unfoldable pub parsed_in_place : Bool → ℕ → Operation → List Token → Option Operation
+parsed_in_place wide dst o ts = leading_register wide ts >>= λ r. if r.0 == dst then at_end o r.1 else None
+
+abbrev pub parsed_end : ℕ → List Token → Option Operation
+parsed_end dst ts = do
+  n ← leading_name ts
+  o ← order_by_name n.0
+  parsed_in_place true dst (operation.End o.0 o.1) n.1
+
+-- after `=`
+unfoldable pub parsed_unary : Bool → ℕ → List Token → Option Operation
+parsed_unary wide dst ts =
+    match_option (after_symbol (codes "(") ts)
+    (match_option (after_symbol (codes "-") ts) (if wide then parsed_end dst ts else None) (λ rest. parsed_in_place wide dst operation.Neg rest))
+    (λ rest. parsed_sign_extension wide rest)
+
+abbrev pub is_move : AluOp → Bool
+is_move Mov = true
+is_move _ = false
+
+-- after the operator
+unfoldable pub parsed_operation : Bool → AluOp → ℕ → List Token → Option Operation
+parsed_operation wide op dst ts = match_option (parsed_binary wide op ts) (if is_move op then parsed_unary wide dst ts else None) (λ o. Some o)
+
 -- ---- forms
 
+unfoldable pub parsed_load : ℕ → List Token → Option Form
+parsed_load dst ts = do
+  (((signed, size), at), ts) ← leading_address ts
+  at_end (form.Access (access.Load size signed dst) at) ts
+
+unfoldable pub parsed_store : List Token → Option Form
+parsed_store ts = do
+  (((signed, size), at), ts) ← leading_address ts
+  ts ← after_symbol (codes "=") ts
+  (src, ts) ← leading_operand true ts
+  if signed then None else at_end (form.Access (access.Store size src) at) ts
+
+-- after `lock`
+unfoldable pub parsed_atomic : List Token → Option Form
+parsed_atomic ts = do
+  (((signed, size), at), ts) ← leading_address ts
+  size ← atomic_size_of signed size
+  (s, ts) ← leading_symbol ts
+  op ← atomic_by_symbol s
+  (src, ts) ← leading_register true ts
+  at_end (form.Access (access.Atomic size op src) at) ts
+
+unfoldable pub parsed_wide_load : ℕ → List Token → Option Form
+parsed_wide_load dst ts = do
+  v ← leading_wide_value ts
+  ts ← after_word (codes "ll") v.1
+  at_end (form.WideLoad dst v.0) ts
+
+abbrev pub parsed_loaded : ℕ → List Token → Option Form
+parsed_loaded dst ts = match_option (parsed_wide_load dst ts) (parsed_load dst ts) (λ f. Some f)
+
+unfoldable pub parsed_assigned : List Token → Option Form
+parsed_assigned ts = do
+  n ← leading_name ts
+  r ← named registers n.0
+  s ← leading_symbol n.1
+  op ← alu_by_symbol s.0
+  match_option (parsed_operation r.0 op r.1 s.1) (if r.0 && is_move op then parsed_loaded r.1 s.1 else None) (λ o. Some (form.Operation r.0 r.1 o))
+
+abbrev pub parsed_jump : Bool → List Token → Option (Form × List ℕ)
+parsed_jump long ts = option_map (λ to. (form.Jump long to.0, to.1)) (parsed_destination ts)
+
 -- after `if`
-unfoldable pub parsed_jump : List Token → Option (Form × List ℕ)
-parsed_jump ts = do
+unfoldable pub parsed_branch : List Token → Option (Form × List ℕ)
+parsed_branch ts = do
   n ← leading_name ts
   r ← named registers n.0
   s ← leading_symbol n.1
@@ -152,118 +253,13 @@ parsed_jump ts = do
   src ← leading_operand r.0 s.1
   ts ← after_word (codes "goto") src.1
   to ← parsed_destination ts
-  Some (form.Jump r.0 c r.1 src.0 to.0, to.1)
+  Some (form.Branch r.0 c r.1 src.0 to.0, to.1)
 
-unfoldable pub parsed_load : ℕ → List Token → Option Form
-parsed_load dst ts = leading_address ts >>= λ a. at_end (form.Load a.0.size a.0.signed dst a.0.base a.0.offset) a.1
-
-unfoldable pub parsed_store : List Token → Option Form
-parsed_store ts = do
-  a ← leading_address ts
-  ts ← after_symbol (codes "=") a.1
-  src ← leading_operand true ts
-  if a.0.signed then None else at_end (form.Store a.0.size a.0.base src.0 a.0.offset) src.1
-
--- after `lock`
-unfoldable pub parsed_atomic : List Token → Option Form
-parsed_atomic ts = do
-  a ← leading_address ts
-  z ← atomic_size_of a.0.signed a.0.size
-  s ← leading_symbol a.1
-  op ← atomic_by_symbol s.0
-  src ← leading_register true s.1
-  at_end (form.Atomic z op a.0.base src.0 a.0.offset) src.1
-
--- after `(`
-unfoldable pub parsed_movsx : Bool → ℕ → List Token → Option Form
-parsed_movsx wide dst ts = do
-  n ← leading_name ts
-  b ← narrow_by_name n.0
-  ts ← after_symbol (codes ")") n.1
-  src ← leading_register wide ts
-  if wide || is_short b then at_end (form.Movsx wide b dst src.0) src.1 else None
-
--- after `-`
-unfoldable pub parsed_neg : Bool → ℕ → List Token → Option Form
-parsed_neg wide dst ts = leading_register wide ts >>= λ r. if r.0 == dst then at_end (form.Neg wide dst) r.1 else None
-
-unfoldable pub parsed_end : ℕ → List Token → Option Form
-parsed_end dst ts = do
-  n ← leading_name ts
-  o ← order_by_name n.0
-  r ← leading_register true n.1
-  if r.0 == dst then at_end (form.End o.0 o.1 dst) r.1 else None
-
-unfoldable pub parsed_constant_load : ℕ → List Token → Option Form
-parsed_constant_load dst ts = do
-  v ← leading_number ts
-  ts ← after_word (codes "ll") v.1
-  at_end (form.Const dst v.0) ts
-
--- after `map_fd`
-unfoldable pub parsed_map_fd : ℕ → List Token → Option Form
-parsed_map_fd dst ts = do
-  n ← leading_constant ts
-  ts ← after_word (codes "ll") n.1
-  at_end (form.MapFd dst n.0) ts
-
--- after `map_value`
-unfoldable pub parsed_map_value : ℕ → List Token → Option Form
-parsed_map_value dst ts = do
-  n ← leading_constant ts
-  ts ← after_symbol (codes "+") n.1
-  off ← leading_number ts
-  ts ← after_word (codes "ll") off.1
-  at_end (form.MapValue dst n.0 off.0) ts
-
--- after `=`: an assignment that only an r register can have
-unfoldable pub parsed_wide_move : ℕ → List Token → Option Form
-parsed_wide_move dst ts =
-    match_option (after_word (codes "map_fd") ts)
-    (match_option (after_word (codes "map_value") ts)
-    (match_option (parsed_end dst ts) (match_option (parsed_constant_load dst ts) (parsed_load dst ts) (λ f. Some f)) (λ f. Some f))
-    (λ rest. parsed_map_value dst rest))
-    (λ rest. parsed_map_fd dst rest)
-
--- after `=`, something other than a plain operand
-unfoldable pub parsed_special_move : Bool → ℕ → List Token → Option Form
-parsed_special_move wide dst ts =
-    match_option (after_symbol (codes "(") ts)
-    (match_option (after_symbol (codes "-") ts) (if wide then parsed_wide_move dst ts else None) (λ rest. parsed_neg wide dst rest))
-    (λ rest. parsed_movsx wide dst rest)
-
-abbrev pub is_move : AluOp → Bool
-is_move Mov = true
-is_move _ = false
-
--- an operator and one operand, and nothing more
-unfoldable pub parsed_alu : Bool → AluOp → ℕ → List Token → Option Form
-parsed_alu wide op dst ts = leading_operand wide ts >>= λ src. at_end (form.Alu wide op dst src.0) src.1
-
--- after the first register
-unfoldable pub parsed_assignment : Bool → ℕ → List Token → Option Form
-parsed_assignment wide dst ts = do
-  s ← leading_symbol ts
-  op ← alu_by_symbol s.0
-  match_option (parsed_alu wide op dst s.1) (if is_move op then parsed_special_move wide dst s.1 else None) (λ f. Some f)
+abbrev pub parsed_call : List Token → Option Form
+parsed_call ts = leading_constant ts >>= λ n. at_end (form.Call n.0) n.1
 
 abbrev pub without_label : Option Form → Option (Form × List ℕ)
 without_label o = option_map (λ f. (f, [])) o
-
-unfoldable pub parsed_goto : List Token → Option (Form × List ℕ)
-parsed_goto ts = option_map (λ to. (form.Ja to.0, to.1)) (parsed_destination ts)
-
-unfoldable pub parsed_gotol : List Token → Option (Form × List ℕ)
-parsed_gotol ts = option_map (λ to. (form.Jal to.0, to.1)) (parsed_destination ts)
-
-unfoldable pub parsed_call : List Token → Option Form
-parsed_call ts = leading_constant ts >>= λ n. at_end (form.Call n.0) n.1
-
-unfoldable pub parsed_assigned : List Token → Option Form
-parsed_assigned ts = do
-  n ← leading_name ts
-  r ← named registers n.0
-  parsed_assignment r.0 r.1 n.1
 
 -- by the first word
 unfoldable pub parsed_form : List Token → Option (Form × List ℕ)
@@ -278,9 +274,9 @@ parsed_form ts =
     (λ rest. without_label (parsed_atomic rest)))
     (λ rest. at_end (form.Exit, []) rest))
     (λ rest. without_label (parsed_call rest)))
-    (λ rest. parsed_gotol rest))
-    (λ rest. parsed_goto rest))
-    (λ rest. parsed_jump rest)
+    (λ rest. parsed_jump true rest))
+    (λ rest. parsed_jump false rest))
+    (λ rest. parsed_branch rest)
 
 unfoldable pub parsed_label : List Token → Option (List ℕ)
 parsed_label ts = do

@@ -1,4 +1,5 @@
 pub mod Words
+pub mod Fields
 pub mod States
 pub mod Accesses
 pub mod Follows

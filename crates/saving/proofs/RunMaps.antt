@@ -7,12 +7,11 @@ use Rattle.std.proofs.Common.{arith}
 use Rattle.std.proofs.lemmas.Bool.{cases_eq, eq-eqb, ne_eqb, leb-true}
 use Rattle.std.proofs.lemmas.Option.{none-some, same_Some}
 use Rattle.insn_set.specs.declared.insn.Insn.{Insn}
-use Rattle.insn_set.specs.declared.insn.Insn.TheVariants.{Alu, Movsx, Neg, End, Ja, Jal, Jump, Call, Exit, Load, Store, Atomic, Const, MapFd, MapValue}
+use Rattle.insn_set.specs.View.{View, Access, WideValue, binary, unary, jump, branch, access, wide_load, call, exit, loads, stores, changes, immediate, map_ref, value_ref, view}
 use Rattle.insn_set.specs.Program.{begins_at, slot_count}
 use Rattle.words.specs.declared.stack.AccessSize.{AccessSize}
 use Rattle.words.specs.Bytes.{low_bytes, written_at}
 use Rattle.words.specs.Stack.{bytes_of}
-use Rattle.words.specs.Words.{unsigned}
 use Rattle.tagged_model.specs.declared.value.Object.TheVariants as object
 use Rattle.tagged_model.specs.declared.value.Tagged.{Tagged}
 use Rattle.tagged_model.specs.declared.value.Tagged.TheVariants.{Scalar, Map, Pointer}
@@ -24,7 +23,7 @@ use Rattle.tagged_model.specs.StateLaws.{owns_more, owns_with, owns_without}
 use Rattle.words.specs.ByteLaws.{length-written_at}
 use Rattle.saving.specs.Restorable.{IsWholeTable, IsWholeMap}
 use Rattle.saving.proofs.Wholes.{whole_with_new, whole_with_deleted, whole_after_run, whole_by_keys}
-use Rattle.tagged_model.specs.Values.{of_numbers, arithmetic, first_operand, compared}
+use Rattle.tagged_model.specs.Values.{of_numbers, first_operand, compared}
 use Rattle.insn_set.specs.declared.atomic.AtomicSize.{AtomicSize}
 use Rattle.insn_set.specs.declared.atomic.AtomicOp.{AtomicOp}
 use Rattle.insn_set.specs.Atomic.{atomic_operator, is_wide_atomic, access_size}
@@ -32,7 +31,7 @@ use Rattle.insn_set.specs.Flow.{natural}
 use Rattle.tagged_model.specs.State.{RunState, RunMap, at_slot, with_cell, with_map, stack_place, stack_store, object_written, object_stored, value_written, with_value, store, load, is_aligned_at}
 use Rattle.tagged_model.specs.Helpers.{called, helper_of, put, taken_out}
 use Rattle.tagged_model.specs.HelperLaws.{MapAfterCall, unchanged, written, after_update, after_delete, EntryAfterCall, LeavesAfterCall, call_leaves}
-use Rattle.tagged_model.specs.Step.{Step, goes, ends, faults, or_fault, assigned, operand_value, jumped, branched, ended, changed, act, step, run, Ending, ending_after, refused_at_first, refused_later, MapsByDescriptor, start_of_run, numbered, first_map, last_map, left_with, run_with}
+use Rattle.tagged_model.specs.Step.{Step, goes, ends, faults, or_fault, assigned, operand_value, jumped, branched, ended, changed, accessed, loaded_wide, act_of, step, run, Ending, ending_after, refused_at_first, refused_later, MapsByDescriptor, start_of_run, numbered, first_map, last_map, left_with, run_with}
 
 -- ---- a map of a run
 
@@ -219,28 +218,28 @@ changed_same s size op p off v =
     if_same s (is_aligned_at (access_size size) p off) _
     (then_same s (load s (access_size size) false p off) _ (λ old _. then_same s (of_numbers (is_wide_atomic size) (atomic_operator op) old v) _ (λ new _. store_same s (access_size size) p off new)))
 
-act_same : (refused : Bool) (i : Insn) (s : RunState) → StepHasSame s (act refused i s)
-act_same refused (Alu wide op dst src) s = or_fault_same s (first_operand op (s.registers dst)) _ (λ a. or_fault_same s (operand_value s wide src) _ (λ b. assigned_same s 1 dst (arithmetic wide op a b)))
-act_same refused (Movsx x) s = or_fault_same s (s.registers x.src) _ (λ b. assigned_same s 1 x.dst _)
-act_same refused (Neg wide dst) s = or_fault_same s (s.registers dst) _ (λ a. assigned_same s 1 dst _)
-act_same refused (End how bits dst) s = or_fault_same s (s.registers dst) _ (λ a. assigned_same s 1 dst _)
-act_same refused (Ja off) s = jumped_same s off
-act_same refused (Jal off) s = jumped_same s off
-act_same refused (Jump wide condition dst src off) s =
-    or_fault_same s (s.registers dst) _ (λ a. or_fault_same s (operand_value s wide src) _ (λ b. or_fault_same s (compared wide condition src a b) _ (λ yes. branched_same s off yes)))
-act_same refused (Call id) s = or_fault_same s (helper_of id) _ (λ h. goes_same s (called refused h s) 1 (called_same s (called refused h s) (call_leaves refused h s)))
-act_same refused Exit s = or_fault_same s (s.registers 0) _ (λ v. ended_same s v)
-act_same refused (Load l) s = or_fault_same s (s.registers l.src) _ (λ p. assigned_same s 1 l.dst _)
-act_same refused (Store size dst src off) s = or_fault_same s (s.registers dst) _ (λ p. or_fault_same s (operand_value s true src) _ (λ v. goes_same s (store s size p off v) 1 (store_same s size p off v)))
-act_same refused (Atomic size op dst src off) s =
-    or_fault_same s (s.registers dst) _ (λ p. or_fault_same s (s.registers src) _ (λ v. goes_same s (changed s size op p off v) 1 (changed_same s size op p off v)))
-act_same refused (Const dst value) s = λ m. same_self (s.maps m)
-act_same refused (MapFd dst fd) s = or_fault_same s (s.maps (unsigned 32 fd)) _ (λ t. assigned_same s 2 dst (Some (Map (unsigned 32 fd))))
-act_same refused (MapValue dst fd off) s =
-    or_fault_same s (s.maps (unsigned 32 fd)) _ (λ t. or_fault_same s (direct_object t.table off) _ (λ number. assigned_same s 2 dst (Some (Pointer (object.Value (unsigned 32 fd) number) (pos off)))))
+accessed_same : (s : RunState) (what : Access) (p : Tagged) (off : ℤ) → StepHasSame s (accessed s what p off)
+accessed_same s (loads size signed dst) p off = assigned_same s 1 dst _
+accessed_same s (stores size src) p off = or_fault_same s (operand_value s true src) _ (λ v. goes_same s (store s size p off v) 1 (store_same s size p off v))
+accessed_same s (changes size op src) p off = or_fault_same s (s.registers src) _ (λ v. goes_same s (changed s size op p off v) 1 (changed_same s size op p off v))
+
+wide_same : (s : RunState) (dst : ℕ) (value : WideValue) → StepHasSame s (loaded_wide s dst value)
+wide_same s dst (immediate n) = λ m. same_self (s.maps m)
+wide_same s dst (map_ref m) = or_fault_same s (s.maps m) _ (λ t. assigned_same s 2 dst (Some (Map m)))
+wide_same s dst (value_ref m off) = or_fault_same s (s.maps m) _ (λ t. or_fault_same s (direct_object t.table off) _ (λ number. assigned_same s 2 dst (Some (Pointer (object.Value m number) (pos off)))))
+
+act_same : (refused : Bool) (v : View) (s : RunState) → StepHasSame s (act_of refused v s)
+act_same refused (binary wide op dst src) s = or_fault_same s (first_operand op (s.registers dst)) _ (λ a. or_fault_same s (operand_value s wide src) _ (λ b. assigned_same s 1 dst _))
+act_same refused (unary wide op dst src) s = or_fault_same s (s.registers src) _ (λ a. assigned_same s 1 dst _)
+act_same refused (jump off) s = jumped_same s off
+act_same refused (branch wide cond dst src off) s = or_fault_same s (s.registers dst) _ (λ a. or_fault_same s (operand_value s wide src) _ (λ b. or_fault_same s (compared wide cond src a b) _ (branched_same s off)))
+act_same refused (access what base off) s = or_fault_same s (s.registers base) _ (λ p. accessed_same s what p off)
+act_same refused (wide_load dst value) s = wide_same s dst value
+act_same refused (call id) s = or_fault_same s (helper_of id) _ (λ h. goes_same s (called refused h s) 1 (called_same s (called refused h s) (call_leaves refused h s)))
+act_same refused exit s = or_fault_same s (s.registers 0) _ (ended_same s)
 
 step_same : (refused : Bool) (code : List Insn) (s : RunState) → StepHasSame s (step refused code s)
-step_same refused code s = or_fault_same s (begins_at code s.at) _ (λ i. act_same refused i s)
+step_same refused code s = or_fault_same s (begins_at code s.at) _ (λ i. act_same refused (view i) s)
 
 -- ---- runs
 

@@ -7,6 +7,7 @@ use Rattle.words.specs.declared.stack.AccessSize.TheVariants.{Word}
 use Rattle.interval.specs.Ranges.{constant, full}
 use Rattle.words.specs.Words.{unsigned}
 use Rattle.words.specs.Stack.{bytes_of}
+use Rattle.words.specs.declared.operator.Operator.{Operator}
 use Rattle.words.specs.declared.operator.AluOp.{AluOp}
 use Rattle.words.specs.declared.operator.AluOp.TheVariants as alu
 use Rattle.insn_set.specs.declared.insn.Operand.{Operand}
@@ -130,8 +131,13 @@ exit_edges f = and_then_ok (check_readable (kind_at f 0)) exits_with
 
 -- ---- operators
 
+-- of two operands
 abbrev pub operator_edges : Bool → AluOp → ℕ → Operand → Facts → Result Edges Reason
 operator_edges wide op dst src f = and_then_ok (first_kind op (kind_at f dst)) (λ a. and_then_ok (check_readable (source_kind f wide src)) (λ b. assigns f dst (arithmetic_kind wide op a b)))
+
+-- of one operand
+abbrev pub unary_edges : Bool → Operator → ℕ → ℕ → Facts → Result Edges Reason
+unary_edges wide op dst src f = and_then_ok (check_readable (kind_at f src)) (λ k. assigns f dst (of_scalar wide op k))
 
 -- ---- accesses and wide loads
 
@@ -150,7 +156,7 @@ wide_kind shapes (value_ref m off) = value_of m off (shapes m)
 
 abbrev pub effect_of : Shapes → ℕ → View → Facts → Result Edges Reason
 effect_of shapes at (binary wide op dst src) f = operator_edges wide op dst src f
-effect_of shapes at (unary wide op dst src) f = and_then_ok (check_readable (kind_at f src)) (λ k. assigns f dst (of_scalar wide op k))
+effect_of shapes at (unary wide op dst src) f = unary_edges wide op dst src f
 effect_of shapes at (jump off) f = Ok (record { falling = None; jumping = Some f })
 effect_of shapes at (branch wide cond dst src off) f = and_then_ok (check_readable (kind_at f dst)) (λ a. and_then_ok (check_readable (source_kind f wide src)) (λ b. branch_edges wide cond f dst src a b))
 effect_of shapes at (access what base off) f = and_then_ok (check_readable (kind_at f base)) (access_edges shapes f what off)

@@ -8,7 +8,7 @@ ghost use Rattle.insn_set.specs.Atomic.{access_size};
 ghost use Rattle.tagged_model.specs.Shape.{longest_value};
 ghost use Rattle.transfer.specs.Arithmetic.{of_scalar};
 ghost use Rattle.transfer.specs.Branches.{ends, falls};
-ghost use Rattle.transfer.specs.Effects.{source_kind, first_kind, context_read, load_kind, store_facts, number_or, stack_changed, is_known_multiple, changed_facts, map_of, value_of, exit_edges, operator_edges, effect};
+ghost use Rattle.transfer.specs.Effects.{source_kind, first_kind, context_read, load_kind, store_facts, number_or, stack_changed, is_known_multiple, changed_facts, map_of, value_of, exit_edges, operator_edges, unary_edges, effect};
 ghost use Rattle.reg_kinds.specs.declared.reason.Reason.TheVariants.{OutsideStack, PointerStored};
 ghost use Rattle.tagged_model.specs.Named.{shapes_named};
 ghost use Rattle.transfer.specs.Flows.{edges_of, KeepsStack};
@@ -356,6 +356,26 @@ fn operate(facts: &mut Facts, wide: bool, op: AluOp, dst: Reg, src: Operand) -> 
     }
 }
 
+/// An operator of one operand.
+#[inline(always)]
+fn operate_on_one(
+    facts: &mut Facts,
+    wide: bool,
+    op: Operator,
+    dst: Reg,
+    src: Reg,
+) -> Result<(), Reason>
+    ensures ok { OnOk result (unary_edges wide op dst src facts.old ≡ falls facts.new) }
+    ensures stack { OnOk result (facts.new.slots ≡ facts.old.slots) }
+    ensures refused { IfErr result (λ reason. unary_edges wide op dst src facts.old ≡ Err reason) }
+    ensures stays { OnErr result (facts.new ≡ facts.old) }
+{
+    let from = check_readable(facts.kind(usize::from(src.number())))?;
+    let kind = of_scalar(wide, op, from)?;
+    facts.set_kind(usize::from(dst.number()), kind);
+    Ok(())
+}
+
 /// Checks the result at the end of a run: `UnreadableRegister` if register 0 may not be read, `ResultNotScalar` if it is no number.
 fn exit(facts: &Facts) -> Result<(), Reason>
     ensures ok { OnOk result (exit_edges facts.now ≡ ends) }
@@ -395,19 +415,16 @@ pub fn apply(facts: &mut Facts, named: &[Named], slot: usize, insn: &Insn) -> Re
                 src,
             },
         ) => {
-            let from = check_readable(facts.kind(usize::from(src.number())))?;
-            let kind = of_scalar(wide, Operator::SignExtend { from: bits }, from)?;
-            Ok(assign(facts, dst, kind))
+            operate_on_one(facts, wide, Operator::SignExtend { from: bits }, dst, src)?;
+            Ok(Flow::Falls)
         }
         Insn::Neg { wide, dst } => {
-            let from = check_readable(facts.kind(usize::from(dst.number())))?;
-            let kind = of_scalar(wide, Operator::Neg, from)?;
-            Ok(assign(facts, dst, kind))
+            operate_on_one(facts, wide, Operator::Neg, dst, dst)?;
+            Ok(Flow::Falls)
         }
         Insn::End { how, bits, dst } => {
-            let from = check_readable(facts.kind(usize::from(dst.number())))?;
-            let kind = of_scalar(true, Operator::End { how, bits }, from)?;
-            Ok(assign(facts, dst, kind))
+            operate_on_one(facts, true, Operator::End { how, bits }, dst, dst)?;
+            Ok(Flow::Falls)
         }
         Insn::Ja { .. } | Insn::Jal { .. } => Ok(Flow::Jumps),
         Insn::Jump {

@@ -127,6 +127,11 @@ def least(rounds: int, tasks: list[tuple[Host, str]]) -> dict[tuple[Host, str], 
     return best
 
 
+def with_more(tasks: list[tuple[Host, str]], more: list[tuple[Host, str]]) -> list[tuple[Host, str]]:
+    """The tasks, with these again before each ten: those of the empty program, whose time is subtracted from all others."""
+    return [task for at in range(0, len(tasks), 10) for task in (*more, *tasks[at : at + 10])]
+
+
 def compiled_filters(streams: Streams, bpfhost: str, counting: str) -> Programs:
     """The filters that clang compiles, with the number of instructions that a run executes after the first one."""
     found = {}
@@ -155,7 +160,8 @@ def measured_runs(streams: Streams, programs: Programs, hosts: list[Host], round
         for name, program in programs.items()
     }
     asked = [(name, host) for name, program in programs.items() for host in hosts if host.runs(program)]
-    best = least(rounds, [(host, stream) for name, host in asked for stream in pairs[name]])
+    tasks = [(host, stream) for name, host in asked for stream in pairs[name]]
+    best = least(rounds, with_more(tasks, [(host, stream) for host in hosts for stream in pairs["empty"]]))
     return {
         (name, host.name): (best[host, pairs[name][1]] - best[host, pairs[name][0]]) / runs_for(programs[name])
         for name, host in asked

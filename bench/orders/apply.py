@@ -1,7 +1,7 @@
 """apply.py TREE ORDER.json : puts the order of arms into dispatch.rt and its proof."""
 import sys,re,json
 tree=sys.argv[1]; order=json.load(open(sys.argv[2]))
-MARKS={0x02,8,10,14,16,18,26,32,34,40,42,48,50,56,58,66,74,80,82,72,88,90,64,96,104,112}
+MARKS={0x02,8,10,14,16,18,26,32,34,40,42,48,50,56,58,66,74,80,82,72,88,90,64,96,104,112,0x78,0x80,0x82,0x86,0x88}
 p=tree+'/crates/flat_machine/src/dispatch.rt'; s=open(p).read()
 i=s.index('    match next.opcode {\n')+len('    match next.opcode {\n')
 # arms until the arms of unused opcodes

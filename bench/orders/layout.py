@@ -2,7 +2,7 @@
 import os,re,subprocess
 from search import FLAGS,split,build,base_order  # noqa: F401
 KIT=os.environ['KIT']
-MARKS={0x02,8,10,14,16,18,26,32,34,40,42,48,50,56,58,66,74,80,82,72,88,90,64,96,104,112}
+MARKS={0x02,8,10,14,16,18,26,32,34,40,42,48,50,56,58,66,74,80,82,72,88,90,64,96,104,112,0x78,0x80,0x82,0x86,0x88}
 SYM='flat_machine::running::run_in_context::<=0>'
 def cut(text):
     """The loop's two sections, code and table, in an assembly: start and end."""

@@ -11,7 +11,7 @@ use Rattle.tenant.specs.Batch.{RunsInOrder}
 use Rattle.tenant.specs.Machine.{gives}
 use Rattle.tenant.specs.State.{TenantState}
 use Rattle.host_core.specs.Batch.{ChangesTenant, BatchIsItsCalls}
-use Rattle.host_core.specs.Handled.{Handles}
+use Rattle.host_core.specs.Handled.{Handles, Turn}
 use Rattle.host_core.proofs.Tenants.{slice_get-set_same, slice_get-set_other}
 
 -- lists with the same element at each place
@@ -65,7 +65,7 @@ changes_rest t before after between changes = record {
 
 pub batch_is_its_calls : BatchIsItsCalls
 unfolding RunsInOrder
-batch_is_its_calls t fd [] [] [] before after s last owned tests found runs left changes = none_run t before after s last found runs left changes
+batch_is_its_calls t fd [] [] [] before after s last owned tests found runs left changes = ([], refl, refl, none_run t before after s last found runs left changes)
 batch_is_its_calls t fd [] [] (result ∷ results) before after s last owned tests found runs left changes = absurd runs
 batch_is_its_calls t fd [] (input ∷ inputs) results before after s last owned tests found runs left changes = absurd tests
 batch_is_its_calls t fd (frame ∷ frames) [] results before after s last owned tests found runs left changes = absurd tests
@@ -73,9 +73,14 @@ batch_is_its_calls t fd (frame ∷ frames) (input ∷ inputs) [] before after s 
 batch_is_its_calls t fd (frame ∷ frames) (input ∷ inputs) (result ∷ results) before after s last owned tests found runs left changes =
     let (refusals, between, told, rest) = runs in
     let answer = gives (little_bytes 4 result) between in
-    let answers = subst (λ (r : Result Command BadFrame). AnswersFrame refusals s r answer) (sym tests.0) told in (
-      set before t between,
-      one_run t frame (little_bytes 4 result) before s between owned.0 found (refusals, (answer, answers, refl, refl)),
-      batch_is_its_calls t fd frames inputs results (set before t between) after between last owned.1 tests.1 (slice_get-set_same before t between (within before t s found)) rest left
-          (changes_rest t before after between changes),
+    let answers = subst (λ (r : Result Command BadFrame). AnswersFrame refusals s r answer) (sym tests.0) told in
+    let states = set before t between in
+    let reply = reply_to frame (pos 0) (little_bytes 4 result) in
+    let turn : Turn = record { frame = frame; reply = reply; states = states } in
+    let (turns, frames_are, replies_are, later) =
+    batch_is_its_calls t fd frames inputs results states after between last owned.1 tests.1 (slice_get-set_same before t between (within before t s found)) rest left (changes_rest t before after between changes) in (
+      turn ∷ turns,
+      ap (λ (fs : List (List ℕ)). frame ∷ fs) frames_are,
+      ap (λ (rs : List (List ℕ)). reply ∷ rs) replies_are,
+      (one_run t frame (little_bytes 4 result) before s between owned.0 found (refusals, (answer, answers, refl, refl)), later),
     )

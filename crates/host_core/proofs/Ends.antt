@@ -1,5 +1,6 @@
 -- The result of a stream whose bytes are known.
 use Rattle.std.proofs.Common.{◌≡◌, ◌≢◌, ℕ, ◌+◌, ◌<◌, ◌≤◌, Bool, true, false, List, [], ◌∷◌, ◌++◌, length, Option, Some, None, Ok, Err, refl, sym, ap, ap₂, subst, ◌∙◌, arith, append-nil, append_assoc, length-append, inl, inr}
+use Rattle.std.proofs.lemmas.List.{length-map}
 use Rattle.std.specs.Prelude.{◌⊎◌, ◌==◌, nat_lt, if◌then◌else◌}
 use Rattle.std.proofs.lemmas.Bool.{lt-ltb, le-ltb}
 use Rattle.std.proofs.lemmas.Bool.Decides.{eqb_tells}
@@ -9,6 +10,7 @@ use Rattle.command_frames.specs.Frame.{framed, IsPartial}
 use Rattle.command_frames.specs.Laws.{IsStream, FramesInFront}
 use Rattle.host_core.specs.declared.server.ServeFaultKind.{ServeFaultKind}
 use Rattle.host_core.specs.declared.server.ServeFaultKind.TheVariants.{Read, Write, Truncated, TooManyFrames, Memory}
+use Rattle.host_core.specs.Handled.{Turn, frames_in}
 use Rattle.host_core.specs.Served.{StreamState, NoCallFailed, AnswersFrames, ServesToEnd, StopsWithFault}
 use Rattle.host_core.specs.Laws.{stream_result, NoContentEndsAStream}
 
@@ -69,10 +71,11 @@ none_left new left known end = subst IsAtEnd known end
 -- the stream after the frames that were read: the other frames and the rest
 follows : FramesInFront → (old new : StreamState) (count : ℕ) (bytes after rest : List ℕ) (frames : List (List ℕ)) → old.input ≡ Some bytes → IsStream bytes frames rest → AnswersFrames old new count after
     → (left : List ℕ) × (more : List (List ℕ)) × (new.input ≡ Some left) × (length frames ≡ count + length more) × IsStream (after ++ left) more rest
-follows law old new count bytes after rest frames known stream (first, replies, many, s) =
+follows law old new count bytes after rest frames known stream (turns, many, s) =
+    let first = frames_in turns in
     let (left, left_is, read) = read_of old.input new.input bytes (flat_map framed first ++ after) known s.read in
     let (more, frames_are, later) = law bytes first frames (after ++ left) rest s.each (read ∙ append_assoc (flat_map framed first) after left) stream in
-    (left, more, left_is, omega (arith, ap length frames_are, length-append first more, many), later)
+    (left, more, left_is, omega (arith, ap length frames_are, length-append first more, length-map turns (λ (t : Turn). t.frame), many), later)
 
 framed_some : (frame : List ℕ) (frames : List (List ℕ)) (rest : List ℕ) → 4 ≤ length (flat_map framed (frame ∷ frames) ++ rest)
 framed_some frame frames rest = omega (arith, length-append (flat_map framed (frame ∷ frames)) rest, length-append (framed frame) (flat_map framed frames))

@@ -2,7 +2,7 @@
 use Rattle.std.proofs.Common.{◌≡◌, ◌≢◌, ℕ, ◌+◌, ◌<◌, ◌≤◌, Ok, Err, Bool, true, false, List, [], ◌∷◌, ◌++◌, length, Option, refl, sym, ap, subst, ◌∙◌, arith, append-nil, append_assoc, length-append, take, lit≤, inl}
 use Rattle.std.specs.Prelude.{slice_get, ◌==◌, if◌then◌else◌}
 use Rattle.std.proofs.lemmas.Bool.{eqb-true, eqb-false}
-use Rattle.std.proofs.lemmas.List.Elements.{filter-append}
+use Rattle.std.proofs.lemmas.List.{map-append, length-map}
 use Rattle.std.proofs.lemmas.Grind.{flat_map-append}
 use Rattle.std.proofs.KnownBytes.{Consumes-nil, Consumes-trans, Appends-nil, Appends-trans}
 use Rattle.std.specs.List.{flat_map, AllByRecursion}
@@ -15,28 +15,10 @@ use Rattle.tenant.specs.Alone.{frames_of, replies_of, MayReply, IsFault, AloneWi
 use Rattle.host_core.specs.declared.server.ServeFault.{ServeFault}
 use Rattle.host_core.specs.declared.server.ServeFaultKind.{ServeFaultKind}
 use Rattle.host_core.specs.declared.server.ServeFaultKind.TheVariants.{Read, Write, Truncated, TooManyFrames, Memory}
-use Rattle.host_core.specs.Laws.{UnrefusedAreToldAlone}
-use Rattle.host_core.specs.Served.{EachIsToldByItsMachine, NoneFaults, StreamState, NoCallFailed, Serves, ServesAlone, AnswersFrames, CutsLastReply, joined_replies, ServesToEnd, StopsWithFault, StopsAlone, IsFlushedAgain, ServesStream}
-use Rattle.host_core.specs.Handled.{Handles, HandlesInOrder, CallsAreToldAlone}
+use Rattle.host_core.specs.Laws.{EachIsToldByItsMachine, UnrefusedAreToldAlone, CallsAreToldAlone}
+use Rattle.host_core.specs.Served.{NoneFaults, StreamState, NoCallFailed, Serves, ServesAlone, AnswersFrames, CutsLastReply, joined_replies, ServesToEnd, StopsWithFault, StopsAlone, IsFlushedAgain, ServesStream}
+use Rattle.host_core.specs.Handled.{Handles, Turn, frames_in, replies_in, HandlesInOrder}
 use Rattle.host_core.specs.inside.Frame.{ServesOneFrame, ReadsOnly, ServesFrameOrEnds, StopsInFrame}
-
-alone_more : (a b c : Option TenantState) (frames others replies more : List (List ℕ)) → AloneWithRefusals a frames replies b → AloneWithRefusals b others more c → AloneWithRefusals a (frames ++ others) (replies ++ more) c
-alone_more a b c [] others [] more h k = subst (λ (x : Option TenantState). AloneWithRefusals x others more c) h k
-alone_more a b c (frame ∷ frames) others (reply ∷ replies) more (between, answered, rest) k = (between, answered, alone_more between b c frames others replies more rest k)
-alone_more a b c [] others (reply ∷ replies) more h k = absurd h
-alone_more a b c (frame ∷ frames) others [] more h k = absurd h
-
-pushed : (b : Bool) (r : List ℕ) (xs ys zs : List (List ℕ)) → xs ≡ ys ++ zs → (if b then r ∷ xs else xs) ≡ (if b then r ∷ ys else ys) ++ zs
-pushed true r xs ys zs e = ap (λ l. r ∷ l) e
-pushed false r xs ys zs e = e
-
-replies_of-push : (t : ℕ) (frames replies : List (List ℕ)) (frame reply : List ℕ) → length replies ≡ length frames
-    → replies_of t (frames ++ frame ∷ []) (replies ++ reply ∷ []) ≡ replies_of t frames replies ++ replies_of t (frame ∷ []) (reply ∷ [])
-replies_of-push t [] [] frame reply len = refl
-replies_of-push t [] (r ∷ rs) frame reply len = absurd (omega arith)
-replies_of-push t (f ∷ fs) [] frame reply len = absurd (omega arith)
-replies_of-push t (f ∷ fs) (r ∷ rs) frame reply len =
-    pushed (owner f == t) r (replies_of t (fs ++ frame ∷ []) (rs ++ reply ∷ [])) (replies_of t fs rs) (replies_of t (frame ∷ []) (reply ∷ [])) (replies_of-push t fs rs frame reply (omega arith))
 
 ahead : (same : Bool) (frame reply : List ℕ) (frames replies : List (List ℕ)) (before mid after : Option TenantState) → (same ≡ true → MayReply frame reply before mid) → (same ≡ false → mid ≡ before)
     → AloneWithRefusals mid frames replies after → AloneWithRefusals before (if same then frame ∷ frames else frames) (if same then reply ∷ replies else replies) after
@@ -51,31 +33,25 @@ handled_first t frame reply frames replies before mid after h rest =
     (λ e. subst (λ (n : ℕ). MayReply frame reply (slice_get before n) (slice_get mid n)) (eqb-true (owner frame) t e) h.own)
     (λ e. h.others t (λ k. eqb-false (owner frame) t e (sym k))) rest
 
-pub served_none : (states : List TenantState) → EachIsToldByItsMachine states [] [] states
-served_none states t = refl
-
--- the replies to each tenant after one more frame
-pub served_more : (before mid after : List TenantState) (frames replies : List (List ℕ)) (frame reply : List ℕ) → length replies ≡ length frames
-    → EachIsToldByItsMachine before frames replies mid → Handles mid frame reply after → EachIsToldByItsMachine before (frames ++ frame ∷ []) (replies ++ reply ∷ []) after
-served_more before mid after frames replies frame reply len served h t =
-    let more = alone_more (slice_get before t) (slice_get mid t) (slice_get after t) (frames_of t frames) (frames_of t (frame ∷ [])) (replies_of t frames replies) (replies_of t (frame ∷ []) (reply ∷ [])) (served t) (handled_first t frame reply [] [] mid after (slice_get after t) h refl) in
-    let fs : frames_of t (frames ++ frame ∷ []) ≡ frames_of t frames ++ frames_of t (frame ∷ []) = filter-append (λ f. owner f == t) frames (frame ∷ []) in
-    let rs = replies_of-push t frames replies frame reply len in
-    rw (fs, rs) more
-
 -- ---- calls of `handle` in sequence
 
-calls_told : (before after : List TenantState) (frames replies : List (List ℕ)) → HandlesInOrder before frames replies after → EachIsToldByItsMachine before frames replies after × NoneFaults replies
-calls_told before after [] [] same = ((λ t. ap (λ (s : List TenantState). slice_get s t) same), tt)
-calls_told before after (frame ∷ frames) (reply ∷ replies) (mid, h, rest) =
-    let (told, sound) = calls_told mid after frames replies rest in
-    ((λ t. handled_first t frame reply (frames_of t frames) (replies_of t frames replies) before mid (slice_get after t) h (told t)), (h.no_fault, sound))
-calls_told before after [] (reply ∷ replies) h = absurd h
-calls_told before after (frame ∷ frames) [] h = absurd h
+calls_told : (before after : List TenantState) (turns : List Turn) → HandlesInOrder before turns after → EachIsToldByItsMachine before (frames_in turns) (replies_in turns) after × NoneFaults (replies_in turns)
+calls_told before after [] same = ((λ t. ap (λ (s : List TenantState). slice_get s t) same), tt)
+calls_told before after (turn ∷ turns) (h, rest) =
+    let (told, sound) = calls_told turn.states after turns rest in
+    ((λ t. handled_first t turn.frame turn.reply (frames_of t (frames_in turns)) (replies_of t (frames_in turns) (replies_in turns)) before turn.states (slice_get after t) h (told t)), (h.no_fault, sound))
 
 pub calls_are_told_alone : UnrefusedAreToldAlone → CallsAreToldAlone
-calls_are_told_alone alone before after frames replies h =
-    let (told, sound) = calls_told before after frames replies h in (told, alone before after frames replies told, sound)
+calls_are_told_alone alone before after turns h =
+    let (told, sound) = calls_told before after turns h in (told, alone before after (frames_in turns) (replies_in turns) told, sound)
+
+-- one more turn
+abbrev turn_of : List ℕ → List ℕ → List TenantState → Turn
+turn_of frame reply states = record { frame = frame; reply = reply; states = states }
+
+handled_more : (before mid after : List TenantState) (turns : List Turn) (frame reply : List ℕ) → HandlesInOrder before turns mid → Handles mid frame reply after → HandlesInOrder before (turns ++ turn_of frame reply after ∷ []) after
+handled_more before mid after [] frame reply same h = (subst (λ (s : List TenantState). Handles s frame reply after) same h, refl)
+handled_more before mid after (turn ∷ turns) frame reply (first, rest) h = (first, handled_more turn.states mid after turns frame reply rest h)
 
 -- ---- the bytes
 
@@ -104,40 +80,44 @@ joined-push replies reply = flat_map-append (λ r. r) replies (reply ∷ []) ∙
 
 -- ---- from one stream state to the next
 
-serves_more : (old mid new : StreamState) (frames replies : List (List ℕ)) (frame reply out : List ℕ) → Serves old mid frames replies [] (joined_replies replies) → ServesOneFrame mid new frame reply out
-    → Serves old new (frames ++ frame ∷ []) (replies ++ reply ∷ []) [] (joined_replies replies ++ out)
-serves_more old mid new frames replies frame reply out s h = record {
-  each = all_push IsFrame frames frame s.each h.is_frame;
-  paired = omega (arith, s.paired, length-append frames (frame ∷ []), length-append replies (reply ∷ []));
-  read = read_more old.input mid.input new.input frames frame [] s.read (subst (Consumes mid.input new.input) (sym (append-nil (framed frame))) h.read);
-  written = Appends-trans old.output mid.output new.output (joined_replies replies) out s.written h.written;
-  served = served_more old.states mid.states new.states frames replies frame reply s.paired s.served h.handled;
-  no_fault = all_push (λ (r : List ℕ). ¬ IsFault r) replies reply s.no_fault h.handled.no_fault;
-}
+frames_more : (turns : List Turn) (turn : Turn) → frames_in (turns ++ turn ∷ []) ≡ frames_in turns ++ turn.frame ∷ []
+frames_more turns turn = map-append (λ (t : Turn). t.frame) turns (turn ∷ [])
+
+joined_more : (turns : List Turn) (turn : Turn) → joined_replies (replies_in (turns ++ turn ∷ [])) ≡ joined_replies (replies_in turns) ++ turn.reply
+joined_more turns turn = ap joined_replies (map-append (λ (t : Turn). t.reply) turns (turn ∷ [])) ∙ joined-push (replies_in turns) turn.reply
+
+serves_more : (old mid new : StreamState) (turns : List Turn) (frame reply out : List ℕ) → Serves old mid turns [] (joined_replies (replies_in turns)) → ServesOneFrame mid new frame reply out
+    → Serves old new (turns ++ turn_of frame reply new.states ∷ []) [] (joined_replies (replies_in turns) ++ out)
+serves_more old mid new turns frame reply out s h =
+    let more = sym (frames_more turns (turn_of frame reply new.states)) in
+    record {
+      each = subst (AllByRecursion IsFrame) more (all_push IsFrame (frames_in turns) frame s.each h.is_frame);
+      read = subst (λ (fs : List (List ℕ)). Consumes old.input new.input (flat_map framed fs ++ [])) more
+          (read_more old.input mid.input new.input (frames_in turns) frame [] s.read (subst (Consumes mid.input new.input) (sym (append-nil (framed frame))) h.read));
+      written = Appends-trans old.output mid.output new.output (joined_replies (replies_in turns)) out s.written h.written;
+      handled = handled_more old.states mid.states new.states turns frame reply s.handled h.handled;
+    }
 
 pub answered_none : (m : StreamState) → AnswersFrames m m 0 []
-answered_none m = ([], [], refl, record { each = tt; paired = refl; read = Consumes-nil m.input; written = Appends-nil m.output; served = served_none m.states; no_fault = tt })
+answered_none m = ([], refl, record { each = tt; read = Consumes-nil m.input; written = Appends-nil m.output; handled = refl })
 
 pub answered_more : (old mid new : StreamState) (count : ℕ) (frame reply : List ℕ) → AnswersFrames old mid count [] → ServesOneFrame mid new frame reply reply → AnswersFrames old new (count + 1) []
-answered_more old mid new count frame reply (frames, replies, len, s) h =
-    (frames ++ frame ∷ [], replies ++ reply ∷ [], omega (arith, len, length-append frames (frame ∷ [])), subst (Serves old new (frames ++ frame ∷ []) (replies ++ reply ∷ []) []) (sym (joined-push replies reply)) (serves_more old mid new frames replies frame reply reply s h))
+answered_more old mid new count frame reply (turns, len, s) h =
+    let turn = turn_of frame reply new.states in
+    (turns ++ turn ∷ [], omega (arith, len, length-append turns (turn ∷ [])), subst (Serves old new (turns ++ turn ∷ []) []) (sym (joined_more turns turn)) (serves_more old mid new turns frame reply reply s h))
 
 pub cut_off : (old mid new : StreamState) (count n : ℕ) (frame reply : List ℕ) → AnswersFrames old mid count [] → ServesOneFrame mid new frame reply (take n reply) → CutsLastReply old new count
-cut_off old mid new count n frame reply (frames, replies, len, s) h =
-    (frames ++ frame ∷ [], replies, reply, n, omega (arith, len, length-append frames (frame ∷ [])), omega (arith, len, s.paired), serves_more old mid new frames replies frame reply (take n reply) s h)
+cut_off old mid new count n frame reply (turns, len, s) h = (turns, turn_of frame reply new.states, n, len, serves_more old mid new turns frame reply (take n reply) s h)
 
 pub answered_rest : (old mid new : StreamState) (count : ℕ) (rest : List ℕ) → AnswersFrames old mid count [] → ReadsOnly mid new rest → AnswersFrames old new count rest
-answered_rest old mid new count rest (frames, replies, len, s) h = (
-  frames,
-  replies,
+answered_rest old mid new count rest (turns, len, s) h = (
+  turns,
   len,
   record {
     each = s.each;
-    paired = s.paired;
-    read = read_rest old.input mid.input new.input frames rest s.read h.read;
-    written = subst (λ (o : Option (List ℕ)). Appends old.output o (joined_replies replies)) (sym h.written) s.written;
-    served = subst (λ (x : List TenantState). EachIsToldByItsMachine old.states frames replies x) (sym h.states) s.served;
-    no_fault = s.no_fault;
+    read = read_rest old.input mid.input new.input (frames_in turns) rest s.read h.read;
+    written = subst (λ (o : Option (List ℕ)). Appends old.output o (joined_replies (replies_in turns))) (sym h.written) s.written;
+    handled = subst (λ (x : List TenantState). HandlesInOrder old.states turns x) (sym h.states) s.handled;
   },
 )
 
@@ -201,20 +181,22 @@ end_done old mid new count limit same answered sound read written flushed states
     (subst (λ (n : ℕ). AnswersFrames old new n []) same rest, end, sound_both old mid new sound more)
 
 -- the replies to each tenant are those of its machine
-answered_alone : UnrefusedAreToldAlone → (old new : StreamState) (count : ℕ) (rest : List ℕ) → IsPartial rest → AnswersFrames old new count rest → ServesAlone old new count rest
-answered_alone law old new count rest partial (frames, replies, many, s) = record {
-  frames = frames;
-  replies = replies;
-  each = s.each;
-  many = (many, s.paired ∙ many);
-  partial = partial;
-  read = s.read;
-  written = s.written;
-  alone = law old.states new.states frames replies s.served;
-  no_fault = s.no_fault;
-}
+answered_alone : CallsAreToldAlone → (old new : StreamState) (count : ℕ) (rest : List ℕ) → IsPartial rest → AnswersFrames old new count rest → ServesAlone old new count rest
+answered_alone law old new count rest partial (turns, many, s) =
+    let (told, alone, no_fault) = law old.states new.states turns s.handled in
+    record {
+      frames = frames_in turns;
+      replies = replies_in turns;
+      each = s.each;
+      many = (length-map turns _ ∙ many, length-map turns _ ∙ many);
+      partial = partial;
+      read = s.read;
+      written = s.written;
+      alone = alone;
+      no_fault = no_fault;
+    }
 
-pub serves_alone : UnrefusedAreToldAlone → (old new : StreamState) (count : ℕ) → ServesToEnd old new count → ServesAlone old new count []
+pub serves_alone : CallsAreToldAlone → (old new : StreamState) (count : ℕ) → ServesToEnd old new count → ServesAlone old new count []
 serves_alone law old new count (answered, end, sound) = answered_alone law old new count [] (inl (lit≤ tt)) answered
 
 -- before anything is read there are no replies
@@ -231,7 +213,7 @@ nothing_served m = record {
   no_fault = tt;
 }
 
-pub stops_alone : UnrefusedAreToldAlone → (old new : StreamState) (kind : ServeFaultKind) (count : ℕ) → StopsWithFault old new kind count → StopsAlone old new kind count
+pub stops_alone : CallsAreToldAlone → (old new : StreamState) (kind : ServeFaultKind) (count : ℕ) → StopsWithFault old new kind count → StopsAlone old new kind count
 stops_alone law old new Read count (rest, partial, answered, failed) whole = (rest, answered_alone law old new count rest partial answered)
 stops_alone law old new Write count stopped whole = absurd (whole refl)
 stops_alone law old new Truncated count (rest, partial, some, answered, end, sound) whole = (rest, answered_alone law old new count rest partial answered)
@@ -258,7 +240,7 @@ end_fails old mid new count limit kind is same answered sound read written flush
 
 -- ---- the contract of `serve`
 
-pub ends_served : UnrefusedAreToldAlone → (limit count : ℕ) (old new : StreamState) → count ≤ limit → IsFlushedAgain old new → ServesToEnd old new count → ServesStream limit (Ok count) old new
+pub ends_served : CallsAreToldAlone → (limit count : ℕ) (old new : StreamState) → count ≤ limit → IsFlushedAgain old new → ServesToEnd old new count → ServesStream limit (Ok count) old new
 ends_served law limit count old new few flushed served = record {
   done = served;
   alone = serves_alone law old new count served;
@@ -287,7 +269,7 @@ ends_unread limit m = record {
   too_many = λ wrong. cc wrong;
 }
 
-pub ends_stopped : UnrefusedAreToldAlone → (limit : ℕ) (fault : ServeFault) (old new : StreamState) → fault.frames ≤ limit → (fault.kind ≢ Write → IsFlushedAgain old new) → (fault.kind ≡ Truncated → fault.frames < limit)
+pub ends_stopped : CallsAreToldAlone → (limit : ℕ) (fault : ServeFault) (old new : StreamState) → fault.frames ≤ limit → (fault.kind ≢ Write → IsFlushedAgain old new) → (fault.kind ≡ Truncated → fault.frames < limit)
     → (fault.kind ≡ TooManyFrames → fault.frames ≡ limit) → StopsWithFault old new fault.kind fault.frames → ServesStream limit (Err fault) old new
 ends_stopped law limit fault old new few flushed cut full stopped = record {
   done = tt;

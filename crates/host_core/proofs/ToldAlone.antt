@@ -1,10 +1,11 @@
 -- If a tenant was refused no memory, its replies are those of its own machine without refusals.
-use Rattle.std.proofs.Common.{ℕ, List, [], ◌∷◌, Option, Some, None, refl, subst}
+use Rattle.std.proofs.Common.{ℕ, zero, suc, take, List, [], ◌∷◌, Option, Some, None, refl, subst}
 use Rattle.std.specs.Prelude.{slice_get}
-use Rattle.tenant.specs.Laws.{ClearFlagMeansAlone, AloneUntilRefused, OneAlone}
+use Rattle.tenant.specs.Laws.{ClearFlagMeansAlone, OneAlone}
 use Rattle.tenant.specs.State.{TenantState}
 use Rattle.tenant.specs.Alone.{frames_of, replies_of, IsToldAlone, AloneWithRefusals}
-use Rattle.host_core.specs.Laws.{UnrefusedAreToldAlone, EachIsToldAloneUntilRefused, SameFramesSameReplies}
+use Rattle.host_core.specs.Laws.{UnrefusedAreToldAlone, CallsAreToldAlone, EachIsToldAloneUntilRefused, SameFramesSameReplies}
+use Rattle.host_core.specs.Handled.{Turn, HandlesInOrder, states_after}
 use Rattle.host_core.specs.Served.{IsUnrefused}
 
 -- a tenant that is served is still served at the end
@@ -38,5 +39,12 @@ same_frames_same_replies one t before after before_too after_too frames replies 
     let moved = subst (λ (fs : List (List ℕ)). IsToldAlone (slice_get before_too t) fs (replies_of t frames replies) (slice_get after t)) agree here in
     (one (slice_get before_too t) (slice_get after t) (slice_get after_too t) (frames_of t frames_too) (replies_of t frames replies) (replies_of t frames_too replies_too) moved (told_too t unrefused_too)).0
 
-pub each_until_refused : AloneUntilRefused → EachIsToldAloneUntilRefused
-each_until_refused law before after frames replies h t = law (slice_get before t) (slice_get after t) (frames_of t frames) (replies_of t frames replies) (h t)
+-- the first n turns
+first_turns : (before after : List TenantState) (turns : List Turn) (n : ℕ) → HandlesInOrder before turns after → HandlesInOrder before (take n turns) (states_after before (take n turns))
+first_turns before after [] zero h = refl
+first_turns before after [] (suc n) h = refl
+first_turns before after (turn ∷ turns) zero h = refl
+first_turns before after (turn ∷ turns) (suc n) (first, later) = (first, first_turns turn.states after turns n later)
+
+pub each_until_refused : CallsAreToldAlone → EachIsToldAloneUntilRefused
+each_until_refused law before after turns n h = (law before (states_after before (take n turns)) (take n turns) (first_turns before after turns n h)).1

@@ -8,7 +8,7 @@ use Rattle.tenant.specs.declared.errno.Errno.TheVariants.{NotPermitted}
 use Rattle.tenant.specs.Batch.{BatchInput, RunsInOrder, RunsBatch, AreTestRuns, batch_refusal, result_replies}
 use Rattle.tenant.specs.Errno.{status_of}
 use Rattle.tenant.specs.State.{TenantState}
-use Rattle.host_core.specs.Handled.{HandlesInOrder}
+use Rattle.host_core.specs.Handled.{Turn, frames_in, replies_in, HandlesInOrder}
 
 -- a batch of a tenant that is served, and its state before and after it
 abbrev pub RunsFor : ℕ → Option TenantState → List BatchInput → List ℕ → List ℕ → Option TenantState → Type 0
@@ -37,4 +37,4 @@ BatchIsItsCalls =
     (tenant fd : ℕ) (frames : List (List ℕ)) (inputs : List BatchInput) (results : List ℕ) (before after : List TenantState) (s last : TenantState)
     → AllByRecursion (λ frame. owner frame ≡ tenant) frames → AreTestRuns fd frames inputs
     → slice_get before tenant ≡ Some s → RunsInOrder fd s inputs results last → slice_get after tenant ≡ Some last → ChangesTenant tenant before after
-    → HandlesInOrder before frames (result_replies frames results) after
+    → (turns : List Turn) × (frames_in turns ≡ frames) × (replies_in turns ≡ result_replies frames results) × HandlesInOrder before turns after

@@ -1,9 +1,8 @@
--- What a call of `Host::handle` does, and what follows for the tenants over a sequence of calls. This project's own.
-use Rattle.std.specs.Prelude.{◌≡◌, ◌≢◌, ℕ, List, [], ◌∷◌, length, slice_get}
+-- What calls of `Host::handle` do, one after another. This project's own.
+use Rattle.std.specs.Prelude.{◌≡◌, ◌≢◌, ℕ, List, [], ◌∷◌, length, map, slice_get}
 use Rattle.command_frames.specs.Frame.{owner}
 use Rattle.tenant.specs.State.{TenantState}
 use Rattle.tenant.specs.Alone.{MayReply, IsFault}
-use Rattle.host_core.specs.Served.{Noninterference, EachIsToldByItsMachine, NoneFaults}
 
 -- the states before and after one frame, with its reply
 pub record Handles (before : List TenantState) (frame reply : List ℕ) (after : List TenantState) : Type 0 where
@@ -12,17 +11,24 @@ pub record Handles (before : List TenantState) (frame reply : List ℕ) (after :
   pub count : length after ≡ length before
   pub no_fault : ¬ IsFault reply
 
--- frames one after another, each with its reply
-abbrev pub HandlesInOrder : List TenantState → List (List ℕ) → List (List ℕ) → List TenantState → Type 0
-HandlesInOrder before [] [] after = after ≡ before
-HandlesInOrder before (frame ∷ frames) (reply ∷ replies) after =
-    (between : List TenantState) × Handles before frame reply between × HandlesInOrder between frames replies after
-HandlesInOrder before [] (reply ∷ replies) after = ⊥
-HandlesInOrder before (frame ∷ frames) [] after = ⊥
+-- a frame, its reply, and the states of all tenants after it
+pub record Turn : Type 0 where
+  pub frame : List ℕ
+  pub reply : List ℕ
+  pub states : List TenantState
 
--- Over a sequence of calls, each tenant gets replies that its machine may give to its own frames, and if no memory was
--- refused to it, exactly those of its machine without refusals; and no test run faults.
-abbrev pub CallsAreToldAlone : Type 0
-CallsAreToldAlone =
-    (before after : List TenantState) (frames replies : List (List ℕ)) → HandlesInOrder before frames replies after
-    → EachIsToldByItsMachine before frames replies after × Noninterference before frames replies after × NoneFaults replies
+abbrev pub frames_in : List Turn → List (List ℕ)
+frames_in turns = map (λ turn. turn.frame) turns
+
+abbrev pub replies_in : List Turn → List (List ℕ)
+replies_in turns = map (λ turn. turn.reply) turns
+
+-- the states after these turns
+abbrev pub states_after : List TenantState → List Turn → List TenantState
+states_after before [] = before
+states_after before (turn ∷ turns) = states_after turn.states turns
+
+-- turns one after another, from the states before the first to those after the last
+abbrev pub HandlesInOrder : List TenantState → List Turn → List TenantState → Type 0
+HandlesInOrder before [] after = after ≡ before
+HandlesInOrder before (turn ∷ turns) after = Handles before turn.frame turn.reply turn.states × HandlesInOrder turn.states turns after

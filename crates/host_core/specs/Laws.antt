@@ -1,25 +1,40 @@
 -- What follows for the tenants from the replies to all, and how a stream ends. This project's own.
-use Rattle.std.specs.Prelude.{◌≡◌, ◌≢◌, ℕ, ◌==◌, List, length, slice_get, nat_lt, if◌then◌else◌, Some, Result, Ok, Err}
+use Rattle.std.specs.Prelude.{◌≡◌, ◌≢◌, ℕ, ◌==◌, List, length, slice_get, take, nat_lt, if◌then◌else◌, Some, Result, Ok, Err}
 use Rattle.std.specs.List.{AllByRecursion}
 use Rattle.std.specs.Io.KnownBytes.{Appends}
 use Rattle.command_frames.specs.Frame.{owner}
 use Rattle.command_frames.specs.Laws.{IsStream}
 use Rattle.tenant.specs.State.{TenantState}
-use Rattle.tenant.specs.Alone.{frames_of, replies_of, IsToldAloneUntilRefused}
+use Rattle.tenant.specs.Alone.{frames_of, replies_of, AloneWithRefusals}
+use Rattle.host_core.specs.Handled.{Turn, frames_in, replies_in, states_after, HandlesInOrder}
 use Rattle.host_core.specs.declared.server.ServeFault.{ServeFault}
 use Rattle.host_core.specs.declared.server.ServeFaultKind.TheVariants.{Truncated, TooManyFrames, Memory}
-use Rattle.host_core.specs.Served.{EachIsToldByItsMachine, IsUnrefused, Noninterference, StreamState, ServesAlone, ServesStream, NoCallFailed}
+use Rattle.host_core.specs.Served.{IsUnrefused, Noninterference, NoneFaults, StreamState, ServesAlone, ServesStream, NoCallFailed}
+
+-- each tenant gets replies that its own machine may give to its own frames
+abbrev pub EachIsToldByItsMachine : List TenantState → List (List ℕ) → List (List ℕ) → List TenantState → Type 0
+EachIsToldByItsMachine before frames replies after =
+    (t : ℕ) → AloneWithRefusals (slice_get before t) (frames_of t frames) (replies_of t frames replies) (slice_get after t)
 
 -- a tenant to which no memory was refused gets exactly the replies of its own machine, whatever was refused to others
 abbrev pub UnrefusedAreToldAlone : Type 0
 UnrefusedAreToldAlone =
     (before after : List TenantState) (frames replies : List (List ℕ)) → EachIsToldByItsMachine before frames replies after → Noninterference before frames replies after
 
--- each tenant gets exactly the replies of its own machine until memory is refused to it
+-- Over a sequence of calls, each tenant gets replies that its machine may give to its own frames, and if no memory was
+-- refused to it, exactly those of its machine without refusals; and no test run faults.
+abbrev pub CallsAreToldAlone : Type 0
+CallsAreToldAlone =
+    (before after : List TenantState) (turns : List Turn) → HandlesInOrder before turns after
+    → EachIsToldByItsMachine before (frames_in turns) (replies_in turns) after × Noninterference before (frames_in turns) (replies_in turns) after
+    × NoneFaults (replies_in turns)
+
+-- After each number of turns, each tenant to which no memory was refused until then got exactly the replies of its own machine, whatever
+-- is refused to it later.
 abbrev pub EachIsToldAloneUntilRefused : Type 0
 EachIsToldAloneUntilRefused =
-    (before after : List TenantState) (frames replies : List (List ℕ)) → EachIsToldByItsMachine before frames replies after
-    → (t : ℕ) → IsToldAloneUntilRefused (slice_get before t) (frames_of t frames) (replies_of t frames replies)
+    (before after : List TenantState) (turns : List Turn) (n : ℕ) → HandlesInOrder before turns after
+    → Noninterference before (frames_in (take n turns)) (replies_in (take n turns)) (states_after before (take n turns))
 
 -- Two streams that agree on a tenant's state at the start and on its frames give it the same replies, if neither refuses memory
 -- to it: it can observe neither the frames of others nor how they interleave with its own.

@@ -1,5 +1,5 @@
 -- The effect of a call of `serve`: the frames that it reads, the replies to them, and the point at which it stops. This project's own.
-use Rattle.std.specs.Prelude.{◌≡◌, ◌≢◌, Bool, true, false, ℕ, ◌+◌, ◌<◌, ◌≤◌, List, [], ◌∷◌, ◌++◌, length, take, slice_get, Option, Some, None, Result, IfOk, IfErr, OnOk}
+use Rattle.std.specs.Prelude.{◌≡◌, ◌≢◌, Bool, true, false, ℕ, ◌<◌, ◌≤◌, List, [], ◌∷◌, ◌++◌, length, take, slice_get, Option, Some, None, Result, IfOk, IfErr, OnOk}
 use Rattle.std.specs.List.{flat_map, AllByRecursion}
 use Rattle.std.specs.Io.KnownBytes.{Consumes, Appends, IsAtEnd}
 use Rattle.host_core.specs.declared.server.ServeFault.{ServeFault}
@@ -9,14 +9,10 @@ use Rattle.host_core.specs.declared.stream.Sink.{Ghosts as OfSink}
 use Rattle.host_core.specs.declared.stream.Source.{Ghosts as OfSource}
 use Rattle.command_frames.specs.Frame.{framed, IsFrame, IsPartial}
 use Rattle.tenant.specs.State.{TenantState}
-use Rattle.tenant.specs.Alone.{frames_of, replies_of, IsFault, IsToldAlone, AloneWithRefusals}
+use Rattle.host_core.specs.Handled.{Turn, frames_in, replies_in, HandlesInOrder}
+use Rattle.tenant.specs.Alone.{frames_of, replies_of, IsFault, IsToldAlone}
 
 -- ---- the replies to the tenants
-
--- each tenant gets replies that its own machine may give to its own frames
-abbrev pub EachIsToldByItsMachine : List TenantState → List (List ℕ) → List (List ℕ) → List TenantState → Type 0
-EachIsToldByItsMachine before frames replies after =
-    (t : ℕ) → AloneWithRefusals (slice_get before t) (frames_of t frames) (replies_of t frames replies) (slice_get after t)
 
 -- no memory was ever refused to the tenant; one that is not served takes none
 abbrev pub IsUnrefused : Option TenantState → Type 0
@@ -61,14 +57,12 @@ stream_state source sink states reader writer = record {
 abbrev pub NoCallFailed : StreamState → StreamState → Type 0
 NoCallFailed old new = (new.read_failures ≡ old.read_failures) × (new.write_failures ≡ old.write_failures)
 
--- frames were read and got replies, and then the bytes `rest` were read; of the replies, `out` was written
-pub record Serves (old new : StreamState) (frames replies : List (List ℕ)) (rest out : List ℕ) : Type 0 where
-  pub each : AllByRecursion IsFrame frames
-  pub paired : length replies ≡ length frames
-  pub read : Consumes old.input new.input (flat_map framed frames ++ rest)
+-- frames were read and got replies, one after another, and then the bytes `rest` were read; of the replies, `out` was written
+pub record Serves (old new : StreamState) (turns : List Turn) (rest out : List ℕ) : Type 0 where
+  pub each : AllByRecursion IsFrame (frames_in turns)
+  pub read : Consumes old.input new.input (flat_map framed (frames_in turns) ++ rest)
   pub written : Appends old.output new.output out
-  pub served : EachIsToldByItsMachine old.states frames replies new.states
-  pub no_fault : NoneFaults replies
+  pub handled : HandlesInOrder old.states turns new.states
 
 -- the bytes of the replies, one after another
 abbrev pub joined_replies : List (List ℕ) → List ℕ
@@ -77,8 +71,7 @@ joined_replies replies = flat_map (λ reply. reply) replies
 -- `count` frames got replies, and each reply was written whole
 abbrev pub AnswersFrames : StreamState → StreamState → ℕ → List ℕ → Type 0
 AnswersFrames old new count rest =
-    (frames : List (List ℕ)) × (replies : List (List ℕ)) × (length frames ≡ count)
-    × Serves old new frames replies rest (joined_replies replies)
+    (turns : List Turn) × (length turns ≡ count) × Serves old new turns rest (joined_replies (replies_in turns))
 
 -- `count` frames were read, and then bytes that are no whole frame; the replies to the frames were written, one after another.
 -- Each tenant to which no memory was refused got exactly those of its own machine, and no test run faulted.
@@ -96,8 +89,8 @@ pub record ServesAlone (old new : StreamState) (count : ℕ) (rest : List ℕ) :
 -- one more frame got a reply, which was not written whole, or not flushed
 abbrev pub CutsLastReply : StreamState → StreamState → ℕ → Type 0
 CutsLastReply old new count =
-    (frames : List (List ℕ)) × (replies : List (List ℕ)) × (last : List ℕ) × (n : ℕ) × (length frames ≡ count + 1)
-    × (length replies ≡ count) × Serves old new frames (replies ++ last ∷ []) [] (joined_replies replies ++ take n last)
+    (turns : List Turn) × (last : Turn) × (n : ℕ) × (length turns ≡ count)
+    × Serves old new (turns ++ last ∷ []) [] (joined_replies (replies_in turns) ++ take n last.reply)
 
 -- the end of a call that replies to `count` frames: the input is at its end
 abbrev pub ServesToEnd : StreamState → StreamState → ℕ → Type 0

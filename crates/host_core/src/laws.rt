@@ -1,9 +1,8 @@
 //! Laws of streams. Each is the contract of a function that does nothing.
 
 ghost use Rattle.host_core.specs.Batch.{BatchIsItsCalls};
-ghost use Rattle.host_core.specs.Handled.{CallsAreToldAlone};
 ghost use Rattle.host_core.specs.Saving.{TenantsAreRestored};
-ghost use Rattle.host_core.specs.Laws.{UnrefusedAreToldAlone, EachIsToldAloneUntilRefused, SameFramesSameReplies, SameFramesSameOutput, NoContentEndsAStream};
+ghost use Rattle.host_core.specs.Laws.{UnrefusedAreToldAlone, CallsAreToldAlone, EachIsToldAloneUntilRefused, SameFramesSameReplies, SameFramesSameOutput, NoContentEndsAStream};
 
 /// Each tenant to which no memory was refused gets exactly the replies of its own machine, whatever was refused to others.
 pub fn unrefused_are_told_alone()
@@ -12,20 +11,20 @@ pub fn unrefused_are_told_alone()
     tenant::laws::clear_flag_means_alone();
 }
 
-/// Each tenant gets exactly the replies of its own machine up to the first reply with which its flag of refused memory is set, whatever
-/// was refused to others.
-pub fn each_is_told_alone_until_refused()
-    ensures { EachIsToldAloneUntilRefused }
-{
-    tenant::laws::alone_until_refused();
-}
-
 /// Over a sequence of calls of `Host::handle`, each tenant gets replies that its machine may give to its own frames, and if
 /// no memory was refused to it, exactly those of its machine without refusals; and no test run faults.
 pub fn calls_are_told_alone()
     ensures { CallsAreToldAlone }
 {
     unrefused_are_told_alone();
+}
+
+/// After each number of calls of `Host::handle`, each tenant whose flag of refused memory is then clear got exactly the replies of its own
+/// machine, whatever is refused to it later, and to others.
+pub fn each_is_told_alone_until_refused()
+    ensures { EachIsToldAloneUntilRefused }
+{
+    calls_are_told_alone();
 }
 
 /// Two streams that agree on a tenant's state at the start and on its frames give it the same replies, if neither refuses

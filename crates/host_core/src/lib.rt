@@ -17,8 +17,9 @@
 //! - Over a whole stream, or the part of it that was read, the replies to each tenant are ones that its own machine may give to
 //!   its own frames, whatever memory is refused: `done`, `fault` of `serve`. For each tenant whose flag is clear they are those
 //!   of its machine without refusals: `unrefused_are_told_alone`.
-//! - Up to the first reply with which a tenant's flag is set, its replies are those of its machine without refusals; the
-//!   machine may give that reply: `each_is_told_alone_until_refused`.
+//! - `serve` handles its frames one after another, and there are states of all tenants after each of them (`HandlesInOrder`):
+//!   `done`, `fault` of `serve`. After each of these turns, each tenant whose flag is then clear got exactly the replies of its
+//!   own machine, whatever is refused to it later: `each_is_told_alone_until_refused`.
 //! - Both also hold for a sequence of calls of `Host::handle` without a stream, and no test run faults: `calls_are_told_alone`.
 //! - `serve_new_host` promises the same of a stream that a new host serves, from the states of new tenants.
 //! - A caller can ask whether a tenant's flag is set: `refused`, `unrefused` of `Host::memory_was_refused`.

@@ -133,7 +133,7 @@ pub fn serve<R: Source, W: Sink>(
             frames: 0,
         });
     };
-    laws::unrefused_are_told_alone();
+    laws::calls_are_told_alone();
     for frames in 0..limit {
         match serve_frame(host, reader, writer, &mut buffers) {
             Ok(true) => {}

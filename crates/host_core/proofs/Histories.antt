@@ -21,16 +21,14 @@ use Rattle.saving.specs.Laws.{IsHistory, HistoriesAreRestored, FramesHaveOwners}
 use Rattle.saving.specs.Restored.{restored}
 use Rattle.saving.specs.SaveParts.{PartsAreWhole, parts, frames_of}
 use Rattle.saving.specs.Recorded.{RecordsFrame, births_after_frame}
-use Rattle.host_core.specs.Batch.{RunsFor}
+use Rattle.host_core.specs.Batch.{RunsFor, ChangesTenant}
 use Rattle.host_core.specs.Handled.{Handles}
-use Rattle.host_core.specs.Saving.{Records, RunsPackets, Call, Calls, AreParts, TenantsAreRestored}
+use Rattle.host_core.specs.Saving.{Records, Call, Calls, AreParts, AreRestored, TenantsAreRestored}
 use Rattle.host_core.specs.States.{HostState, new_host}
+use Rattle.host_core.specs.inside.Reached.{IsReached, AreReached}
 use Rattle.host_core.proofs.Tenants.{saved_of}
 
 -- ---- one tenant
-
-abbrev IsReached : TenantState → List Birth → Type 0
-IsReached s births = (commands : List Command) × IsHistory new_tenant [] commands s births
 
 -- a history with one more command
 further : (commands : List Command) (s t : TenantState) (births later : List Birth) (refusals : List Bool) (c : Command) (a : Answer) → IsHistory s births commands t later → Answers refusals t c a
@@ -62,10 +60,6 @@ by_runs births fd s t (input ∷ inputs) (r ∷ rs) reached (refusals, between, 
 
 -- ---- all tenants
 
-record AreReached (h : HostState) : Type 0 where
-  many : length h.births ≡ length h.states
-  each : (t : ℕ) (s : TenantState) (births : List Birth) → slice_get h.states t ≡ Some s → slice_get h.births t ≡ Some births → IsReached s births
-
 get_too : {X Y : Type 0} (xs : List X) (ys : List Y) (i : ℕ) (x : X) → length ys ≡ length xs → slice_get xs i ≡ Some x → (y : Y) × (slice_get ys i ≡ Some y)
 get_too [] ys i x same e = absurd (none-some x e)
 get_too (z ∷ xs) [] i x same e = let wrong : 0 ≡ suc (length xs) = same in absurd (omega arith)
@@ -76,7 +70,7 @@ others_reached : (before after : HostState) (t : ℕ) (s : TenantState) (births 
     → slice_get after.states t ≡ Some s → slice_get after.births t ≡ Some births → IsReached s births
 others_reached before after t s births reached same same_births there born = reached.each t s births (sym same ∙ there) (sym same_births ∙ born)
 
-by_handle : (before after : HostState) (frame reply : List ℕ) → AreReached before → Handles before.states frame reply after.states → Records frame reply before after → AreReached after
+pub by_handle : (before after : HostState) (frame reply : List ℕ) → AreReached before → Handles before.states frame reply after.states → Records frame reply before after → AreReached after
 by_handle before after frame reply reached handles records = record { many = records.count ∙ reached.many ∙ sym handles.count; each = λ t s births there born. at t s births there born (nat_eq t (owner frame)) refl }
   where
     own : (s : TenantState) (births : List Birth) (o : Option TenantState) → slice_get before.states (owner frame) ≡ o → slice_get after.states (owner frame) ≡ Some s → slice_get after.births (owner frame) ≡ Some births → IsReached s births
@@ -99,8 +93,9 @@ by_handle before after frame reply reached handles records = record { many = rec
         let other : t ≢ owner frame = λ same. absurd (true≢false (sym (eq-eqb t (owner frame) same) ∙ e)) in
         others_reached before after t s births reached (handles.others t other) (records.others t other) there born
 
-by_packets : (before after : HostState) → AreReached before → RunsPackets before after → AreReached after
-by_packets before after reached (tenant, fd, inputs, room, written, runs, changes, same_births) =
+pub by_packets : (before after : HostState) (tenant fd : ℕ) (inputs : List BatchInput) (room written : List ℕ) → AreReached before → RunsFor fd (slice_get before.states tenant) inputs room written (slice_get after.states tenant)
+    → ChangesTenant tenant before.states after.states → after.births ≡ before.births → AreReached after
+by_packets before after tenant fd inputs room written reached runs changes same_births =
     record { many = ap length same_births ∙ reached.many ∙ sym changes.count; each = λ t s births there born. at t s births there born (nat_eq t tenant) refl }
   where
     own : (s : TenantState) (births : List Birth) (o : Option TenantState) → slice_get before.states tenant ≡ o → slice_get after.states tenant ≡ Some s → slice_get after.births tenant ≡ Some births → IsReached s births
@@ -119,15 +114,6 @@ by_packets before after reached (tenant, fd, inputs, room, written, runs, change
         let other : t ≢ tenant = λ same. absurd (true≢false (sym (eq-eqb t tenant same) ∙ e)) in
         others_reached before after t s births reached (changes.others t other) (ap (λ (bss : List (List Birth)). slice_get bss t) same_births) there born
 
-by_call : (before after : HostState) → AreReached before → Call before after → AreReached after
-by_call before after reached (inl (frame, reply, handles, records)) = by_handle before after frame reply reached handles records
-by_call before after reached (inr (inl runs)) = by_packets before after reached runs
-by_call before after reached (inr (inr same)) = subst AreReached (sym same) reached
-
-by_calls : (calls : List HostState) (before after : HostState) → AreReached before → Calls before calls after → AreReached after
-by_calls [] before after reached same = subst AreReached (sym same) reached
-by_calls (next ∷ later) before after reached (call, calls) = by_calls later next after (by_call before next reached call) calls
-
 -- ---- a new host
 
 get_replicated : {X : Type 0} (n : ℕ) (x y : X) (i : ℕ) → slice_get (replicate n x) i ≡ Some y → y ≡ x
@@ -139,7 +125,7 @@ same_length : {X Y : Type 0} (n : ℕ) (x : X) (y : Y) → length (replicate n x
 same_length zero x y = refl
 same_length (suc n) x y = ap suc (same_length n x y)
 
-new_reached : (count : ℕ) → AreReached (new_host count)
+pub new_reached : (count : ℕ) → AreReached (new_host count)
 new_reached count = record {
   many = same_length count (let none : List Birth = [] in none) new_tenant;
   each = λ t s births there born. ([], (get_replicated count new_tenant s t there, get_replicated count (let none : List Birth = [] in none) births t born));
@@ -164,9 +150,8 @@ parts_of : (host : HostState) (tenant : ℕ) (s : TenantState) (births : List Bi
     → AreParts host tenant (map (frames_of tenant) (parts s births))
 parts_of host tenant s births there born = λ part. ap₂ (saved_of tenant part) there born ∙ sym (slice_get-map (frames_of tenant) (parts s births) part)
 
-pub tenants_are_restored : HistoriesAreRestored → FramesHaveOwners → PartsAreWhole → TenantsAreRestored
-tenants_are_restored law owners whole count tenant calls host s made few there =
-    let reached = by_calls calls (new_host count) host (new_reached count) made in
+pub tenants_are_restored : HistoriesAreRestored → FramesHaveOwners → PartsAreWhole → (host : HostState) → AreReached host → AreRestored host
+tenants_are_restored law owners whole host reached tenant s few there =
     let (births, born) = get_too host.states host.births tenant s reached.many there in
     let (commands, history) = reached.each tenant s births there born in (
       map (frames_of tenant) (parts s births),
@@ -176,3 +161,17 @@ tenants_are_restored law owners whole count tenant calls host s made few there =
       owned owners tenant few (restored s births),
       law tenant commands s births history,
     )
+
+-- ---- calls one after another
+
+by_call : (before after : HostState) → AreReached before → Call before after → AreReached after
+by_call before after reached (inl (frame, reply, handles, records)) = by_handle before after frame reply reached handles records
+by_call before after reached (inr (inl (tenant, fd, inputs, room, written, runs, changes, same_births))) = by_packets before after tenant fd inputs room written reached runs changes same_births
+by_call before after reached (inr (inr same)) = subst AreReached (sym same) reached
+
+by_calls : (calls : List HostState) (before after : HostState) → AreReached before → Calls before calls after → AreReached after
+by_calls [] before after reached same = subst AreReached (sym same) reached
+by_calls (next ∷ later) before after reached (call, calls) = by_calls later next after (by_call before next reached call) calls
+
+pub after_calls : HistoriesAreRestored → FramesHaveOwners → PartsAreWhole → TenantsAreRestored
+after_calls law owners whole count calls host made = tenants_are_restored law owners whole host (by_calls calls (new_host count) host (new_reached count) made)

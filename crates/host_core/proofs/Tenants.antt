@@ -241,3 +241,8 @@ saved_there m ks h t part k is found =
 -- a tenant that is not served
 pub saved_nowhere : (h : HostState) (t part : ℕ) → slice_get h.states t ≡ None → saved_part h t part ≡ None
 saved_nowhere h t part none = ap (λ (s : Option TenantState). saved_of t part s (slice_get h.births t)) none
+
+-- a batch is run, or is rejected
+pub by_result : {T E : Type 0} {X Y : Type 0} (Z : Type 0) (r : Result T E) → (X → Z) → (Y → Z) → OnOk r X → OnErr r Y → Z
+by_result Z (Ok v) ran rejected ok err = ran ok
+by_result Z (Err e) ran rejected ok err = rejected err

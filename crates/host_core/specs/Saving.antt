@@ -50,11 +50,13 @@ Calls before (next ∷ later) after = Call before next × Calls next later after
 abbrev pub AreParts : HostState → ℕ → List (List ℕ) → Type 0
 AreParts host tenant saved = (part : ℕ) → saved_part host tenant part ≡ slice_get saved part
 
--- After any calls on a new host, the parts of a tenant, one after another, are frames with their lengths, each the tenant's own, and
--- they restore it.
-abbrev pub TenantsAreRestored : Type 0
-TenantsAreRestored =
-    (count tenant : ℕ) (calls : List HostState) (host : HostState) (s : TenantState) → Calls (new_host count) calls host
-    → tenant < 2 ^ 16 → slice_get host.states tenant ≡ Some s
+-- The parts of each tenant, one after another, are frames with their lengths, each the tenant's own, and they restore it.
+abbrev pub AreRestored : HostState → Type 0
+AreRestored host =
+    (tenant : ℕ) (s : TenantState) → tenant < 2 ^ 16 → slice_get host.states tenant ≡ Some s
     → (saved : List (List ℕ)) × (frames : List (List ℕ)) × AreParts host tenant saved
     × (flat_map (λ bytes. bytes) saved ≡ flat_map framed frames) × AllByRecursion (λ frame. owner frame ≡ tenant) frames × IsRestoredBy s frames
+
+-- so they do after any calls on a new host
+abbrev pub TenantsAreRestored : Type 0
+TenantsAreRestored = (count : ℕ) (calls : List HostState) (host : HostState) → Calls (new_host count) calls host → AreRestored host

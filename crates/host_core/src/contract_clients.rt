@@ -3,10 +3,11 @@
 ghost use Rattle.std.specs.Prelude.{◌≡◌, ◌≤◌, ◌<◌, ◌-◌, ◌^◌, List, [], replicate, IfSome};
 ghost use Rattle.tenant.specs.State.{TenantState, new_tenant};
 ghost use Rattle.host_core.specs.Served.{stream_state, ServesAlone};
+ghost use Rattle.host_core.specs.Saving.{AreRestored};
 ghost use Rattle.host_core.specs.Limits.{most_frames, most_tenants};
 
-use crate::host::MOST_TENANTS;
-use crate::server::{MOST_FRAMES, serve_new_host};
+use crate::host::{Host, MOST_TENANTS};
+use crate::server::{MOST_FRAMES, serve, serve_new_host};
 use crate::stream::{Sink, Source};
 use seeded_hash::HashSeed;
 use std::alloc::Global;
@@ -29,6 +30,21 @@ fn serve_from_the_beginning<R: Source, W: Sink>(
         count []) }
 {
     serve_new_host(alloc, tenants, HashSeed::new(0, 0), reader, writer, 100).ok()
+}
+
+/// Whatever streams a host served, the parts of its tenants restore them.
+fn serve_and_save<R: Source, W: Sink>(
+    alloc: Global,
+    host: &mut Host,
+    reader: &mut R,
+    writer: &mut W,
+)
+    requires reader { R.failures reader.old < 2 ^ 64 - 1 }
+    requires writer { W.failures writer.old < 2 ^ 64 - 1 }
+    ensures { AreRestored host.new }
+{
+    let _ = serve(alloc, host, reader, writer, 100);
+    host.tenants_are_restored();
 }
 
 /// The limit on tenants is that of the definitions.

@@ -9,7 +9,7 @@ ghost use Rattle.tenant.specs.Batch.{packets_in, inputs_of};
 ghost use Rattle.tenant.specs.State.{new_tenant};
 ghost use Rattle.host_core.specs.Batch.{RunsFor, refusal_for, ChangesTenant};
 ghost use Rattle.host_core.specs.Served.{IsUnrefused};
-ghost use Rattle.host_core.specs.Saving.{Records, saved_part};
+ghost use Rattle.host_core.specs.Saving.{AreRestored, Records, saved_part};
 ghost use Rattle.host_core.specs.States.{births_in, new_host, states_from};
 ghost use Rattle.host_core.specs.Limits.{most_tenants};
 
@@ -46,13 +46,15 @@ impl Model for Host {
     ghost use Rattle.bpf_maps.specs.declared.part.TheConstants.{PART};
     ghost use Rattle.host_core.specs.Limits.{most_tenants};
     ghost use Rattle.host_core.specs.States.{HostState, host_state};
+    ghost use Rattle.host_core.specs.inside.Reached.{AreReached};
 
     ghost Value = { HostState };
 
     ghost view = { λ h. host_state h.arena h.tenants.items };
 
     ghost invariant = { λ h. (vec_len h.tenants ≤ most_tenants)
-        × (h.arena.parts ≡ vec_len h.tenants) × (h.arena.part ≡ PART) };
+        × (h.arena.parts ≡ vec_len h.tenants) × (h.arena.part ≡ PART)
+        × AreReached (host_state h.arena h.tenants.items) };
 }
 
 /// `count` new tenants.
@@ -149,6 +151,18 @@ impl Host {
             return Ok(None);
         };
         kept.save_part(self.alloc, tenant as u16, part, self.arena.part(tenant))
+    }
+
+    /// The parts of each tenant are frames, and a new tenant to which no memory is refused succeeds at each of them and then replies as
+    /// this one does, whatever calls this host had, and whatever memory was refused.
+    pub fn tenants_are_restored(&self)
+        ensures { AreRestored self.now }
+    {
+        // Each tenant has a history.
+        let _ = &self.tenants;
+        saving::laws::histories_are_restored();
+        saving::laws::frames_have_owners();
+        saving::laws::parts_are_whole();
     }
 
     /// Runs the program at a descriptor of `tenant` on many packets, one after another. The packets lie one after another in `bytes`,

@@ -58,7 +58,7 @@ pub fn batch_is_its_calls()
 {}
 
 /// After any calls on a new host, the parts of a tenant are frames, and a new tenant to which no memory is refused succeeds at each of
-/// them and then replies as this one does.
+/// them and then replies as this one does. The library for C relies on this; a caller in Rattle has `Host::tenants_are_restored`.
 pub fn tenants_are_restored()
     ensures { TenantsAreRestored }
 {

@@ -66,9 +66,10 @@
 //!   none: `births` of `Host::run_packets`.
 //! - The bytes of a part of a tenant are the frames of the commands of this part, each with its length before it. There are none
 //!   after the last part, and for a tenant that is not served. Nothing changes: `Host::save`.
-//! - After any calls on a new host, whatever memory was refused, the parts of a tenant one after another are frames of this tenant,
-//!   each with its length before it. A new tenant to which no memory is refused succeeds at each of these frames, and then gives
-//!   each list of frames exactly the replies of the saved one, while no memory is refused: `tenants_are_restored`.
+//! - Each tenant of a host, whatever calls it had, `serve` included, and whatever memory was refused, has a history: this is an
+//!   invariant of `Host` (`AreReached`). So the parts of each tenant one after another are frames of this tenant, each with its
+//!   length before it. A new tenant to which no memory is refused succeeds at each of these frames, and then gives each list of
+//!   frames exactly the replies of the saved one, while no memory is refused: `Host::tenants_are_restored`.
 //!
 //! # Decisions
 //!

@@ -1,4 +1,4 @@
-use Rattle.std.proofs.Common.{◌≡◌, ◌<◌, List, [], length, Some, None, sym, ap, ◌∙◌, arith, to_z, of_z, w32}
+use Rattle.std.proofs.Common.{◌≡◌, ◌<◌, List, [], length, Some, None, refl, set, sym, ap, ◌∙◌, arith, to_z, of_z, w32}
 use Rattle.std.specs.Prelude.{ℤ, slice_get}
 use Rattle.arena.specs.Memory.{part_bytes}
 use Rattle.command_frames.specs.Frame.{head_of, owner, reply_bytes, reply_to}
@@ -6,6 +6,9 @@ use Rattle.tenant.specs.Alone.{unserved_errno}
 use Rattle.tenant.specs.Errno.{status_of}
 use Rattle.saving.specs.Recorded.{tenant_state}
 use Rattle.tenant.specs.State.{TenantState}
+use Rattle.host_core.specs.Handled.{Handles}
+use Rattle.host_core.specs.States.{host_state, states_in}
+use Rattle.host_core.proofs.Histories.{by_handle}
 use Rattle.host_core.proofs.Faults.{served_is_no_fault, refusal_is_no_fault}
 use Rattle.host_core.proofs.Heads.{owner_is, no_head, no_state, refused_headless, refused_headed}
 use Rattle.host_core.proofs.Tenants.{slice_get_in, states_length, others_stay, count_stays, states_are, tells_own, tells_none, records_none, records_own}
@@ -109,3 +112,28 @@ pub returns-clause-no_fault : goal.returns-clause-no_fault
 returns-clause-no_fault c =
     let t = c.from-tenant.result in
     served_is_no_fault c.faults_have_no_payload.ensures c.args.frame.now c.handle.new.reply (Some (tenant_state (part_bytes c.self.inside.arena t) c.index_mut.result.now)) (Some (tenant_state (part_bytes c.handle.new.arena t) c.handle.new.self)) c.handle.ensures.told c.handle.ensures.no_fault
+
+-- each tenant still has a history
+pub invariant_of-self : goal.invariant_of-self
+invariant_of-self c =
+    let ks = c.self.inside.tenants.items in
+    let m = c.self.inside.arena in
+    let n = c.handle.new.arena in
+    let t = c.from-tenant.result in
+    let frame = c.args.frame.now in
+    let reply = c.handle.new.reply in
+    let own = c.from-tenant.ensures ∙ owner_is frame c.in-Some.head (sym c.head.ensures ∙ c.in-Some.is) in
+    let room : t < length ks = omega (arith, c.if-tenant-served.false, c.len-served.ensures) in
+    let found = slice_get_in ks t c.index_mut.result.now room c.index_mut.ensures.value in
+    let handles : Handles (states_in m ks) frame reply (states_in n (set ks t c.handle.new.self)) = record {
+      own = tells_own m n ks (states_in m ks) t (owner frame) c.index_mut.result.now c.handle.new.self frame reply refl own room found c.handle.ensures.told;
+      others = λ other ne. let apart = λ (e : other ≡ t). ne (e ∙ own) in others_stay m n ks t other c.handle.new.self apart (c.handle.ensures.others other apart);
+      count = count_stays m n ks t c.handle.new.self;
+      no_fault = served_is_no_fault c.faults_have_no_payload.ensures frame reply (Some (tenant_state (part_bytes m t) c.index_mut.result.now)) (Some (tenant_state (part_bytes n t) c.handle.new.self)) c.handle.ensures.told c.handle.ensures.no_fault;
+    } in
+    let records = records_own m n ks (host_state m ks) t c.index_mut.result.now c.handle.new.self frame reply refl own room found c.handle.ensures.recorded in (
+      c.self.invariant.0,
+      c.handle.ensures.parts ∙ c.self.invariant.1,
+      c.handle.ensures.part ∙ c.self.invariant.2,
+      by_handle (host_state m ks) (host_state n (set ks t c.handle.new.self)) frame reply c.self.invariant.3 handles records,
+    )

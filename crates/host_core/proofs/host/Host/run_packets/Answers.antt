@@ -1,11 +1,13 @@
-use Rattle.std.proofs.Common.{◌≡◌, ◌<◌, List, Option, None, length, sym, ap, ◌∙◌, arith}
+use Rattle.std.proofs.Common.{◌≡◌, ◌<◌, List, Option, None, length, set, refl, sym, ap, subst, ◌∙◌, arith}
 use Rattle.std.specs.Prelude.{slice_get}
 use Rattle.tenant.specs.Batch.{packets_in, inputs_of}
 use Rattle.tenant.specs.State.{TenantState}
-use Rattle.host_core.specs.Batch.{refusal_for}
-use Rattle.host_core.specs.States.{HostState}
+use Rattle.host_core.specs.Batch.{refusal_for, ChangesTenant}
+use Rattle.host_core.specs.States.{HostState, host_state, states_in}
+use Rattle.host_core.specs.inside.Reached.{AreReached}
+use Rattle.host_core.proofs.Histories.{by_packets}
 use Rattle.host_core.proofs.Heads.{no_state}
-use Rattle.host_core.proofs.Tenants.{slice_get_in, states_length, state_there, others_stay, count_stays, states_are, births_stay, runs_own, put_back, with_ok, with_err}
+use Rattle.host_core.proofs.Tenants.{slice_get_in, states_length, state_there, others_stay, count_stays, states_are, births_stay, runs_own, put_back, with_ok, with_err, by_result}
 use Rattle.host_core.proofs.host.Host.run_packets.Goals as goal
 
 -- ---- a tenant that is not served
@@ -64,3 +66,25 @@ returns-clause-births c =
     let room : t < length ks = omega (arith, c.if-tenant-len.false, c.len.ensures) in
     let found = slice_get_in ks t c.index_mut.result.now room c.index_mut.ensures.value in
     births_stay ks t c.index_mut.result.now c.run_packets.new.self found c.run_packets.ensures.births ∙ ap (λ (h : HostState). h.births) c.self.view_is
+
+-- each tenant still has a history
+pub invariant_of-self : goal.invariant_of-self
+invariant_of-self c =
+    let ks = c.self.inside.tenants.items in
+    let m = c.self.inside.arena in
+    let n = c.run_packets.new.arena in
+    let t = c.args.tenant in
+    let k = c.index_mut.result.now in
+    let l = c.run_packets.new.self in
+    let room : t < length ks = omega (arith, c.if-tenant-len.false, c.len.ensures) in
+    let found = slice_get_in ks t k room c.index_mut.ensures.value in
+    let inputs = inputs_of c.args.contexts.now (packets_in c.args.bytes.now c.args.ends.now) in
+    let changes : ChangesTenant t (states_in m ks) (states_in n (set ks t l)) = record { others = λ other ne. others_stay m n ks t other l ne (c.run_packets.ensures.others other ne); count = count_stays m n ks t l } in (
+      c.self.invariant.0,
+      c.run_packets.ensures.parts ∙ c.self.invariant.1,
+      c.run_packets.ensures.part ∙ c.self.invariant.2,
+      by_result (AreReached (host_state n (set ks t l))) c.run_packets.result
+          (λ runs. by_packets (host_state m ks) (host_state n (set ks t l)) t c.args.fd inputs c.args.results.now c.run_packets.new.results c.self.invariant.3
+          (runs_own m n ks (states_in m ks) t c.args.fd k l c.args.results.now c.run_packets.new.results inputs refl room found runs) changes (births_stay ks t k l found c.run_packets.ensures.births))
+          (λ still. subst AreReached (sym (put_back m n ks t k l found still.0 still.1)) c.self.invariant.3) c.run_packets.ensures.runs c.run_packets.ensures.unchanged,
+    )

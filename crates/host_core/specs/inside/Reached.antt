@@ -1,0 +1,16 @@
+-- The hosts that there are: each tenant has a history. This project's own.
+use Rattle.std.specs.Prelude.{◌≡◌, ℕ, List, [], length, slice_get, Some}
+use Rattle.command_frames.specs.Command.{Command}
+use Rattle.tenant.specs.State.{TenantState, new_tenant}
+use Rattle.saving.specs.declared.birth.Birth.{Birth}
+use Rattle.saving.specs.Laws.{IsHistory}
+use Rattle.host_core.specs.States.{HostState}
+
+-- the state and the births of a new tenant after some commands, with any refusals of memory
+abbrev pub IsReached : TenantState → List Birth → Type 0
+IsReached s births = (commands : List Command) × IsHistory new_tenant [] commands s births
+
+-- those of each tenant
+pub record AreReached (h : HostState) : Type 0 where
+  pub many : length h.births ≡ length h.states
+  pub each : (t : ℕ) (s : TenantState) (births : List Birth) → slice_get h.states t ≡ Some s → slice_get h.births t ≡ Some births → IsReached s births

@@ -1,3 +1,4 @@
+pub mod Apart
 pub mod Rings
 pub mod Links
 pub mod Ordered

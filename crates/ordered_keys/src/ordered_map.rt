@@ -1,10 +1,11 @@
 //! A map from keys to places that keeps its keys in the order in which they were added. A removal costs as much as an insertion.
 
-ghost use Rattle.std.specs.Prelude.{◌≡◌, ℕ, ◌<◌, true, [], ◌∷◌, ◌++◌, length, option_map, slice_get, None, IfSome, IfOk, OnOk, OnErr};
+ghost use Rattle.std.specs.Prelude.{◌≡◌, ℕ, ◌+◌, ◌<◌, ◌≤◌, true, [], ◌∷◌, ◌++◌, length, option_map, slice_get, None, Some, IfSome, IfOk, vec_len, vec_capacity, swap_remove};
 ghost use Rattle.std.specs.Option.{option_map_or};
 ghost use Rattle.std.specs.Map.{lookup, remove_entry, values_of};
 ghost use Rattle.ordered_keys.specs.Orders.{occurrences, IsSole, first_key_of, key_following, lent_entry, next_entry};
-ghost use Rattle.ordered_keys.specs.inside.Ordered.{IsIndexed, entry_of, is_entry_of, key_of, next_of_places};
+ghost use Rattle.indexmap.specs.IndexMap.{index_map_len, spare};
+ghost use Rattle.ordered_keys.specs.inside.Ordered.{IsIndexed, AreApart, HasRoom, entry_of, is_entry_of, key_of, next_of_places};
 
 use crate::place_order::PlaceOrder;
 use indexmap::{Equivalent, IndexMap};
@@ -17,30 +18,33 @@ use std::marker::Model;
 /// The table has the keys in any order: the last key takes the index of one that is removed. The order of the keys is that of their
 /// places.
 #[derive(Drop)]
-pub struct OrderedMap<K: Eq + Hash, S: BuildHasher> {
+pub struct OrderedMap<K: Eq + Hash + Copy, S: BuildHasher> {
     table: IndexMap<K, u32, S>,
     // The index in the table of the key of each place.
     indices: Vec<u32>,
     order: PlaceOrder,
+    // Empty; room for all entries, which `rebuild_without` moves through it.
+    rows: Vec<(K, u32)>,
 }
 
-impl<K: Eq + Hash, S: BuildHasher> Model for OrderedMap<K, S> {
+impl<K: Eq + Hash + Copy, S: BuildHasher> Model for OrderedMap<K, S> {
     ghost use Rattle.ordered_keys.specs.Orders.{BoundedKeys, bounded_keys_code};
 
     ghost Value = { BoundedKeys K };
 
     ghost coded = { bounded_keys_code K.code };
 
+    ghost use Rattle.std.specs.Prelude.{vec_len, vec_capacity};
     ghost use Rattle.ordered_keys.specs.Orders.{bounded_keys};
-    ghost use Rattle.ordered_keys.specs.inside.Ordered.{in_order, IsIndexed};
+    ghost use Rattle.ordered_keys.specs.inside.Ordered.{in_order, IsWhole};
 
     ghost view = { λ m. bounded_keys m.order.bound
         (in_order m.table.entries m.indices.items m.order.places) };
 
-    ghost invariant = { λ m. IsIndexed m.table.entries m.indices.items m.order };
+    ghost invariant = { λ m. IsWhole m.table m.indices.items m.order (vec_len m.rows) (vec_capacity m.rows) };
 }
 
-impl<K: Eq + Hash, S: BuildHasher> OrderedMap<K, S> {
+impl<K: Eq + Hash + Copy, S: BuildHasher> OrderedMap<K, S> {
     /// A map without keys, for places less than `bound`. Allocates room for their order. `AllocError`: out of memory.
     pub fn new(alloc: Global, bound: u32, hash_builder: S) -> Result<OrderedMap<K, S>, AllocError>
     where
@@ -50,10 +54,14 @@ impl<K: Eq + Hash, S: BuildHasher> OrderedMap<K, S> {
     {
         let indices = vec![in alloc; 0; bound as usize]?;
         let order = PlaceOrder::new(alloc, bound)?;
+        let rows = Vec::with_capacity(alloc, bound as usize)?;
+        let room = 4 * bound as usize;
+        let table = IndexMap::with_capacity_and_hasher(alloc, room, hash_builder)?;
         Ok(OrderedMap {
-            table: IndexMap::with_hasher(alloc, hash_builder),
+            table,
             indices,
             order,
+            rows,
         })
     }
 
@@ -103,38 +111,30 @@ impl<K: Eq + Hash, S: BuildHasher> OrderedMap<K, S> {
         Some((key, next))
     }
 
-    /// Adds a new key at the end. `AllocError`: out of memory. Then nothing has changed.
-    pub fn insert(&mut self, key: K, place: u32) -> Result<(), AllocError>
-    where
-        K: Drop,
+    /// Adds a new key at the end. It takes no memory.
+    pub fn insert(&mut self, key: K, place: u32)
         requires absent { lookup (K.eq key) self.old.entries ≡ None }
         requires within { place < self.old.bound }
         requires free { occurrences place (values_of self.old.entries) ≡ 0 }
         requires few { length self.old.entries < self.old.bound }
-        ensures added { OnOk result (self.new.entries ≡ self.old.entries ++ (key, place) ∷ []) }
-        ensures refused { OnErr result (self.new.entries ≡ self.old.entries) }
+        ensures added { self.new.entries ≡ self.old.entries ++ (key, place) ∷ [] }
         ensures bound { self.new.bound ≡ self.old.bound }
     {
         let index = self.table.len() as u32;
-        self.table.insert(key, place)?;
+        put_last(&mut self.table, key, place);
         self.indices[place as usize] = index;
         self.order.push(place);
-        Ok(())
     }
 
     /// Removes a key and returns its place; `None` if the key is absent. The others keep their order.
     pub fn remove<Q: Equivalent<K>>(&mut self, key: Q) -> Option<u32>
-    where
-        K: Drop,
         requires { IsSole K.eq (Q.equivalent key) }
         ensures place { result ≡ lookup (Q.equivalent key) self.old.entries }
         ensures left { self.new.entries ≡ remove_entry (Q.equivalent key) self.old.entries }
         ensures bound { self.new.bound ≡ self.old.bound }
     {
         let index = self.table.get_index_of(key)?;
-        let Some((_key, place)) = self.table.swap_remove_index(index) else {
-            unreachable!()
-        };
+        let (_key, place) = take_out(&mut self.table, &mut self.rows, self.indices.len(), index);
         let moved = place_at(&self.table, index, place);
         self.indices[moved as usize] = index as u32;
         self.order.remove(place);
@@ -204,5 +204,121 @@ fn place_at<K: Eq + Hash, S: BuildHasher>(
     match table.get_index(index) {
         Some((_, place)) => *place,
         None => otherwise,
+    }
+}
+
+/// Adds a new entry at the end, for which there is room.
+fn put_last<K: Eq + Hash + Copy, S: BuildHasher>(
+    table: &mut IndexMap<K, u32, S>,
+    key: K,
+    place: u32,
+)
+    requires absent { lookup (K.eq key) table.old.entries ≡ None }
+    requires room { 0 < spare table.old }
+    ensures entries { table.new.entries ≡ table.old.entries ++ (key, place) ∷ [] }
+    ensures room { spare table.old ≤ spare table.new + 1 }
+{
+    let added = table.insert(key, place);
+    let Ok(_) = added else { unreachable!() };
+}
+
+/// Takes out the entry at an index, which the last entry gets. The table keeps room for `bound` entries: where a removal might lose
+/// some of it, the table is filled anew, through `rows`.
+fn take_out<K: Eq + Hash + Copy, S: BuildHasher>(
+    table: &mut IndexMap<K, u32, S>,
+    rows: &mut Vec<(K, u32)>,
+    bound: usize,
+    index: usize,
+) -> (K, u32)
+    requires within { index < index_map_len table.old }
+    requires few { index_map_len table.old ≤ bound }
+    requires room { HasRoom bound table.old }
+    requires empty { vec_len rows.old ≡ 0 }
+    requires buffer { bound ≤ vec_capacity rows.old }
+    ensures entry { slice_get table.old.entries index ≡ Some result }
+    ensures entries { table.new.entries ≡ swap_remove table.old.entries index result }
+    ensures room { HasRoom bound table.new }
+    ensures empty { vec_len rows.new ≡ 0 }
+    ensures buffer { bound ≤ vec_capacity rows.new }
+{
+    if table.capacity() > bound {
+        take_at(table, index)
+    } else {
+        rebuild_without(table, rows, index)
+    }
+}
+
+#[inline(always)]
+fn take_at<K: Eq + Hash + Copy, S: BuildHasher>(
+    table: &mut IndexMap<K, u32, S>,
+    index: usize,
+) -> (K, u32)
+    requires within { index < index_map_len table.old }
+    ensures entry { slice_get table.old.entries index ≡ Some result }
+    ensures entries { table.new.entries ≡ swap_remove table.old.entries index result }
+    ensures room { index_map_len table.old + spare table.old
+        ≤ index_map_len table.new + spare table.new + 1 }
+{
+    let Some(entry) = table.swap_remove_index(index) else {
+        unreachable!()
+    };
+    entry
+}
+
+/// The same, in as many steps as there are entries: all others are put into the empty table, which has its full room.
+#[cold]
+#[inline(never)]
+fn rebuild_without<K: Eq + Hash + Copy, S: BuildHasher>(
+    table: &mut IndexMap<K, u32, S>,
+    rows: &mut Vec<(K, u32)>,
+    index: usize,
+) -> (K, u32)
+    requires within { index < index_map_len table.old }
+    requires empty { vec_len rows.old ≡ 0 }
+    requires buffer { index_map_len table.old ≤ vec_capacity rows.old }
+    ensures entry { slice_get table.old.entries index ≡ Some result }
+    ensures entries { table.new.entries ≡ swap_remove table.old.entries index result }
+    ensures room { index_map_len table.old + spare table.old
+        ≤ index_map_len table.new + spare table.new }
+    ensures empty { vec_len rows.new ≡ 0 }
+    ensures buffer { vec_capacity rows.new ≡ vec_capacity rows.old }
+{
+    // The keys of the table are distinct: this is in the contract of `len`.
+    let _len = table.len();
+    copy_entries(table, rows);
+    let taken = rows.swap_remove(index);
+    table.clear();
+    put_all(table, rows.as_slice());
+    rows.clear();
+    taken
+}
+
+fn copy_entries<K: Eq + Hash + Copy, S: BuildHasher>(
+    table: &IndexMap<K, u32, S>,
+    rows: &mut Vec<(K, u32)>,
+)
+    requires empty { vec_len rows.old ≡ 0 }
+    requires buffer { index_map_len table.now ≤ vec_capacity rows.old }
+    ensures items { rows.new.items ≡ table.now.entries }
+    ensures buffer { vec_capacity rows.new ≡ vec_capacity rows.old }
+{
+    for index in 0..table.len() {
+        let Some((key, place)) = table.get_index(index) else {
+            unreachable!()
+        };
+        rows.push_reserved((*key, *place));
+    }
+}
+
+fn put_all<K: Eq + Hash + Copy, S: BuildHasher>(table: &mut IndexMap<K, u32, S>, rows: &[(K, u32)])
+    requires empty { table.old.entries ≡ [] }
+    requires room { length rows.now ≤ spare table.old }
+    requires apart { AreApart K.eq rows.now }
+    ensures entries { table.new.entries ≡ rows.now }
+    ensures room { spare table.old ≤ length rows.now + spare table.new }
+{
+    for index in 0..rows.len() {
+        let (key, place) = rows[index];
+        put_last(table, key, place);
     }
 }

@@ -1,7 +1,6 @@
-use Rattle.std.proofs.Common.{◌≡◌, ℕ, ◌<◌, ◌∙◌, List, [], ◌∷◌, ◌++◌, None, length, sym, ap, subst, arith}
+use Rattle.std.proofs.Common.{◌≡◌, ℕ, ◌<◌, ◌∙◌, List, [], ◌∷◌, ◌++◌, length, length-append, sym, ap, subst, arith}
 use Rattle.std.proofs.Math.ListN.{set}
 use Rattle.std.specs.Map.{lookup, values_of}
-use Rattle.indexmap.proofs.CallerLemmas.{insert_entry-new}
 use Rattle.ordered_keys.specs.Orders.{BoundedKeys, occurrences}
 use Rattle.ordered_keys.specs.inside.Ordered.{in_order, IsIndexed}
 use Rattle.ordered_keys.proofs.Ordered.{absent_in_table, values_shown, length_shown}
@@ -10,19 +9,37 @@ use Rattle.ordered_keys.proofs.ordered_map.OrderedMap.insert.Given.{Over}
 use Rattle.ordered_keys.proofs.ordered_map.OrderedMap.insert.Goals as goal
 
 pub overflow_cast-index : goal.overflow_cast-index
-overflow_cast-index g c = let h = c.self.invariant in let m = h.many in let f = h.few in let s = h.small in let l = c.len-index.ensures.len in record { fits = omega arith }
+overflow_cast-index g c = let h = c.self.invariant.indexed in let m = h.many in let f = h.few in let s = h.small in let l = c.len-index.ensures.len in record { fits = omega arith }
+
+pub put_last-requires-clause-absent : goal.put_last-requires-clause-absent
+put_last-requires-clause-absent g c =
+    let m = c.self.inside in
+    absent_in_table m.table.entries m.indices.items m.order c.self.invariant.indexed (g.K.PartialEq.eq c.args.key)
+    (ap (λ (b : BoundedKeys g.row.K.Denot). lookup (g.K.PartialEq.eq c.args.key) b.entries) c.self.view_is ∙ c.requires.absent)
+
+-- there is room for one more
+pub put_last-requires-clause-room : goal.put_last-requires-clause-room
+put_last-requires-clause-room g c =
+    let m = c.self.inside in
+    let l = length_shown m.table.entries m.indices.items m.order.places c.self.invariant.indexed.placed in
+    let e = ap (λ (b : BoundedKeys g.row.K.Denot). length b.entries) c.self.view_is in
+    let b = ap (λ (b : BoundedKeys g.row.K.Denot). b.bound) c.self.view_is in
+    let few = c.requires.few in
+    let many = c.self.invariant.indexed.many in
+    let room = c.self.invariant.room in
+    omega arith
 
 pub push-requires-clause-new : goal.push-requires-clause-new
 push-requires-clause-new g c =
     let m = c.self.inside in
-    ap (occurrences c.args.place) (sym (values_shown m.table.entries m.indices.items m.order.places c.self.invariant.placed))
+    ap (occurrences c.args.place) (sym (values_shown m.table.entries m.indices.items m.order.places c.self.invariant.indexed.placed))
     ∙ ap (λ (b : BoundedKeys g.row.K.Denot). occurrences c.args.place (values_of b.entries)) c.self.view_is
     ∙ c.requires.free
 
 pub push-requires-clause-few : goal.push-requires-clause-few
 push-requires-clause-few g c =
     let m = c.self.inside in
-    let l = length_shown m.table.entries m.indices.items m.order.places c.self.invariant.placed in
+    let l = length_shown m.table.entries m.indices.items m.order.places c.self.invariant.indexed.placed in
     let e = ap (λ (b : BoundedKeys g.row.K.Denot). length b.entries) c.self.view_is in
     let b = ap (λ (b : BoundedKeys g.row.K.Denot). b.bound) c.self.view_is in
     let few = c.requires.few in
@@ -32,14 +49,14 @@ module _ (g : Over) (c : goal.After-push g) where
   new : occurrences c.args.place c.self.inside.order.places ≡ 0
   new =
       let m = c.self.inside in
-      ap (occurrences c.args.place) (sym (values_shown m.table.entries m.indices.items m.order.places c.self.invariant.placed))
+      ap (occurrences c.args.place) (sym (values_shown m.table.entries m.indices.items m.order.places c.self.invariant.indexed.placed))
       ∙ ap (λ (b : BoundedKeys g.row.K.Denot). occurrences c.args.place (values_of b.entries)) c.self.view_is
       ∙ c.requires.free
 
   room : length c.self.inside.order.places < c.self.inside.order.bound
   room =
       let m = c.self.inside in
-      let l = length_shown m.table.entries m.indices.items m.order.places c.self.invariant.placed in
+      let l = length_shown m.table.entries m.indices.items m.order.places c.self.invariant.indexed.placed in
       let e = ap (λ (b : BoundedKeys g.row.K.Denot). length b.entries) c.self.view_is in
       let b = ap (λ (b : BoundedKeys g.row.K.Denot). b.bound) c.self.view_is in
       let few = c.requires.few in
@@ -48,24 +65,33 @@ module _ (g : Over) (c : goal.After-push g) where
   below : c.args.place < c.self.inside.order.bound
   below = let b = ap (λ (b : BoundedKeys g.row.K.Denot). b.bound) c.self.view_is in let w = c.requires.within in omega arith
 
-  absent : lookup (g.K.PartialEq.eq c.args.key) c.self.inside.table.entries ≡ None
-  absent =
-      let m = c.self.inside in
-      absent_in_table m.table.entries m.indices.items m.order c.self.invariant (g.K.PartialEq.eq c.args.key)
-      (ap (λ (b : BoundedKeys g.row.K.Denot). lookup (g.K.PartialEq.eq c.args.key) b.entries) c.self.view_is ∙ c.requires.absent)
-
-  added : c.insert.new.self.entries ≡ c.self.inside.table.entries ++ (c.args.key, c.args.place) ∷ []
-  added = c.in_ok-insert.ensures.entries ∙ insert_entry-new g.K.PartialEq.eq c.self.inside.table c.args.key c.args.place absent
+  added : c.put_last.new.table.entries ≡ c.self.inside.table.entries ++ (c.args.key, c.args.place) ∷ []
+  added = c.put_last.ensures.entries
 
   abbrev table : List (g.row.K.Denot × ℕ)
   table = c.self.inside.table.entries ++ (c.args.key, c.args.place) ∷ []
 
-pub invariant_of-self-2 : goal.invariant_of-self-2
-invariant_of-self-2 g c =
-    let m = c.self.inside in
-    let whole = indexed_inserted m.table.entries m.indices.items m.order c.self.invariant c.args.key c.args.place (below g c) (new g c) (room g c) c.push.new.self c.push.ensures.bound c.push.ensures.places in
-    let at_end : IsIndexed (table g c) (set m.indices.items c.args.place c.len-index.result) c.push.new.self = subst (λ (i : ℕ). IsIndexed (table g c) (set m.indices.items c.args.place i) c.push.new.self) (sym c.len-index.ensures.len) whole in
-    subst (λ (es : List (g.row.K.Denot × ℕ)). IsIndexed es (set m.indices.items c.args.place c.len-index.result) c.push.new.self) (sym (added g c)) at_end
+module _ (g : Over) (c : goal.After-push g) where
+  indexed : IsIndexed c.put_last.new.table.entries (set c.self.inside.indices.items c.args.place c.len-index.result) c.push.new.self
+  indexed =
+      let m = c.self.inside in
+      let whole = indexed_inserted m.table.entries m.indices.items m.order c.self.invariant.indexed c.args.key c.args.place (below g c) (new g c) (room g c) c.push.new.self c.push.ensures.bound c.push.ensures.places in
+      let at_end : IsIndexed (table g c) (set m.indices.items c.args.place c.len-index.result) c.push.new.self = subst (λ (i : ℕ). IsIndexed (table g c) (set m.indices.items c.args.place i) c.push.new.self) (sym c.len-index.ensures.len) whole in
+      subst (λ (es : List (g.row.K.Denot × ℕ)). IsIndexed es (set m.indices.items c.args.place c.len-index.result) c.push.new.self) (sym (added g c)) at_end
+
+pub invariant_of-self : goal.invariant_of-self
+invariant_of-self g c = record {
+  indexed = indexed g c;
+  room =
+      let b = c.push.ensures.bound in
+      let h = c.self.invariant.room in
+      let r = c.put_last.ensures.room in
+      let a = ap length c.put_last.ensures.entries in
+      let n = length-append c.self.inside.table.entries ((c.args.key, c.args.place) ∷ []) in
+      omega arith;
+  empty = c.self.invariant.empty;
+  buffer = let b = c.push.ensures.bound in let h = c.self.invariant.buffer in omega arith;
+}
 
 pub returns-clause-added : goal.returns-clause-added
 returns-clause-added g c =
@@ -73,5 +99,5 @@ returns-clause-added g c =
     ap (λ (es : List (g.row.K.Denot × ℕ)). in_order es (set m.indices.items c.args.place c.len-index.result) c.push.new.self.places) (added g c)
     ∙ ap (λ (i : ℕ). in_order (table g c) (set m.indices.items c.args.place i) c.push.new.self.places) c.len-index.ensures.len
     ∙ ap (in_order (table g c) (set m.indices.items c.args.place (length m.table.entries))) c.push.ensures.places
-    ∙ shown_inserted m.table.entries m.indices.items m.order c.self.invariant c.args.key c.args.place (below g c) (new g c) (room g c)
+    ∙ shown_inserted m.table.entries m.indices.items m.order c.self.invariant.indexed c.args.key c.args.place (below g c) (new g c) (room g c)
     ∙ ap (λ (b : BoundedKeys g.row.K.Denot). b.entries ++ (c.args.key, c.args.place) ∷ []) c.self.view_is

@@ -12,20 +12,20 @@ returns-in_default g c =
     let test = g.Q.Equivalent.equivalent c.args.key in
     let none : lookup test m.table.entries ≡ None = sym c.get.ensures.value ∙ ap option_copied c.in_default.is in
     c.first.ensures
-    ∙ subst (λ (b : BoundedKeys g.row.K.Denot). first_key_of b.entries ≡ key_following test b.entries) c.self.view_is (sym (following_absent m.table.entries m.indices.items m.order c.self.invariant test none))
+    ∙ subst (λ (b : BoundedKeys g.row.K.Denot). first_key_of b.entries ≡ key_following test b.entries) c.self.view_is (sym (following_absent m.table.entries m.indices.items m.order c.self.invariant.indexed test none))
 
 pub after-requires : goal.after-requires
 after-requires g c =
     let m = c.self.inside in
     let test = g.Q.Equivalent.equivalent c.args.key in
     let some : lookup test m.table.entries ≡ Some c.in-Some.place.now = sym c.get.ensures.value ∙ ap option_copied c.in-Some.is in
-    let one = found_member m.table.entries m.indices.items m.order c.self.invariant test g.K.PartialEq.eq c.requires c.len-len.ensures.unique c.in-Some.place.now some in
+    let one = found_member m.table.entries m.indices.items m.order c.self.invariant.indexed test g.K.PartialEq.eq c.requires c.len-len.ensures.unique c.in-Some.place.now some in
     omega arith
 
 pub key_at-requires : goal.key_at-requires
 key_at-requires g c =
     let m = c.self.inside in
-    let h = c.self.invariant in
+    let h = c.self.invariant.indexed in
     let long : length c.deref.result.now ≡ m.order.bound = ap length c.deref.ensures.value ∙ h.long in
     subst (λ (o : Option ℕ). IfSome o (λ p. p < length c.deref.result.now)) (sym c.after.ensures)
     (members_within (length c.deref.result.now) m.order.bound m.order.places (following c.in-Some.place.now m.order.places) long h.within (following_member c.in-Some.place.now m.order.places))
@@ -38,5 +38,5 @@ returns g c =
     c.key_at.ensures
     ∙ ap (λ (is : List ℕ). key_of m.table.entries is c.after.result) c.deref.ensures.value
     ∙ ap (key_of m.table.entries m.indices.items) c.after.ensures
-    ∙ sym (following_in_order m.table.entries m.indices.items m.order c.self.invariant test g.K.PartialEq.eq c.requires c.len-len.ensures.unique c.in-Some.place.now some)
+    ∙ sym (following_in_order m.table.entries m.indices.items m.order c.self.invariant.indexed test g.K.PartialEq.eq c.requires c.len-len.ensures.unique c.in-Some.place.now some)
     ∙ ap (λ (b : BoundedKeys g.row.K.Denot). key_following test b.entries) c.self.view_is

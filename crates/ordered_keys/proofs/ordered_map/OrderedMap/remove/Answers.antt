@@ -5,7 +5,7 @@ use Rattle.std.specs.Option.{option_map_or}
 use Rattle.ordered_keys.specs.Orders.{BoundedKeys}
 use Rattle.ordered_keys.specs.inside.Ordered.{in_order, IsIndexed}
 use Rattle.ordered_keys.proofs.Ordered.{absent_in_order, nothing_removed, found_in_order, removed_in_order}
-use Rattle.ordered_keys.proofs.Tables.{has_entry, below_length, found_at, none_found, left, moved, left_indices, member, moved_within, indexed_removed, shown_removed}
+use Rattle.ordered_keys.proofs.Tables.{below_length, found_at, none_found, left, moved, left_indices, member, moved_within, indexed_removed, shown_removed}
 use Rattle.ordered_keys.proofs.ordered_map.OrderedMap.remove.Given.{Over}
 use Rattle.ordered_keys.proofs.ordered_map.OrderedMap.remove.Goals as goal
 
@@ -15,7 +15,7 @@ module _ (g : Over) (c : goal.After-from_residual g) where
       let m = c.self.inside in
       let test = g.Q.Equivalent.equivalent c.args.key in
       let none : lookup test m.table.entries ≡ None = none_found (lookup test m.table.entries) (sym c.get_index_of.ensures.found ∙ ap is_some c.in_err-index.was) in
-      ap (λ (b : BoundedKeys g.row.K.Denot). lookup test b.entries) (sym c.self.view_is) ∙ absent_in_order m.table.entries m.indices.items m.order c.self.invariant test none
+      ap (λ (b : BoundedKeys g.row.K.Denot). lookup test b.entries) (sym c.self.view_is) ∙ absent_in_order m.table.entries m.indices.items m.order c.self.invariant.indexed test none
 
 pub returns-in_err-index-clause-place : goal.returns-in_err-index-clause-place
 returns-in_err-index-clause-place g c = c.from_residual.ensures ∙ sym (absent g c)
@@ -23,55 +23,64 @@ returns-in_err-index-clause-place g c = c.from_residual.ensures ∙ sym (absent 
 pub returns-in_err-index-clause-left : goal.returns-in_err-index-clause-left
 returns-in_err-index-clause-left g c = sym (nothing_removed (g.Q.Equivalent.equivalent c.args.key) c.args.self.now.entries (absent g c))
 
-pub unreachable-requires : goal.unreachable-requires
-unreachable-requires g c = has_entry c.self.inside.table.entries c.in_ok-index.index c.in_ok-index.ensures.within (sym c.in_default.ensures.entry)
-
 pub index_mut-requires : goal.index_mut-requires
 index_mut-requires g c =
     let m = c.self.inside in
-    below_length _ _ _ _ (c.place_at-moved.ensures ∙ ap (λ (es : List (g.row.K.Denot × ℕ)). option_map_or (λ (e : g.row.K.Denot × ℕ). e.1) (slice_get es c.in_ok-index.index) c.in-Some.place) c.in-Some.ensures.entries)
-    (moved_within m.table.entries m.indices.items m.order c.self.invariant c.in_ok-index.index c.in-Some._key c.in-Some.place (sym c.in-Some.ensures.entry)) m.indices.ok.0
+    below_length _ _ _ _ (c.place_at-moved.ensures ∙ ap (λ (es : List (g.row.K.Denot × ℕ)). option_map_or (λ (e : g.row.K.Denot × ℕ). e.1) (slice_get es c.in_ok-index.index) c.take_out-key.result.1) c.take_out-key.ensures.entries)
+    (moved_within m.table.entries m.indices.items m.order c.self.invariant.indexed c.in_ok-index.index c.take_out-key.result.0 c.take_out-key.result.1 (c.take_out-key.ensures.entry)) m.indices.ok.0
 
 pub remove-requires : goal.remove-requires
 remove-requires g c =
     let m = c.self.inside in
-    let one = member m.table.entries m.indices.items m.order c.self.invariant c.in_ok-index.index c.in-Some._key c.in-Some.place (sym c.in-Some.ensures.entry) in
+    let one = member m.table.entries m.indices.items m.order c.self.invariant.indexed c.in_ok-index.index c.take_out-key.result.0 c.take_out-key.result.1 (c.take_out-key.ensures.entry) in
     omega arith
 
-module _ (g : Over) (c : goal.After-drop-key g) where
-  at : slice_get c.self.inside.table.entries c.in_ok-index.index ≡ Some (c.in-Some._key, c.in-Some.place)
-  at = sym c.in-Some.ensures.entry
+module _ (g : Over) (c : goal.After-remove g) where
+  at : slice_get c.self.inside.table.entries c.in_ok-index.index ≡ Some (c.take_out-key.result.0, c.take_out-key.result.1)
+  at = c.take_out-key.ensures.entry
 
-  found : lookup (g.Q.Equivalent.equivalent c.args.key) c.self.inside.table.entries ≡ Some c.in-Some.place
-  found = found_at c.self.inside.table.entries (g.Q.Equivalent.equivalent c.args.key) c.in_ok-index.index c.in-Some._key c.in-Some.place at c.in_ok-index.ensures.value
+  found : lookup (g.Q.Equivalent.equivalent c.args.key) c.self.inside.table.entries ≡ Some c.take_out-key.result.1
+  found = found_at c.self.inside.table.entries (g.Q.Equivalent.equivalent c.args.key) c.in_ok-index.index c.take_out-key.result.0 c.take_out-key.result.1 at c.in_ok-index.ensures.value
 
   abbrev table : List (g.row.K.Denot × ℕ)
-  table = left c.self.inside.table.entries c.self.inside.indices.items c.self.inside.order c.self.invariant c.in_ok-index.index c.in-Some._key c.in-Some.place at
+  table = left c.self.inside.table.entries c.self.inside.indices.items c.self.inside.order c.self.invariant.indexed c.in_ok-index.index c.take_out-key.result.0 c.take_out-key.result.1 at
 
-  moved_is : c.place_at-moved.result ≡ moved c.self.inside.table.entries c.self.inside.indices.items c.self.inside.order c.self.invariant c.in_ok-index.index c.in-Some._key c.in-Some.place at
-  moved_is = c.place_at-moved.ensures ∙ ap (λ (es : List (g.row.K.Denot × ℕ)). option_map_or (λ (e : g.row.K.Denot × ℕ). e.1) (slice_get es c.in_ok-index.index) c.in-Some.place) c.in-Some.ensures.entries
+  moved_is : c.place_at-moved.result ≡ moved c.self.inside.table.entries c.self.inside.indices.items c.self.inside.order c.self.invariant.indexed c.in_ok-index.index c.take_out-key.result.0 c.take_out-key.result.1 at
+  moved_is = c.place_at-moved.ensures ∙ ap (λ (es : List (g.row.K.Denot × ℕ)). option_map_or (λ (e : g.row.K.Denot × ℕ). e.1) (slice_get es c.in_ok-index.index) c.take_out-key.result.1) c.take_out-key.ensures.entries
+
+module _ (g : Over) (c : goal.After-remove g) where
+  indexed : IsIndexed c.take_out-key.new.table.entries (set c.self.inside.indices.items c.place_at-moved.result c.in_ok-index.index) c.remove.new.self
+  indexed =
+      let m = c.self.inside in
+      let whole = indexed_removed m.table.entries m.indices.items m.order c.self.invariant.indexed c.in_ok-index.index c.take_out-key.result.0 c.take_out-key.result.1 (at g c) c.remove.new.self c.remove.ensures.bound c.remove.ensures.places in
+      let there : IsIndexed (table g c) (set m.indices.items c.place_at-moved.result c.in_ok-index.index) c.remove.new.self = subst (λ (q : ℕ). IsIndexed (table g c) (set m.indices.items q c.in_ok-index.index) c.remove.new.self) (sym (moved_is g c)) whole in
+      subst (λ (es : List (g.row.K.Denot × ℕ)). IsIndexed es (set m.indices.items c.place_at-moved.result c.in_ok-index.index) c.remove.new.self) (sym c.take_out-key.ensures.entries) there
+
+  same_bound : c.remove.new.self.bound ≡ c.len.result
+  same_bound = let b = c.remove.ensures.bound in let l = c.len.ensures in let h = c.self.invariant.indexed.long in omega arith
 
 pub invariant_of-self : goal.invariant_of-self
-invariant_of-self g c =
-    let m = c.self.inside in
-    let whole = indexed_removed m.table.entries m.indices.items m.order c.self.invariant c.in_ok-index.index c.in-Some._key c.in-Some.place (at g c) c.remove.new.self c.remove.ensures.bound c.remove.ensures.places in
-    let there : IsIndexed (table g c) (set m.indices.items c.place_at-moved.result c.in_ok-index.index) c.remove.new.self = subst (λ (q : ℕ). IsIndexed (table g c) (set m.indices.items q c.in_ok-index.index) c.remove.new.self) (sym (moved_is g c)) whole in
-    subst (λ (es : List (g.row.K.Denot × ℕ)). IsIndexed es (set m.indices.items c.place_at-moved.result c.in_ok-index.index) c.remove.new.self) (sym c.in-Some.ensures.entries) there
+invariant_of-self g c = record {
+  indexed = indexed g c;
+  room = let b = same_bound g c in let r = c.take_out-key.ensures.room in omega arith;
+  empty = c.take_out-key.ensures.empty;
+  buffer = let b = same_bound g c in let r = c.take_out-key.ensures.buffer in omega arith;
+}
 
 pub returns-clause-place : goal.returns-clause-place
 returns-clause-place g c =
     let m = c.self.inside in
     let test = g.Q.Equivalent.equivalent c.args.key in
-    sym (found_in_order m.table.entries m.indices.items m.order c.self.invariant test g.K.PartialEq.eq c.requires c.get_index_of.ensures.unique c.in-Some.place (found g c))
+    sym (found_in_order m.table.entries m.indices.items m.order c.self.invariant.indexed test g.K.PartialEq.eq c.requires c.get_index_of.ensures.unique c.take_out-key.result.1 (found g c))
     ∙ ap (λ (b : BoundedKeys g.row.K.Denot). lookup test b.entries) c.self.view_is
 
 pub returns-clause-left : goal.returns-clause-left
 returns-clause-left g c =
     let m = c.self.inside in
     let test = g.Q.Equivalent.equivalent c.args.key in
-    ap (λ (es : List (g.row.K.Denot × ℕ)). in_order es (set m.indices.items c.place_at-moved.result c.in_ok-index.index) c.remove.new.self.places) c.in-Some.ensures.entries
+    ap (λ (es : List (g.row.K.Denot × ℕ)). in_order es (set m.indices.items c.place_at-moved.result c.in_ok-index.index) c.remove.new.self.places) c.take_out-key.ensures.entries
     ∙ ap (λ (q : ℕ). in_order (table g c) (set m.indices.items q c.in_ok-index.index) c.remove.new.self.places) (moved_is g c)
-    ∙ ap (in_order (table g c) (left_indices m.table.entries m.indices.items m.order c.self.invariant c.in_ok-index.index c.in-Some._key c.in-Some.place (at g c))) c.remove.ensures.places
-    ∙ shown_removed m.table.entries m.indices.items m.order c.self.invariant c.in_ok-index.index c.in-Some._key c.in-Some.place (at g c)
-    ∙ sym (removed_in_order m.table.entries m.indices.items m.order c.self.invariant test g.K.PartialEq.eq c.requires c.get_index_of.ensures.unique c.in-Some.place (found g c))
+    ∙ ap (in_order (table g c) (left_indices m.table.entries m.indices.items m.order c.self.invariant.indexed c.in_ok-index.index c.take_out-key.result.0 c.take_out-key.result.1 (at g c))) c.remove.ensures.places
+    ∙ shown_removed m.table.entries m.indices.items m.order c.self.invariant.indexed c.in_ok-index.index c.take_out-key.result.0 c.take_out-key.result.1 (at g c)
+    ∙ sym (removed_in_order m.table.entries m.indices.items m.order c.self.invariant.indexed test g.K.PartialEq.eq c.requires c.get_index_of.ensures.unique c.take_out-key.result.1 (found g c))
     ∙ ap (λ (b : BoundedKeys g.row.K.Denot). remove_entry test b.entries) c.self.view_is

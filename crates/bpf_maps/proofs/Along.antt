@@ -1,7 +1,6 @@
 -- Claims and deletions carried over to equal tables of places.
 use Rattle.std.proofs.Common.{◌≡◌, ℕ, List, Result, Ok, Err, ap, subst}
 use Rattle.tagged_model.specs.declared.fault.MapFault.{MapFault}
-use Rattle.tagged_model.specs.declared.fault.MapFault.TheVariants.{NoEntry, TooBig, Memory, Exists, Invalid, NoSpace}
 use Rattle.tagged_model.specs.Table.{Verdict, Refused, Present, New, verdict, removal}
 use Rattle.bpf_maps.specs.Places.{PlaceTable, table_of, Claims, Removes}
 
@@ -20,12 +19,7 @@ pub claims_shape : (v : Verdict ℕ) (key : List ℕ) (old new : PlaceTable) (an
 claims_shape (Refused f) key old new answer h = ap (λ (t : PlaceTable). t.shape) h.1
 claims_shape (Present p) key old new answer h = ap (λ (t : PlaceTable). t.shape) h.1
 claims_shape New key old new (Ok p) h = ap (λ (t : PlaceTable). t.shape) h.1
-claims_shape New key old new (Err Memory) h = ap (λ (t : PlaceTable). t.shape) h
-claims_shape New key old new (Err NoEntry) h = absurd h
-claims_shape New key old new (Err TooBig) h = absurd h
-claims_shape New key old new (Err Exists) h = absurd h
-claims_shape New key old new (Err Invalid) h = absurd h
-claims_shape New key old new (Err NoSpace) h = absurd h
+claims_shape New key old new (Err fault) h = absurd h
 
 pub removes_shape : (v : Result ℕ MapFault) (key : List ℕ) (old new : PlaceTable) (answer : Result (Unit {0}) MapFault) → Removes v key old answer new → new.shape ≡ old.shape
 removes_shape (Err f) key old new answer h = ap (λ (t : PlaceTable). t.shape) h.1

@@ -29,6 +29,11 @@ claims_new key old seen new p v room free h =
     subst (λ (t : PlaceTable). Claims (of_absent Hash (is_full (table_of t)) 0) key t (Ok p) new) v
     (subst (λ (b : Bool). Claims (of_absent Hash b 0) key old (Ok p) new) (sym room) (free, h))
 
+pub claims_full : (key : List ℕ) (old seen : PlaceTable) → old ≡ seen → is_full (table_of old) ≡ true → Claims (of_absent Hash (is_full (table_of seen)) 0) key seen (Err TooBig) seen
+claims_full key old seen v full =
+    subst (λ (t : PlaceTable). Claims (of_absent Hash (is_full (table_of t)) 0) key t (Err TooBig) t) v
+    (subst (λ (b : Bool). Claims (of_absent Hash b 0) key old (Err TooBig) old) (sym full) (refl, refl))
+
 -- ---- the place of a present key is less than `max_entries`
 
 absent_not : (d : MapKind) (full : Bool) (flags k : ℕ) → of_absent d full flags ≡ Present k → ⊥

@@ -4,7 +4,6 @@ use Rattle.std.specs.Result.{OnErr}
 use Rattle.std.proofs.lemmas.List.{drop-drop}
 use Rattle.words.specs.Bytes.{written_at}
 use Rattle.tagged_model.specs.declared.fault.MapFault.{MapFault}
-use Rattle.tagged_model.specs.declared.fault.MapFault.TheVariants.{NoEntry, TooBig, Memory, Exists, Invalid, NoSpace}
 use Rattle.tagged_model.specs.Table as map
 use Rattle.bpf_maps.specs.Places.{PlaceTable, Claims, Removes}
 use Rattle.bpf_maps.specs.Live.{LiveMap, LiveMaps, live_at, live_or, places_at, map_in, SameAreas, KeepsMap}
@@ -32,12 +31,7 @@ not_claimed (map.Present p) key old new fault h = absurd (no_place h.0)
   where
     no_place : ◌≡◌ {A = Result ℕ MapFault} (Err fault) (Ok p) → ⊥
     no_place e = cc
-not_claimed map.New key old new Memory h = h
-not_claimed map.New key old new NoEntry h = absurd h
-not_claimed map.New key old new TooBig h = absurd h
-not_claimed map.New key old new Exists h = absurd h
-not_claimed map.New key old new Invalid h = absurd h
-not_claimed map.New key old new NoSpace h = absurd h
+not_claimed map.New key old new fault h = absurd h
 
 pub not_removed : (v : Result ℕ MapFault) (key : List ℕ) (old new : PlaceTable) (fault : MapFault) → Removes v key old (Err fault) new → new ≡ old
 not_removed (Err f) key old new fault h = h.1

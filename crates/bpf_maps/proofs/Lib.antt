@@ -1,6 +1,7 @@
 pub mod Counts
 pub mod Shown
 pub mod WordKeys
+pub mod InlineKeys
 pub mod Kept
 pub mod Answered
 pub mod Shapes

@@ -4,23 +4,26 @@ use Rattle.std.specs.Map.{values_of}
 use Rattle.tagged_model.specs.declared.shape.MapKind.TheVariants.{Hash}
 use Rattle.bpf_maps.specs.Places.{PlaceTable, occurrences, IsSized}
 use Rattle.bpf_maps.specs.declared.key_index.KeyIndex.{KeyIndex}
-use Rattle.bpf_maps.specs.declared.key_index.KeyIndex.TheVariants.{Words, Bytes}
+use Rattle.bpf_maps.specs.declared.key_index.KeyIndex.TheVariants.{Words, Middle, Long}
 use Rattle.bpf_maps.specs.declared.hash_map.HashMap.TheInside.{Inside}
 
 -- the bytes of each key, with its place
 abbrev pub entries_of : KeyIndex → List (List ℕ × ℕ)
 entries_of (Words keys) = keys.entries
-entries_of (Bytes keys) = keys.entries
+entries_of (Middle keys) = keys.entries
+entries_of (Long keys) = keys.entries
 
 -- its places are less than this
 abbrev pub bound_of : KeyIndex → ℕ
 bound_of (Words keys) = keys.bound
-bound_of (Bytes keys) = keys.bound
+bound_of (Middle keys) = keys.bound
+bound_of (Long keys) = keys.bound
 
--- the index takes keys of this size in bytes
+-- the index has room for keys of this size in bytes
 abbrev pub TakesKeys : KeyIndex → ℕ → Type 0
 TakesKeys (Words keys) size = size ≡ keys.size
-TakesKeys (Bytes keys) size = Unit {0}
+TakesKeys (Middle keys) size = size ≤ 64
+TakesKeys (Long keys) size = size ≤ 512
 
 -- the first of the spare places are kept apart, and the others are free
 abbrev pub shown : Inside → PlaceTable

@@ -2,6 +2,7 @@ pub mod Limits
 pub mod Places
 pub mod KeyLists
 pub mod Words
+pub mod InlineKeys
 pub mod KeyRef
 pub mod Index
 pub mod Laws

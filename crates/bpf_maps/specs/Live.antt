@@ -19,7 +19,7 @@ pub record LiveMap : Type 0 where
   pub stride : ℕ
   pub holds : ℕ
 
--- the live map of each handle, and whether memory was ever refused to a new map or a new key
+-- the live map of each handle, and whether memory was ever refused to a new map
 pub record LiveMaps : Type 0 where
   pub maps : List (Option LiveMap)
   pub refused : Bool
@@ -211,13 +211,3 @@ one_more l = record { places = l.places; start = l.start; stride = l.stride; hol
 abbrev pub one_less : Option MapWithoutArea → Option MapWithoutArea
 one_less None = None
 one_less (Some h) = if nat_le h.holds 1 then None else Some (record { places = h.places; holds = h.holds - 1 })
-
--- whether the result is that memory was refused
-abbrev pub is_memory : Result ℕ MapFault → Bool
-is_memory (Ok p) = false
-is_memory (Err Memory) = true
-is_memory (Err NoEntry) = false
-is_memory (Err TooBig) = false
-is_memory (Err Exists) = false
-is_memory (Err Invalid) = false
-is_memory (Err NoSpace) = false

@@ -7,7 +7,7 @@ use Rattle.std.specs.Map.{values_of}
 use Rattle.tagged_model.specs.declared.shape.MapKind.TheVariants.{Array}
 use Rattle.tagged_model.specs.declared.shape.MapShape.{MapShape}
 use Rattle.tagged_model.specs.declared.fault.MapFault.{MapFault}
-use Rattle.tagged_model.specs.declared.fault.MapFault.TheVariants.{NoEntry, TooBig, Memory, Exists, Invalid, NoSpace}
+use Rattle.tagged_model.specs.declared.fault.MapFault.TheVariants.{NoEntry}
 use Rattle.tagged_model.specs.Table.{Table, Verdict, Refused, Present, New, with_key, without, new_entries}
 
 -- the keys in order, each with its place, and the places that are kept apart
@@ -51,17 +51,12 @@ abbrev pub with_place : PlaceTable → List ℕ → ℕ → PlaceTable
 with_place t key p = record { shape = t.shape; entries = with_key key p t.entries; kept = t.kept }
 
 -- the possible results of a claim by the verdict on its update, each with the table after it; a new key gets any place that is not
--- in use, or is refused memory
+-- in use: it cannot be refused
 abbrev pub Claims : Verdict ℕ → List ℕ → PlaceTable → Result ℕ MapFault → PlaceTable → Type 0
 Claims (Refused fault) key old answer new = (answer ≡ Err fault) × (new ≡ old)
 Claims (Present p) key old answer new = (answer ≡ Ok p) × (new ≡ old)
 Claims New key old (Ok p) new = IsFree old p × (new ≡ with_place old key p)
-Claims New key old (Err Memory) new = new ≡ old
-Claims New key old (Err NoEntry) new = ⊥
-Claims New key old (Err TooBig) new = ⊥
-Claims New key old (Err Exists) new = ⊥
-Claims New key old (Err Invalid) new = ⊥
-Claims New key old (Err NoSpace) new = ⊥
+Claims New key old (Err fault) new = ⊥
 
 abbrev pub with_kept : PlaceTable → List ℕ → ℕ → PlaceTable
 with_kept t key p = record { shape = t.shape; entries = without key t.entries; kept = t.kept ++ p ∷ [] }

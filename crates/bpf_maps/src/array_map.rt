@@ -6,7 +6,6 @@ ghost use Rattle.ordered_keys.specs.Orders.{next_entry};
 ghost use Rattle.tagged_model.specs.declared.shape.MapKind.TheVariants.{Array};
 ghost use Rattle.tagged_model.specs.Table.{look_up, verdict, next_of, index_key};
 ghost use Rattle.bpf_maps.specs.Places.{PlaceTable, table_of, IsSound, Claims, new_places};
-ghost use Rattle.bpf_maps.specs.Live.{is_memory};
 ghost use Rattle.bpf_maps.specs.KeyRef.{key_bytes, shown_entry};
 
 use crate::key_ref::{KeyRef, ShortKey};
@@ -106,7 +105,6 @@ impl ArrayMap {
         ensures claimed { Claims (verdict (table_of self.now) key.now flags) key.now self.now result
             self.now }
         ensures within { IfOk result (λ place. place < self.now.shape.max_entries) }
-        ensures no_memory { is_memory result ≡ false }
     {
         self.keys_are_its_indices();
         if flags > EXIST {

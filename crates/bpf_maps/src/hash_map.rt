@@ -39,8 +39,8 @@ impl Model for HashMap {
 }
 
 impl HashMap {
-    /// Makes a map of this shape without keys, whose keys are hashed with this seed. Allocates its list of places and their order.
-    /// `AllocError`: out of memory.
+    /// Makes a map of this shape without keys, whose keys are hashed with this seed. Allocates all the memory that the map can ever
+    /// take. `AllocError`: out of memory.
     pub fn new(alloc: Global, shape: MapShape, seed: HashSeed) -> Result<HashMap, AllocError>
         requires { shape.kind ≡ Hash }
         ensures { IfOk result (λ map. map ≡ new_places shape) }
@@ -89,8 +89,7 @@ impl HashMap {
         self.index.entry_after(place)
     }
 
-    /// Claims a free place for a new key, which goes to the end. `TooBig` if no place is free, else `Memory` if out of memory. Then
-    /// nothing has changed.
+    /// Claims a free place for a new key, which goes to the end. `TooBig` if no place is free. Then nothing has changed.
     #[cold]
     #[inline(never)]
     #[tactic(auto, using(crate::proofs::Kept::sound))]
@@ -105,9 +104,7 @@ impl HashMap {
             return Err(MapFault::TooBig);
         }
         let place = self.spare[self.spare.len() - 1];
-        if self.index.insert(key, place).is_err() {
-            return Err(MapFault::Memory);
-        }
+        self.index.insert(key, place);
         self.spare.pop();
         Ok(place)
     }

@@ -1,25 +1,28 @@
 //! The index of a hash map: the places of keys of one size.
 
-ghost use Rattle.std.specs.Prelude.{◌≡◌, ◌<◌, None, IfOk, OnOk, OnErr, [], length, option_map};
+ghost use Rattle.std.specs.Prelude.{◌≡◌, ◌<◌, ◌≤◌, None, IfOk, [], length, option_map};
 ghost use Rattle.std.specs.Map.{values_of};
 ghost use Rattle.ordered_keys.specs.Orders.{next_entry};
 ghost use Rattle.tagged_model.specs.Table.{found, with_key, without, key_after};
+ghost use Rattle.bpf_maps.specs.declared.long_index.TheConstants.{LONGEST_LONG};
 ghost use Rattle.bpf_maps.specs.KeyRef.{key_bytes, shown_entry};
 ghost use Rattle.bpf_maps.specs.Places.{occurrences};
 ghost use Rattle.bpf_maps.specs.Index.{entries_of, bound_of, TakesKeys};
 
-use crate::bytes_index::BytesIndex;
 use crate::key_ref::KeyRef;
+use crate::long_index::LongIndex;
+use crate::middle_index::{LONGEST_MIDDLE, MiddleIndex};
 use crate::word_index::{LONGEST_WORD, WordIndex};
 use seeded_hash::HashSeed;
 use std::alloc::{AllocError, Global};
 
 /// The keys of a hash map, each with its place, in the order in which they were added. Short keys are kept as numbers, longer ones
-/// as bytes.
+/// as bytes, in arrays of one of two lengths.
 #[derive(Drop)]
 pub enum KeyIndex {
     Words(WordIndex),
-    Bytes(BytesIndex),
+    Middle(MiddleIndex),
+    Long(LongIndex),
 }
 
 impl KeyIndex {
@@ -30,14 +33,17 @@ impl KeyIndex {
         bound: u32,
         seed: HashSeed,
     ) -> Result<KeyIndex, AllocError>
+        requires { key_size ≤ LONGEST_LONG }
         ensures entries { IfOk result (λ index. entries_of index ≡ []) }
         ensures takes { IfOk result (λ index. TakesKeys index key_size) }
         ensures bound { IfOk result (λ index. bound_of index ≡ bound) }
     {
         if key_size <= LONGEST_WORD {
             Ok(KeyIndex::Words(WordIndex::new(alloc, key_size, bound, seed)?))
+        } else if key_size <= LONGEST_MIDDLE {
+            Ok(KeyIndex::Middle(MiddleIndex::new(alloc, bound, seed)?))
         } else {
-            Ok(KeyIndex::Bytes(BytesIndex::new(alloc, bound, seed)?))
+            Ok(KeyIndex::Long(LongIndex::new(alloc, bound, seed)?))
         }
     }
 
@@ -49,7 +55,8 @@ impl KeyIndex {
     {
         match self {
             KeyIndex::Words(words) => words.get(key),
-            KeyIndex::Bytes(bytes) => bytes.get(key),
+            KeyIndex::Middle(bytes) => bytes.get(key),
+            KeyIndex::Long(bytes) => bytes.get(key),
         }
     }
 
@@ -59,7 +66,8 @@ impl KeyIndex {
     {
         match self {
             KeyIndex::Words(words) => Some(KeyRef::Short(words.key_after(key)?)),
-            KeyIndex::Bytes(bytes) => Some(KeyRef::Lent(bytes.key_after(key)?)),
+            KeyIndex::Middle(bytes) => Some(KeyRef::Lent(bytes.key_after(key)?)),
+            KeyIndex::Long(bytes) => Some(KeyRef::Lent(bytes.key_after(key)?)),
         }
     }
 
@@ -73,29 +81,32 @@ impl KeyIndex {
                 let (key, place) = words.entry_after(place)?;
                 Some((KeyRef::Short(key), place))
             }
-            KeyIndex::Bytes(bytes) => {
+            KeyIndex::Middle(bytes) => {
+                let (key, place) = bytes.entry_after(place)?;
+                Some((KeyRef::Lent(key), place))
+            }
+            KeyIndex::Long(bytes) => {
                 let (key, place) = bytes.entry_after(place)?;
                 Some((KeyRef::Lent(key), place))
             }
         }
     }
 
-    /// Adds a new key at the end. `AllocError`: out of memory. Then nothing has changed.
-    pub(crate) fn insert(&mut self, key: &[u8], place: u32) -> Result<(), AllocError>
+    /// Adds a new key at the end. It takes no memory.
+    pub(crate) fn insert(&mut self, key: &[u8], place: u32)
         requires takes { TakesKeys self.old (length key.now) }
         requires absent { found key.now (entries_of self.old) ≡ None }
         requires within { place < bound_of self.old }
         requires free { occurrences place (values_of (entries_of self.old)) ≡ 0 }
         requires few { length (entries_of self.old) < bound_of self.old }
-        ensures added { OnOk result (entries_of self.new
-            ≡ with_key key.now place (entries_of self.old)) }
-        ensures refused { OnErr result (entries_of self.new ≡ entries_of self.old) }
+        ensures added { entries_of self.new ≡ with_key key.now place (entries_of self.old) }
         ensures takes { TakesKeys self.new (length key.now) }
         ensures bound { bound_of self.new ≡ bound_of self.old }
     {
         match self {
             KeyIndex::Words(words) => words.insert(key, place),
-            KeyIndex::Bytes(bytes) => bytes.insert(key, place),
+            KeyIndex::Middle(bytes) => bytes.insert(key, place),
+            KeyIndex::Long(bytes) => bytes.insert(key, place),
         }
     }
 
@@ -109,7 +120,8 @@ impl KeyIndex {
     {
         match self {
             KeyIndex::Words(words) => words.remove(key),
-            KeyIndex::Bytes(bytes) => bytes.remove(key),
+            KeyIndex::Middle(bytes) => bytes.remove(key),
+            KeyIndex::Long(bytes) => bytes.remove(key),
         }
     }
 }

@@ -16,8 +16,8 @@
 //! Calls of one map:
 //!
 //! - A look-up, an update, a delete and a request for the next key return and leave what the definition says, with errors in
-//!   its order. Only a new key of a hash map can be out of memory, and then nothing changes. This holds for the calls of
-//!   `ValueMap`, for `ArrayMap` and `HashMap`.
+//!   its order, and none of them is refused memory: a map takes all memory that it can ever need when it is created. This holds for
+//!   the calls of `ValueMap`, for `ArrayMap` and `HashMap`.
 //! - The address of a key's value is that of its place in the part, modulo 2^64, at which the whole value is, and 0 if the map has
 //!   no such key: `address`, `inside` of `Maps::address_of`. In an array it is found from the number of its elements, their distance
 //!   and the address of the first: `Elements::of`, `Elements::address_of`.
@@ -70,9 +70,13 @@
 //!   key is hashed and compared as one number, and takes no memory but its entry. Keys of four and of eight bytes are one load;
 //!   others are padded with zeros out of line. Contracts see the bytes of keys. A look-up takes half the machine instructions
 //!   that it took with all keys as bytes.
-//! - A longer key is hashed in one write of all its bytes, which the hasher takes sixteen at a time; a `Vec<u8>` is hashed byte
-//!   by byte. So such a key has a type of its own (`LongKey`), and is looked up by borrowed bytes (`KeyBytes`). The look-up of
-//!   a key of 64 bytes took 598 machine instructions before and 218 after this change.
+//! - A longer key is in an array of 64 or of 512 bytes (`InlineKey`), in an index for each of the two lengths (`MiddleIndex`,
+//!   `LongIndex`), so that a map takes all memory for its keys when it is created: with a `Vec` for each key, a new key took memory.
+//!   The arrays are allocated and not written until their key comes. One length for both would take eight times the memory for keys of
+//!   9 to 64 bytes. The two indices are the same code: an index for any length would have to show that the array's length is small
+//!   wherever it uses a key.
+//! - Such a key is hashed in one write of all its bytes, which the hasher takes sixteen at a time, and is looked up by borrowed bytes
+//!   (`KeyBytes`). The look-up of a key of 64 bytes took 598 machine instructions before and 218 after this change.
 //! - A look-up in a hash map is three functions in the machine code: one that checks how the keys are stored and ends in a jump
 //!   to one for numbers or one for longer keys. As one function, a look-up of a number saved and restored the registers that
 //!   only longer keys need. The map's part of an update is inlined: its `Result` went through memory. bench/FIGURES.md has the
@@ -80,15 +84,14 @@
 //!   five machine instructions more.
 //! - The next key is borrowed or returned by value (`KeyRef`): a key that is stored as a number is spelled in eight bytes, a
 //!   longer one is borrowed from the map. So no request clears and fills room for the longest key, 512 bytes.
-//! - Memory is allocated in advance: a hash map allocates its list of places and their order when it is created, and `Maps`
-//!   room for sixteen maps, so a delete and the end of a run allocate nothing.
+//! - Memory is allocated in advance: a hash map allocates its list of places, their order and its table of keys when it is created, and
+//!   `Maps` room for sixteen maps, so an update, a delete and the end of a run allocate nothing.
 //! - The places that no key has are one list: first those of keys that were deleted in this run, then the free ones. A place of
 //!   the first part counts as an entry until the run ends. The end of a run only sets the length of that part to 0, so it takes
 //!   the same time however many keys were deleted.
 //! - The refinement between a map of objects and the map of what they represent is one record for any two kinds of object. No
 //!   clause can range over all kinds, so `calls_refine_values` states it for numbers that represent numbers and bytes.
-//! - A tenant's maps keep the allocator with which they were created, so `create` takes none: a new map uses it as a new key
-//!   does.
+//! - A tenant's maps keep the allocator with which they were created, so `create` takes none: a new map uses it.
 //! - The areas of a tenant's maps follow one another after the stack and the context, in order of creation, without a gap. So a
 //!   part takes 262,720 bytes; an area of the largest size for each of sixteen maps would take 1,049,152. When a map is freed,
 //!   the bytes of all later maps move down by its area: at most 262,136 bytes, by at most 65,536. A program's run closes
@@ -107,15 +110,16 @@
 
 mod array_map;
 mod bpf_map;
-mod bytes_index;
 mod contract_clients;
 mod elements;
 mod hash_map;
+mod inline_key;
 mod key_index;
 mod key_ref;
 pub mod laws;
-mod long_key;
+mod long_index;
 mod maps;
+mod middle_index;
 mod part;
 mod slab_keys;
 mod stored_map;

@@ -1,6 +1,6 @@
 //! A tenant's live maps, each with a handle.
 
-ghost use Rattle.std.specs.Prelude.{◌≡◌, ◌≢◌, ℕ, ◌+◌, ◌-◌, ◌<◌, ◌≤◌, ◌^◌, ◌⊎◌, ◌||◌, true, false, [], length, take, replicate, option_map, Some, None, is_some, IfSome, IfOk, OnErr, IsSome};
+ghost use Rattle.std.specs.Prelude.{◌≡◌, ◌≢◌, ℕ, ◌+◌, ◌-◌, ◌<◌, ◌≤◌, ◌^◌, ◌⊎◌, true, false, [], length, take, replicate, option_map, Some, None, is_some, IfSome, IfOk, OnErr, IsSome};
 ghost use Rattle.ordered_keys.specs.Orders.{next_entry};
 ghost use Rattle.tagged_model.specs.declared.shape.MapKind.TheVariants.{Array};
 ghost use Rattle.tagged_model.specs.Table.{look_up, verdict, removal, next_of, new_table};
@@ -8,7 +8,7 @@ ghost use Rattle.bpf_maps.specs.declared.part.TheConstants.{PART, STACK_AND_CONT
 ghost use Rattle.bpf_maps.specs.Limits.{most_maps, most_bytes};
 ghost use Rattle.bpf_maps.specs.Places.{table_of, IsSound, Claims, Removes, GivesKey, after_run};
 ghost use Rattle.bpf_maps.specs.KeyRef.{key_bytes, shown_entry};
-ghost use Rattle.bpf_maps.specs.Live.{live_at, places_at, shape_at, holds_at, held_at, offset_at, value_in, map_in, value_address, LiesInPart, IsLaid, IsPacked, ClosesUp, start_at, AreSound, SameAreas, SameValues, KeepsMap, KeepsMaps, KeepsOthers, area_by, areas, OnlyKeysChange, create_fault, Creates, one_more, one_less, is_memory};
+ghost use Rattle.bpf_maps.specs.Live.{live_at, places_at, shape_at, holds_at, held_at, offset_at, value_in, map_in, value_address, LiesInPart, IsLaid, IsPacked, ClosesUp, start_at, AreSound, SameAreas, SameValues, KeepsMap, KeepsMaps, KeepsOthers, area_by, areas, OnlyKeysChange, create_fault, Creates, one_more, one_less};
 ghost use Rattle.bpf_maps.specs.InMaps.{live_of};
 
 use crate::bpf_map::BpfMap;
@@ -237,7 +237,7 @@ impl Maps {
         self.bytes -= size;
     }
 
-    /// Whether memory was ever refused to a new map or a new key.
+    /// Whether memory was ever refused to a new map.
     pub fn refused(&self) -> bool
         ensures { result ≡ self.now.refused }
     {
@@ -312,8 +312,8 @@ impl Maps {
     ///
     /// Those of an update (bpf(2), BPF_MAP_UPDATE_ELEM): `Invalid` if `flags` is none of `ANY`, `NOEXIST` and `EXIST`; for a
     /// present key, `Exists` if `flags` is `NOEXIST`; for an absent key of an array, `TooBig`; for an absent key of a hash map,
-    /// `NoEntry` if `flags` is `EXIST`, else `TooBig` if the map is full, counting the keys removed in this run, else `Memory` if
-    /// out of memory. Then no map has changed.
+    /// `NoEntry` if `flags` is `EXIST`, else `TooBig` if the map is full, counting the keys removed in this run. Then no map has
+    /// changed. Takes no memory.
     #[inline(always)]
     pub fn claim(&mut self, map: MapKey, key: &[u8], flags: u64) -> Result<u32, MapFault>
         requires live { IsSome (live_at self.old map) }
@@ -322,16 +322,12 @@ impl Maps {
             (places_at self.old map) result (places_at self.new map) }
         ensures within { IfOk result (λ place. place < (shape_at self.new map).max_entries) }
         ensures rest { OnlyKeysChange map self.old self.new }
-        ensures refused { self.new.refused ≡ (self.old.refused || is_memory result) }
+        ensures refused { self.new.refused ≡ self.old.refused }
     {
         self.maps_are_laid();
         let at = self.keys.key(map.handle);
         let stored = &mut self.maps[at];
-        let answer = stored.map.claim(key, flags);
-        if matches!(answer, Err(MapFault::Memory)) {
-            self.refused = true;
-        }
-        answer
+        stored.map.claim(key, flags)
     }
 
     /// Removes a key. Its place is kept apart until the run ends: until then no key gets it. Takes no memory.

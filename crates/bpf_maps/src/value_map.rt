@@ -39,8 +39,8 @@ pub trait ValueMap {
     ///
     /// Those of an update (bpf(2), BPF_MAP_UPDATE_ELEM): `Invalid` if `flags` is none of `ANY`, `NOEXIST` and `EXIST`; for a
     /// present key, `Exists` if `flags` is `NOEXIST`; for an absent key of an array, `TooBig`; for an absent key of a hash map,
-    /// `NoEntry` if `flags` is `EXIST`, else `TooBig` if the map is full, counting the keys removed in this run, else `Memory` if
-    /// out of memory. Then nothing has changed.
+    /// `NoEntry` if `flags` is `EXIST`, else `TooBig` if the map is full, counting the keys removed in this run. Then nothing has
+    /// changed. Takes no memory.
     fn claim(&mut self, key: &[u8], flags: u64) -> Result<u32, MapFault>
         requires size { length key.now ≡ (places self.old).shape.key_size }
         ensures claimed { Claims (verdict (table_of (places self.old)) key.now flags) key.now

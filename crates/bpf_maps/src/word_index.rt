@@ -1,6 +1,6 @@
 //! The places of keys of at most eight bytes.
 
-ghost use Rattle.std.specs.Prelude.{◌≡◌, ◌<◌, ◌≤◌, None, IfOk, OnOk, OnErr, [], length};
+ghost use Rattle.std.specs.Prelude.{◌≡◌, ◌<◌, ◌≤◌, None, IfOk, [], length};
 ghost use Rattle.std.specs.Map.{values_of};
 ghost use Rattle.words.specs.Bytes.{number_of};
 ghost use Rattle.ordered_keys.specs.Orders.{next_entry};
@@ -83,19 +83,18 @@ impl WordIndex {
         Some((ShortKey::of_word(*word, self.size), place))
     }
 
-    /// Adds a new key at the end. `AllocError`: out of memory. Then nothing has changed.
-    pub(crate) fn insert(&mut self, key: &[u8], place: u32) -> Result<(), AllocError>
+    /// Adds a new key at the end. It takes no memory.
+    pub(crate) fn insert(&mut self, key: &[u8], place: u32)
         requires size { length key.now ≡ self.old.size }
         requires absent { found key.now self.old.entries ≡ None }
         requires within { place < self.old.bound }
         requires free { occurrences place (values_of self.old.entries) ≡ 0 }
         requires few { length self.old.entries < self.old.bound }
-        ensures added { OnOk result (self.new.entries ≡ with_key key.now place self.old.entries) }
-        ensures refused { OnErr result (self.new.entries ≡ self.old.entries) }
+        ensures added { self.new.entries ≡ with_key key.now place self.old.entries }
         ensures size { self.new.size ≡ self.old.size }
         ensures bound { self.new.bound ≡ self.old.bound }
     {
-        self.map.insert(word_of(key), place)
+        self.map.insert(word_of(key), place);
     }
 
     /// Removes a key and returns its place; `None` if the key is absent. The others keep their order.

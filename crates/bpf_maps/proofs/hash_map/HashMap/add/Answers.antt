@@ -3,7 +3,6 @@ use Rattle.tagged_model.specs.Table.{with_key}
 use Rattle.bpf_maps.specs.Places.{PlaceTable, IsFree}
 use Rattle.bpf_maps.specs.Index.{entries_of, TakesKeys, shown, IsWellFormedHash}
 use Rattle.bpf_maps.specs.declared.hash_map.HashMap.TheInside.{Inside}
-use Rattle.bpf_maps.proofs.Shown.{on_ok}
 use Rattle.bpf_maps.proofs.Kept.{sound, kept_by_add, not_full, is_free, same_kept}
 use Rattle.bpf_maps.proofs.Answered.{claims_new, same_table}
 use Rattle.bpf_maps.proofs.hash_map.HashMap.add.Goals as goal
@@ -28,10 +27,10 @@ insert-requires-clause-free c = (free (goal.at.insert-requires-clause-free c).Af
 
 module _ (c : goal.After-pop) where
   abbrev chosen : After-index-place
-  chosen = (goal.at.invariant_of-self-2 c).After-index-place
+  chosen = (goal.at.invariant_of-self c).After-index-place
 
   index : entries_of c.insert.new.self ≡ with_key c.args.key.now c.index-place.result.now (entries_of c.self.inside.index)
-  index = on_ok c.insert.result (sym c.is_err.ensures.value ∙ c.if-is_err.false) c.insert.ensures.added
+  index = c.insert.ensures.added
 
   size : length c.args.key.now ≡ c.self.inside.shape.key_size
   size = c.requires.size ∙ ap (λ (t : PlaceTable). t.shape.key_size) (sym c.self.view_is)
@@ -44,8 +43,8 @@ module _ (c : goal.After-pop) where
       kept_by_add c.self.invariant c.index-place.result.now (last chosen) (some chosen) after c.args.key.now size refl index refl c.pop.ensures.rest c.pop.ensures.capacity
       (subst (TakesKeys c.insert.new.self) size c.insert.ensures.takes) c.insert.ensures.bound
 
-pub invariant_of-self-2 : goal.invariant_of-self-2
-invariant_of-self-2 c = whole c
+pub invariant_of-self : goal.invariant_of-self
+invariant_of-self c = whole c
 
 pub returns-clause-claimed : goal.returns-clause-claimed
 returns-clause-claimed c =

@@ -1,11 +1,11 @@
-use Rattle.std.proofs.Common.{◌≡◌, ◌<◌, ◌^◌, ◌∙◌, inl, inr, ap, sym, subst, nat_eq, length}
+use Rattle.std.proofs.Common.{◌≡◌, ◌<◌, ◌^◌, ◌∙◌, ap, sym, subst, nat_eq, length}
 use Rattle.std.specs.Map.{values_of}
 use Rattle.words.specs.Bytes.{low_bytes}
 use Rattle.tagged_model.specs.Table.{found, with_key}
 use Rattle.bpf_maps.specs.Places.{occurrences}
 use Rattle.bpf_maps.specs.KeyLists.{SizedKeys}
 use Rattle.bpf_maps.specs.Words.{AreBelow}
-use Rattle.bpf_maps.proofs.Shown.{found_shown, added_shown, values_shown, ok_or_err, on_ok_then}
+use Rattle.bpf_maps.proofs.Shown.{found_shown, added_shown, values_shown}
 use Rattle.bpf_maps.proofs.WordKeys.{word_tests, word_spelled, key_below, below-append}
 use Rattle.bpf_maps.proofs.word_index.WordIndex.insert.Goals as goal
 
@@ -30,10 +30,7 @@ invariant_of-self c =
     let below : c.word_of.result < 256 ^ w.size = subst (λ n. n < 256 ^ w.size) (sym c.word_of.ensures) (key_below w.size key (λ i _. (c.type_inv.key i).fits) long) in
     record {
       short = c.self.invariant.short;
-      below = elim (ok_or_err c.insert.result c.insert.ensures.added c.insert.ensures.refused) [
-        | inl added ↦ subst (AreBelow (256 ^ w.size)) (sym added) (below-append (256 ^ w.size) c.word_of.result c.args.place w.map.entries c.self.invariant.below below)
-        | inr same ↦ subst (AreBelow (256 ^ w.size)) (sym same) c.self.invariant.below
-      ];
+      below = subst (AreBelow (256 ^ w.size)) (sym c.insert.ensures.added) (below-append (256 ^ w.size) c.word_of.result c.args.place w.map.entries c.self.invariant.below below);
     }
 
 pub returns-clause-added : goal.returns-clause-added
@@ -42,6 +39,4 @@ returns-clause-added c =
     let key = c.args.key.now in
     let long : length key ≡ w.size = c.requires.size ∙ ap (λ (t : SizedKeys). t.size) (sym c.self.view_is) in
     let spelled : low_bytes w.size c.word_of.result ≡ key = word_spelled w.size key (λ i _. (c.type_inv.key i).fits) long c.word_of.result c.word_of.ensures in
-    on_ok_then c.insert.result
-    (λ added. added_shown (low_bytes w.size) w.map.entries c.insert.new.self.entries c.word_of.result key c.args.place spelled added ∙ ap (λ (t : SizedKeys). with_key key c.args.place t.entries) c.self.view_is)
-    c.insert.ensures.added
+    added_shown (low_bytes w.size) w.map.entries c.insert.new.self.entries c.word_of.result key c.args.place spelled c.insert.ensures.added ∙ ap (λ (t : SizedKeys). with_key key c.args.place t.entries) c.self.view_is

@@ -1,25 +1,29 @@
-//! The places of keys of any length.
+//! The places of keys of at most 512 bytes.
 
-ghost use Rattle.std.specs.Prelude.{◌≡◌, ◌<◌, None, IfOk, OnOk, OnErr, [], length, option_map};
+ghost use Rattle.std.specs.Prelude.{◌≡◌, ◌<◌, ◌≤◌, None, IfOk, [], length, option_map};
 ghost use Rattle.std.specs.Map.{values_of};
 ghost use Rattle.ordered_keys.specs.Orders.{lent_entry, next_entry};
 ghost use Rattle.tagged_model.specs.Table.{found, with_key, without, key_after};
 ghost use Rattle.bpf_maps.specs.Places.{occurrences};
 ghost use Rattle.bpf_maps.specs.inside.Keys.{lent_key};
 
-use crate::long_key::{KeyBytes, LongKey};
+use crate::inline_key::{InlineKey, KeyBytes};
 use ordered_keys::OrderedMap;
 use seeded_hash::HashSeed;
 use std::alloc::{AllocError, Global};
 use std::marker::Model;
 
-/// Keys of any length, each with its place, in the order in which they were added. Contracts see the keys' bytes with their places.
+/// The length of the longest key, in bytes.
+pub(crate) const LONGEST_LONG: usize = 512;
+
+/// Keys of at most 512 bytes, each with its place, in the order in which they were added. Contracts see the keys' bytes with their
+/// places.
 #[derive(Drop)]
-pub struct BytesIndex {
-    map: OrderedMap<LongKey, HashSeed>,
+pub struct LongIndex {
+    map: OrderedMap<InlineKey<LONGEST_LONG>, HashSeed>,
 }
 
-impl Model for BytesIndex {
+impl Model for LongIndex {
     ghost use Rattle.std.specs.Prelude.{ℕ, List};
     ghost use Rattle.std.specs.Coded.{coded_list, coded_ℕ};
     ghost use Rattle.ordered_keys.specs.Orders.{BoundedKeys, bounded_keys_code};
@@ -31,14 +35,14 @@ impl Model for BytesIndex {
     ghost view = { λ b. b.map };
 }
 
-impl BytesIndex {
+impl LongIndex {
     /// Makes an index without keys, for places less than `bound`. `AllocError`: out of memory.
-    pub(crate) fn new(alloc: Global, bound: u32, seed: HashSeed) -> Result<BytesIndex, AllocError>
+    pub(crate) fn new(alloc: Global, bound: u32, seed: HashSeed) -> Result<LongIndex, AllocError>
         ensures bound { IfOk result (λ index. index.bound ≡ bound) }
         ensures entries { IfOk result (λ index. index.entries ≡ []) }
     {
         let map = OrderedMap::new(alloc, bound, seed)?;
-        Ok(BytesIndex { map })
+        Ok(LongIndex { map })
     }
 
     /// Returns the place of a key; `None` if the key is absent.
@@ -66,18 +70,17 @@ impl BytesIndex {
         Some((key.bytes(), place))
     }
 
-    /// Adds a new key at the end. `AllocError`: out of memory. Then nothing has changed.
-    pub(crate) fn insert(&mut self, key: &[u8], place: u32) -> Result<(), AllocError>
+    /// Adds a new key at the end. It takes no memory.
+    pub(crate) fn insert(&mut self, key: &[u8], place: u32)
+        requires short { length key.now ≤ LONGEST_LONG }
         requires absent { found key.now self.old.entries ≡ None }
         requires within { place < self.old.bound }
         requires free { occurrences place (values_of self.old.entries) ≡ 0 }
         requires few { length self.old.entries < self.old.bound }
-        ensures added { OnOk result (self.new.entries ≡ with_key key.now place self.old.entries) }
-        ensures refused { OnErr result (self.new.entries ≡ self.old.entries) }
+        ensures added { self.new.entries ≡ with_key key.now place self.old.entries }
         ensures bound { self.new.bound ≡ self.old.bound }
     {
-        let own = LongKey::copy_of(self.map.allocator(), key)?;
-        self.map.insert(own, place)
+        self.map.insert(InlineKey::copy_of(key), place);
     }
 
     /// Removes a key and returns its place; `None` if the key is absent. The others keep their order.

@@ -1,63 +1,77 @@
-//! Keys of any length, as an index keeps them and as they are looked up.
+//! Keys of more than eight bytes, as an index keeps them and as they are looked up.
 
-ghost use Rattle.std.specs.Prelude.{◌≡◌, ◌+◌, ◌≤◌, nat_eq, [], ◌∷◌, length, IfOk};
+ghost use Rattle.std.specs.Prelude.{◌≡◌, ◌+◌, ◌<◌, ◌≤◌, ◌^◌, nat_eq, [], ◌∷◌, length};
 ghost use Rattle.std.specs.Cmp.{on_equiv, on_per, partial_equiv_from_equiv};
 ghost use Rattle.std.specs.Cmp.Lexicographic.{pointwise, nat_list_eq_equiv, bytes_decides};
 ghost use Rattle.std.proofs.Common.{ap};
 
 use ordered_keys::Equivalent;
-use std::alloc::{AllocError, Global};
 use std::hash::{Hash, Hasher};
 use std::marker::Model;
 
-/// A key of any length, in memory of its own. Contracts see its bytes.
-#[derive(Drop)]
-pub struct LongKey {
-    bytes: Vec<u8>,
+/// A key of at most `N` bytes, which are in the value itself. Contracts see them.
+#[derive(Clone, Copy)]
+pub struct InlineKey<const N: usize> {
+    // The first `size` are those of the key, and the others are 0.
+    bytes: [u8; N],
+    size: u16,
 }
 
-impl Model for LongKey {
-    ghost use Rattle.std.specs.Prelude.{ℕ, List};
+impl<const N: usize> Model for InlineKey<N> {
+    ghost use Rattle.std.specs.Prelude.{◌≡◌, ◌-◌, ◌≤◌, ◌++◌, ℕ, List, length, take, drop, replicate};
+    ghost use Rattle.bpf_maps.specs.InlineKeys.{padded, given_back};
 
     ghost Value = { List ℕ };
 
-    ghost view = { λ k. k.bytes.items };
+    ghost view = { λ k. take k.size k.bytes };
+
+    ghost invariant = { λ k. (k.size ≤ N) × (length k.bytes ≡ N) × (drop k.size k.bytes ≡ replicate (N - k.size) 0) };
+
+    ghost inverse = { λ bytes. record { bytes = padded N bytes; size = length bytes } };
+
+    ghost inverse_ok = { λ k h i. let same = given_back N k.size k.bytes h.0 h.1 h.2 in record { bytes = same.0 i; size = same.1 i } };
 }
 
-impl LongKey {
-    /// Makes a key with a copy of these bytes. `AllocError`: out of memory.
-    pub(crate) fn copy_of(alloc: Global, bytes: &[u8]) -> Result<LongKey, AllocError>
-        ensures { IfOk result (λ key. key ≡ bytes.now) }
+impl<const N: usize> InlineKey<N> {
+    /// Makes a key with a copy of these bytes.
+    #[inline(always)]
+    pub(crate) fn copy_of(bytes: &[u8]) -> InlineKey<N>
+        requires short { length bytes.now ≤ N }
+        requires small { N < 2 ^ 16 }
+        ensures { result ≡ bytes.now }
     {
-        let mut own = Vec::with_capacity(alloc, bytes.len())?;
-        own.extend_from_slice(bytes)?;
-        Ok(LongKey { bytes: own })
+        let mut own = [0; N];
+        own[..bytes.len()].copy_from_slice(bytes);
+        InlineKey {
+            bytes: own,
+            size: bytes.len() as u16,
+        }
     }
 
     #[inline(always)]
     pub(crate) fn bytes(&self) -> &[u8]
         ensures { result.now ≡ self.now }
     {
-        &self.bytes
+        &self.bytes[..self.size as usize]
     }
 }
 
-impl PartialEq for LongKey {
+impl<const N: usize> PartialEq for InlineKey<N> {
     ghost eq = { pointwise nat_eq };
 
     ghost laws = { partial_equiv_from_equiv nat_list_eq_equiv };
 
-    fn eq(&self, other: &LongKey) -> bool {
+    fn eq(&self, other: &InlineKey<N>) -> bool {
         self.bytes() == other.bytes()
     }
 }
 
-impl Eq for LongKey {
+impl<const N: usize> Eq for InlineKey<N> {
     ghost laws = { nat_list_eq_equiv };
 }
 
 // All bytes go to the hasher in one write, of which it takes sixteen at a time.
-impl Hash for LongKey {
+impl<const N: usize> Hash for InlineKey<N> {
     ghost hash_input = { λ k. k ∷ [] };
 
     ghost respects_eq = { λ x y h. ap (λ k. k ∷ []) ((bytes_decides x y).0 h) };
@@ -97,14 +111,14 @@ impl Hash for KeyBytes<'_> {
     }
 }
 
-impl Equivalent<LongKey> for KeyBytes<'_> {
+impl<const N: usize> Equivalent<InlineKey<N>> for KeyBytes<'_> {
     ghost equivalent = { λ q k. pointwise nat_eq q.bytes.now k };
 
     ghost respects_hash = { λ q k h. ap (λ k. k ∷ []) ((bytes_decides q.bytes.now k).0 h) };
 
     ghost respects_eq = { λ q x y. nat_list_eq_equiv.congr q.bytes.now x y };
 
-    fn equivalent(&self, key: &LongKey) -> bool {
+    fn equivalent(&self, key: &InlineKey<N>) -> bool {
         self.bytes == key.bytes()
     }
 }

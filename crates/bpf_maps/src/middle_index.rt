@@ -1,0 +1,94 @@
+//! The places of keys of at most 64 bytes.
+
+ghost use Rattle.std.specs.Prelude.{◌≡◌, ◌<◌, ◌≤◌, None, IfOk, [], length, option_map};
+ghost use Rattle.std.specs.Map.{values_of};
+ghost use Rattle.ordered_keys.specs.Orders.{lent_entry, next_entry};
+ghost use Rattle.tagged_model.specs.Table.{found, with_key, without, key_after};
+ghost use Rattle.bpf_maps.specs.Places.{occurrences};
+ghost use Rattle.bpf_maps.specs.inside.Keys.{lent_key};
+
+use crate::inline_key::{InlineKey, KeyBytes};
+use ordered_keys::OrderedMap;
+use seeded_hash::HashSeed;
+use std::alloc::{AllocError, Global};
+use std::marker::Model;
+
+/// The length of the longest key, in bytes.
+pub(crate) const LONGEST_MIDDLE: usize = 64;
+
+/// Keys of at most 64 bytes, each with its place, in the order in which they were added. Contracts see the keys' bytes with their
+/// places.
+#[derive(Drop)]
+pub struct MiddleIndex {
+    map: OrderedMap<InlineKey<LONGEST_MIDDLE>, HashSeed>,
+}
+
+impl Model for MiddleIndex {
+    ghost use Rattle.std.specs.Prelude.{ℕ, List};
+    ghost use Rattle.std.specs.Coded.{coded_list, coded_ℕ};
+    ghost use Rattle.ordered_keys.specs.Orders.{BoundedKeys, bounded_keys_code};
+
+    ghost Value = { BoundedKeys (List ℕ) };
+
+    ghost coded = { bounded_keys_code (coded_list coded_ℕ) };
+
+    ghost view = { λ b. b.map };
+}
+
+impl MiddleIndex {
+    /// Makes an index without keys, for places less than `bound`. `AllocError`: out of memory.
+    pub(crate) fn new(alloc: Global, bound: u32, seed: HashSeed) -> Result<MiddleIndex, AllocError>
+        ensures bound { IfOk result (λ index. index.bound ≡ bound) }
+        ensures entries { IfOk result (λ index. index.entries ≡ []) }
+    {
+        let map = OrderedMap::new(alloc, bound, seed)?;
+        Ok(MiddleIndex { map })
+    }
+
+    /// Returns the place of a key; `None` if the key is absent.
+    #[inline(never)]
+    pub(crate) fn get(&self, key: &[u8]) -> Option<u32>
+        ensures { result ≡ found key.now self.now.entries }
+    {
+        self.map.get(KeyBytes { bytes: key })
+    }
+
+    /// Returns the key that follows a key, if there is one. After an absent key it is the first.
+    pub(crate) fn key_after(&self, key: &[u8]) -> Option<&[u8]>
+        ensures { option_map lent_key result ≡ key_after key.now self.now.entries }
+    {
+        let following = self.map.key_after(KeyBytes { bytes: key })?;
+        Some(following.bytes())
+    }
+
+    /// The key that follows the one of a place, or the first key if no place is given, with its place. `None` if there is none,
+    /// and if no key has the place.
+    pub(crate) fn entry_after(&self, place: Option<u32>) -> Option<(&[u8], u32)>
+        ensures { option_map lent_entry result ≡ next_entry place self.now.entries }
+    {
+        let (key, place) = self.map.entry_after(place)?;
+        Some((key.bytes(), place))
+    }
+
+    /// Adds a new key at the end. It takes no memory.
+    pub(crate) fn insert(&mut self, key: &[u8], place: u32)
+        requires short { length key.now ≤ LONGEST_MIDDLE }
+        requires absent { found key.now self.old.entries ≡ None }
+        requires within { place < self.old.bound }
+        requires free { occurrences place (values_of self.old.entries) ≡ 0 }
+        requires few { length self.old.entries < self.old.bound }
+        ensures added { self.new.entries ≡ with_key key.now place self.old.entries }
+        ensures bound { self.new.bound ≡ self.old.bound }
+    {
+        self.map.insert(InlineKey::copy_of(key), place);
+    }
+
+    /// Removes a key and returns its place; `None` if the key is absent. The others keep their order.
+    pub(crate) fn remove(&mut self, key: &[u8]) -> Option<u32>
+        ensures place { result ≡ found key.now self.old.entries }
+        ensures left { self.new.entries ≡ without key.now self.old.entries }
+        ensures bound { self.new.bound ≡ self.old.bound }
+    {
+        self.map.remove(KeyBytes { bytes: key })
+    }
+}

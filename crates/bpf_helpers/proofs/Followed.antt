@@ -1,7 +1,7 @@
 -- A call on words and bytes simulates the machine's call.
 use Rattle.std.proofs.Common.{◌≡◌, ◌≢◌, ℕ, ◌+◌, ◌-◌, ◌*◌, ◌<◌, ◌≤◌, ◌&&◌, eqb, leb, false, List, length, Option, Some, None, refl, sym, ap, subst, ◌∙◌, ⊎_elim, arith}
 use Rattle.std.specs.Prelude.{slice_index, unwrap_or}
-use Rattle.std.proofs.lemmas.Bool.{false≢true, and_parts, leb-true, eqb-true, eqb-false, cases_Bool}
+use Rattle.std.proofs.lemmas.Bool.{and_parts, leb-true, eqb-true, eqb-false, cases_Bool}
 use Rattle.std.proofs.lemmas.Option.{same_Some, cond_some}
 use Rattle.words.specs.Bytes.{bytes_at}
 use Rattle.words.specs.ByteLaws.{length-bytes_at}
@@ -98,7 +98,7 @@ module _ (env : Environment) (l : Layout) (flat : FlatState) (s : RunState) (roo
   not_refused : (helper : Helper) (answer : CallAnswer) (u : RunState) → called false helper s ≡ Some u → Simulates env l (with_answer flat answer) u → ((key : ℕ) → IsElsewhere env.bind key → live_at answer.maps key ≡ live_at flat.maps key) → SameAreas flat.maps answer.maps → ((key : ℕ) → holds_at answer.maps key ≡ holds_at flat.maps key)
       → ResultFollows env l flat s helper answer
   not_refused helper answer u goes after others areas holds =
-      record { refused = false; only = λ r. absurd (false≢true r); state = u; goes = goes; layout = l; extends = extends_itself l; stands = after; others = others; areas = areas; holds = holds }
+      record { state = u; goes = goes; layout = l; extends = extends_itself l; stands = after; others = others; areas = areas; holds = holds }
 
   -- a call that is refused no memory and does not change the maps
   leaves_maps : (helper : Helper) (word : ℕ) (after : Memory) (u : RunState) → called false helper s ≡ Some u → Simulates env l (with_answer flat (answers word after flat.maps)) u → ResultFollows env l flat s helper (answers word after flat.maps)
@@ -143,15 +143,13 @@ module _ (env : Environment) (l : Layout) (flat : FlatState) (s : RunState) (roo
             let r : Updates (site_in env flat) pair (slice_index words 3) reply = subst (λ o. UpdatesNamed (site_in env flat) o (slice_index words 3) reply) is told in
             let flags_are : slice_index words 3 ≡ flags = args 3 (omega arith) ∙ number_word env l flat s room stands 4 flags (omega arith) fourth in
             let st = updates_keep_simulation below env l flat s m.index asked reply room stands m.named (is_given s 1 g first).there values.1 (subst (λ (f : ℕ). Updates (site_in env flat) pair f reply) flags_are r) in
-            let gave = update_reply st.refused asked in
+            let gave = update_reply asked in
             record {
-              refused = st.refused;
-              only = λ x. record { given = g; key = key; flags = flags; map_is = first; key_is = second; flags_are = fourth; new = st.only x };
               state = replies s g.descriptor gave;
-              goes = ap (λ o. and_then o (λ g. and_then (argument s 2 (λ p. input s p g.map.table.shape.key_size)) (λ key. and_then (argument s 3 (λ p. input s p g.map.table.shape.value_size)) (λ value. and_then (argument s 4 number_given) (λ flags. Some (replies s g.descriptor (updated st.refused g.map key value flags))))))) first
-                  ∙ ap (λ o. and_then o (λ key. and_then (argument s 3 (λ p. input s p g.map.table.shape.value_size)) (λ value. and_then (argument s 4 number_given) (λ flags. Some (replies s g.descriptor (updated st.refused g.map key value flags)))))) second
-                  ∙ ap (λ o. and_then o (λ value. and_then (argument s 4 number_given) (λ flags. Some (replies s g.descriptor (updated st.refused g.map key value flags))))) third
-                  ∙ ap (λ o. and_then o (λ flags. Some (replies s g.descriptor (updated st.refused g.map key value flags)))) fourth;
+              goes = ap (λ o. and_then o (λ g. and_then (argument s 2 (λ p. input s p g.map.table.shape.key_size)) (λ key. and_then (argument s 3 (λ p. input s p g.map.table.shape.value_size)) (λ value. and_then (argument s 4 number_given) (λ flags. Some (replies s g.descriptor (updated false g.map key value flags))))))) first
+                  ∙ ap (λ o. and_then o (λ key. and_then (argument s 3 (λ p. input s p g.map.table.shape.value_size)) (λ value. and_then (argument s 4 number_given) (λ flags. Some (replies s g.descriptor (updated false g.map key value flags)))))) second
+                  ∙ ap (λ o. and_then o (λ value. and_then (argument s 4 number_given) (λ flags. Some (replies s g.descriptor (updated false g.map key value flags))))) third
+                  ∙ ap (λ o. and_then o (λ flags. Some (replies s g.descriptor (updated false g.map key value flags)))) fourth;
               layout = st.layout;
               extends = st.extends;
               stands = returned env st.layout (with_held flat reply.memory reply.maps) (with_reply s g.descriptor gave) (Scalar gave.answer) reply.word st.stands st.answer_is;

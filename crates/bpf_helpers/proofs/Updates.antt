@@ -2,14 +2,13 @@
 use Rattle.std.proofs.Common.{◌≡◌, ◌≢◌, inl, inr, ℕ, ◌+◌, ◌*◌, ◌<◌, ◌≤◌, ◌==◌, ◌||◌, leb, pos, Bool, true, false, List, ◌++◌, length, drop, slice_get, Some, None, Result, Ok, Err, refl, sym, ap, subst, ◌∙◌, ⊎_elim, arith}
 use Rattle.std.specs.Prelude.{slice_index}
 use Rattle.std.specs.Option.{IsSome}
-use Rattle.std.proofs.lemmas.Bool.{cond_both, cond-true, eqb-true, eqb-false, le-leb, false≢true}
+use Rattle.std.proofs.lemmas.Bool.{cond_both, cond-true, eqb-true, eqb-false, le-leb}
 use Rattle.std.proofs.lemmas.Int.{ints}
 use Rattle.std.proofs.lemmas.Option.{same_Some, slice_get_within}
 use Rattle.std.proofs.lemmas.List.{length-take, length-drop, drop_all, append-nil}
 use Rattle.words.specs.Bytes.{bytes_at, written_at}
 use Rattle.words.specs.ByteLaws.{bytes_stay, bytes_written}
 use Rattle.tagged_model.specs.declared.fault.MapFault.{MapFault}
-use Rattle.tagged_model.specs.declared.fault.MapFault.TheVariants.{NoEntry, TooBig, Memory, Exists, Invalid, NoSpace}
 use Rattle.tagged_model.specs.declared.value.Object.TheVariants as object
 use Rattle.tagged_model.specs.declared.value.Tagged.TheVariants.{Pointer}
 use Rattle.tagged_model.specs.Table.{Table, Verdict, Refused, Present, New, verdict, verdict_with}
@@ -19,7 +18,7 @@ use Rattle.tagged_model.specs.Helpers.{put, with_object, with_reply, negative, e
 use Rattle.tagged_model.specs.StateLaws.{found_owned}
 use Rattle.arena.specs.Memory.{Memory as Bytes, base, part_start, with_bytes}
 use Rattle.bpf_maps.specs.Places.{table_of, IsFree, with_place, Claims}
-use Rattle.bpf_maps.specs.Live.{live_at, places_at, shape_at, offset_at, is_memory}
+use Rattle.bpf_maps.specs.Live.{live_at, places_at, shape_at, offset_at}
 use Rattle.bpf_helpers.specs.inside.Below.{LawsBelow}
 use Rattle.bpf_helpers.specs.Layout.{Layout, IsWord}
 use Rattle.bpf_helpers.specs.Stands.{stack_top, IsRoom, HasMap, MapsStandFor, Simulates, stored_maps}
@@ -31,8 +30,8 @@ use Rattle.bpf_helpers.proofs.Inputs.{part_place_is, memory_long, start_same}
 use Rattle.bpf_helpers.proofs.Outputs.{changed_after, cell_kept, words_kept, laid_apart, outputs_keep_simulation}
 use Rattle.bpf_helpers.specs.Calls.{Extends}
 use Rattle.bpf_helpers.specs.inside.Laws.{UpdateKeepsSimulation, UpdatesKeepSimulation}
-use Rattle.bpf_helpers.proofs.Verdicts.{present_found, never_memory}
-use Rattle.bpf_helpers.proofs.Flags.{or_once_more}
+use Rattle.bpf_helpers.proofs.Verdicts.{present_found}
+use Rattle.bpf_helpers.proofs.Flags.{or_none}
 use Rattle.bpf_helpers.proofs.Moved.{other_key, other_bytes, other_moved, maps_moved, maps_again, others_moved, maps_stand}
 use Rattle.bpf_helpers.proofs.Wider.{extends_itself, extended, extends, word_more, cell_more, map_extended}
 use Rattle.bpf_helpers.proofs.Added.{map_with_new}
@@ -55,12 +54,10 @@ module _ (below : LawsBelow) (env : Environment) (l : Layout) (flat : FlatState)
 
   -- the simulation after an update with this verdict
   record Done (v : Verdict ℕ) : Type 0 where
-    refused : Bool
-    only : refused ≡ true → v ≡ New
     layout : Layout
     more : Extends l layout
-    answer : reply.word ≡ (put refused map key value v).answer
-    standing : Simulates env layout (with_held flat reply.memory reply.maps) (with_reply s m (put refused map key value v))
+    answer : reply.word ≡ (put false map key value v).answer
+    standing : Simulates env layout (with_held flat reply.memory reply.maps) (with_reply s m (put false map key value v))
 
   has : HasMap l (stored_maps (part_start env.memory env.tenant) flat.memory.bytes flat.maps) k m map
   has =
@@ -70,35 +67,32 @@ module _ (below : LawsBelow) (env : Environment) (l : Layout) (flat : FlatState)
   value_size_is : (shape_at flat.maps k).value_size ≡ length value
   value_size_is = ap (λ (x : Table ℕ). x.shape.value_size) has.table ∙ sym size
 
-  -- the flag of the live maps, by whether this update was refused memory
-  flag_after : (answer : Result ℕ MapFault) (refused : Bool) → u.claim ≡ answer → is_memory answer ≡ refused → reply.maps.refused ≡ (env.maps.refused || (s.refused || refused))
-  flag_after answer refused told memory_is =
-      u.flag ∙ ap (λ a. flat.maps.refused || is_memory a) told ∙ ap (λ b. flat.maps.refused || b) memory_is ∙ ap (λ b. b || refused) stands.flag ∙ or_once_more env.maps.refused s.refused refused
+  -- the flag of the live maps stays
+  flag_after : reply.maps.refused ≡ (env.maps.refused || (s.refused || false))
+  flag_after = u.flag ∙ stands.flag ∙ ap (λ b. env.maps.refused || b) (or_none s.refused)
 
-  -- only the flag has changed
-  unchanged : (x : RunState) (refused : Bool) → x ≡ with_refusal (with_map s m map) refused → reply.maps.refused ≡ (env.maps.refused || (s.refused || refused)) → places_at reply.maps k ≡ places_at flat.maps k → reply.memory ≡ flat.memory → Simulates env l (with_held flat reply.memory reply.maps) x
-  unchanged x refused e flag places same =
+  -- nothing has changed
+  unchanged : (x : RunState) → x ≡ with_refusal (with_map s m map) false → places_at reply.maps k ≡ places_at flat.maps k → reply.memory ≡ flat.memory → Simulates env l (with_held flat reply.memory reply.maps) x
+  unchanged x e places same =
       subst (λ (y : RunState). Simulates env l (with_held flat reply.memory reply.maps) y) (sym e)
-      (subst (λ (n : Bytes). Simulates env l (with_held flat n reply.maps) (with_refusal (with_map s m map) refused)) (sym same)
-      (maps_stand stands i m named reply.maps u.rest (set_at s.maps m (Some map)) (s.refused || refused)
+      (subst (λ (n : Bytes). Simulates env l (with_held flat n reply.maps) (with_refusal (with_map s m map) false)) (sym same)
+      (maps_stand stands i m named reply.maps u.rest (set_at s.maps m (Some map)) (s.refused || false)
       (maps_again m is (maps_moved u.rest below.areas places stands.maps))
-      flag))
+      flag_after))
 
-  refused_stands : (fault : MapFault) (refused : Bool) (v : Verdict ℕ) → (refused ≡ true → v ≡ New) → is_memory (Err fault) ≡ refused → u.claim ≡ Err fault → places_at reply.maps k ≡ places_at flat.maps k → (put refused map key value v).answer ≡ negative (errno fault) → (put refused map key value v).map ≡ map → (put refused map key value v).refused ≡ refused → Done v
-  refused_stands fault refused v only memory_is told places answer map_is flag_is = record {
-    refused = refused;
-    only = only;
+  refused_stands : (fault : MapFault) (v : Verdict ℕ) → u.claim ≡ Err fault → places_at reply.maps k ≡ places_at flat.maps k → (put false map key value v).answer ≡ negative (errno fault) → (put false map key value v).map ≡ map → (put false map key value v).refused ≡ false → Done v
+  refused_stands fault v told places answer map_is flag_is = record {
     layout = l;
     more = extends_itself l;
     answer = u.word_is ∙ ap claim_word told ∙ sym answer;
-    standing = unchanged (with_reply s m (put refused map key value v)) refused (ap (λ x. with_refusal (with_map s m x) (put refused map key value v).refused) map_is ∙ ap (with_refusal (with_map s m map)) flag_is)
-        (flag_after (Err fault) refused told memory_is) places (u.memory_is ∙ ap (with_claimed (site_in env flat) pair) told);
+    standing = unchanged (with_reply s m (put false map key value v)) (ap (λ x. with_refusal (with_map s m x) (put false map key value v).refused) map_is ∙ ap (with_refusal (with_map s m map)) flag_is)
+        places (u.memory_is ∙ ap (with_claimed (site_in env flat) pair) told);
   }
 
   moved : (x : RunState) (n : Bytes) (p : ℕ) → u.claim ≡ Ok p → x.refused ≡ s.refused → places_at reply.maps k ≡ places_at flat.maps k → Simulates env l (with_memory flat n) x → Simulates env l (with_held flat n reply.maps) (with_refusal x false)
   moved x n p told same places st =
       maps_stand st i m named reply.maps u.rest x.maps (x.refused || false) (maps_moved u.rest below.areas places st.maps)
-      (flag_after (Ok p) false told refl ∙ ap (λ b. env.maps.refused || (b || false)) (sym same))
+      (flag_after ∙ ap (λ b. env.maps.refused || (b || false)) (sym same))
 
   long_memory : part_start env.memory env.tenant + PART ≤ length flat.memory.bytes
   long_memory = memory_long env l flat s room stands
@@ -141,8 +135,6 @@ module _ (below : LawsBelow) (env : Environment) (l : Layout) (flat : FlatState)
       let at_off : part_place (part_start flat.memory env.tenant) flat.memory.part (length value) w ≡ Some off = part_place_is (part_start flat.memory env.tenant) flat.memory.part (length value) w off (omega arith) (omega arith) in
       let memory_is : reply.memory ≡ with_bytes flat.memory (part_start flat.memory env.tenant + off) value = u.memory_is ∙ ap (with_claimed (site_in env flat) pair) told in
       record {
-        refused = false;
-        only = λ e. absurd (false≢true e);
         layout = l;
         more = extends_itself l;
         answer = u.word_is ∙ ap claim_word told;
@@ -225,8 +217,6 @@ module _ (below : LawsBelow) (env : Environment) (l : Layout) (flat : FlatState)
         let a = room_there in let b = within in let c = behind in let d = long_memory in
         let memory_is : reply.memory ≡ with_bytes flat.memory (begin + off) value = u.memory_is ∙ ap (with_claimed (site_in env flat) pair) told ∙ ap (λ (x : ℕ). with_bytes flat.memory (x + off) value) begins in
         record {
-          refused = false;
-          only = λ e. absurd (false≢true e);
           layout = wider;
           more = more;
           answer = u.word_is ∙ ap claim_word told;
@@ -243,7 +233,7 @@ module _ (below : LawsBelow) (env : Environment) (l : Layout) (flat : FlatState)
             maps = maps_after;
             elsewhere = others_moved env.bind (part_start env.memory env.tenant) env.memory.bytes bytes flat.maps reply.maps i index_within u.rest.others
                 (λ other q away live lt. place_kept other q live lt (λ same. absurd (away i index_within (sym same))) ∙ stands.elsewhere other q away live lt);
-            flag = flag_after (Ok p) false told refl;
+            flag = flag_after;
           });
         }
 
@@ -251,15 +241,10 @@ module _ (below : LawsBelow) (env : Environment) (l : Layout) (flat : FlatState)
 
   new_done : (answer : Result ℕ MapFault) → u.claim ≡ answer → Claims New key (places_at flat.maps k) answer (places_at reply.maps k) → Done New
   new_done (Ok p) e c = new_stands p e c.0 c.1
-  new_done (Err Memory) e c = refused_stands Memory true New (λ _. refl) refl e c refl refl refl
-  new_done (Err NoEntry) e c = absurd c
-  new_done (Err TooBig) e c = absurd c
-  new_done (Err Exists) e c = absurd c
-  new_done (Err Invalid) e c = absurd c
-  new_done (Err NoSpace) e c = absurd c
+  new_done (Err fault) e c = absurd c
 
   done : (v : Verdict ℕ) → verdict map.table key flags ≡ v → Claims (verdict_with has.place v) key (places_at flat.maps k) u.claim (places_at reply.maps k) → Done v
-  done (Refused fault) e c = refused_stands fault false (Refused fault) (λ f. absurd (false≢true f)) (never_memory map.table key flags fault e) c.0 c.1 refl refl refl
+  done (Refused fault) e c = refused_stands fault (Refused fault) c.0 c.1 refl refl refl
   done (Present number) e c = present_stands number c.0 c.1 (found_owned map.count key map.table.entries number has.owns (present_found map.table key flags number e))
   done New e c = new_done u.claim refl c
 
@@ -267,7 +252,7 @@ module _ (below : LawsBelow) (env : Environment) (l : Layout) (flat : FlatState)
   update_stands =
       let same : verdict (table_of (places_at flat.maps k)) key flags ≡ verdict_with has.place (verdict map.table key flags) = ap (λ (x : Table ℕ). verdict x key flags) has.table ∙ below.along.verdict has.place map.table key flags in
       let d = done (verdict map.table key flags) refl (subst (λ v. Claims v key (places_at flat.maps k) u.claim (places_at reply.maps k)) same u.claimed) in
-      record { refused = d.refused; only = d.only; layout = d.layout; extends = d.more; answer_is = d.answer; stands = d.standing }
+      record { layout = d.layout; extends = d.more; answer_is = d.answer; stands = d.standing }
 
 pub updates_keep_simulation : LawsBelow → UpdatesKeepSimulation
 updates_keep_simulation below env l flat s i asked reply room stands named is size u =

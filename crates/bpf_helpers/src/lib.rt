@@ -8,8 +8,8 @@
 //!
 //! # What is proved
 //!
-//! - A call simulates the call on tagged values, if its words simulate values for which that is defined. Memory is refused only
-//!   to an update that adds a key, and this sets the flag of the live maps. All maps keep their areas and reference counts, those
+//! - A call simulates the call on tagged values, if its words simulate values for which that is defined. No call is refused memory:
+//!   its result is that of the call without a refusal, and the flag of the live maps stays. All maps keep their areas and reference counts, those
 //!   that the run does not name their keys and values, and the other parts all bytes: `follows` of `call`.
 //! - If a word names no map of the run, or bytes that are not in the tenant's part, a look-up returns null, an update and a
 //!   delete EINVAL, a load of bytes EFAULT, and nothing changes: `unnamed` of `call`.
@@ -36,9 +36,8 @@
 //!   words remain, but no `Option` or `Result` is built and taken apart for the result, and a run has no arm for a call that
 //!   faults. A look-up returns its address at once (`address_of`). bench/FIGURES.md has the cost of calls.
 //! - A call tests a word and an address once: the number of the map and the offset in the tenant's part are each one wrapping
-//!   difference and one comparison, since a key and a value of a map are never longer than a part (`sizes_fit_in_parts`). That
-//!   memory was refused to a new key is recorded after a test of its own: combined with the flag it took nine instructions of
-//!   each update. What `put` copies is known to be in the part (`copy_inside` of `arena`), and eight bytes are one number.
+//!   difference and one comparison, since a key and a value of a map are never longer than a part (`sizes_fit_in_parts`).
+//!   What `put` copies is known to be in the part (`copy_inside` of `arena`), and eight bytes are one number.
 #![tactic(auto)]
 
 mod arrays;

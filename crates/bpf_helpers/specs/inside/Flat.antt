@@ -1,5 +1,5 @@
 -- The helpers on words and bytes. The helpers are those of linux/bpf.h (bpf_func_id); their form on words is this project's own.
-use Rattle.std.specs.Prelude.{◌≡◌, Result, Ok, Err, ℕ, ◌+◌, ◌||◌, List, Option, Some, None, option_map}
+use Rattle.std.specs.Prelude.{◌≡◌, Result, Ok, Err, ℕ, ◌+◌, List, Option, Some, None, option_map}
 use Rattle.words.specs.Bytes.{bytes_at}
 use Rattle.tagged_model.specs.Table.{look_up, verdict, removal}
 use Rattle.tagged_model.specs.declared.fault.MapFault.{MapFault}
@@ -7,7 +7,7 @@ use Rattle.tagged_model.specs.declared.helper.Helper.TheVariants.{Update, Delete
 use Rattle.tagged_model.specs.Helpers.{negative, errno, packet_bytes, packet_answer}
 use Rattle.arena.specs.Memory.{Memory, base, part_start, with_bytes}
 use Rattle.bpf_maps.specs.Places.{table_of, Claims, Removes}
-use Rattle.bpf_maps.specs.Live.{LiveMaps, places_at, shape_at, offset_at, OnlyKeysChange, is_memory}
+use Rattle.bpf_maps.specs.Live.{LiveMaps, places_at, shape_at, offset_at, OnlyKeysChange}
 use Rattle.bpf_helpers.specs.Named.{NamedKey, NamedPair, key_named, unnamed_answer}
 use Rattle.bpf_helpers.specs.declared.caller.Caller.{Caller}
 use Rattle.bpf_helpers.specs.States.{CallSite, CallAnswer, site}
@@ -66,7 +66,7 @@ pub record Updates (site : CallSite) (pair : NamedPair) (flags : ℕ) (answer : 
   pub claimed : Claims (verdict (table_of (places_at site.maps pair.map)) pair.key flags) pair.key
       (places_at site.maps pair.map) claim (places_at answer.maps pair.map)
   pub rest : OnlyKeysChange pair.map site.maps answer.maps
-  pub flag : answer.maps.refused ≡ (site.maps.refused || is_memory claim)
+  pub flag : answer.maps.refused ≡ site.maps.refused
   pub word_is : answer.word ≡ claim_word claim
   pub memory_is : answer.memory ≡ with_claimed site pair claim
 

@@ -1,5 +1,5 @@
 -- Laws of the words and bytes that represent a state, helper by helper. This project's own.
-use Rattle.std.specs.Prelude.{◌≡◌, ℕ, ◌+◌, ◌<◌, ◌≤◌, ℤ, Bool, true, List, [], length, slice_get, slice_index, Option, Some, None, IsSome}
+use Rattle.std.specs.Prelude.{◌≡◌, ℕ, ◌+◌, ◌<◌, ◌≤◌, ℤ, Bool, false, List, [], length, slice_get, slice_index, Option, Some, None, IsSome}
 use Rattle.std.specs.Map.{values_of}
 use Rattle.words.specs.Bytes.{bytes_at, written_at}
 use Rattle.words.specs.Stack.{stack_size, place}
@@ -8,7 +8,7 @@ use Rattle.tagged_model.specs.declared.value.Tagged.{Tagged}
 use Rattle.tagged_model.specs.declared.value.Tagged.TheVariants.{Scalar}
 use Rattle.tagged_model.specs.State.{RunState, RunMap, stack_bytes, stack_written, output}
 use Rattle.tagged_model.specs.Helpers.{called, with_reply, returns, updated, removed, packet_bytes, packet_answer, GivenMap, MapReply}
-use Rattle.tagged_model.specs.Table.{verdict, New, with_values}
+use Rattle.tagged_model.specs.Table.{with_values}
 use Rattle.tagged_model.specs.Step.{first_map, last_map}
 use Rattle.arena.specs.Memory.{base, part_start, with_bytes}
 use Rattle.bpf_maps.specs.Places.{table_of, after_run, IsSound}
@@ -77,19 +77,17 @@ pub record TaggedUpdate : Type 0 where
   pub value : List ℕ
   pub flags : ℕ
 
-abbrev pub update_reply : Bool → TaggedUpdate → MapReply
-update_reply refused asked = updated refused asked.given.map asked.key asked.value asked.flags
+abbrev pub update_reply : TaggedUpdate → MapReply
+update_reply asked = updated false asked.given.map asked.key asked.value asked.flags
 
--- the machine's update, which may be refused memory, and a layout in which words and bytes represent the state after it
+-- the machine's update, which is refused no memory, and a layout in which words and bytes represent the state after it
 pub record UpdateKeepsSimulation (env : Environment) (l : Layout) (flat : FlatState) (s : RunState)
     (asked : TaggedUpdate) (answer : CallAnswer) : Type 0 where
-  pub refused : Bool
-  pub only : refused ≡ true → verdict asked.given.map.table asked.key asked.flags ≡ New
   pub layout : Layout
   pub extends : Extends l layout
-  pub answer_is : answer.word ≡ (update_reply refused asked).answer
+  pub answer_is : answer.word ≡ (update_reply asked).answer
   pub stands : Simulates env layout (with_held flat answer.memory answer.maps)
-      (with_reply s asked.given.descriptor (update_reply refused asked))
+      (with_reply s asked.given.descriptor (update_reply asked))
 
 abbrev pub UpdatesKeepSimulation : Type 0
 UpdatesKeepSimulation =

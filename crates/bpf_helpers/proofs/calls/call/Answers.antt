@@ -7,7 +7,6 @@ use Rattle.tagged_model.specs.declared.helper.Helper.{Helper}
 use Rattle.tagged_model.specs.declared.helper.Helper.TheVariants.{LookUp, Update, Delete, LoadBytes}
 use Rattle.tagged_model.specs.Helpers.{helper_of}
 use Rattle.tagged_model.specs.declared.fault.MapFault.{MapFault}
-use Rattle.tagged_model.specs.declared.fault.MapFault.TheVariants.{NoEntry, TooBig, Memory, Exists, Invalid, NoSpace}
 use Rattle.tagged_model.specs.Table.{Verdict, Refused, Present, New, verdict}
 use Rattle.bpf_maps.specs.Places.{PlaceTable, table_of, Claims}
 use Rattle.bpf_maps.specs.Live.{LiveMaps, LiveMap, live_or, places_at}
@@ -24,12 +23,7 @@ claims_apart : (v : Verdict ℕ) (key : List ℕ) (old : PlaceTable) (answer : R
 claims_apart (Refused fault) key old answer new claims = ap (λ (t : PlaceTable). t.kept) claims.1
 claims_apart (Present p) key old answer new claims = ap (λ (t : PlaceTable). t.kept) claims.1
 claims_apart New key old (Ok p) new claims = ap (λ (t : PlaceTable). t.kept) claims.1
-claims_apart New key old (Err Memory) new claims = ap (λ (t : PlaceTable). t.kept) claims
-claims_apart New key old (Err NoEntry) new claims = absurd claims
-claims_apart New key old (Err TooBig) new claims = absurd claims
-claims_apart New key old (Err Exists) new claims = absurd claims
-claims_apart New key old (Err Invalid) new claims = absurd claims
-claims_apart New key old (Err NoSpace) new claims = absurd claims
+claims_apart New key old (Err fault) new claims = absurd claims
 
 updates_apart : (here : CallSite) (pair : Option NamedPair) (flags : ℕ) (answer : CallAnswer) → UpdatesNamed here pair flags answer → SameApart here.maps answer.maps
 updates_apart here None flags answer nothing key = ap (λ (maps : LiveMaps). (places_at maps key).kept) nothing.2

@@ -22,7 +22,6 @@ pub mod SetUp
 pub mod Several
 pub mod Sequences
 pub mod LastStep
-pub mod Clear
 pub mod GivenWords
 pub mod Exits
 pub mod ContextWritten

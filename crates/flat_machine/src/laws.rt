@@ -1,7 +1,6 @@
 //! Laws by which a run on words and bytes simulates the run on tagged values. A law does nothing when it runs.
 
 ghost use Rattle.std.specs.Prelude.{◌<◌, ℕ, slice_index};
-ghost use Rattle.flat_machine.specs.Runs.{ClearRunsHaveNoRefusal};
 ghost use Rattle.flat_machine.specs.inside.Laws.{RunLaws};
 ghost use Rattle.flat_machine.specs.inside.Steps.{StepsFollow, StepsStayInside, AreWords};
 ghost use Rattle.flat_machine.specs.inside.Flat.{run_maps};
@@ -72,9 +71,3 @@ pub(crate) fn run_premises()
     verifier::laws::maps_are_listed();
     bpf_maps::laws::areas_keep_places();
 }
-
-/// If the flag of the live maps is clear after a run, no new key was refused memory: the result, the number of steps and the maps
-/// are those of the run without refusals.
-pub fn clear_runs_have_no_refusal()
-    ensures { ClearRunsHaveNoRefusal }
-{}

@@ -5,16 +5,13 @@
 //! # What is proved
 //!
 //! - A run of an accepted program returns what the tagged machine returns on the same maps, context and packet, and leaves the
-//!   same pairs in the maps that are bound to it, whatever else is in memory. If memory is refused to new keys, it does what
-//!   the tagged machine does with these refusals, and the flag of the live maps is set: `runs` of `run`.
+//!   same pairs in the maps that are bound to it, whatever else is in memory. It is refused no memory: `runs` of `run`.
 //! - It never faults, whatever memory is refused: `no_fault` of `run`.
 //! - It takes as many steps as the tagged machine, which are at most as many as the program has slots: `runs`, `few` of `run`.
 //! - Each range of addresses that it requests is in its tenant's part: `ranges` of `run`.
 //! - All live maps stay, with their areas and reference counts. Maps that are not bound keep their keys and all bytes of their
 //!   values; those that are bound have no deleted place left at the end: `maps`, `values` of `run`.
 //! - Every other part is unchanged, and so are the sizes: `memory` of `run`.
-//! - If the flag of the live maps is clear after a run, memory was refused to no new key, and the run is the one without
-//!   refusals: `clear_runs_have_no_refusal`.
 //! - `run_with`, which a tenant calls, promises what `run` does. It is given room for the table of the program's maps, which
 //!   means nothing afterwards.
 //! - Runs on many packets are those of `run` one after another, each on the maps that the previous one leaves (`RunsOnEach`).

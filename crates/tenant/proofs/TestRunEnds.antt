@@ -1,5 +1,5 @@
 -- Replies to test runs.
-use Rattle.std.proofs.Common.{◌≡◌, ℕ, ◌≤◌, Bool, true, false, List, ◌∷◌, length, Option, Some, refl, sym, ap, ap₂, subst, ◌∙◌, arith}
+use Rattle.std.proofs.Common.{◌≡◌, ℕ, ◌≤◌, Bool, true, false, List, [], ◌∷◌, length, Option, Some, refl, sym, ap, ap₂, subst, ◌∙◌, arith}
 use Rattle.std.specs.Prelude.{◌||◌, nat_lt, if◌then◌else◌}
 use Rattle.std.proofs.lemmas.Bool.Decides.{nat_tests}
 use Rattle.bpf_maps.specs.Live.{LiveMaps}
@@ -19,9 +19,9 @@ use Rattle.tenant.proofs.StillKept.{with_live}
 use Rattle.tenant.proofs.TestRunKeys.{bound_of}
 use Rattle.tenant.proofs.TestRunMaps.{stood, given_is, left_is}
 
-or_assoc : (a b c : Bool) → (a || (b || c)) ≡ ((a || b) || c)
-or_assoc true b c = refl
-or_assoc false b c = refl
+or_none : (b : Bool) → b ≡ (b || false)
+or_none true = refl
+or_none false = refl
 
 -- a packet that is not too long
 fits_is : (refusals : List Bool) (s : TenantState) (l : LoadedProgram) (words packet : List ℕ) → length packet ≤ longest_packet → ran refusals s l words packet ≡ run_of refusals s words packet (Some (object.Program l))
@@ -47,11 +47,11 @@ ran_as listed {k} {l} {words} {packet} {part} {first} {outcome} {after} h =
     let input : RunInput = record { code = l.insns; bind = bind; maps = given; context = context; packet = packet } in
     let r : SimulatesRun input (stood k.live part first) outcome after =
     subst (λ (m : MapsByDescriptor). SimulatesRun (record { code = l.insns; bind = bind; maps = m; context = context; packet = packet }) (stood k.live part first) outcome after) (given_is part h.kept h.bound listed) h.runs in
-    let refused = was_refused r.refusals l.insns given context packet in
-    let maps = left_is h.kept h.bound listed h.maps h.values (left_with r.refusals l.insns given context packet) r.left in
-    let flag : (k.refused || after.maps.refused) ≡ (s.refused || refused) = ap (λ (b : Bool). k.refused || b) r.flag ∙ or_assoc k.refused k.live.refused refused in
+    let refused = was_refused [] l.insns given context packet in
+    let maps = left_is h.kept h.bound listed h.maps h.values (left_with [] l.insns given context packet) r.left in
+    let flag : (k.refused || after.maps.refused) ≡ (s.refused || refused) = ap (λ (b : Bool). k.refused || b) r.flag ∙ or_none s.refused ∙ ap (λ (b : Bool). s.refused || b) (sym r.clear) in
     let state : state_in after.part (with_live k after.maps) ≡ _ = ap₂ (λ (ms : List (Option Map)) (b : Bool). record { objects = k.objects; maps = ms; refused = b }) (sym maps) flag in (
-      r.refusals,
+      [],
       ap₂ outcome_answer r.value state,
     )
 

@@ -1,13 +1,11 @@
 -- The state after an update.
 use Rattle.std.proofs.Common.{◌≡◌, ◌≢◌, ℕ, ◌+◌, Bool, true, false, List, [], length, take, drop, Option, Result, Ok, Err, refl, sym, ap, subst, ◌∙◌, arith, length-drop}
 use Rattle.std.specs.Prelude.{◌==◌, ◌||◌}
-use Rattle.std.proofs.Math.Bool.{or-false, or-true}
-use Rattle.bpf_maps.specs.Live.{LiveMaps, places_at, shape_at, map_in, value_in, OnlyKeysChange, is_memory}
+use Rattle.bpf_maps.specs.Live.{LiveMaps, places_at, shape_at, map_in, value_in, OnlyKeysChange}
 use Rattle.bpf_maps.specs.Places.{PlaceTable, table_of, Claims}
 use Rattle.bpf_maps.specs.InPart.{updated as change, IsValueAt, with_value, ValuesAreWritten, LiveMapsRefineValues}
-use Rattle.tagged_model.specs.MapLaws.{CallsRefineValues, MapVerdictsMatchLookUps}
+use Rattle.tagged_model.specs.MapLaws.{CallsRefineValues}
 use Rattle.tagged_model.specs.declared.fault.MapFault.{MapFault}
-use Rattle.tagged_model.specs.declared.fault.MapFault.TheVariants as fault
 use Rattle.tagged_model.specs.declared.shape.MapShape.{MapShape}
 use Rattle.tagged_model.specs.Table.{Verdict, Refused, Present, New, verdict, verdict_with}
 use Rattle.tenant.specs.Errno.{map_errno}
@@ -46,23 +44,18 @@ not_ok f p e = cc
 same_fault : (f g : MapFault) → let a : Claim = Err f in let b : Claim = Err g in a ≡ b → f ≡ g
 same_fault f g e = cc
 
--- a claim of a new key is rejected only for lack of memory
-memory_alone : (key : List ℕ) (old : PlaceTable) (f : MapFault) (new : PlaceTable) → Claims New key old (Err f) new → (f ≡ fault.Memory) × (new ≡ old)
-memory_alone key old fault.Memory new same = (refl, same)
-memory_alone key old other new h = absurd h
-
 -- a rejected claim changes nothing
 refused_claim : (v : Verdict ℕ) (key : List ℕ) (old : PlaceTable) (f : MapFault) (new : PlaceTable) → Claims v key old (Err f) new → new ≡ old
 refused_claim (Refused g) key old f new (is, same) = same
 refused_claim (Present p) key old f new (is, same) = same
-refused_claim New key old f new h = (memory_alone key old f new h).1
+refused_claim New key old f new h = absurd h
 
 -- a claim does not change the places that are kept apart
 claimed_kept : (v : Verdict ℕ) (key : List ℕ) (old : PlaceTable) (r : Claim) (new : PlaceTable) → Claims v key old r new → new.kept ≡ old.kept
 claimed_kept (Refused f) key old r new (is, same) = ap (λ (t : PlaceTable). t.kept) same
 claimed_kept (Present p) key old r new (is, same) = ap (λ (t : PlaceTable). t.kept) same
 claimed_kept New key old (Ok p) new (free, is) = ap (λ (t : PlaceTable). t.kept) is
-claimed_kept New key old (Err f) new h = ap (λ (t : PlaceTable). t.kept) (memory_alone key old f new h).1
+claimed_kept New key old (Err f) new h = absurd h
 
 -- after a claim the update is done
 done_by : (v : Verdict ℕ) (key : List ℕ) (old : PlaceTable) (p : ℕ) (new : PlaceTable) → Claims v key old (Ok p) new → (f : ℕ → List ℕ) (s : TenantState) (place : ℕ) (T : Map) (value : List ℕ)
@@ -78,38 +71,20 @@ done_put v w key old p new claimed f same s place T value =
 
 -- ---- a rejected claim
 
--- the state, with the flag set if memory was refused
-abbrev flagged : Bool → TenantState → TenantState
-flagged true s = record s { refused = true }
-flagged false s = s
-
--- the reply to an update that is rejected, with `refused` if it is for lack of memory
+-- the reply to an update that is rejected, which is never for lack of memory
 abbrev Fails : Verdict (List ℕ) → MapFault → List ℕ → TenantState → ℕ → Map → List ℕ → Type 0
-Fails w f key s place T value = (refused : Bool) × (is_memory (Err f) ≡ refused) × (element_put refused s place T key value w ≡ refuses (map_errno f) (flagged refused s))
+Fails w f key s place T value = element_put false s place T key value w ≡ refuses (map_errno f) s
 
-no_memory : (f : MapFault) → f ≢ fault.Memory → is_memory (Err f) ≡ false
-no_memory fault.Memory apart = absurd (apart refl)
-no_memory other apart = refl
-
-failed_by : (v : Verdict ℕ) (key : List ℕ) (old : PlaceTable) (f : MapFault) (new : PlaceTable) → v ≢ Refused fault.Memory → Claims v key old (Err f) new
+failed_by : (v : Verdict ℕ) (key : List ℕ) (old : PlaceTable) (f : MapFault) (new : PlaceTable) → Claims v key old (Err f) new
     → (g : ℕ → List ℕ) (s : TenantState) (place : ℕ) (T : Map) (value : List ℕ) → Fails (verdict_with g v) f key s place T value
-failed_by (Refused other) key old f new some (is, same) g s place T value =
-    let which : f ≡ other = same_fault f other is in
-    (false, no_memory f (λ memory. some (ap Refused (sym which ∙ memory))), ap (λ (x : MapFault). refuses (map_errno x) s) (sym which))
-failed_by (Present p) key old f new some (is, same) g s place T value = absurd (not_ok f p is)
-failed_by New key old f new some h g s place T value = subst (λ (x : MapFault). Fails New x key s place T value) (sym (memory_alone key old f new h).0) (true, refl, refl)
+failed_by (Refused other) key old f new (is, same) g s place T value = ap (λ (x : MapFault). refuses (map_errno x) s) (sym (same_fault f other is))
+failed_by (Present p) key old f new (is, same) g s place T value = absurd (not_ok f p is)
+failed_by New key old f new h g s place T value = absurd h
 
-failed_put : (v : Verdict ℕ) (w : Verdict (List ℕ)) (key : List ℕ) (old : PlaceTable) (f : MapFault) (new : PlaceTable) → v ≢ Refused fault.Memory → Claims v key old (Err f) new
+failed_put : (v : Verdict ℕ) (w : Verdict (List ℕ)) (key : List ℕ) (old : PlaceTable) (f : MapFault) (new : PlaceTable) → Claims v key old (Err f) new
     → (g : ℕ → List ℕ) → w ≡ verdict_with g v → (s : TenantState) (place : ℕ) (T : Map) (value : List ℕ) → Fails w f key s place T value
-failed_put v w key old f new some claimed g same s place T value =
-    subst (λ (x : Verdict (List ℕ)). Fails x f key s place T value) (sym same) (failed_by v key old f new some claimed g s place T value)
-
-flag_of : (a b r t : Bool) → t ≡ (b || r) → (s : TenantState) (refused : Bool) → r ≡ refused → s.refused ≡ (a || b) → record s { refused = a || t } ≡ flagged refused s
-flag_of a b r t is s refused same was = by_choice refused same
-  where
-    by_choice : (refused : Bool) → r ≡ refused → record s { refused = a || t } ≡ flagged refused s
-    by_choice true e = ap (λ (x : Bool). record s { refused = x }) (ap (λ (x : Bool). a || x) (is ∙ ap (λ (x : Bool). b || x) e) ∙ ap (λ (x : Bool). a || x) (or-true b) ∙ or-true a)
-    by_choice false e = ap (λ (x : Bool). record s { refused = x }) (ap (λ (x : Bool). a || x) (is ∙ ap (λ (x : Bool). b || x) e ∙ or-false b) ∙ sym was)
+failed_put v w key old f new claimed g same s place T value =
+    subst (λ (x : Verdict (List ℕ)). Fails x f key s place T value) (sym same) (failed_by v key old f new claimed g s place T value)
 
 -- ---- the whole command
 
@@ -119,11 +94,11 @@ pub record IsClaimed (k : KeptTenant) (t : LiveMaps) (fd m flags : ℕ) (bytes :
   pub size : length bytes ≡ (shape_at k.live m).key_size + (shape_at k.live m).value_size
   pub claimed : let key = key_of (shape_at k.live m) bytes in Claims (verdict (table_of (places_at k.live m)) key flags) key (places_at k.live m) r (places_at t m)
   pub rest : OnlyKeysChange m k.live t
-  pub refused : t.refused ≡ (k.live.refused || is_memory r)
+  pub refused : t.refused ≡ k.live.refused
 
 -- from the shape and the key in the code
 pub claimed_by : {k : KeptTenant} {t : LiveMaps} {fd m flags : ℕ} {bytes key : List ℕ} {r : Claim} {shape : MapShape} → IsMapOf k fd m → shape ≡ shape_at k.live m → length bytes ≡ shape.key_size + shape.value_size → key ≡ key_of shape bytes
-    → Claims (verdict (table_of (places_at k.live m)) key flags) key (places_at k.live m) r (places_at t m) → OnlyKeysChange m k.live t → t.refused ≡ (k.live.refused || is_memory r) → IsClaimed k t fd m flags bytes r
+    → Claims (verdict (table_of (places_at k.live m)) key flags) key (places_at k.live m) r (places_at t m) → OnlyKeysChange m k.live t → t.refused ≡ k.live.refused → IsClaimed k t fd m flags bytes r
 claimed_by {k} {t} {fd} {m} {flags} {bytes} {key} {r} {shape} found same size key_is claimed rest refused = record {
   found = found;
   size = size ∙ ap (λ (s : MapShape). s.key_size + s.value_size) same;
@@ -163,14 +138,14 @@ updated_at along written calls part {k} {t} {fd} {m} {flags} {p} {bytes} c at =
     let others : (other : ℕ) → other ≢ m → map_at later t other ≡ map_at part k.live other =
     λ other apart. other_at part later k.live t other (c.rest.others other apart) (λ now. whole.others other apart now ∙ ap (map_of part) (c.rest.others other apart)) in
     let state : state_in later (with_live k t) ≡ with_map_at s m (change w T key value) =
-    one_map part later k t m c.found.within c.rest.live others ((along part k.live t m c.rest.areas c.rest.live).update flags p key value at c.claimed) (c.refused ∙ or-false k.live.refused) in
+    one_map part later k t m c.found.within c.rest.live others ((along part k.live t m c.rest.areas c.rest.live).update flags p key value at c.claimed) c.refused in
     ap (gives []) state
     ∙ sym (done_put (verdict (table_of (places_at k.live m)) key flags) w key (places_at k.live m) p (places_at t m) c.claimed (value_in part k.live m) (calls.verdict (value_in part k.live m) (table_of (places_at k.live m)) key flags) s m T value)
     ∙ sym (update_is false part c)
 
-pub update_refused : LiveMapsRefineValues → CallsRefineValues ℕ (List ℕ) → MapVerdictsMatchLookUps ℕ → (part : List ℕ) {k : KeptTenant} {t : LiveMaps} {fd m flags : ℕ} {f : MapFault} {bytes : List ℕ} → IsClaimed k t fd m flags bytes (Err f)
-    → (refused : Bool) × (refuses (map_errno f) (state_in part (with_live k t)) ≡ element_updated refused (state_in part k) fd flags bytes)
-update_refused along calls tell part {k} {t} {fd} {m} {flags} {f} {bytes} c =
+pub update_refused : LiveMapsRefineValues → CallsRefineValues ℕ (List ℕ) → (part : List ℕ) {k : KeptTenant} {t : LiveMaps} {fd m flags : ℕ} {f : MapFault} {bytes : List ℕ} → IsClaimed k t fd m flags bytes (Err f)
+    → refuses (map_errno f) (state_in part (with_live k t)) ≡ element_updated false (state_in part k) fd flags bytes
+update_refused along calls part {k} {t} {fd} {m} {flags} {f} {bytes} c =
     let key = key_of (shape_at k.live m) bytes in
     let value = value_of (shape_at k.live m) bytes in
     let s = state_in part k in
@@ -178,8 +153,8 @@ update_refused along calls tell part {k} {t} {fd} {m} {flags} {f} {bytes} c =
     let v = verdict (table_of (places_at k.live m)) key flags in
     let here : map_in part t m ≡ T = (along part k.live t m c.rest.areas c.rest.live).same (refused_claim v key (places_at k.live m) f (places_at t m) c.claimed) in
     let maps = same_at (map_at part t) (map_at part k.live) (each_same part k.live t m c.found.live c.rest.live here c.rest.others) in
-    let (refused, memory, put_is) = failed_put v (verdict T key flags) key (places_at k.live m) f (places_at t m) (tell.memory (table_of (places_at k.live m)) key flags) c.claimed (value_in part k.live m) (calls.verdict (value_in part k.live m) (table_of (places_at k.live m)) key flags) s m T value in
-    let state : state_in part (with_live k t) ≡ flagged refused s =
+    let put_is = failed_put v (verdict T key flags) key (places_at k.live m) f (places_at t m) c.claimed (value_in part k.live m) (calls.verdict (value_in part k.live m) (table_of (places_at k.live m)) key flags) s m T value in
+    let state : state_in part (with_live k t) ≡ s =
     ap (λ (ms : List (Option Map)). record { objects = k.objects; maps = ms; refused = k.refused || t.refused }) maps
-    ∙ flag_of k.refused k.live.refused (is_memory (Err f)) t.refused c.refused s refused memory refl in
-    (refused, ap (refuses (map_errno f)) state ∙ sym put_is ∙ sym (update_is refused part c))
+    ∙ ap (λ (b : Bool). record s { refused = k.refused || b }) c.refused in
+    ap (refuses (map_errno f)) state ∙ sym put_is ∙ sym (update_is false part c)

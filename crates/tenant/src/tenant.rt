@@ -200,13 +200,12 @@ impl Tenant {
     }
 
     /// MAP_UPDATE_ELEM: writes the value of a key to the tenant's part, `PART` bytes. The value of a present key is written in
-    /// place; a new key goes to the end. Only a new key of a hash map takes memory.
+    /// place; a new key goes to the end. Takes no memory.
     ///
     /// # Errors
     ///
     /// `BadDescriptor` if the descriptor is not open, `Invalid` if it names no map or the sizes of key and value are not the map's,
-    /// and then the errors of an update by its flags: `Invalid`, `TooBig`, `Exists`, `NoEntry`, and `NoMemory` for a new key. Then
-    /// no key and no value has changed.
+    /// and then the errors of an update by its flags: `Invalid`, `TooBig`, `Exists`, `NoEntry`. Then no key and no value has changed.
     pub fn update(
         &mut self,
         fd: u32,

@@ -26,11 +26,11 @@ invariant_of-self c = still_claimed c.self.invariant (not_claimed c)
 pub returns-in-Err-clause-answer : goal.returns-in-Err-clause-answer
 returns-in-Err-clause-answer c =
     let part = c.args.part.now in
-    let (refused, is) = update_refused c.live_maps_refine_values.ensures c.calls_refine_values.ensures.bytes c.map_verdicts_match_look_ups.ensures.numbers part (not_claimed c) in (
-      refused,
+    let is = update_refused c.live_maps_refine_values.ensures c.calls_refine_values.ensures.bytes part (not_claimed c) in (
+      false,
       ap (λ (errno : Errno). refuses errno (state_in part (with_live (kept_in c.self.inside) c.claim.new.self))) c.of_map.ensures.errno
           ∙ is
-          ∙ ap (λ (old : KeptTenant). element_updated refused (state_in part old) c.args.fd c.args.flags c.args.key_and_value.now) c.self.view_is,
+          ∙ ap (λ (old : KeptTenant). element_updated false (state_in part old) c.args.fd c.args.flags c.args.key_and_value.now) c.self.view_is,
     )
 
 -- ---- the claim gives a place

@@ -3,8 +3,8 @@
 usage: refused_memory.py BPFHOST LIBRARY [VERIFIER_LOG]
 
 The first call for memory is refused, in another run the second, and so on until a run makes fewer calls. A refusal has to be reported,
-once, as out of memory, and nothing else may differ: a refused command that is sent again gets the reply that it gets without the refusal,
-and the other tenant gets the same replies throughout.
+once, as out of memory, by a new map or a load, and nothing else may differ: a refused command that is sent again gets the reply that it
+gets without the refusal, and the other tenant gets the same replies throughout.
 """
 
 from __future__ import annotations
@@ -59,30 +59,52 @@ class Differs(Exception):
 
 @dataclass(frozen=True)
 class Step:
-    """A frame, and whether memory may be refused to it: to the command, or to the program that it runs."""
+    """A frame, and whether memory may be refused to it."""
 
     frame: bytes
     grows: bool = False
-    run_grows: bool = False
+
+
+def new_map(tenant: int, kind: MapType, key_size: int, value_size: int, most: int) -> Step:
+    return Step(frames.map_create(tenant, kind, key_size, value_size, most), grows=kind == MapType.HASH)
+
+
+def load(tenant: int, slots: bytes) -> Step:
+    return Step(frames.prog_load(tenant, slots), grows=True)
+
+
+def on_long_keys(tenant: int, fd: int, key_size: int) -> list[Step]:
+    """A hash map of longer keys, which is filled, and then gets another key in place of one."""
+    keys = [bytes([first]) * key_size for first in range(3)]
+    return [
+        new_map(tenant, MapType.HASH, key_size, 8, 2),
+        *[Step(frames.map_update_elem(tenant, fd, key, key[:8])) for key in keys[:2]],
+        Step(frames.map_delete_elem(tenant, fd, keys[0])),
+        Step(frames.map_update_elem(tenant, fd, keys[2], keys[2][:8])),
+        Step(frames.map_get_next_key(tenant, fd, keys[1])),
+        Step(frames.close(tenant, fd)),
+    ]
 
 
 def of_first_tenant(slots: bytes) -> list[Step]:
-    """A hash map, a program that adds a key to it, and each command on the map."""
+    """A hash map, a program that adds a key to it, each command on the map, and maps of longer keys."""
     key, other, value = number(1, 4), number(2, 4), number(8, 8)
     return [
-        Step(frames.map_create(0, MapType.HASH, 4, 8, 4), grows=True),
-        Step(frames.prog_load(0, slots), grows=True),
-        Step(frames.prog_test_run(0, PROGRAM), run_grows=True),
+        new_map(0, MapType.HASH, 4, 8, 4),
+        load(0, slots),
+        Step(frames.prog_test_run(0, PROGRAM)),
         Step(frames.map_lookup_elem(0, MAP, key)),
-        Step(frames.map_update_elem(0, MAP, other, value), grows=True),
+        Step(frames.map_update_elem(0, MAP, other, value)),
         Step(frames.map_update_elem(0, MAP, other, value, Update.EXIST)),
         Step(frames.map_update_elem(0, MAP, key, value)),
         Step(frames.map_get_next_key(0, MAP)),
         Step(frames.map_get_next_key(0, MAP, key)),
         Step(frames.map_delete_elem(0, MAP, key)),
-        Step(frames.map_create(0, MapType.ARRAY, 4, 16, 3), grows=True),
+        new_map(0, MapType.ARRAY, 4, 16, 3),
         Step(frames.map_update_elem(0, THIRD, number(2, 4), bytes(range(16)))),
         Step(frames.map_lookup_elem(0, THIRD, number(2, 4))),
+        *on_long_keys(0, THIRD + 1, 16),
+        *on_long_keys(0, THIRD + 1, 512),
         *[Step(frames.close(0, descriptor)) for descriptor in (PROGRAM, MAP, THIRD)],
     ]
 
@@ -90,16 +112,18 @@ def of_first_tenant(slots: bytes) -> list[Step]:
 def of_second_tenant(slots: bytes, direct: bytes) -> list[Step]:
     """An array, a program that reads it, and one that counts in it by a direct load."""
     return [
-        Step(frames.map_create(1, MapType.ARRAY, 4, 8, 1), grows=True),
+        new_map(1, MapType.ARRAY, 4, 8, 1),
         Step(frames.map_update_elem(1, MAP, number(0, 4), number(5, 8))),
-        Step(frames.prog_load(1, slots), grows=True),
+        load(1, slots),
         Step(frames.prog_test_run(1, PROGRAM)),
         Step(frames.map_lookup_elem(1, MAP, number(0, 4))),
-        Step(frames.prog_load(1, direct), grows=True),
+        load(1, direct),
         Step(frames.prog_test_run(1, THIRD)),
         Step(frames.prog_test_run(1, PROGRAM)),
         Step(frames.close(1, MAP)),
         Step(frames.prog_test_run(1, PROGRAM)),
+        *on_long_keys(1, MAP, 64),
+        *on_long_keys(1, MAP, 65),
         Step(frames.close(1, PROGRAM)),
         Step(frames.prog_test_run(1, THIRD)),
     ]
@@ -109,39 +133,26 @@ def in_turn(ours: list[Step], theirs: list[Step]) -> list[Step]:
     return [step for both in itertools.zip_longest(ours, theirs) for step in both if step]
 
 
-def is_want_of_memory(reply: Reply, step: Step) -> bool:
-    """Whether the reply reports out of memory, to a command that may have been refused memory: -12, and no payload."""
-    return step.grows and reply.status == -Errno.ENOMEM and not reply.payload
-
-
-def helper_was_refused(reply: Reply, step: Step) -> bool:
-    """Whether a run's result is the helper's error for out of memory."""
-    return step.run_grows and not reply.status and reply.result() == -Errno.ENOMEM % 2**32
-
-
 def ask_again(host: Host, step: Step, reply: Reply, wanted: Reply) -> None:
-    """A refused command succeeds when it is sent again; a key that the helper could not add is not in the map before."""
-    if helper_was_refused(reply, step):
-        missing = host.ask(frames.map_lookup_elem(0, MAP, number(1, 4)))
-        if missing.status != -Errno.ENOENT or missing.payload:
-            raise Differs(f"the key that was refused: {missing}")
-    elif not is_want_of_memory(reply, step):
+    """Only a command that may have been refused memory differs, by -12 and no payload; it succeeds when it is sent again."""
+    if not step.grows or reply.status != -Errno.ENOMEM or reply.payload:
         raise Differs(f"{reply}, in place of {wanted}")
     second = host.ask(step.frame)
     if second != wanted:
         raise Differs(f"sent again, {second}, in place of {wanted}")
 
 
-def play(bpfhost: str, steps: Sequence[Step], wanted: Sequence[Reply]) -> int | None:
-    """How many steps were refused memory; None if the host exited for lack of memory before any reply."""
-    at = told = 0
+def play(bpfhost: str, steps: Sequence[Step], wanted: Sequence[Reply]) -> list[int] | None:
+    """The steps that were refused memory; None if the host exited for lack of memory before any reply."""
+    at = 0
+    told: list[int] = []
     try:
         with Host(bpfhost, TENANTS) as host:
             for at, (step, answer) in enumerate(zip(steps, wanted)):
                 reply = host.ask(step.frame)
                 if reply != answer:
                     ask_again(host, step, reply, answer)
-                    told += 1
+                    told.append(at)
     except HostError as error:
         if at or told or error.fault != "out of memory" or error.written:
             raise Differs(f"{error}, after {at} replies") from error
@@ -150,8 +161,9 @@ def play(bpfhost: str, steps: Sequence[Step], wanted: Sequence[Reply]) -> int | 
 
 
 def check_frames(bpfhost: str, refusals: Refusals, steps: Sequence[Step], wanted: Sequence[Reply]) -> None:
-    """The reply to each frame, whichever call for memory is refused."""
-    at_start = in_frames = 0
+    """The reply to each frame, whichever call for memory is refused; each new hash map and each load is refused some."""
+    at_start = 0
+    in_frames: list[int] = []
     for call in refusals.runs():
         try:
             told = play(bpfhost, steps, wanted)
@@ -159,13 +171,15 @@ def check_frames(bpfhost: str, refusals: Refusals, steps: Sequence[Step], wanted
             raise Differs(f"serve, call {call} refused: {error}") from error
         if told is None:
             at_start += 1
-        elif told == 1:
-            in_frames += 1
+        elif len(told) == 1:
+            in_frames += told
         elif told or refusals.refused():
-            raise Differs(f"serve, call {call} refused: {told} refusals reported")
-    if not at_start or in_frames != call - 1 - at_start:
-        raise Differs(f"serve, {call - 1} calls refused: {at_start} reported at the start, {in_frames} in frames")
-    print(f"serve: {at_start} refusals before the first frame, {in_frames} in frames")
+            raise Differs(f"serve, call {call} refused: {len(told)} refusals reported")
+    if not at_start or len(in_frames) != call - 1 - at_start:
+        raise Differs(f"serve, {call - 1} calls refused: {at_start} reported at the start, {len(in_frames)} in frames")
+    if unseen := [at for at, step in enumerate(steps) if step.grows and at not in in_frames]:
+        raise Differs(f"serve: nothing was refused to the frames {unseen}")
+    print(f"serve: {at_start} refusals before the first frame, {len(in_frames)} in {len(set(in_frames))} new maps and loads")
 
 
 def check_words(program: str, refusals: Refusals, name: str, words: Sequence[str], given: bytes, wanted: Ended) -> None:

@@ -29,6 +29,7 @@ class Bench:
     count: Count | None
     rounds: int
     shapes: list[Shape]
+    seed: Seed
     # The bpfhosts, the first of which is compared with the others, and the other hosts that are measured.
     hosts: list[Host]
     beside: list[Host]
@@ -94,7 +95,7 @@ def bench_of(given: argparse.Namespace) -> Bench:
     if takes_seed(hosts[0]):
         families.append(with_seed(searched, given.seed))
     shapes = [Shape(size, entries) for size in given.key_sizes for entries in given.entries]
-    return Bench(count, given.rounds, shapes, hosts, [built.plain(), *kernel(built)], families)
+    return Bench(count, given.rounds, shapes, given.seed, hosts, [built.plain(), *kernel(built)], families)
 
 
 def same_replies(bench: Bench, shape: Shape) -> None:
@@ -172,13 +173,22 @@ def print_steps(bench: Bench) -> None:
     print("the longest single step: which command on the map, its time and the median one over two pipes, its machine instructions")
     shapes = [shape for shape in bench.shapes if shape.entries == max(shape.entries for shape in bench.shapes)]
     for shape in shapes:
-        for family in (RANDOM, *(family for family in bench.families if family.knows_seed)):
-            keys = family.keys(shape.key_size, shape.entries)
-            for host in (host for host in (*bench.hosts, *bench.beside) if host.counts):
-                for what, step in zip(("fill", "put back"), steps.longest_steps(bench.count, host, keys), strict=True):
-                    told = "" if step.instructions is None else f"{step.instructions:>12}"
-                    line = f"{shape.key_size:4}{shape.entries:6}  {family.name:26}{host.name:12}{what:9}{step.frame:>7}"
-                    print(f"{line}{step.seconds * 1e6:>10.1f} µs{step.median * 1e6:>8.1f} µs{told}", flush=True)
+        for host in (host for host in (*bench.hosts, *bench.beside) if host.counts):
+            for name, what, step in steps_of(bench, host, shape):
+                told = "" if step.instructions is None else f"{step.instructions:>12}"
+                line = f"{shape.key_size:4}{shape.entries:6}  {name:26}{host.name:12}{what:9}{step.frame:>7}"
+                print(f"{line}{step.seconds * 1e6:>10.1f} µs{step.median * 1e6:>8.1f} µs{told}", flush=True)
+
+
+def steps_of(bench: Bench, host: Host, shape: Shape) -> Iterator[tuple[str, str, steps.Step]]:
+    """By the name of the keys and what is done with them."""
+    knowing = [family for family in bench.families if family.knows_seed]
+    for family, put_back in ((RANDOM, steps.PUT_BACK), *((family, steps.PUT_BACK_COLLIDING) for family in knowing)):
+        keys = family.keys(shape.key_size, shape.entries)
+        for what, step in steps.longest_steps(bench.count, host, keys, put_back):
+            yield family.name, what, step
+    if host in bench.hosts and knowing:
+        yield "a crowd in one group", *steps.swept(bench.count, host, bench.seed, shape.key_size, shape.entries)
 
 
 def main() -> None:

@@ -14,6 +14,8 @@ from pathlib import Path
 LONGEST_NUMBER = 8
 # The constant of the kit's own hash function.
 KIT_FACTOR = 0x9E37_79B9_7F4A_7C15
+# A table has room for so many times the keys of its map (crates/ordered_keys), so many of them for each group; a group has twelve slots.
+ROOM, ENTRIES_OF_GROUP, CROWD = 4, 9, 20
 # A step that visits all numbers of 32 and of 64 bits.
 STEP = 0x9E37_79B9_0000_0001
 
@@ -82,6 +84,39 @@ def equal_steps(size: int, count: int) -> Keys:
 def ending_in(factor: int, size: int, count: int) -> Keys:
     """Long keys whose last eight bytes are a word of the seed, which makes the factor with this word zero. The eight bytes before count up."""
     return [bytes(size - 16) + struct.pack("<QQ", number, factor) for number in range(count)]
+
+
+def folded(a: int, b: int) -> int:
+    product = a * b
+    return (product ^ product >> 64) % 2**64
+
+
+def hash_of(seed: Seed, key: bytes) -> int:
+    """The 32 bits of a key's hash that an index table uses (seeded_hash.h)."""
+    if len(key) <= LONGEST_NUMBER:
+        word = int.from_bytes(key, "little")
+        turned = (word << 32 | word >> 32) % 2**64
+        found = folded(word ^ (seed.state + 8) % 2**64, turned ^ seed.factor)
+    else:
+        state = (seed.state + len(key)) % 2**64
+        for at in (*range(0, len(key) - 16, 16), len(key) - 16):
+            low, high = struct.unpack_from("<QQ", key, at)
+            state = folded(low ^ state, high ^ seed.factor)
+        found = folded(state, seed.factor)
+    return (found ^ found >> 32) % 2**32
+
+
+def crowd(seed: Seed, size: int, count: int) -> Keys:
+    """Random keys that begin in one group of the table of so many keys: more than fit in it, so that deletes use up the table's room."""
+    groups, drawn = 1, random.Random(size)
+    while ENTRIES_OF_GROUP * groups < ROOM * count:
+        groups *= 2
+    found: Keys = []
+    while len(found) < CROWD:
+        key = drawn.randbytes(size)
+        if hash_of(seed, key) % groups == 0 and key not in found:
+            found.append(key)
+    return found
 
 
 @dataclass(frozen=True)

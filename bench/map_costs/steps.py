@@ -1,4 +1,6 @@
-"""The longest single step: the slowest frame while a map is filled, and while keys are added again to the full map."""
+"""The longest single step: the slowest frame while a map is filled, while keys are added again to the full map, and when that fills the
+map's table anew.
+"""
 
 from __future__ import annotations
 
@@ -13,11 +15,12 @@ from dataclasses import dataclass
 from map_costs.commands import DELETE, created, on_map, update
 from map_costs.costs import Counts, scratch
 from map_costs.hosts import Host
-from map_costs.keys import Keys
+from map_costs.keys import Keys, Seed, crowd, random_keys
 from measure import Count
 
-# Keys that are added again, and rounds over which the least time of a frame is taken.
-PUT_BACK, ROUNDS = 12_000, 7
+# Keys that are added again: random ones, those of a crowded group, and colliding ones, each of which takes long. Rounds over which the
+# least time of a frame is taken.
+PUT_BACK, PUT_BACK_CROWDED, PUT_BACK_COLLIDING, ROUNDS = 300_000, 30_000, 12_000, 7
 
 
 @dataclass(frozen=True)
@@ -30,10 +33,11 @@ class Step:
     instructions: int | None
 
 
-def frames_of(keys: Keys, put_back: int = PUT_BACK) -> list[bytes]:
-    drawn = random.Random(len(keys)).choices(keys, k=put_back)
-    again = [frame for key in drawn for frame in (on_map(DELETE, key), update(key))]
-    return [created(keys), *map(update, keys), *again]
+def frames_of(keys: Keys, again: Keys, put_back: int) -> list[bytes]:
+    """These keys fill a map, and so many of some of them are deleted and put back."""
+    pairs = {key: (on_map(DELETE, key), update(key)) for key in again}
+    drawn = random.Random(len(keys)).choices(again, k=put_back)
+    return [created(keys), *map(update, keys), *(frame for key in drawn for frame in pairs[key])]
 
 
 def timed(host: Host, frames: list[bytes]) -> Iterator[float]:
@@ -68,9 +72,18 @@ def longest(count: Count | None, host: Host, frames: list[bytes], first: int, en
     return Step(at, took[at], statistics.median(took[first:end]), counted)
 
 
-def longest_steps(count: Count | None, host: Host, keys: Keys) -> tuple[Step, Step]:
+def longest_steps(count: Count | None, host: Host, keys: Keys, put_back: int) -> Iterator[tuple[str, Step]]:
     """While the map is filled, and after that."""
-    frames = frames_of(keys)
+    frames = frames_of(keys, keys, put_back)
     took = least_times(host, frames)
     full = 1 + len(keys)
-    return longest(count, host, frames, 1, full, took), longest(count, host, frames, full, len(frames), took)
+    yield "fill", longest(count, host, frames, 1, full, took)
+    yield "put back", longest(count, host, frames, full, len(frames), took)
+
+
+def swept(count: Count | None, host: Host, seed: Seed, size: int, entries: int) -> tuple[str, Step]:
+    """The step that fills the table anew, which has random keys and a crowd in one group, that is put back again and again."""
+    again = crowd(seed, size, entries)
+    keys = [*again, *random_keys(size, entries)[len(again) :]]
+    frames = frames_of(keys, again, PUT_BACK_CROWDED)
+    return "sweep", longest(count, host, frames, 1 + len(keys), len(frames), least_times(host, frames))

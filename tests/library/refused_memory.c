@@ -1,8 +1,8 @@
 /* Refuses memory to the library, one call at a time, and checks that it frees all that it allocates. Linked with --wrap, so that malloc,
  * calloc, realloc and free of the library and its header come here: in the first round the first call for memory is refused, in the second
  * the second one, until a round makes fewer calls. In each, bpfhost_new returns ERR_NO_MEMORY and makes no host, or each reply is that of a
- * round without refusals or has the status -12; bpfhost_memory_refused reports the tenant that got the -12, and no other. A save returns
- * ERR_NO_MEMORY, and has the bytes of that round if it is repeated.
+ * round without refusals, or a new map or a load has the status -12; bpfhost_memory_refused reports the tenant that got the -12, and no
+ * other. A save returns ERR_NO_MEMORY, and has the bytes of that round if it is repeated.
  * Then many hosts are made and freed. usage: refused_memory [HOSTS] */
 #include "common.h"
 #include <string.h>
@@ -102,14 +102,12 @@ static size_t frame_of(int step, uint16_t tenant, uint8_t *f, size_t room)
     return 0;
 }
 
-/* A step's outcome: its status, or that memory was refused to its program. */
+/* A step's outcome: its status, or a program's result. */
 static int outcome(bpfhost *host, int step, uint16_t tenant)
 {
     uint8_t f[256] = {0};
     bpfhost_reply reply = ask(host, f, frame_of(step, tenant, f, sizeof f));
-    if (reply.status == 0 && step >= 20 && step < 40)
-        return (int32_t)reply.result;
-    return reply.status == 0 && step >= 40 ? (int)reply.result : reply.status;
+    return reply.status == 0 && step >= 20 ? (int)reply.result : reply.status;
 }
 
 /* Adds the bytes of a part to a sum. */
@@ -153,6 +151,7 @@ static bool round_of(int outcomes[STEPS][TENANTS])
             found = outcome(host, step, tenant);
             if (found == -12) {
                 bool before = true;
+                CHECK(step < 4); /* new maps and loads */
                 CHECK(bpfhost_memory_refused(host, tenant, &before) == BPFHOST_DONE && before);
                 saw[tenant] = true;
                 is_last = false;

@@ -1,9 +1,10 @@
-"""What the checks share: the path of the client in Python, numbers as bytes, and texts of calls and of a program with a lookup."""
+"""What the checks share: the paths of the client in Python and of the benchmarks, numbers as bytes, and texts of calls and of a program with a lookup."""
 
 import sys
 from pathlib import Path
 
-sys.path.insert(0, str(Path(__file__).resolve().parents[1] / "clients/python"))
+_TOP = Path(__file__).resolve().parents[1]
+sys.path[:0] = [str(_TOP / folder) for folder in ("clients/python", "bench")]
 
 # The descriptors that a tenant gets, in order.
 MAP, SECOND, THIRD = 3, 4, 5

@@ -10,8 +10,6 @@ valgrind, it is counted how often that happens.
 from __future__ import annotations
 
 import os
-import re
-import shutil
 import struct
 import subprocess
 import sys
@@ -24,12 +22,11 @@ sys.dont_write_bytecode = True
 
 from full_maps import KEY_SIZES, Asked, streams  # noqa: E402
 from bpfhost import Command, read_replies  # noqa: E402
+from profiles import FILLS_ANEW, calls_of  # noqa: E402
 
 TENANTS = 2
 SERVE = ["serve", "--tenants", str(TENANTS)]
 MAY_CALL = (Command.MAP_CREATE, Command.PROG_LOAD)
-# The function of ordered_keys that fills a table anew.
-SWEEP = "rebuild_without"
 
 
 class Differs(Exception):
@@ -65,31 +62,15 @@ def check_calls(asked: Sequence[Asked], counts: Sequence[int]) -> None:
     print(f"counted memory: {len(asked)} frames; calls for memory: {told}, none in other commands")
 
 
-def calls_of(function: str, told: str) -> int:
-    """How often a function is called, in what callgrind writes: names are numbered, and a call names its callee in the line before."""
-    names: dict[str, str] = {}
-    called, count = "", 0
-    for line in told.splitlines():
-        if found := re.match(r"c?fn=\((\d+)\)(?: (.*))?", line):
-            names.setdefault(found[1], found[2] or "")
-            called = names[found[1]] if line.startswith("c") else ""
-        elif line.startswith("calls=") and function in called:
-            count += int(line[6:].split()[0])
-    return count
-
-
-def count_sweeps(bpfhost: str, stream: Path, environment: Mapping[str, str], folder: Path) -> None:
+def count_fills(bpfhost: str, stream: Path, environment: Mapping[str, str]) -> None:
     """A table is filled anew at least once for each size of keys."""
-    if not shutil.which("valgrind") or SWEEP.encode() not in Path(bpfhost).read_bytes():
+    fills = calls_of(FILLS_ANEW, [bpfhost, *SERVE], stream, environment)
+    if fills is None:
         print("counted memory: how often tables are filled anew is left out, as valgrind or the program's symbols are missing")
-        return
-    profile = folder / "profile"
-    words = ["valgrind", "-q", "--tool=callgrind", f"--callgrind-out-file={profile}", bpfhost, *SERVE]
-    serves(words, stream, environment)
-    sweeps = calls_of(SWEEP, profile.read_text())
-    if sweeps < len(KEY_SIZES):
-        raise Differs(f"tables are filled anew {sweeps} times, in maps of {len(KEY_SIZES)} sizes of keys")
-    print(f"counted memory: tables are filled anew {sweeps} times")
+    elif fills < len(KEY_SIZES):
+        raise Differs(f"tables are filled anew {fills} times, in maps of {len(KEY_SIZES)} sizes of keys")
+    else:
+        print(f"counted memory: tables are filled anew {fills} times")
 
 
 def main() -> None:
@@ -102,7 +83,7 @@ def main() -> None:
         environment = {**os.environ, "LD_PRELOAD": str(Path(library).resolve()), "COUNTED_FILE": str(counted)}
         check_replies(asked, serves([bpfhost, *SERVE], stream, environment))
         check_calls(asked, [count for (count,) in struct.iter_unpack("<Q", counted.read_bytes())])
-        count_sweeps(bpfhost, stream, environment, folder)
+        count_fills(bpfhost, stream, environment)
 
 
 if __name__ == "__main__":

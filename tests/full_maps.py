@@ -6,30 +6,25 @@ begin in one group of a small table make this happen often.
 
 from __future__ import annotations
 
+import itertools
 import random
 from collections.abc import Iterator
 from dataclasses import dataclass
 
 from common import DELETE, UPDATE
 from bpfhost import MapType, Update, assemble, frames
+from map_costs.keys import LONGEST_NUMBER, Seed, hash_of
 from model import KNOWN, Code, Run, Tenant, answer_of, reply_to
 
 # The keys of a full map, keys that are drawn from, and deletes with an update each: by command, and by a program.
 MOST, DRAWN, PUT_BACK, RUNS = 16, 24, 300, 60
 # Of keys as numbers, in either length of bytes, and at the ends of these.
 KEY_SIZES = (1, 4, 8, 9, 16, 64, 65, 512)
-VALUE_SIZE, LONGEST_NUMBER = 8, 8
-LOAD_BYTES, STACK = 26, 512
+VALUE_SIZE, LOAD_BYTES, STACK = 8, 26, 512
+# The seed of the hash function, with which all longer keys have one hash.
+ZEROS = Seed(0, 0)
 # The groups of the table of a map of sixteen keys: the least power of two that has room for 64 keys, nine in each group.
 GROUPS = 8
-
-
-def hash_of(number: int) -> int:
-    """The 32 bits of a short key's hash with a seed of zeros (crates/seeded_hash); a longer key has 0."""
-    turned = (number << 32 | number >> 32) % 2**64
-    product = (number ^ LONGEST_NUMBER) * turned
-    folded = product % 2**64 ^ product >> 64
-    return (folded ^ folded >> 32) % 2**32
 
 
 def keys_of(size: int) -> list[bytes]:
@@ -37,8 +32,8 @@ def keys_of(size: int) -> list[bytes]:
     if size > LONGEST_NUMBER:
         drawn = random.Random(size)
         return [drawn.randbytes(size) for _ in range(DRAWN)]
-    numbers = (n for n in range(256**size) if hash_of(n) % GROUPS == hash_of(1) % GROUPS)
-    return [number.to_bytes(size, "little") for number, _ in zip(numbers, range(DRAWN))]
+    each = (number.to_bytes(size, "little") for number in range(256**size))
+    return list(itertools.islice((key for key in each if hash_of(ZEROS, key) % GROUPS == 0), DRAWN))
 
 
 def program_text(fd: int, array: int, size: int) -> str:

@@ -176,6 +176,7 @@ def print_steps(bench: Bench) -> None:
         for host in (host for host in (*bench.hosts, *bench.beside) if host.counts):
             for name, what, step in steps_of(bench, host, shape):
                 told = "" if step.instructions is None else f"{step.instructions:>12}"
+                told += "" if step.fills is None else f", the table filled anew {step.fills} times"
                 line = f"{shape.key_size:4}{shape.entries:6}  {name:26}{host.name:12}{what:9}{step.frame:>7}"
                 print(f"{line}{step.seconds * 1e6:>10.1f} µs{step.median * 1e6:>8.1f} µs{told}", flush=True)
 

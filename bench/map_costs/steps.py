@@ -4,33 +4,38 @@ map's table anew.
 
 from __future__ import annotations
 
+import heapq
 import os
 import random
 import statistics
 import subprocess
 import time
 from collections.abc import Iterator
-from dataclasses import dataclass
+from dataclasses import dataclass, replace
 
 from map_costs.commands import DELETE, created, on_map, update
 from map_costs.costs import Counts, scratch
 from map_costs.hosts import Host
 from map_costs.keys import Keys, Seed, crowd, random_keys
 from measure import Count
+from profiles import FILLS_ANEW, calls_of
 
 # Keys that are added again: random ones, those of a crowded group, and colliding ones, each of which takes long. Rounds over which the
-# least time of a frame is taken.
-PUT_BACK, PUT_BACK_CROWDED, PUT_BACK_COLLIDING, ROUNDS = 300_000, 30_000, 12_000, 7
+# least time of a frame is taken, and how many of the slowest frames are counted.
+PUT_BACK, PUT_BACK_CROWDED, PUT_BACK_COLLIDING, ROUNDS, COUNTED = 300_000, 30_000, 12_000, 7, 3
 
 
 @dataclass(frozen=True)
 class Step:
-    """A frame, counted from 0; its time and the frames' median in seconds, and its machine instructions."""
+    """A frame, counted from 0; its time and the frames' median in seconds, its machine instructions, and how often a table is filled anew
+    in all frames.
+    """
 
     frame: int
     seconds: float
     median: float
     instructions: int | None
+    fills: int | None = None
 
 
 def frames_of(keys: Keys, again: Keys, put_back: int) -> list[bytes]:
@@ -60,16 +65,25 @@ def least_times(host: Host, frames: list[bytes]) -> list[float]:
 
 
 def longest(count: Count | None, host: Host, frames: list[bytes], first: int, end: int, took: list[float]) -> Step:
-    """The slowest of the frames from the first up to the end."""
-    at = max(range(first, end), key=took.__getitem__)
-    counted = None
-    if count:
-        with scratch() as files:
-            counts, upto = Counts(count, files), [b"".join(frames[:at]), b"".join(frames[: at + 1])]
-            counts.look_at([(host, stream) for stream in upto])
-            before, behind = (counts.known[host, files.of(stream)] for stream in upto)
-            counted = behind - before
-    return Step(at, took[at], statistics.median(took[first:end]), counted)
+    """The slowest of the frames from the first up to the end; of the slowest few, if instructions are counted, that with the most."""
+    slowest = heapq.nlargest(COUNTED if count else 1, range(first, end), key=took.__getitem__)
+    counted = {at: instructions(count, host, frames, at) if count else 0 for at in slowest}
+    at = max(counted, key=counted.__getitem__)
+    return Step(at, took[at], statistics.median(took[first:end]), counted[at] if count else None)
+
+
+def instructions(count: Count, host: Host, frames: list[bytes], at: int) -> int:
+    """Those of a frame: of the stream that ends with it, less that which ends before it."""
+    with scratch() as files:
+        counts, upto = Counts(count, files), [b"".join(frames[:at]), b"".join(frames[: at + 1])]
+        counts.look_at([(host, stream) for stream in upto])
+        before, behind = (counts.known[host, files.of(stream)] for stream in upto)
+        return behind - before
+
+
+def fills_anew(host: Host, frames: list[bytes]) -> int | None:
+    with scratch() as files:
+        return calls_of(FILLS_ANEW, host.command, files.of(b"".join(frames)), host.environment)
 
 
 def longest_steps(count: Count | None, host: Host, keys: Keys, put_back: int) -> Iterator[tuple[str, Step]]:
@@ -78,7 +92,7 @@ def longest_steps(count: Count | None, host: Host, keys: Keys, put_back: int) ->
     took = least_times(host, frames)
     full = 1 + len(keys)
     yield "fill", longest(count, host, frames, 1, full, took)
-    yield "put back", longest(count, host, frames, full, len(frames), took)
+    yield "put back", replace(longest(count, host, frames, full, len(frames), took), fills=fills_anew(host, frames))
 
 
 def swept(count: Count | None, host: Host, seed: Seed, size: int, entries: int) -> tuple[str, Step]:

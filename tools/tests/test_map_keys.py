@@ -14,39 +14,17 @@ from pathlib import Path
 TOP = Path(__file__).resolve().parents[2]
 sys.path.insert(0, str(TOP / "bench"))
 from map_costs.commands import OPERATIONS, streams_of
-from map_costs.keys import OTHER_SEED, RANDOM, SEED, Family, Keys, Searched, Seed, with_seed, without_seed
+from map_costs.keys import OTHER_SEED, RANDOM, SEED, Family, Keys, Searched, Seed, hash_of, with_seed, without_seed
 
-WORD = 2**64
 SIZES, ENTRIES = (4, 16, 64, 512), 1024
 # The groups of a table with so many entries, eight on average; and the most lookups of any group if keys do not collide.
 GROUPS, MANY = 128, 40
 COMPILER = os.environ.get("CC", "cc")
 
 
-def folded_product(a: int, b: int) -> int:
-    return a * b % WORD ^ a * b // WORD
-
-
-def word_at(key: bytes, at: int) -> int:
-    return int.from_bytes(key[at : at + 8], "little")
-
-
-def hash_of(seed: Seed, key: bytes) -> int:
-    """The number of a key as the maps hash it: a key of at most eight bytes is extended to eight."""
-    if len(key) <= 8:
-        word = int.from_bytes(key, "little")
-        turned = (word << 32 | word >> 32) % WORD
-        return folded_product(word ^ (seed.state + 8) % WORD, turned ^ seed.factor)
-    state = (seed.state + len(key)) % WORD
-    for at in [*range(0, len(key) - 16, 16), len(key) - 16]:
-        state = folded_product(word_at(key, at) ^ state, word_at(key, at + 8) ^ seed.factor)
-    return folded_product(state, seed.factor)
-
-
 def largest_group(seed: Seed, keys: Keys) -> int:
     """The greatest number of keys whose lookup begins at the same group of a table."""
-    hashes = (hash_of(seed, key) for key in keys)
-    return max(Counter((hashed ^ hashed >> 32) % GROUPS for hashed in hashes).values())
+    return max(Counter(hash_of(seed, key) % GROUPS for key in keys).values())
 
 
 def built_tool(folder: str) -> Path:

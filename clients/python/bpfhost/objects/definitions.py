@@ -3,9 +3,9 @@
 Source: libbpf's conventions: bpf_helpers.h (`__uint`, `__type`) and parse_btf_map_def of libbpf.c; for the struct
 bpf_object__init_user_maps, which libbpf.c had before version 1.0.
 
-The host runs one program at a time, so a per-CPU map is replaced by one with one value. It allocates memory for a hash map's keys as they
-are added, which is what BPF_F_NO_PREALLOC asks for. It has no file system, so a pinned map is not shared by a file. A notice is printed for
-each of these changes; with strict reading they are refused.
+The host runs one program at a time, so a per-CPU map is replaced by one with one value. A hash map takes all its memory when it is created,
+so BPF_F_NO_PREALLOC, which asks for it as keys are added, has no effect. The host has no file system, so a pinned map is not shared by a
+file. A notice is printed for each of these changes; with strict reading they are refused.
 """
 
 from __future__ import annotations
@@ -73,7 +73,7 @@ class MapChanges:
     def check_flags(self, number: int, where: str) -> None:
         """Drops BPF_F_NO_PREALLOC, and refuses other flags."""
         if number == _NO_PREALLOC and not self.is_strict:
-            self.told.append(f"{where}: BPF_F_NO_PREALLOC is dropped, since no map allocates memory for its keys in advance")
+            self.told.append(f"{where}: BPF_F_NO_PREALLOC is dropped, since a map takes all its memory when it is created")
         elif number:
             raise ObjectError(f"{where} has map_flags {number}, and the host has none")
 

@@ -62,7 +62,7 @@ class ByBtf(ClangTest):
         one = "since one processor runs all programs"
         self.changed("__uint(type, 6);", MapType.ARRAY, f"PERCPU_ARRAY is taken as ARRAY, {one}")
         self.changed("__uint(type, 5);", MapType.HASH, f"PERCPU_HASH is taken as HASH, {one}")
-        dropped = "BPF_F_NO_PREALLOC is dropped, since no map allocates memory for its keys in advance"
+        dropped = "BPF_F_NO_PREALLOC is dropped, since a map takes all its memory when it is created"
         pinning = "pinning is dropped, since the host has no files for maps"
         self.changed("__uint(type, 1); __uint(map_flags, 1);", MapType.HASH, dropped)
         self.changed("__uint(type, 1); __uint(pinning, 1);", MapType.HASH, pinning)
@@ -191,7 +191,7 @@ class BuiltByStruct(ObjectTest):
 
     def test_a_flag_that_is_dropped(self) -> None:
         path = self.written(self.built(self.definition(1)).to_bytes())
-        dropped = "map m in section maps: BPF_F_NO_PREALLOC is dropped, since no map allocates memory for its keys in advance"
+        dropped = "map m in section maps: BPF_F_NO_PREALLOC is dropped, since a map takes all its memory when it is created"
         self.assertEqual(load_object(path).changes, (dropped,))
         self.assertEqual(self.refusal_of(path, Form.STRICT), "map m in section maps has map_flags 1, and the host has none")
 

@@ -14,7 +14,7 @@ FILLS_ANEW = "rebuild_without"
 
 
 def calls_in(profile: str, function: str) -> int:
-    """The calls in what callgrind writes. Names are numbered where they first occur, and a callee is named in the line before its calls."""
+    """The calls in what callgrind writes. Names are numbered when they first occur, and a callee is named in the line before its calls."""
     names: dict[str, str] = {}
     called, count = "", 0
     for line in profile.splitlines():

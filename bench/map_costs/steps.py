@@ -64,9 +64,11 @@ def least_times(host: Host, frames: list[bytes]) -> list[float]:
     return [min(taken) for taken in zip(*rounds, strict=True)]
 
 
-def longest(count: Count | None, host: Host, frames: list[bytes], first: int, end: int, took: list[float]) -> Step:
+def longest(
+    count: Count | None, host: Host, frames: list[bytes], first: int, end: int, took: list[float], counted_frames: int = 1
+) -> Step:
     """The slowest of the frames from the first up to the end; of the slowest few, if instructions are counted, that with the most."""
-    slowest = heapq.nlargest(COUNTED if count else 1, range(first, end), key=took.__getitem__)
+    slowest = heapq.nlargest(counted_frames if count else 1, range(first, end), key=took.__getitem__)
     counted = {at: instructions(count, host, frames, at) if count else 0 for at in slowest}
     at = max(counted, key=counted.__getitem__)
     return Step(at, took[at], statistics.median(took[first:end]), counted[at] if count else None)
@@ -92,7 +94,10 @@ def longest_steps(count: Count | None, host: Host, keys: Keys, put_back: int) ->
     took = least_times(host, frames)
     full = 1 + len(keys)
     yield "fill", longest(count, host, frames, 1, full, took)
-    yield "put back", replace(longest(count, host, frames, full, len(frames), took), fills=fills_anew(host, frames))
+    # colliding keys take too long to count more
+    counted_frames = COUNTED if put_back == PUT_BACK else 1
+    step = longest(count, host, frames, full, len(frames), took, counted_frames)
+    yield "put back", replace(step, fills=fills_anew(host, frames) if put_back == PUT_BACK else None)
 
 
 def swept(count: Count | None, host: Host, seed: Seed, size: int, entries: int) -> tuple[str, Step]:

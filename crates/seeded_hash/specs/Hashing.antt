@@ -1,8 +1,12 @@
 -- The result of the seeded hash function. No contract of a map mentions it. This project's own.
-use Rattle.std.specs.Prelude.{ℕ, zero, suc, ◌+◌, ◌-◌, ◌*◌, ◌/◌, ◌%◌, ◌^◌, List, length, if◌then◌else◌, nat_le, nat_lt, slice_index, bit_and, bit_or, bit_xor}
-use Rattle.std.specs.Int.{w64, rotate_left}
+use Rattle.std.specs.Prelude.{ℕ, zero, suc, ◌+◌, ◌-◌, ◌*◌, ◌/◌, ◌%◌, ◌^◌, List, length, if◌then◌else◌, nat_le, nat_lt, slice_index, take, drop, bit_and, bit_or, bit_xor}
+use Rattle.std.specs.Int.{w64, from_le_bytes, rotate_left}
 use Rattle.seeded_hash.specs.declared.HashSeed.{HashSeed}
 use Rattle.seeded_hash.specs.declared.SeededHasher.{SeededHasher}
+
+-- the seed of sixteen bytes: the numbers of the first eight and of the last eight, little-endian
+abbrev pub seed_of : List ℕ → HashSeed
+seed_of bytes = record { state = from_le_bytes w64 (take 8 bytes); factor = from_le_bytes w64 (drop 8 bytes) }
 
 -- the hasher of a seed
 abbrev pub started : HashSeed → SeededHasher

@@ -4,11 +4,13 @@
 //!
 //! - The hash of bytes by a seed is that of the definition (`started`, `written` and `finished` in `specs/Hashing.antt`):
 //!   `build_hasher` of `HashSeed`; `write` and `finish` of `SeededHasher`.
+//! - The words of a seed are the two halves of its sixteen bytes as numbers, little-endian: `from_bytes` of `HashSeed`.
 //! - The two halves of a product are combined, and four, eight or at most eight bytes are read as a number, by their equations:
 //!   the private `folded_product`, `half_at`, `word_at`, `short_word`.
 //!
-//! That `HashSeed::random` fills both words from its source is read in the code. That the source is random, and that this
-//! function distributes keys chosen without knowledge of the seed, is an assumption (docs/TRUST.md).
+//! That `HashSeed::random` makes a seed of sixteen bytes of its source is read in the code, since std promises nothing of these
+//! bytes, and tested: each of their 128 bits changes what the built program does (tests/seed_bits.py). That the source is random,
+//! and that this function distributes keys chosen without knowledge of the seed, is an assumption (docs/TRUST.md).
 //!
 //! # Decisions
 //!
@@ -33,6 +35,8 @@
 ghost use Rattle.std.specs.Prelude.{◌≡◌, ◌+◌, ◌≤◌, length};
 ghost use Rattle.seeded_hash.specs.Hashing as hashing;
 
+mod known_answers;
+
 use std::hash::{BuildHasher, Hasher};
 use std::io;
 use std::random::RandomSource;
@@ -51,17 +55,27 @@ impl HashSeed {
         HashSeed { state, factor }
     }
 
-    /// A seed of the system's random bytes.
+    /// The seed of sixteen bytes: its words are the first eight and the last eight of them, little-endian. For an attacker not to
+    /// know it, all of them have to be random.
+    pub fn from_bytes(bytes: [u8; 16]) -> HashSeed
+        ensures { result ≡ hashing.seed_of bytes }
+    {
+        let number = u128::from_le_bytes(bytes);
+        HashSeed {
+            state: (number & 0xFFFF_FFFF_FFFF_FFFF) as u64,
+            factor: (number >> 64) as u64,
+        }
+    }
+
+    /// The seed of sixteen random bytes of the system.
     ///
     /// # Errors
     ///
     /// That of the source.
     pub fn random(source: &impl RandomSource) -> io::Result<HashSeed> {
-        let mut state = [0; 8];
-        source.fill_bytes(&mut state)?;
-        let mut factor = [0; 8];
-        source.fill_bytes(&mut factor)?;
-        Ok(HashSeed::new(u64::from_le_bytes(state), u64::from_le_bytes(factor)))
+        let mut bytes = [0; 16];
+        source.fill_bytes(&mut bytes)?;
+        Ok(HashSeed::from_bytes(bytes))
     }
 }
 

@@ -1,0 +1,12 @@
+//! A known seed, proved only from the contracts.
+
+use crate::HashSeed;
+
+/// Each of sixteen bytes has its own place in the words of their seed.
+fn words_of_a_seed() {
+    let seed = HashSeed::from_bytes([1, 2, 3, 4, 5, 6, 7, 8, 9, 10, 11, 12, 13, 14, 15, 16]);
+    let state = seed.state;
+    prove!(state == 0x0807_0605_0403_0201);
+    let factor = seed.factor;
+    prove!(factor == 0x100F_0E0D_0C0B_0A09);
+}

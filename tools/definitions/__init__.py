@@ -1,1 +1,1 @@
-"""The definitions that the contract of `serve` rests on: read from the sources, divided into tiers, and shown on pages."""
+"""The definitions that the theorems rest on: read from the sources, divided into tiers, and shown on pages."""

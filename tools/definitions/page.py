@@ -1,4 +1,4 @@
-"""The page that shows the definitions: the tables, quotations and counts of docs/TRUST.md.
+"""The pages that show the definitions: the quotations and counts of docs/TRUST.md, and the tables of docs/DEFINITIONS.md.
 
 Names, files and lines are generated. What is written by hand stays: headings, the last column, the order of rows, and everything between
 the tables.
@@ -8,14 +8,16 @@ from __future__ import annotations
 
 import re
 from dataclasses import dataclass, field
+from pathlib import Path
 
 from definitions.sources import CRATES, DEFINES, TOP, Name, Place, file_of
 from definitions.tiers import Tier, lines_of, of_kit, of_verifier, read_for_no_fault
 
 TRUST = TOP / "docs/TRUST.md"
+DEFINITIONS = TOP / "docs/DEFINITIONS.md"
 ROW = re.compile(r"\| *(?:\[`([\w/]+\.\w+)`\]\(.*?\))? *\| *\d* *\| (`.*?`) \| (.*) \|")
 TABLE_HEAD = ["| File | Lines | Definitions | In the field's words |", "|---|---|---|---|"]
-QUOTED = re.compile(r"(<!-- quoted: ([\w/.]+) (\w+) -->\n```\w*\n)(.*?)(^```$)", re.M | re.S)
+QUOTED = re.compile(r"(<!-- quoted: ([\w/.]+) (\w+(?: \w+)*) -->\n```\w*\n)(.*?)(^```$)", re.M | re.S)
 
 
 def filled(page: str, mark: str, text: str) -> str:
@@ -100,22 +102,27 @@ def shown(section: Section) -> list[str]:
     return [*text, ""]
 
 
-def with_definitions(found: list[Tier], page: str) -> str:
-    """The page with its tables of definitions: below each heading of a tier, those of the tier."""
-    parts = re.split(r"^(?=###? )", page, flags=re.M)
+def verifier_table(tier: Tier) -> str:
+    rows = [f"| `{crate}` | {', '.join(f'`{word}`' for word in words)} |" for crate, words in of_verifier(tier).items()]
+    return "\n".join(["| Crate | Definitions of it |", "|---|---|", *rows]) + "\n"
+
+
+def definitions_page(found: list[Tier], page: str) -> str:
+    """docs/DEFINITIONS.md with its tables: below each heading of a tier, those of the tier."""
+    parts = re.split(r"^(?=##? )", page, flags=re.M)
     made = []
     for part in parts:
-        tier = next((tier for tier in found if part.startswith(f"### {tier.title}\n")), None)
+        tier = next((tier for tier in found if part.startswith(f"## {tier.title}\n")), None)
         if tier:
             sections = sections_of(part.rstrip("\n").split("\n"))
             fill(sections, tier)
             part = "\n".join(line for section in sections for line in shown(section)).rstrip("\n") + "\n\n"
             stops = ", ".join(f"`{stop.word}`" for stop in sorted(tier.stops, key=lambda stop: stop.word))
-            part = filled(part, "stops", f"{stops}\n")
+            part = filled(filled(part, "stops", f"{stops}\n"), "of the verifier", verifier_table(tier))
         made.append(part)
-    missing = [tier.title for tier in found if not any(part.startswith(f"### {tier.title}\n") for part in parts)]
+    missing = [tier.title for tier in found if not any(part.startswith(f"## {tier.title}\n") for part in parts)]
     if missing:
-        raise ValueError(f"docs/TRUST.md has no heading {missing[0]!r}")
+        raise ValueError(f"docs/DEFINITIONS.md has no heading {missing[0]!r}")
     return filled("".join(made).rstrip("\n") + "\n", "of the kit", kit_table())
 
 
@@ -136,23 +143,32 @@ def quotation(path: str, word: str) -> str:
     return "\n".join(lines[at:end]) + "\n"
 
 
+def quoted(page: str) -> list[Name]:
+    """The definitions and functions that a page quotes."""
+    return [Name(Place(*path.split("/", 1)), word) for _, path, words, _, _ in QUOTED.findall(page) for word in words.split()]
+
+
+def count_row(claim: str, section: str, names: frozenset[Name]) -> str:
+    anchor = section.lower().replace(" ", "-")
+    return f"| [{claim}]({DEFINITIONS.name}#{anchor}) | {len({name.place for name in names})} | {len(names)} | {lines_of(names)} |"
+
+
 def counts(found: list[Tier]) -> str:
     """The table of the tiers, and what is read for "no test run faults"."""
-    rows = ["| To believe | Read | Files | Definitions | Lines |", "|---|---|---|---|---|"]
+    rows = ["| To believe | Files | Definitions | Lines |", "|---|---|---|---|"]
     for tier in found:
-        anchor = tier.title.lower().replace(" ", "-")
-        link = f"[{tier.title}](#{anchor})"
-        rows.append(f"| {tier.title.removeprefix('For ')} | {link} | {len(tier.files)} | {len(tier.names)} | {tier.lines} |")
-    names = read_for_no_fault()
-    files = len({name.place for name in names})
-    rows.append(f"| that no test run faults | of the first two, what is named below | {files} | {len(names)} | {lines_of(names)} |")
+        rows.append(count_row(tier.title.removeprefix("For "), tier.title, tier.names))
+        if tier.title == "For which programs are accepted":
+            rows.append(count_row("that no test run faults, of the rows above", "For what is replied", read_for_no_fault()))
     return "\n".join(rows) + "\n"
 
 
 def trust_page(found: list[Tier], page: str) -> str:
-    """docs/TRUST.md with its definitions, quotations and counts."""
-    page = with_definitions(found, page)
-    page = QUOTED.sub(lambda match: match[1] + quotation(match[2], match[3]) + match[5], page)
-    page = filled(page, "counted", counts(found))
-    rows = [f"| `{crate}` | {', '.join(f'`{word}`' for word in words)} |" for crate, words in of_verifier(found[1]).items()]
-    return filled(page, "of the verifier", "\n".join(["| Crate | Definitions in the second tier |", "|---|---|", *rows]) + "\n")
+    """docs/TRUST.md with its quotations and counts."""
+    page = QUOTED.sub(lambda match: match[1] + "\n".join(quotation(match[2], word) for word in match[3].split()) + match[5], page)
+    return filled(page, "counted", counts(found))
+
+
+def pages(found: list[Tier]) -> dict[Path, str]:
+    """The two pages as they should be."""
+    return {TRUST: trust_page(found, TRUST.read_text()), DEFINITIONS: definitions_page(found, DEFINITIONS.read_text())}

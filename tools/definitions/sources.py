@@ -141,7 +141,7 @@ class File:
             self.add(name, body)
         for name, body in re.findall(r"^pub const (\w+)(: .*?);$", bare, re.M | re.S):
             self.add(name, body)
-        for name, contract in re.findall(r"^ *pub fn (\w+)(.*?)^ *{$", bare, re.M | re.S):
+        for name, contract in re.findall(r"^ *pub fn (\w+)(.*?)^ *{}?$", bare, re.M | re.S):
             if name not in self.texts:
                 self.add(name, contract)
 

@@ -1,7 +1,7 @@
-"""What the contract of `serve` rests on, in three tiers: each tier is what a reader needs for one more claim.
+"""What the theorems rest on, in tiers: each tier is what a reader needs for one more claim.
 
 A tier ends at its stops: definitions whose names it cites and whose meaning it does not need. So the cut between two tiers is a list of
-names, which the next tier defines.
+names, which a later tier defines.
 """
 
 from __future__ import annotations
@@ -15,40 +15,41 @@ def name(place: str, word: str) -> Name:
     return Name(Place(*place.split("/", 1)), word)
 
 
-# `serve` with the law that makes its clause `alone` noninterference, what a host begins with, and what the program passes to it.
-ROOTS = [
-    name("host_core/src/server.rt", "serve"),
-    name("host_core/src/laws.rt", "same_frames_same_replies"),
-    name("host_core/src/host.rt", "new"),
-    name("host_core/src/stream.rt", "Counted"),
-]
-MACHINE, COMMAND, ERRNO = "tenant/specs/Machine.antt", "command_frames/specs/Command.antt", "tenant/specs/Errno.antt"
-STATE, VERDICT = "tenant/specs/State.antt", "verifier/specs/Verdict.antt"
-# Definitions that get only a tenant's own frame and its own state: the machine, its state and its replies.
-OF_THE_MACHINE = frozenset({
-    *(name(MACHINE, word) for word in ("Answers", "Answer", "refuses")),
-    *(name(COMMAND, word) for word in ("parsed", "Command")),
-    *(name(STATE, word) for word in ("TenantState", "new_tenant")),
-    name("command_frames/src/command.rt", "BadFrame"),
-    name("tenant/src/errno.rt", "Errno"),
-    name(ERRNO, "status_of"),
-})
+LAWS, SERVED, HOST = "host_core/specs/Laws.antt", "host_core/specs/Served.antt", "host_core/src/host.rt"
+MACHINE, STATE, REPLIES = "tenant/specs/Machine.antt", "tenant/specs/State.antt", "tenant/specs/Alone.antt"
+VERDICT, OF_LAWS = "verifier/specs/Verdict.antt", "host_core/src/laws.rt"
+# The first theorem: two statements on hosts and lists of frames, each the contract of a function in src/laws.rt.
+THEOREM = [name(LAWS, "SameFramesSameReplies"), name(LAWS, "EachIsToldAloneUntilRefused")]
+# The second one: `serve`, what a host begins with, and what the program passes to `serve`.
+STREAMS = [name("host_core/src/server.rt", "serve"), name(HOST, "new"), name("host_core/src/stream.rt", "Counted")]
+# Definitions that get only a tenant's own frames, replies and states: what its machine replies to a frame, and to a list of them.
+OF_THE_MACHINE = frozenset({*(name(REPLIES, word) for word in ("RepliesUnder", "IsToldAlone", "IsFault")), name(STATE, "TenantState")})
+# The verdict on a program.
+OF_THE_VERDICT = frozenset({name(VERDICT, "IsAccepted"), name(VERDICT, "IsRefused")})
 # The definitions between the contract of `serve` and the reply to a command.
 TO_AN_ANSWER = frozenset({
     name("host_core/src/server.rt", "serve"),
-    name("host_core/specs/Served.antt", "ServesAlone"),
-    *(name("tenant/specs/Alone.antt", word) for word in ("RepliesUnder", "AnswersFrame")),
+    name(SERVED, "ServesAlone"),
+    *(name(REPLIES, word) for word in ("RepliesUnder", "AnswersFrame")),
     name(MACHINE, "Answers"),
 })
+# The tiers: title, what the tier is about besides what those before it are about, and its stops.
+TIERS: tuple[tuple[str, list[Name], frozenset[Name]], ...] = (
+    ("For noninterference", THEOREM, OF_THE_MACHINE),
+    ("For streams", STREAMS, OF_THE_MACHINE | {name(STATE, "new_tenant")}),
+    ("For what is replied", [], OF_THE_VERDICT),
+    ("For which programs are accepted", [], frozenset[Name]()),
+    ("For the library", [name(OF_LAWS, "calls_are_told_alone")], frozenset[Name]()),
+    ("For batches", [name(HOST, "run_packets"), name(OF_LAWS, "batch_is_its_calls")], frozenset[Name]()),
+    ("For saves", [name(HOST, "save"), name(HOST, "tenants_are_restored"), name(OF_LAWS, "tenants_are_restored")], frozenset[Name]()),
+)
 # The crates whose definitions, with some exceptions, say which programs are accepted.
 VERIFIER = ("verifier", "transfer", "reg_kinds", "interval")
-# The verdict on a program.
-OF_THE_VERDICT = frozenset({name(VERDICT, "IsAccepted"), name(VERDICT, "IsRefused")})
 
 
 @dataclass(frozen=True)
 class Tier:
-    """`title` is its heading on the page; `stops` are the names that it cites of the next tier."""
+    """`title` is its heading on the page; `stops` are the names that it cites of later tiers."""
 
     title: str
     names: frozenset[Name]
@@ -69,13 +70,17 @@ def lines_of(names: frozenset[Name]) -> int:
 
 
 def tiers() -> list[Tier]:
-    found, above = [], frozenset[Name]()
-    for title, stops in (("For noninterference", OF_THE_MACHINE), ("For what is replied", OF_THE_VERDICT),
-                         ("For which programs are accepted", frozenset[Name]())):
-        below = frozenset(closure(ROOTS, stops))
+    found, roots, above = [], list[Name](), frozenset[Name]()
+    for title, more, stops in TIERS:
+        roots = [*roots, *more]
+        below = frozenset(closure(roots, stops))
         found.append(Tier(title, below - above, stops))
-        above = below
+        above |= below
     return found
+
+
+def roots() -> list[Name]:
+    return [root for _, more, _ in TIERS for root in more]
 
 
 def idle_stops(found: list[Tier]) -> list[str]:
@@ -99,14 +104,14 @@ def read_for_no_fault() -> frozenset[Name]:
     """What a reader needs for "no test run faults": how a run's reply is computed, what a program is run on, and what a fault is; and the
     definitions between the contract of `serve` and the reply to a command.
     """
-    roots = [name(MACHINE, "run_of"), name(MACHINE, "loaded_program"), name("host_core/specs/Served.antt", "NoneFaults")]
-    return frozenset(closure(roots, OF_THE_VERDICT)) | TO_AN_ANSWER
+    begin = [name(MACHINE, "run_of"), name(MACHINE, "loaded_program"), name(SERVED, "NoneFaults")]
+    return frozenset(closure(begin, OF_THE_VERDICT)) | TO_AN_ANSWER
 
 
 def of_kit() -> dict[str, set[str]]:
     """The definitions of the kit that the tiers cite, by the kit's files."""
     found: dict[str, set[str]] = {}
-    for each in closure(ROOTS):
+    for each in closure(roots()):
         for file, word in file_of(each.place).cited_of_kit(each.word):
             found.setdefault(file, set()).add(word)
     return found
@@ -126,6 +131,6 @@ def in_order(names: frozenset[Name]) -> list[Place]:
             visit(other)
         done.append(place)
 
-    for place in [root.place for root in reversed(ROOTS)] + sorted({each.place for each in names}):
+    for place in [root.place for root in reversed(roots())] + sorted({each.place for each in names}):
         visit(place)
     return [place for place in reversed(done) if any(each.place == place for each in names)]

@@ -5,7 +5,8 @@ use Rattle.tenant.specs.State.{TenantState}
 use Rattle.tenant.specs.Alone.{MayReply, IsFault}
 
 -- the states before and after one frame, with its reply
-pub record Handles (before : List TenantState) (frame reply : List ℕ) (after : List TenantState) : Type 0 where
+pub record Handles (before : List TenantState) (frame reply : List ℕ)
+    (after : List TenantState) : Type 0 where
   pub own : MayReply frame reply (slice_get before (owner frame)) (slice_get after (owner frame))
   pub others : (other : ℕ) → other ≢ owner frame → slice_get after other ≡ slice_get before other
   pub count : length after ≡ length before
@@ -31,4 +32,5 @@ states_after before (turn ∷ turns) = states_after turn.states turns
 -- turns one after another, from the states before the first to those after the last
 abbrev pub HandlesInOrder : List TenantState → List Turn → List TenantState → Type 0
 HandlesInOrder before [] after = after ≡ before
-HandlesInOrder before (turn ∷ turns) after = Handles before turn.frame turn.reply turn.states × HandlesInOrder turn.states turns after
+HandlesInOrder before (turn ∷ turns) after =
+    Handles before turn.frame turn.reply turn.states × HandlesInOrder turn.states turns after

@@ -21,10 +21,11 @@ IsUnrefused (Some s) = s.refused ≡ false
 
 -- Each tenant to which no memory was refused gets exactly the replies that its own machine, which has no other tenants, gives to
 -- its own frames without refusals of memory. The same holds for each number that is not served.
-abbrev pub Noninterference : List TenantState → List (List ℕ) → List (List ℕ) → List TenantState → Type 0
+abbrev pub Noninterference :
+    List TenantState → List (List ℕ) → List (List ℕ) → List TenantState → Type 0
 Noninterference before frames replies after =
-    (t : ℕ) → IsUnrefused (slice_get after t)
-    → IsToldAlone (slice_get before t) (frames_of t frames) (replies_of t frames replies) (slice_get after t)
+    (t : ℕ) → IsUnrefused (slice_get after t) → IsToldAlone (slice_get before t)
+        (frames_of t frames) (replies_of t frames replies) (slice_get after t)
 
 -- no test run faulted
 abbrev pub NoneFaults : List (List ℕ) → Type 0
@@ -116,9 +117,10 @@ pub record IsFlushedAgain (old new : StreamState) : Type 0 where
 
 -- A call of `serve` that allows `limit` frames, from the state before it to the state after it. With Ok, `done` and `alone`:
 -- the input is at its end. With a fault, `fault` and `alone_before`: what happened until then. `alone` and `alone_before` are
--- about the tenants to which no memory was refused. At each end but a fault of the writer all replies are flushed, so they are before
--- anything more is read.
-pub record ServesStream (limit : ℕ) (result : Result ℕ ServeFault) (old new : StreamState) : Type 0 where
+-- about the tenants to which no memory was refused. If everything was flushed before the call, then at each end but a fault of the
+-- writer all replies are flushed; so they are before anything more is read.
+pub record ServesStream (limit : ℕ) (result : Result ℕ ServeFault)
+    (old new : StreamState) : Type 0 where
   pub done : IfOk result (λ count. ServesToEnd old new count)
   pub alone : IfOk result (λ count. ServesAlone old new count [])
   pub few : IfOk result (λ count. count ≤ limit)

@@ -34,8 +34,8 @@
 //!
 //! Input and output:
 //!
-//! - What was written is flushed before more is read: at each end of a call except a fault of the writer, all replies are
-//!   flushed. See `flushed`, `flushed_before` of `serve`; `flushed` of `write_whole`.
+//! - What was written is flushed before more is read: if everything was flushed before a call, then all replies are flushed at
+//!   each of its ends except a fault of the writer. See `flushed`, `flushed_before` of `serve`; `flushed` of `write_whole`.
 //! - The replies are written in the order of the frames. If a write fails, whole replies and a prefix of the next were written,
 //!   and nothing after the frame of that reply was read, whichever call of the writer failed; so each reply is written whole
 //!   before the next frame is read: `fault` of `serve`.
@@ -47,13 +47,14 @@
 //!   prefix of them: `fill`, `write_whole`.
 //!
 //! Statements about bytes concern readers and writers whose bytes contracts see, such as those over memory. For a file or a
-//! pipe, a contract only sees counts.
+//! pipe, a contract only says that as many frames as are counted got replies by the machines, not that they are those on the
+//! pipe; docs/TRUST.md has the argument for that.
 //!
 //! Batches:
 //!
-//! - `Host::run_packets` runs a program of one tenant on many packets, one after another, with the same context words. Results
-//!   and state are those of the test-run commands in this order; the rest of the result buffer and the states of the other
-//!   tenants are unchanged: `runs`, `tenant` of `Host::run_packets`.
+//! - `Host::run_packets` runs a program of one tenant on many packets, one after another, all with the same context words or each
+//!   with its own. Results and state are those of the test-run commands in this order; the rest of the result buffer and the
+//!   states of the other tenants are unchanged: `runs`, `tenant` of `Host::run_packets`.
 //! - Or the batch is rejected before its first packet, with the first error that applies: the tenant is not served, or an error
 //!   of the tenant. Then nothing has changed: `refusal`, `unchanged` of `Host::run_packets`.
 //! - The runs of a batch are calls of `Host::handle` on the test-run frames of its packets. So what holds for a sequence of
@@ -93,8 +94,7 @@
 //!   This is part of the contract: a `Sink` reports whether everything is flushed. The reader can fail in any call, so the
 //!   clause holds before each read.
 //! - `serve` allocates its buffers once. After that only these commands allocate: a load (the program, copied once, and space
-//!   for the verdict), a new hash map (its places and their order), and a new key of a hash map, from a command or a test run
-//!   (an entry of its table, and the bytes of a key that is longer than eight).
+//!   for the verdict), and the creation of a hash map (room for its keys and places).
 //! - All parts of the arena are zeroed when the host starts, since the library has no zeroed allocation with pages on demand.
 //!   An idle host has 2.0 MB of resident memory for 1 tenant, 5.9 for 16 and 18.8 for 64, and starts in 1.4, 4.6 and 19
 //!   milliseconds. After that an idle tenant costs no time. The cost of a frame depends on its own key and value, not on the

@@ -4,7 +4,7 @@ use Rattle.std.specs.List.{IsDistinct, AllByRecursion}
 use Rattle.std.specs.Map.{lookup, remove_entry, keys_of, values_of}
 use Rattle.std.proofs.lemmas.Option.{none-some, same_Some}
 use Rattle.std.proofs.lemmas.Map.Keys.{IsDistinct-head, IsDistinct-tail}
-use Rattle.ordered_keys.specs.Orders.{Order, occurrences, first_place, following, taken_out, IsSole, first_key_of, key_behind_passing, key_following}
+use Rattle.ordered_keys.specs.Orders.{Order, occurrences, first_place, following, taken_out, first_key_of, key_behind_passing, key_following}
 use Rattle.ordered_keys.specs.inside.Links.{AreWithin}
 use Rattle.ordered_keys.specs.inside.Ordered.{entry_of, key_of, in_order, HaveEntries, IsIndexed}
 use Rattle.ordered_keys.proofs.Rings.{times_head, unequal, here_or_later, within_at}
@@ -41,6 +41,14 @@ module _ {K : Type 0} where
       by : (b : Bool) → cond b (Some x.1) (lookup test es) ≡ None → (lookup test es ≡ None → remove_entry test es ≡ es) → cond b es (x ∷ remove_entry test es) ≡ x ∷ es
       by true g r = absurd (none-some x.1 (sym g))
       by false g r = ap (λ (ys : List (K × ℕ)). x ∷ ys) (r g)
+
+  -- any two keys that pass the test are equal
+  abbrev pub IsSole : (K → K → Bool) → (K → Bool) → Type 0
+  IsSole eq test = (x y : K) → test x ≡ true → test y ≡ true → eq x y ≡ true
+
+  -- that is so if a key that passes the test is equal to those that pass it, and to no other
+  pub sole_by : (eq : K → K → Bool) (test : K → Bool) → ((x y : K) → test x ≡ true → test y ≡ eq x y) → IsSole eq test
+  sole_by eq test law x y tx ty = sym (law x y tx) ∙ ty
 
   -- only one index has a key that passes
   pub one_index : (eq : K → K → Bool) (test : K → Bool) → IsSole eq test → (es : List (K × ℕ)) → IsDistinct eq (keys_of es) → (i j : ℕ) (a b : K × ℕ) → slice_get es i ≡ Some a → slice_get es j ≡ Some b → test a.0 ≡ true → test b.0 ≡ true → i ≡ j

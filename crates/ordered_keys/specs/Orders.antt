@@ -43,10 +43,6 @@ bounded_keys bound es = record { bound = bound; entries = es }
 abbrev pub bounded_keys_code : {K : Type 0} → Coded K → Coded (BoundedKeys K)
 bounded_keys_code {K} k = code_by (ℕ × List (K × ℕ)) (coded× coded_ℕ (coded_list (coded× k coded_ℕ))) (λ b. (b.bound, b.entries)) (λ p. bounded_keys p.0 p.1) (λ _. refl)
 
--- any two keys that pass the test are equal
-abbrev pub IsSole : {K : Type 0} → (K → K → Bool) → (K → Bool) → Type 0
-IsSole {K} eq test = (x y : K) → test x ≡ true → test y ≡ true → eq x y ≡ true
-
 module _ {K : Type 0} where
   abbrev pub first_key_of : List (K × ℕ) → Option K
   first_key_of [] = None

@@ -11,11 +11,9 @@
 //! - A new key goes to the end with its place: `added` of `insert`. All memory is taken when the map is made, so neither `insert` nor
 //!   `remove` has an answer for want of it.
 //! - A removal returns the place of the key, and the others keep their order: `place`, `left` of `remove`.
-//! - For an order of places: the first, the next one, appending one, removing one: `first`, `after`, `push` and `remove` of
-//!   `PlaceOrder`.
 //!
-//! A caller may look up with another type than that of the keys; it shows that any two keys which pass its test are equal
-//! (`IsSole`). That a removal costs as much as an insertion is seen in the code, but for the removal that fills the
+//! A caller may look up with another type than that of the keys (`Equivalent`, whose laws say that all keys which it is equivalent to
+//! are equal). That a removal costs as much as an insertion is seen in the code, but for the removal that fills the
 //! table anew, and is measured; no contract is about steps.
 //!
 //! # Decisions
@@ -49,4 +47,3 @@ mod place_order;
 
 pub use indexmap::Equivalent;
 pub use ordered_map::OrderedMap;
-pub use place_order::PlaceOrder;

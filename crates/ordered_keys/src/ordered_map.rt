@@ -3,7 +3,7 @@
 ghost use Rattle.std.specs.Prelude.{◌≡◌, ℕ, ◌+◌, ◌<◌, ◌≤◌, true, [], ◌∷◌, ◌++◌, length, option_map, slice_get, None, Some, IfSome, IfOk, vec_len, vec_capacity, swap_remove};
 ghost use Rattle.std.specs.Option.{option_map_or};
 ghost use Rattle.std.specs.Map.{lookup, remove_entry, values_of};
-ghost use Rattle.ordered_keys.specs.Orders.{occurrences, IsSole, first_key_of, key_following, lent_entry, next_entry};
+ghost use Rattle.ordered_keys.specs.Orders.{occurrences, first_key_of, key_following, lent_entry, next_entry};
 ghost use Rattle.indexmap.specs.IndexMap.{index_map_len, spare};
 ghost use Rattle.ordered_keys.specs.inside.Ordered.{IsIndexed, AreApart, HasRoom, entry_of, is_entry_of, key_of, next_of_places};
 
@@ -73,7 +73,6 @@ impl<K: Eq + Hash + Copy, S: BuildHasher> OrderedMap<K, S> {
     /// The place of a key; `None` if the key is absent.
     #[inline(always)]
     pub fn get<Q: Equivalent<K>>(&self, key: Q) -> Option<u32>
-        requires { IsSole K.eq (Q.equivalent key) }
         ensures { result ≡ lookup (Q.equivalent key) self.now.entries }
     {
         // The keys of the table are distinct: this is in the contract of `len`.
@@ -83,7 +82,6 @@ impl<K: Eq + Hash + Copy, S: BuildHasher> OrderedMap<K, S> {
 
     /// The key that follows a key, if there is one. After an absent key it is the first.
     pub fn key_after<Q: Equivalent<K>>(&self, key: Q) -> Option<&K>
-        requires { IsSole K.eq (Q.equivalent key) }
         ensures { option_map (λ k. k.now) result
             ≡ key_following (Q.equivalent key) self.now.entries }
     {
@@ -128,7 +126,6 @@ impl<K: Eq + Hash + Copy, S: BuildHasher> OrderedMap<K, S> {
 
     /// Removes a key and returns its place; `None` if the key is absent. The others keep their order.
     pub fn remove<Q: Equivalent<K>>(&mut self, key: Q) -> Option<u32>
-        requires { IsSole K.eq (Q.equivalent key) }
         ensures place { result ≡ lookup (Q.equivalent key) self.old.entries }
         ensures left { self.new.entries ≡ remove_entry (Q.equivalent key) self.old.entries }
         ensures bound { self.new.bound ≡ self.old.bound }

@@ -37,7 +37,7 @@ impl Model for PlaceOrder {
 
 impl PlaceOrder {
     /// An order without places. Allocates room for all those less than `bound`. `AllocError`: out of memory.
-    pub fn new(alloc: Global, bound: u32) -> Result<PlaceOrder, AllocError>
+    pub(crate) fn new(alloc: Global, bound: u32) -> Result<PlaceOrder, AllocError>
         ensures bound { IfOk result (λ order. order.bound ≡ bound) }
         ensures places { IfOk result (λ order. order.places ≡ []) }
     {
@@ -65,7 +65,7 @@ impl PlaceOrder {
     }
 
     /// The first place, if there is one.
-    pub fn first(&self) -> Option<u32>
+    pub(crate) fn first(&self) -> Option<u32>
         ensures { result ≡ first_place self.now.places }
     {
         let end = self.bound as usize;
@@ -73,7 +73,7 @@ impl PlaceOrder {
     }
 
     /// The place that follows a place of the order, if there is one.
-    pub fn after(&self, place: u32) -> Option<u32>
+    pub(crate) fn after(&self, place: u32) -> Option<u32>
         requires { 0 < occurrences place self.now.places }
         ensures { result ≡ following place self.now.places }
     {
@@ -81,7 +81,7 @@ impl PlaceOrder {
     }
 
     /// Puts a place last.
-    pub fn push(&mut self, place: u32)
+    pub(crate) fn push(&mut self, place: u32)
         requires within { place < self.old.bound }
         requires new { occurrences place self.old.places ≡ 0 }
         requires few { length self.old.places < self.old.bound }
@@ -100,7 +100,7 @@ impl PlaceOrder {
     }
 
     /// Takes a place out. The others keep their order.
-    pub fn remove(&mut self, place: u32)
+    pub(crate) fn remove(&mut self, place: u32)
         requires { 0 < occurrences place self.old.places }
         ensures bound { self.new.bound ≡ self.old.bound }
         ensures places { self.new.places ≡ taken_out place self.old.places }

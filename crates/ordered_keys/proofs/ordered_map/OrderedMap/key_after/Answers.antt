@@ -3,7 +3,7 @@ use Rattle.std.specs.Map.{lookup}
 use Rattle.std.specs.Option.{option_copied}
 use Rattle.ordered_keys.specs.Orders.{BoundedKeys, first_key_of, following, key_following}
 use Rattle.ordered_keys.specs.inside.Ordered.{key_of}
-use Rattle.ordered_keys.proofs.Ordered.{following_absent, following_in_order, found_member, following_member, members_within}
+use Rattle.ordered_keys.proofs.Ordered.{sole_by, following_absent, following_in_order, found_member, following_member, members_within}
 use Rattle.ordered_keys.proofs.ordered_map.OrderedMap.key_after.Goals as goal
 
 pub returns-in_default : goal.returns-in_default
@@ -19,7 +19,7 @@ after-requires g c =
     let m = c.self.inside in
     let test = g.Q.Equivalent.equivalent c.args.key in
     let some : lookup test m.table.entries ≡ Some c.in-Some.place.now = sym c.get.ensures.value ∙ ap option_copied c.in-Some.is in
-    let one = found_member m.table.entries m.indices.items m.order c.self.invariant.indexed test g.K.PartialEq.eq c.requires c.len-len.ensures.unique c.in-Some.place.now some in
+    let one = found_member m.table.entries m.indices.items m.order c.self.invariant.indexed test g.K.PartialEq.eq (sole_by g.K.PartialEq.eq test (g.met.Q.Equivalent.respects_eq c.args.key)) c.len-len.ensures.unique c.in-Some.place.now some in
     omega arith
 
 pub key_at-requires : goal.key_at-requires
@@ -38,5 +38,5 @@ returns g c =
     c.key_at.ensures
     ∙ ap (λ (is : List ℕ). key_of m.table.entries is c.after.result) c.deref.ensures.value
     ∙ ap (key_of m.table.entries m.indices.items) c.after.ensures
-    ∙ sym (following_in_order m.table.entries m.indices.items m.order c.self.invariant.indexed test g.K.PartialEq.eq c.requires c.len-len.ensures.unique c.in-Some.place.now some)
+    ∙ sym (following_in_order m.table.entries m.indices.items m.order c.self.invariant.indexed test g.K.PartialEq.eq (sole_by g.K.PartialEq.eq test (g.met.Q.Equivalent.respects_eq c.args.key)) c.len-len.ensures.unique c.in-Some.place.now some)
     ∙ ap (λ (b : BoundedKeys g.row.K.Denot). key_following test b.entries) c.self.view_is

@@ -4,7 +4,7 @@ use Rattle.std.specs.Map.{lookup, remove_entry}
 use Rattle.std.specs.Option.{option_map_or}
 use Rattle.ordered_keys.specs.Orders.{BoundedKeys}
 use Rattle.ordered_keys.specs.inside.Ordered.{in_order, IsIndexed}
-use Rattle.ordered_keys.proofs.Ordered.{absent_in_order, nothing_removed, found_in_order, removed_in_order}
+use Rattle.ordered_keys.proofs.Ordered.{sole_by, absent_in_order, nothing_removed, found_in_order, removed_in_order}
 use Rattle.ordered_keys.proofs.Tables.{below_length, found_at, none_found, left, moved, left_indices, member, moved_within, indexed_removed, shown_removed}
 use Rattle.ordered_keys.proofs.ordered_map.OrderedMap.remove.Given.{Over}
 use Rattle.ordered_keys.proofs.ordered_map.OrderedMap.remove.Goals as goal
@@ -71,7 +71,7 @@ pub returns-clause-place : goal.returns-clause-place
 returns-clause-place g c =
     let m = c.self.inside in
     let test = g.Q.Equivalent.equivalent c.args.key in
-    sym (found_in_order m.table.entries m.indices.items m.order c.self.invariant.indexed test g.K.PartialEq.eq c.requires c.get_index_of.ensures.unique c.take_out-key.result.1 (found g c))
+    sym (found_in_order m.table.entries m.indices.items m.order c.self.invariant.indexed test g.K.PartialEq.eq (sole_by g.K.PartialEq.eq test (g.met.Q.Equivalent.respects_eq c.args.key)) c.get_index_of.ensures.unique c.take_out-key.result.1 (found g c))
     ∙ ap (λ (b : BoundedKeys g.row.K.Denot). lookup test b.entries) c.self.view_is
 
 pub returns-clause-left : goal.returns-clause-left
@@ -82,5 +82,5 @@ returns-clause-left g c =
     ∙ ap (λ (q : ℕ). in_order (table g c) (set m.indices.items q c.in_ok-index.index) c.remove.new.self.places) (moved_is g c)
     ∙ ap (in_order (table g c) (left_indices m.table.entries m.indices.items m.order c.self.invariant.indexed c.in_ok-index.index c.take_out-key.result.0 c.take_out-key.result.1 (at g c))) c.remove.ensures.places
     ∙ shown_removed m.table.entries m.indices.items m.order c.self.invariant.indexed c.in_ok-index.index c.take_out-key.result.0 c.take_out-key.result.1 (at g c)
-    ∙ sym (removed_in_order m.table.entries m.indices.items m.order c.self.invariant.indexed test g.K.PartialEq.eq c.requires c.get_index_of.ensures.unique c.take_out-key.result.1 (found g c))
+    ∙ sym (removed_in_order m.table.entries m.indices.items m.order c.self.invariant.indexed test g.K.PartialEq.eq (sole_by g.K.PartialEq.eq test (g.met.Q.Equivalent.respects_eq c.args.key)) c.get_index_of.ensures.unique c.take_out-key.result.1 (found g c))
     ∙ ap (λ (b : BoundedKeys g.row.K.Denot). remove_entry test b.entries) c.self.view_is

@@ -18,7 +18,7 @@ impl Range {
     ghost use Rattle.interval.specs.Ranges.{span, constant, is_constant, full};
 
     /// The numbers from `lo` to `hi`.
-    pub fn new(lo: u64, hi: u64) -> Range
+    pub(crate) fn new(lo: u64, hi: u64) -> Range
         requires { lo ≤ hi }
         ensures { result ≡ span lo hi }
     {

@@ -165,7 +165,7 @@ fn write_stack_bytes(
         end: 0,
     };
     for index in 0..STACK_SLOTS {
-        let (before, after) = (old.slot(index), new.slot(index));
+        let (before, after) = (old.slots[index], new.slots[index]);
         let mask = if are_lost {
             lost(before, after)
         } else {
@@ -186,9 +186,9 @@ fn write_spills(
     new: &Facts,
 ) -> Result<(), AllocError> {
     for index in 0..STACK_SLOTS {
-        let slot = new.slot(index);
+        let slot = new.slots[index];
         if let Slot::Spill(kind) = slot
-            && slot != old.slot(index)
+            && slot != old.slots[index]
         {
             let first = lowest_byte(index);
             let last = first.saturating_add(7);

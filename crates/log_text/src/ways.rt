@@ -27,7 +27,7 @@ pub(crate) fn is_written(facts: &Facts, byte: i64) -> bool {
     if place >= 8 * STACK_SLOTS {
         return false;
     }
-    match facts.slot(place / 8) {
+    match facts.slots[place / 8] {
         Slot::Bytes(mask) => mask & (1 << (place % 8)) != 0,
         Slot::Spill(_) => true,
     }

@@ -47,7 +47,7 @@ impl Facts {
     }
 
     /// What is known of a stack slot.
-    pub fn slot(&self, index: usize) -> Slot
+    pub(crate) fn slot(&self, index: usize) -> Slot
         requires { index < STACK_SLOTS }
         ensures { result ≡ slot_at self.now index }
     {
@@ -55,7 +55,7 @@ impl Facts {
     }
 
     /// Sets what is known of stack slot `number`.
-    pub fn set_slot(&mut self, number: usize, slot: Slot)
+    pub(crate) fn set_slot(&mut self, number: usize, slot: Slot)
         requires { number < STACK_SLOTS }
         ensures { self.new ≡ with_slot self.old number slot }
     {

@@ -23,8 +23,8 @@ fn joins() {
     prove!(is_common);
     let mut a = Facts::at_entry();
     let mut b = a;
-    a.set_kind(2, Kind::Scalar(Range::new(0, 3)));
-    b.set_kind(2, Kind::Scalar(Range::new(5, 9)));
+    a.set_kind(2, Kind::Scalar(Range { lo: 0, hi: 3 }));
+    b.set_kind(2, Kind::Scalar(Range { lo: 5, hi: 9 }));
     let facts = join(&a, &b);
     let either = facts.kind(2);
     let is_hull = matches!(either, Kind::Scalar(r) if r.lo == 0 && r.hi == 9);

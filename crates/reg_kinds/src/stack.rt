@@ -110,8 +110,8 @@ fn zero_extended(size: AccessSize) -> Range
     ensures { result ≡ full (8 * bytes_of size) }
 {
     match size {
-        AccessSize::Byte => Range::new(0, 0xff),
-        AccessSize::Half => Range::new(0, 0xffff),
+        AccessSize::Byte => Range { lo: 0, hi: 0xff },
+        AccessSize::Half => Range { lo: 0, hi: 0xffff },
         AccessSize::Word => Range::full(false),
         AccessSize::Double => Range::full(true),
     }

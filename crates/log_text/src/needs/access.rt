@@ -157,7 +157,7 @@ pub(crate) fn write_unwritten(
 fn spill_among(facts: &Facts, first: i64, last: i64) -> Option<(i64, Kind)> {
     for index in 0..STACK_SLOTS {
         let lowest = 8 * index as i64 - 8 * STACK_SLOTS as i64;
-        if let Slot::Spill(kind) = facts.slot(index)
+        if let Slot::Spill(kind) = facts.slots[index]
             && lowest <= last
             && first <= lowest + 7
         {

@@ -54,7 +54,9 @@ impl Session {
         ensures bound { length self.new.reply.items ≤ longest_reply }
     {
         let room = replace(&mut self.reply, Vec::new(self.alloc));
-        let mut reply = ReplyBuf::from_vec(room);
+        let Some(mut reply) = ReplyBuf::from_vec(room) else {
+            unreachable!()
+        };
         self.host.handle(frame, &mut reply);
         self.reply = reply.into_vec();
     }

@@ -1,8 +1,6 @@
 //! Texts and bytes on one line: `;` is a line feed, `\xHH` the byte with these two hex digits, and `{COUNT*PART}` the part
 //! COUNT times, where each `#` in the part is the number of times before.
 
-ghost use Rattle.std.specs.Prelude.{◌<◌};
-
 use crate::case_error::CaseError;
 use hex::FromHex;
 use std::alloc::{AllocError, Global};
@@ -114,12 +112,10 @@ pub fn bytes_of(alloc: Global, text: &str) -> Result<Vec<u8>, CaseError> {
     Ok(bytes)
 }
 
-/// The hex digits of bytes, in groups of `size` bytes with a blank between them.
-pub fn hex_groups(alloc: Global, bytes: &[u8], size: usize) -> Result<String, AllocError>
-    requires { 0 < size }
-{
+/// The hex digits of bytes, in groups of `size` bytes, at least one, with a blank between them.
+pub fn hex_groups(alloc: Global, bytes: &[u8], size: usize) -> Result<String, AllocError> {
     let mut text = String::new(alloc);
-    for group in bytes.chunks(size) {
+    for group in bytes.chunks(size.max(1)) {
         if !text.is_empty() {
             text.push(' ')?;
         }

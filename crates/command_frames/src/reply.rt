@@ -1,6 +1,6 @@
 //! Writing replies.
 
-ghost use Rattle.std.specs.Prelude.{◌≡◌, ◌+◌, ◌≤◌, ◌++◌, ◌<◌, [], length, pos, vec_capacity, IfOk};
+ghost use Rattle.std.specs.Prelude.{◌≡◌, ◌+◌, ◌≤◌, ◌++◌, ◌<◌, [], length, pos, vec_capacity, IfOk, IfSome, IfNone};
 ghost use Rattle.byteorder.specs.Endian.{little_bytes};
 ghost use Rattle.command_frames.specs.Frame.{front_bytes, longest_payload, longest_reply, reply_bytes};
 
@@ -51,14 +51,18 @@ impl ReplyBuf {
         })
     }
 
-    /// Takes over a vector, whose capacity is at least the longest reply, 4,108 bytes. Its contents are dropped.
-    pub fn from_vec(bytes: Vec<u8>) -> ReplyBuf
-        requires { longest_reply ≤ vec_capacity bytes }
-        ensures { result ≡ [] }
+    /// Takes over a vector; `None` if its capacity is less than the longest reply, 4,108 bytes. Its contents are dropped.
+    pub fn from_vec(bytes: Vec<u8>) -> Option<ReplyBuf>
+        ensures some { IfSome result (λ reply.
+            (reply ≡ []) × (longest_reply ≤ vec_capacity bytes)) }
+        ensures none { IfNone result (vec_capacity bytes < longest_reply) }
     {
         let mut bytes = bytes;
+        if bytes.capacity() < LONGEST_REPLY {
+            return None;
+        }
         bytes.clear();
-        ReplyBuf { bytes }
+        Some(ReplyBuf { bytes })
     }
 
     /// The vector with the bytes of the reply, and a capacity of at least 4,108 bytes.

@@ -35,7 +35,7 @@ impl SourceBit {
     }
 
     /// Whether the unused operand field is zero.
-    pub fn lists_operand(self, slot: &RawSlot) -> bool
+    pub(crate) fn lists_operand(self, slot: &RawSlot) -> bool
         ensures { result ≡ one_operand self (fields slot.now) }
     {
         match self {
@@ -45,7 +45,7 @@ impl SourceBit {
     }
 
     /// The second operand of a slot.
-    pub fn operand(self, slot: &RawSlot, src: Reg) -> Operand
+    pub(crate) fn operand(self, slot: &RawSlot, src: Reg) -> Operand
         requires listed { IsTrue (one_operand self (fields slot.now)) }
         requires src { (fields slot.now).src ≡ src }
         requires bound { src ≤ 10 }
@@ -62,7 +62,7 @@ impl SourceBit {
 }
 
 /// Whether an opcode of this operator, which is not a signed one, allows this offset.
-pub fn lists_offset(op: AluOp, wide: bool, source: SourceBit, offset: u16) -> bool
+pub(crate) fn lists_offset(op: AluOp, wide: bool, source: SourceBit, offset: u16) -> bool
     ensures { result ≡ offset_listed wide op source offset }
 {
     offset == 0 || lists_other_offset(op, wide, source, offset)
@@ -81,7 +81,7 @@ fn lists_other_offset(op: AluOp, wide: bool, source: SourceBit, offset: u16) -> 
 }
 
 /// The signed operator with the opcode of this one, which allows offset 1.
-pub fn signed_form(op: AluOp) -> AluOp
+pub(crate) fn signed_form(op: AluOp) -> AluOp
     requires { IsTrue (offset_listed false op source_variant.Imm 1) }
     ensures number { alu_number result ≡ alu_number op }
     ensures offset { alu_offset result ≡ 1 }
@@ -93,7 +93,7 @@ pub fn signed_form(op: AluOp) -> AluOp
 }
 
 /// The size with this code, which is below 4 (RFC 9669, section 5).
-pub fn size_at(code: u8) -> AccessSize
+pub(crate) fn size_at(code: u8) -> AccessSize
     requires { code < 4 }
     ensures value { result ≡ size_at code }
     ensures number { size_number result ≡ code }
@@ -108,7 +108,7 @@ pub fn size_at(code: u8) -> AccessSize
 
 /// Whether a slot is the second slot of a wide load with this source field: all fields are zero, except for a number that the load
 /// uses (RFC 9669, section 5.4).
-pub fn lists_second(src: u8, next: &RawSlot) -> bool
+pub(crate) fn lists_second(src: u8, next: &RawSlot) -> bool
     ensures { result ≡ is_second src (fields next.now) }
 {
     let number = src != 1 || next.imm == 0;

@@ -31,10 +31,9 @@ fn read_wide(entry: &mut Insn, slot: &RawSlot, dst: Reg, rest: &[u8]) -> Result<
     ensures fault { IfErr result (λ kind. second_fault Wide (fields slot.now).src rest.now
         ≡ Some kind) }
 {
-    if rest.len() < 8 {
+    let Some(next) = RawSlot::first(rest) else {
         return Err(FaultKind::SecondSlot);
-    }
-    let next = RawSlot::first(rest);
+    };
     if !lists_second(slot.src(), &next) {
         return Err(FaultKind::SecondSlot);
     }
@@ -125,10 +124,9 @@ fn read_front(entry: &mut Insn, bytes: &[u8]) -> Result<(), FaultKind>
     ensures found { OnOk result (IsInsn entry.new × Begins entry.new bytes.now) }
     ensures fault { IfErr result (λ kind. first_fault bytes.now ≡ Some kind) }
 {
-    if bytes.len() < 8 {
+    let Some(first) = RawSlot::first(bytes) else {
         return Err(FaultKind::Ragged);
-    }
-    let first = RawSlot::first(bytes);
+    };
     read_from(entry, &first, bytes)?;
     Ok(())
 }

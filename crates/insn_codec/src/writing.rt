@@ -2,7 +2,7 @@
 
 ghost use Rattle.std.specs.Prelude.{◌≡◌, ◌+◌, ◌≤◌, ◌<◌, ◌∷◌, ◌++◌, length, drop, map};
 ghost use Rattle.std.specs.Option.{option_to_list};
-ghost use Rattle.insn_set.specs.Slot.{fields};
+ghost use Rattle.insn_set.specs.Slot.{fields, slot};
 ghost use Rattle.insn_set.specs.Spelling.{first as first_slot, second as second_slot, slots as slots_of, spelling, source_bit, src_field, imm_field};
 ghost use Rattle.insn_set.specs.Numbers.{opcode as opcode_from, memory_opcode, alu_class, jump_class, size_number, end_opcode};
 
@@ -96,6 +96,21 @@ fn sized_opcode(mode: u8, size: AccessSize, class: u8) -> u8
     32 * mode + 8 * size_number(size) + class
 }
 
+/// The slot with these fields. Both register numbers are below 16.
+#[inline(always)]
+fn raw_slot(opcode: u8, dst: u8, src: u8, offset: u16, imm: u32) -> RawSlot
+    requires dst { dst < 16 }
+    requires src { src < 16 }
+    ensures { fields result ≡ slot opcode dst src offset imm }
+{
+    RawSlot {
+        opcode,
+        registers: 16 * src + dst,
+        offset,
+        imm,
+    }
+}
+
 /// The first slot of an instruction.
 fn first(insn: &Insn) -> RawSlot
     ensures { fields result ≡ first_slot insn.now }
@@ -103,7 +118,7 @@ fn first(insn: &Insn) -> RawSlot
     match *insn {
         Insn::Alu { wide, op, dst, src } => {
             let opcode = opcode(alu_number(op), source_bit(src), arithmetic_class(wide));
-            RawSlot::new(
+            raw_slot(
                 opcode,
                 dst.number(),
                 src_field(src),
@@ -113,20 +128,14 @@ fn first(insn: &Insn) -> RawSlot
         }
         Insn::Movsx(m) => {
             let opcode = opcode(11, 1, arithmetic_class(m.wide));
-            RawSlot::new(opcode, m.dst.number(), m.src.number(), m.bits.count(), 0)
+            raw_slot(opcode, m.dst.number(), m.src.number(), m.bits.count(), 0)
         }
         Insn::Neg { wide, dst } => {
-            RawSlot::new(opcode(8, 0, arithmetic_class(wide)), dst.number(), 0, 0, 0)
+            raw_slot(opcode(8, 0, arithmetic_class(wide)), dst.number(), 0, 0, 0)
         }
-        Insn::End { how, bits, dst } => RawSlot::new(
-            end_opcode(how),
-            dst.number(),
-            0,
-            0,
-            bits.count(),
-        ),
-        Insn::Ja { off } => RawSlot::new(0x05, 0, 0, off.cast_unsigned(), 0),
-        Insn::Jal { off } => RawSlot::new(0x06, 0, 0, 0, off.cast_unsigned()),
+        Insn::End { how, bits, dst } => raw_slot(end_opcode(how), dst.number(), 0, 0, bits.count()),
+        Insn::Ja { off } => raw_slot(0x05, 0, 0, off.cast_unsigned(), 0),
+        Insn::Jal { off } => raw_slot(0x06, 0, 0, 0, off.cast_unsigned()),
         Insn::Jump {
             wide,
             cond,
@@ -135,7 +144,7 @@ fn first(insn: &Insn) -> RawSlot
             off,
         } => {
             let opcode = opcode(condition_number(cond), source_bit(src), jumping_class(wide));
-            RawSlot::new(
+            raw_slot(
                 opcode,
                 dst.number(),
                 src_field(src),
@@ -143,11 +152,11 @@ fn first(insn: &Insn) -> RawSlot
                 imm_field(src),
             )
         }
-        Insn::Call { id } => RawSlot::new(0x85, 0, 0, 0, id.cast_unsigned()),
-        Insn::Exit => RawSlot::new(0x95, 0, 0, 0, 0),
+        Insn::Call { id } => raw_slot(0x85, 0, 0, 0, id.cast_unsigned()),
+        Insn::Exit => raw_slot(0x95, 0, 0, 0, 0),
         Insn::Load(l) => {
             let opcode = sized_opcode(if l.signed { 4 } else { 3 }, l.size, 1);
-            RawSlot::new(
+            raw_slot(
                 opcode,
                 l.dst.number(),
                 l.src.number(),
@@ -162,7 +171,7 @@ fn first(insn: &Insn) -> RawSlot
             off,
         } => {
             let opcode = sized_opcode(3, size, 2 + source_bit(src));
-            RawSlot::new(
+            raw_slot(
                 opcode,
                 dst.number(),
                 src_field(src),
@@ -178,7 +187,7 @@ fn first(insn: &Insn) -> RawSlot
             off,
         } => {
             let opcode = sized_opcode(6, size.access(), 3);
-            RawSlot::new(
+            raw_slot(
                 opcode,
                 dst.number(),
                 src.number(),
@@ -187,16 +196,10 @@ fn first(insn: &Insn) -> RawSlot
             )
         }
         Insn::Const { dst, value } => {
-            RawSlot::new(0x18, dst.number(), 0, 0, (value % 0x1_0000_0000) as u32)
+            raw_slot(0x18, dst.number(), 0, 0, (value % 0x1_0000_0000) as u32)
         }
-        Insn::MapFd { dst, fd } => RawSlot::new(0x18, dst.number(), 1, 0, fd.cast_unsigned()),
-        Insn::MapValue { dst, fd, .. } => RawSlot::new(
-            0x18,
-            dst.number(),
-            2,
-            0,
-            fd.cast_unsigned(),
-        ),
+        Insn::MapFd { dst, fd } => raw_slot(0x18, dst.number(), 1, 0, fd.cast_unsigned()),
+        Insn::MapValue { dst, fd, .. } => raw_slot(0x18, dst.number(), 2, 0, fd.cast_unsigned()),
     }
 }
 
@@ -206,10 +209,10 @@ fn second(insn: &Insn) -> Option<RawSlot>
 {
     match *insn {
         Insn::Const { dst: _, value } => {
-            Some(RawSlot::new(0, 0, 0, 0, (value / 0x1_0000_0000) as u32))
+            Some(raw_slot(0, 0, 0, 0, (value / 0x1_0000_0000) as u32))
         }
-        Insn::MapFd { .. } => Some(RawSlot::new(0, 0, 0, 0, 0)),
-        Insn::MapValue { off, .. } => Some(RawSlot::new(0, 0, 0, 0, off)),
+        Insn::MapFd { .. } => Some(raw_slot(0, 0, 0, 0, 0)),
+        Insn::MapValue { off, .. } => Some(raw_slot(0, 0, 0, 0, off)),
         _ => None,
     }
 }

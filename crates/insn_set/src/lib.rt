@@ -13,8 +13,7 @@
 //! - The descriptor of the map that it names: `descriptor` of `Reference`.
 //! - Its numbers are in the ranges of its fields, and a register's number is at most 10: `in_range` of `Insn`, `number` of
 //!   `Reg`.
-//! - A slot's fields are read from eight bytes, and written as these; a slot is created from its fields: `first`, `dst`, `src`,
-//!   `bytes`, `new` of `RawSlot`.
+//! - A slot's fields are read from eight bytes, and written as these: `first`, `dst`, `src`, `bytes` of `RawSlot`.
 //! - The code and the symbol of an operator, a condition or an atomic operation, the opcode and the size name of a load, and
 //!   the names of conversions are those of the definitions; a look-up by code or name finds what has it: `alu_number`,
 //!   `alu_symbol`, `alu_by_number`, `alu_by_symbol`, and similar.

@@ -1,6 +1,6 @@
 //! Slots of eight bytes, and their fields (RFC 9669, section 3.1).
 
-ghost use Rattle.std.specs.Prelude.{◌≡◌, ◌≤◌, ◌<◌, ◌==◌, ◌&&◌, length};
+ghost use Rattle.std.specs.Prelude.{◌≡◌, ◌≤◌, ◌<◌, ◌==◌, ◌&&◌, length, IfSome, IfNone};
 
 /// The fields of a slot, as bits: no field is read as signed here. The two register numbers have four bits each. Definitions are in
 /// these terms; the code keeps a [`RawSlot`].
@@ -24,11 +24,23 @@ pub struct RawSlot {
 }
 
 impl RawSlot {
-    ghost use Rattle.insn_set.specs.Slot.{fields, slot, slot_bytes, slot_of};
+    ghost use Rattle.insn_set.specs.Slot.{fields, slot_bytes, slot_of};
 
-    /// Reads the slot at the front of the bytes, of which there are at least eight.
+    /// Reads the slot at the front of the bytes; `None` if there are fewer than eight.
+    pub fn first(bytes: &[u8]) -> Option<RawSlot>
+        ensures some { IfSome result (λ slot. fields slot ≡ slot_of bytes.now) }
+        ensures long { IfSome result (λ slot. 8 ≤ length bytes.now) }
+        ensures none { IfNone result (length bytes.now < 8) }
+    {
+        if bytes.len() < 8 {
+            return None;
+        }
+        Some(RawSlot::in_front(bytes))
+    }
+
+    #[inline(always)]
     #[tactic(auto, unfolding(crate::specs::Slot::slot_of))]
-    pub fn first(bytes: &[u8]) -> RawSlot
+    fn in_front(bytes: &[u8]) -> RawSlot
         requires { 8 ≤ length bytes.now }
         ensures { fields result ≡ slot_of bytes.now }
     {
@@ -41,21 +53,6 @@ impl RawSlot {
             registers: (word / 0x100 % 0x100) as u8,
             offset: (word / 0x1_0000 % 0x1_0000) as u16,
             imm: (word / 0x1_0000_0000) as u32,
-        }
-    }
-
-    /// The slot with these fields. Both register numbers are below 16.
-    #[inline(always)]
-    pub fn new(opcode: u8, dst: u8, src: u8, offset: u16, imm: u32) -> RawSlot
-        requires dst { dst < 16 }
-        requires src { src < 16 }
-        ensures { fields result ≡ slot opcode dst src offset imm }
-    {
-        RawSlot {
-            opcode,
-            registers: 16 * src + dst,
-            offset,
-            imm,
         }
     }
 

@@ -1,5 +1,5 @@
 -- After a deletion the words, bytes and live maps represent the state after the machine's deletion.
-use Rattle.std.proofs.Common.{◌≡◌, ℕ, ◌+◌, ◌<◌, false, ◌||◌, List, [], ◌∷◌, length-append, slice_get, Some, Result, Ok, Err, refl, sym, ap, subst, ◌∙◌, arith}
+use Rattle.std.proofs.Common.{◌≡◌, ℕ, ◌+◌, ◌<◌, List, [], ◌∷◌, length-append, slice_get, Some, Result, Ok, Err, refl, sym, ap, subst, ◌∙◌, arith}
 use Rattle.std.specs.Prelude.{slice_index}
 use Rattle.std.specs.Map.{values_of}
 use Rattle.std.specs.Result.{result_map_both}
@@ -8,8 +8,8 @@ use Rattle.words.specs.Bytes.{bytes_at}
 use Rattle.tagged_model.specs.declared.fault.MapFault.{MapFault}
 use Rattle.tagged_model.specs.declared.shape.MapShape.{MapShape}
 use Rattle.tagged_model.specs.Table.{Table, look_up, removal, without, with_values, with_deleted}
-use Rattle.tagged_model.specs.State.{RunState, RunMap, set_at, with_map, with_refusal}
-use Rattle.tagged_model.specs.Helpers.{taken_out, removed, without_key, with_reply}
+use Rattle.tagged_model.specs.State.{RunState, RunMap, set_at, with_map}
+use Rattle.tagged_model.specs.Helpers.{taken_out, removed, without_key}
 use Rattle.tagged_model.specs.StateLaws.{owns_without}
 use Rattle.arena.specs.Memory.{base, part_start}
 use Rattle.bpf_maps.specs.Places.{PlaceTable, table_of, occurrences, with_kept, Removes}
@@ -20,7 +20,6 @@ use Rattle.bpf_helpers.specs.Stands.{HasObject, HasMap, MapsStandFor, Simulates,
 use Rattle.bpf_helpers.specs.inside.Flat.{removal_word, Deletes}
 use Rattle.bpf_helpers.specs.inside.Laws.{DeletesKeepSimulation}
 use Rattle.bpf_helpers.proofs.Verdicts.{removal_found}
-use Rattle.bpf_helpers.proofs.Flags.{or_none}
 use Rattle.bpf_helpers.proofs.Moved.{maps_moved, maps_again, map_replaced, maps_stand}
 use Rattle.bpf_helpers.specs.States.{Environment, FlatState, with_held}
 
@@ -66,15 +65,15 @@ module _ (below : LawsBelow) (env : Environment) (l : Layout) (flat : FlatState)
   k = slice_index env.bind i
 
   Done : Result ℕ MapFault → Type 0
-  Done r = (word ≡ (taken_out map key r).answer) × Simulates env l (with_held flat flat.memory new) (with_reply s m (taken_out map key r))
+  Done r = (word ≡ (taken_out map key r).answer) × Simulates env l (with_held flat flat.memory new) (with_map s m (taken_out map key r).map)
 
   has : HasMap l (stored_maps (part_start env.memory env.tenant) flat.memory.bytes flat.maps) k m map
   has =
       let g = stands.maps.each i m named in
       subst (HasMap l (stored_maps (part_start env.memory env.tenant) flat.memory.bytes flat.maps) k m) (same_Some g.0 map (sym g.1 ∙ is)) g.2
 
-  with_maps : (u : RunMap) → MapsStandFor env l (stored_maps (part_start env.memory env.tenant) flat.memory.bytes new) (set_at s.maps m (Some u)) → Simulates env l (with_held flat flat.memory new) (with_refusal (with_map s m u) false)
-  with_maps u maps = maps_stand stands i m named new d.rest (set_at s.maps m (Some u)) (s.refused || false) maps (d.flag ∙ stands.flag ∙ ap (λ b. env.maps.refused || b) (or_none s.refused))
+  with_maps : (u : RunMap) → MapsStandFor env l (stored_maps (part_start env.memory env.tenant) flat.memory.bytes new) (set_at s.maps m (Some u)) → Simulates env l (with_held flat flat.memory new) (with_map s m u)
+  with_maps u maps = maps_stand stands i m named new d.rest (set_at s.maps m (Some u)) maps
 
   done : (r : Result ℕ MapFault) → removal map.table key ≡ r → Removes (result_map_both has.place (λ fault. fault) r) key (places_at flat.maps k) d.outcome (places_at new k) → Done r
   unfolding Done
@@ -92,7 +91,7 @@ module _ (below : LawsBelow) (env : Environment) (l : Layout) (flat : FlatState)
             (map_without below l (part_start env.memory env.tenant) flat.memory.bytes flat.maps new k m map key (has.place number) has there c.1 d.rest)),
       )
 
-  pub delete_stands : (word ≡ (removed map key).answer) × Simulates env l (with_held flat flat.memory new) (with_reply s m (removed map key))
+  pub delete_stands : (word ≡ (removed map key).answer) × Simulates env l (with_held flat flat.memory new) (with_map s m (removed map key).map)
   unfolding Done
   delete_stands =
       let same : removal (table_of (places_at flat.maps k)) key ≡ result_map_both has.place (λ fault. fault) (removal map.table key) = ap (λ (x : Table ℕ). removal x key) has.table ∙ below.along.removal has.place map.table key in

@@ -1,5 +1,5 @@
 -- A call on words and bytes simulates the machine's call.
-use Rattle.std.proofs.Common.{◌≡◌, ◌≢◌, ℕ, ◌+◌, ◌-◌, ◌*◌, ◌<◌, ◌≤◌, ◌&&◌, eqb, leb, false, List, length, Option, Some, None, refl, sym, ap, subst, ◌∙◌, ⊎_elim, arith}
+use Rattle.std.proofs.Common.{◌≡◌, ◌≢◌, ℕ, ◌+◌, ◌-◌, ◌*◌, ◌<◌, ◌≤◌, ◌&&◌, eqb, leb, List, length, Option, Some, None, refl, sym, ap, subst, ◌∙◌, ⊎_elim, arith}
 use Rattle.std.specs.Prelude.{slice_index, unwrap_or}
 use Rattle.std.proofs.lemmas.Bool.{and_parts, leb-true, eqb-true, eqb-false, cases_Bool}
 use Rattle.std.proofs.lemmas.Option.{same_Some, cond_some}
@@ -12,18 +12,18 @@ use Rattle.tagged_model.specs.declared.value.Tagged.{Tagged}
 use Rattle.tagged_model.specs.declared.value.Tagged.TheVariants.{Scalar, Map}
 use Rattle.tagged_model.specs.Table.{Table}
 use Rattle.tagged_model.specs.Cells.{and_then}
-use Rattle.tagged_model.specs.State.{RunState, input}
-use Rattle.tagged_model.specs.Helpers.{GivenMap, map_argument, argument, number_given, with_reply, replies, returns, updated, removed, packet_bytes, packet_answer, called}
+use Rattle.tagged_model.specs.State.{RunState, with_map, input}
+use Rattle.tagged_model.specs.Helpers.{GivenMap, map_argument, argument, number_given, replies, returns, updated, removed, packet_bytes, packet_answer, called}
 use Rattle.arena.specs.Memory.{Memory, base, part_start, with_bytes}
 use Rattle.arena.specs.PartLaws.{part_within}
 use Rattle.bpf_helpers.specs.inside.Below.{LawsBelow}
-use Rattle.bpf_maps.specs.Live.{LiveMaps, LiveMap, live_at, live_or, shape_at, holds_at, SameAreas, OnlyKeysChange}
+use Rattle.bpf_maps.specs.Live.{LiveMaps, LiveMap, live_or, shape_at, holds_at, OnlyKeysChange}
 use Rattle.bpf_maps.specs.LiveLaws.{same_areas}
 use Rattle.bpf_helpers.specs.Layout.{Layout, IsWord}
-use Rattle.bpf_helpers.specs.Stands.{IsRoom, IsElsewhere, Simulates}
+use Rattle.bpf_helpers.specs.Stands.{IsRoom, Simulates}
 use Rattle.bpf_helpers.specs.Named.{part_place, part_input, place_named, key_named, NamedPair, pair_named}
 use Rattle.bpf_helpers.specs.inside.Flat.{flat_look_up, Updates, UpdatesNamed, Deletes, DeletesNamed, LoadsAt}
-use Rattle.bpf_helpers.specs.Calls.{AreArguments, ResultFollows, CallFollows}
+use Rattle.bpf_helpers.specs.Calls.{AreArguments, Extends, ResultFollows, CallFollows}
 use Rattle.bpf_helpers.specs.inside.Laws.{GivesWord, ReturnsKeepSimulation, TaggedUpdate, update_reply}
 use Rattle.bpf_helpers.proofs.Many.{also_some}
 use Rattle.bpf_helpers.proofs.Inputs.{input_there}
@@ -94,42 +94,48 @@ module _ (env : Environment) (l : Layout) (flat : FlatState) (s : RunState) (roo
   other_key : (index key : ℕ) → index < length env.bind → ((i : ℕ) → i < length env.bind → slice_index env.bind i ≢ key) → key ≢ slice_index env.bind index
   other_key index key lt away same = away index lt (sym same)
 
-  -- a call that is refused no memory
-  not_refused : (helper : Helper) (answer : CallAnswer) (u : RunState) → called false helper s ≡ Some u → Simulates env l (with_answer flat answer) u → ((key : ℕ) → IsElsewhere env.bind key → live_at answer.maps key ≡ live_at flat.maps key) → SameAreas flat.maps answer.maps → ((key : ℕ) → holds_at answer.maps key ≡ holds_at flat.maps key)
-      → ResultFollows env l flat s helper answer
-  not_refused helper answer u goes after others areas holds =
-      record { state = u; goes = goes; layout = l; extends = extends_itself l; stands = after; others = others; areas = areas; holds = holds }
+  -- a call that changes only the keys of one bound map
+  changes_keys : (m : ℕ) → m < length env.bind → (answer : CallAnswer) → OnlyKeysChange (slice_index env.bind m) flat.maps answer.maps → (layout : Layout) → Extends l layout → (u : RunState) → Simulates env layout (with_answer flat answer) u → ResultFollows env l flat u answer
+  changes_keys m within answer rest layout more u after = record {
+    layout = layout;
+    extends = more;
+    stands = after;
+    others = λ key away. rest.others key (other_key m key within away);
+    areas = rest.areas;
+    holds = same_holds flat.maps answer.maps (slice_index env.bind m) rest;
+    flag = rest.refused;
+  }
 
-  -- a call that is refused no memory and does not change the maps
-  leaves_maps : (helper : Helper) (word : ℕ) (after : Memory) (u : RunState) → called false helper s ≡ Some u → Simulates env l (with_answer flat (answers word after flat.maps)) u → ResultFollows env l flat s helper (answers word after flat.maps)
-  leaves_maps helper word after u goes stands = not_refused helper (answers word after flat.maps) u goes stands (λ key away. refl) (same_areas flat.maps) (λ key. refl)
+  -- a call that does not change the maps
+  leaves_maps : (word : ℕ) (after : Memory) (u : RunState) → Simulates env l (with_answer flat (answers word after flat.maps)) u → ResultFollows env l flat u (answers word after flat.maps)
+  leaves_maps word after u stands = record { layout = l; extends = extends_itself l; stands = stands; others = λ key away. refl; areas = same_areas flat.maps; holds = λ key. refl; flag = refl }
 
   module _ (returned : ReturnsKeepSimulation) (below : LawsBelow) where
-    look_up_followed : (word : ℕ) (u : RunState) → word ≡ unwrap_or (flat_look_up (site_in env flat) (slice_index words 0) (slice_index words 1)) 0 → called false LookUp s ≡ Some u → ResultFollows env l flat s LookUp (answers word flat.memory flat.maps)
+    look_up_followed : (word : ℕ) (u : RunState) → word ≡ unwrap_or (flat_look_up (site_in env flat) (slice_index words 0) (slice_index words 1)) 0 → called LookUp s ≡ Some u → ResultFollows env l flat u (answers word flat.memory flat.maps)
     look_up_followed word u told e =
-        let f = look_ups_follow below.along env l flat s u false room stands e in
+        let f = look_ups_follow below.along env l flat s u room stands e in
         let same : flat_look_up (site_in env flat) (slice_index words 0) (slice_index words 1) ≡ flat_look_up (site_in env flat) (slice_index flat.registers 1) (slice_index flat.registers 2) =
         ap (λ (w : ℕ). flat_look_up (site_in env flat) w (slice_index words 1)) (args 0 (omega arith)) ∙ ap (λ (w : ℕ). flat_look_up (site_in env flat) (slice_index flat.registers 1) w) (args 1 (omega arith)) in
         by f.0 f.1 (flat_look_up (site_in env flat) (slice_index words 0) (slice_index words 1)) told (subst (λ x. GivesWord env l x (Some f.0)) (sym same) f.2)
       where
-        by : (v : Tagged) → u ≡ returns s v → (x : Option ℕ) → word ≡ unwrap_or x 0 → GivesWord env l x (Some v) → ResultFollows env l flat s LookUp (answers word flat.memory flat.maps)
+        by : (v : Tagged) → u ≡ returns s v → (x : Option ℕ) → word ≡ unwrap_or x 0 → GivesWord env l x (Some v) → ResultFollows env l flat u (answers word flat.memory flat.maps)
         by v after None f g = absurd g
         by v after (Some w) f g =
-            leaves_maps LookUp word flat.memory u e
+            leaves_maps word flat.memory u
             (subst (λ (x : RunState). Simulates env l (with_answer flat (answers word flat.memory flat.maps)) x) (sym after) (returned env l flat s v word stands (subst (IsWord env l v) (sym f) g)))
 
-    update_followed : (reply : CallAnswer) (u : RunState) → UpdatesNamed (site_in env flat) (pair_named (site_in env flat) (slice_index words 0) (slice_index words 1) (slice_index words 2)) (slice_index words 3) reply → called false Update s ≡ Some u → ResultFollows env l flat s Update reply
+    update_followed : (reply : CallAnswer) (u : RunState) → UpdatesNamed (site_in env flat) (pair_named (site_in env flat) (slice_index words 0) (slice_index words 1) (slice_index words 2)) (slice_index words 3) reply → called Update s ≡ Some u → ResultFollows env l flat u reply
     update_followed reply u told e =
-        let a = also_some (map_argument s 1) (λ g. and_then (argument s 2 (λ p. input s p g.map.table.shape.key_size)) (λ key. and_then (argument s 3 (λ p. input s p g.map.table.shape.value_size)) (λ value. and_then (argument s 4 number_given) (λ flags. Some (replies s g.descriptor (updated false g.map key value flags)))))) u e in
+        let a = also_some (map_argument s 1) (λ g. and_then (argument s 2 (λ p. input s p g.map.table.shape.key_size)) (λ key. and_then (argument s 3 (λ p. input s p g.map.table.shape.value_size)) (λ value. and_then (argument s 4 number_given) (λ flags. Some (replies s g.descriptor (updated g.map key value flags)))))) u e in
         let g = a.0 in
-        let b = also_some (argument s 2 (λ p. input s p g.map.table.shape.key_size)) (λ key. and_then (argument s 3 (λ p. input s p g.map.table.shape.value_size)) (λ value. and_then (argument s 4 number_given) (λ flags. Some (replies s g.descriptor (updated false g.map key value flags))))) u a.2 in
-        let c = also_some (argument s 3 (λ p. input s p g.map.table.shape.value_size)) (λ value. and_then (argument s 4 number_given) (λ flags. Some (replies s g.descriptor (updated false g.map b.0 value flags)))) u b.2 in
-        let d = also_some (argument s 4 number_given) (λ flags. Some (replies s g.descriptor (updated false g.map b.0 c.0 flags))) u c.2 in
-        update_by reply told (record { given = g; key = b.0; value = c.0; flags = d.0 }) a.1 b.1 c.1 d.1 (map_there g a.1)
+        let b = also_some (argument s 2 (λ p. input s p g.map.table.shape.key_size)) (λ key. and_then (argument s 3 (λ p. input s p g.map.table.shape.value_size)) (λ value. and_then (argument s 4 number_given) (λ flags. Some (replies s g.descriptor (updated g.map key value flags))))) u a.2 in
+        let c = also_some (argument s 3 (λ p. input s p g.map.table.shape.value_size)) (λ value. and_then (argument s 4 number_given) (λ flags. Some (replies s g.descriptor (updated g.map b.0 value flags)))) u b.2 in
+        let d = also_some (argument s 4 number_given) (λ flags. Some (replies s g.descriptor (updated g.map b.0 c.0 flags))) u c.2 in
+        subst (λ (x : RunState). ResultFollows env l flat x reply) (same_Some _ u d.2) (update_by reply told (record { given = g; key = b.0; value = c.0; flags = d.0 }) a.1 b.1 c.1 d.1 (map_there g a.1))
       where
         update_by : (reply : CallAnswer) → UpdatesNamed (site_in env flat) (pair_named (site_in env flat) (slice_index words 0) (slice_index words 1) (slice_index words 2)) (slice_index words 3) reply → (asked : TaggedUpdate)
             → map_argument s 1 ≡ Some asked.given → argument s 2 (λ p. input s p asked.given.map.table.shape.key_size) ≡ Some asked.key → argument s 3 (λ p. input s p asked.given.map.table.shape.value_size) ≡ Some asked.value → argument s 4 number_given ≡ Some asked.flags → IsMap asked.given
-            → ResultFollows env l flat s Update reply
+            → ResultFollows env l flat (replies s asked.given.descriptor (update_reply asked)) reply
         update_by reply told asked first second third fourth m =
             let g = asked.given in
             let key = asked.key in
@@ -144,21 +150,10 @@ module _ (env : Environment) (l : Layout) (flat : FlatState) (s : RunState) (roo
             let flags_are : slice_index words 3 ≡ flags = args 3 (omega arith) ∙ number_word env l flat s room stands 4 flags (omega arith) fourth in
             let st = updates_keep_simulation below env l flat s m.index asked reply room stands m.named (is_given s 1 g first).there values.1 (subst (λ (f : ℕ). Updates (site_in env flat) pair f reply) flags_are r) in
             let gave = update_reply asked in
-            record {
-              state = replies s g.descriptor gave;
-              goes = ap (λ o. and_then o (λ g. and_then (argument s 2 (λ p. input s p g.map.table.shape.key_size)) (λ key. and_then (argument s 3 (λ p. input s p g.map.table.shape.value_size)) (λ value. and_then (argument s 4 number_given) (λ flags. Some (replies s g.descriptor (updated false g.map key value flags))))))) first
-                  ∙ ap (λ o. and_then o (λ key. and_then (argument s 3 (λ p. input s p g.map.table.shape.value_size)) (λ value. and_then (argument s 4 number_given) (λ flags. Some (replies s g.descriptor (updated false g.map key value flags)))))) second
-                  ∙ ap (λ o. and_then o (λ value. and_then (argument s 4 number_given) (λ flags. Some (replies s g.descriptor (updated false g.map key value flags))))) third
-                  ∙ ap (λ o. and_then o (λ flags. Some (replies s g.descriptor (updated false g.map key value flags)))) fourth;
-              layout = st.layout;
-              extends = st.extends;
-              stands = returned env st.layout (with_held flat reply.memory reply.maps) (with_reply s g.descriptor gave) (Scalar gave.answer) reply.word st.stands st.answer_is;
-              others = λ x away. r.rest.others x (other_key m.index x m.within away);
-              areas = r.rest.areas;
-              holds = same_holds flat.maps reply.maps k r.rest;
-            }
+            changes_keys m.index m.within reply r.rest st.layout st.extends (replies s g.descriptor gave)
+            (returned env st.layout (with_held flat reply.memory reply.maps) (with_map s g.descriptor gave.map) (Scalar gave.answer) reply.word st.stands st.answer_is)
 
-    delete_followed : (word : ℕ) (new : LiveMaps) (u : RunState) → DeletesNamed flat.maps (key_named (site_in env flat) (slice_index words 0) (slice_index words 1)) word new → called false Delete s ≡ Some u → ResultFollows env l flat s Delete (answers word flat.memory new)
+    delete_followed : (word : ℕ) (new : LiveMaps) (u : RunState) → DeletesNamed flat.maps (key_named (site_in env flat) (slice_index words 0) (slice_index words 1)) word new → called Delete s ≡ Some u → ResultFollows env l flat u (answers word flat.memory new)
     delete_followed word new u told e =
         let a = also_some (map_argument s 1) (λ g. and_then (argument s 2 (λ p. input s p g.map.table.shape.key_size)) (λ key. Some (replies s g.descriptor (removed g.map key)))) u e in
         let g = a.0 in
@@ -169,15 +164,14 @@ module _ (env : Environment) (l : Layout) (flat : FlatState) (s : RunState) (roo
         let r : Deletes flat.maps (record { map = k; key = b.0 }) word new = subst (λ o. DeletesNamed flat.maps o word new) (key_is_named m b.0 keys.0) told in
         let st = deletes_keep_simulation below env l flat s m.index g.descriptor g.map b.0 word new stands m.named (is_given s 1 g a.1).there r in
         let gave = removed g.map b.0 in
-        not_refused Delete (answers word flat.memory new) u e
+        changes_keys m.index m.within (answers word flat.memory new) r.rest l (extends_itself l) u
         (subst (λ (x : RunState). Simulates env l (with_answer flat (answers word flat.memory new)) x) (same_Some (replies s g.descriptor gave) u b.2)
-        (returned env l (with_held flat flat.memory new) (with_reply s g.descriptor gave) (Scalar gave.answer) word st.1 st.0))
-        (λ x away. r.rest.others x (other_key m.index x m.within away)) r.rest.areas (same_holds flat.maps new k r.rest)
+        (returned env l (with_held flat flat.memory new) (with_map s g.descriptor gave.map) (Scalar gave.answer) word st.1 st.0))
 
-    load_followed : (word : ℕ) (after : Memory) (u : RunState) → LoadsAt (site_in env flat) (slice_index words 1) (slice_index words 3) (place_named flat.memory env.tenant (slice_index words 3) (slice_index words 2)) word after → called false LoadBytes s ≡ Some u
-        → ResultFollows env l flat s LoadBytes (answers word after flat.maps)
+    load_followed : (word : ℕ) (after : Memory) (u : RunState) → LoadsAt (site_in env flat) (slice_index words 1) (slice_index words 3) (place_named flat.memory env.tenant (slice_index words 3) (slice_index words 2)) word after → called LoadBytes s ≡ Some u
+        → ResultFollows env l flat u (answers word after flat.maps)
     load_followed word after u told e =
-        let st = load_stands env l flat s room stands below.writes false u e in
+        let st = load_stands env l flat s room stands below.writes u e in
         let offset = args 1 (omega arith) in
         let to = args 2 (omega arith) in
         let count = args 3 (omega arith) in
@@ -193,7 +187,7 @@ module _ (env : Environment) (l : Layout) (flat : FlatState) (s : RunState) (roo
         let answer = packet_answer s.packet (slice_index flat.registers 2) (slice_index flat.registers 4) in
         let written = with_bytes flat.memory (part_start flat.memory env.tenant + st.place) (packet_bytes s.packet (slice_index flat.registers 2) (slice_index flat.registers 4)) in
         let memory_is : after ≡ written = r.1 ∙ ap (λ (x : List ℕ). with_bytes flat.memory (part_start flat.memory env.tenant + st.place) x) bytes in
-        leaves_maps LoadBytes word after u e
+        leaves_maps word after u
         (subst (λ (x : RunState). Simulates env l (with_answer flat (answers word after flat.maps)) x) (sym st.is)
         (subst (λ (n : Memory). Simulates env l (with_answer flat (answers word n flat.maps)) (returns st.written (Scalar answer))) (sym memory_is)
         (returned env l (with_memory flat written) st.written (Scalar answer) word st.stands (r.0 ∙ gives))))
@@ -202,9 +196,9 @@ module _ (env : Environment) (l : Layout) (flat : FlatState) (s : RunState) (roo
 
 -- a law of calls in an environment and a state holds at each site that is the site of such an environment and state
 module _ (Told : CallSite → Type 0) (reply : CallSite → CallAnswer) (words : List ℕ) (helper : Helper)
-    (follows : (env : Environment) (l : Layout) (flat : FlatState) (s : RunState) → IsRoom env.memory env.tenant → Simulates env l flat s → AreArguments words flat.registers → (u : RunState) → Told (site_in env flat) → called false helper s ≡ Some u → ResultFollows env l flat s helper (reply (site_in env flat))) where
+    (follows : (env : Environment) (l : Layout) (flat : FlatState) (s : RunState) → IsRoom env.memory env.tenant → Simulates env l flat s → AreArguments words flat.registers → (u : RunState) → Told (site_in env flat) → called helper s ≡ Some u → ResultFollows env l flat u (reply (site_in env flat))) where
   follows_at : (site : CallSite) → Told site → CallFollows site words helper (reply site)
-  follows_at site told env l flat s u found room stands args goes = subst (λ (x : CallSite). ResultFollows env l flat s helper (reply x)) found (follows env l flat s room stands args u (subst Told (sym found) told) goes)
+  follows_at site told env l flat s u found room stands args goes = subst (λ (x : CallSite). ResultFollows env l flat u (reply x)) found (follows env l flat s room stands args u (subst Told (sym found) told) goes)
 
 module _ (returned : ReturnsKeepSimulation) (below : LawsBelow) (words : List ℕ) where
   pub look_up_follows : (word : ℕ) (site : CallSite) → word ≡ unwrap_or (flat_look_up site (slice_index words 0) (slice_index words 1)) 0 → CallFollows site words LookUp (answers word site.memory site.maps)

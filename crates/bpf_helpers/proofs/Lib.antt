@@ -4,7 +4,6 @@ pub mod LookUps
 pub mod Outputs
 pub mod Owned
 pub mod Verdicts
-pub mod Flags
 pub mod Moved
 pub mod Wider
 pub mod Added

@@ -68,8 +68,8 @@ module _ (env : Environment) (l : Layout) (flat : FlatState) (s : RunState) (roo
           is = sym (same_Some (returns v (Scalar (packet_answer s.packet offset n))) u f) ∙ ap (λ (x : ℕ). returns v (Scalar (packet_answer s.packet x n))) (sym first) ∙ ap (λ (x : ℕ). returns v (Scalar (packet_answer s.packet (slice_index flat.registers 2) x))) (sym last);
         }
 
-    pub load_stands : (refused : Bool) (u : RunState) → called refused LoadBytes s ≡ Some u → LoadKeepsSimulation env l flat s u
-    load_stands refused u e =
+    pub load_stands : (u : RunState) → called LoadBytes s ≡ Some u → LoadKeepsSimulation env l flat s u
+    load_stands u e =
         let a = also_some (argument s 1 context_given) (λ c. and_then (argument s 2 number_given) (λ offset. and_then (argument s 4 length_given) (λ n. and_then (argument s 3 (λ p. output s p (packet_bytes s.packet offset n))) (λ t. Some (returns t (Scalar (packet_answer s.packet offset n))))))) u e in
         let b = also_some (argument s 2 number_given) (λ offset. and_then (argument s 4 length_given) (λ n. and_then (argument s 3 (λ p. output s p (packet_bytes s.packet offset n))) (λ t. Some (returns t (Scalar (packet_answer s.packet offset n)))))) u a.2 in
         let c = also_some (argument s 4 length_given) (λ n. and_then (argument s 3 (λ p. output s p (packet_bytes s.packet b.0 n))) (λ t. Some (returns t (Scalar (packet_answer s.packet b.0 n))))) u b.2 in

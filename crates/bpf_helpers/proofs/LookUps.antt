@@ -1,5 +1,5 @@
 -- A look-up on words and bytes has a result that represents the machine's.
-use Rattle.std.proofs.Common.{◌≡◌, ℕ, ◌-◌, ◌*◌, ◌<◌, ◌==◌, Bool, List, map, length, slice_get, Option, Some, None, option_map, refl, sym, ap, subst, ◌∙◌, arith}
+use Rattle.std.proofs.Common.{◌≡◌, ℕ, ◌-◌, ◌*◌, ◌<◌, ◌==◌, List, map, length, slice_get, Option, Some, None, option_map, refl, sym, ap, subst, ◌∙◌, arith}
 use Rattle.std.specs.Prelude.{slice_index}
 use Rattle.std.proofs.lemmas.Bool.{cond-false, ne_eqb}
 use Rattle.std.proofs.lemmas.Int.{ints}
@@ -98,9 +98,9 @@ module _ (env : Environment) (l : Layout) (flat : FlatState) (s : RunState) (roo
   given_word : (map key : ℕ) (v : Tagged) {n : NamedKey} → key_named (site_in env flat) map key ≡ Some n → IsWord env l v (key_word (site_in env flat) n) → GivesWord env l (flat_look_up (site_in env flat) map key) (Some v)
   given_word map key v named is = subst (λ o. GivesWord env l (option_map (key_word (site_in env flat)) o) (Some v)) (sym named) is
 
-  pub follows : CallsRefineValues ℕ ℕ → (refused : Bool) (u : RunState) → called refused LookUp s ≡ Some u
+  pub follows : CallsRefineValues ℕ ℕ → (u : RunState) → called LookUp s ≡ Some u
       → (v : Tagged) × (u ≡ returns s v) × GivesWord env l (flat_look_up (site_in env flat) (slice_index flat.registers 1) (slice_index flat.registers 2)) (Some v)
-  follows along refused u e =
+  follows along u e =
       let a = also_some (map_argument s 1) (λ g. and_then (argument s 2 (λ p. input s p g.map.table.shape.key_size)) (λ key. Some (returns s (looked_up g.descriptor (look_up g.map.table key))))) u e in
       let g = a.0 in
       let given = is_given s 1 g a.1 in
@@ -117,4 +117,4 @@ module _ (env : Environment) (l : Layout) (flat : FlatState) (s : RunState) (roo
       )
 
 pub look_ups_follow : CallsRefineValues ℕ ℕ → LookUpsFollow
-look_ups_follow along env l flat s u refused room stands e = follows env l flat s room stands along refused u e
+look_ups_follow along env l flat s u room stands e = follows env l flat s room stands along u e

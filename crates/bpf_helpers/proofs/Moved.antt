@@ -1,5 +1,5 @@
 -- The maps of a run in other bytes, or after one of them changed.
-use Rattle.std.proofs.Common.{◌≡◌, ◌≢◌, ℕ, ◌+◌, ◌<◌, ◌≤◌, ◌==◌, ◌||◌, Bool, eqb, List, length, slice_get, Option, Some, refl, sym, ap, subst, ◌∙◌, ⊎_elim, arith}
+use Rattle.std.proofs.Common.{◌≡◌, ◌≢◌, ℕ, ◌+◌, ◌<◌, ◌≤◌, ◌==◌, eqb, List, length, slice_get, Option, Some, refl, sym, ap, subst, ◌∙◌, ⊎_elim, arith}
 use Rattle.std.specs.Prelude.{slice_index}
 use Rattle.std.specs.Option.{IsSome}
 use Rattle.std.specs.Map.{values_of}
@@ -118,9 +118,9 @@ others_moved bind start old memory tenant new i within others has key p away =
     (λ live lt. has key p away live lt)
 
 -- words and bytes represent a state with other maps, if the call writes no value
-pub maps_stand : {env : Environment} {l : Layout} {flat : FlatState} {s : RunState} → Simulates env l flat s → (i m : ℕ) → slice_get env.descriptors i ≡ Some m → (new : LiveMaps) → OnlyKeysChange (slice_index env.bind i) flat.maps new → (maps : ℕ → Option RunMap) (refused : Bool)
-    → MapsStandFor env l (stored_maps (part_start env.memory env.tenant) flat.memory.bytes new) maps → new.refused ≡ (env.maps.refused || refused) → Simulates env l (with_held flat flat.memory new) (record s { maps = maps; refused = refused })
-maps_stand {env} {flat = flat} stands i m named new rest maps refused stand flag = record {
+pub maps_stand : {env : Environment} {l : Layout} {flat : FlatState} {s : RunState} → Simulates env l flat s → (i m : ℕ) → slice_get env.descriptors i ≡ Some m → (new : LiveMaps) → OnlyKeysChange (slice_index env.bind i) flat.maps new → (maps : ℕ → Option RunMap)
+    → MapsStandFor env l (stored_maps (part_start env.memory env.tenant) flat.memory.bytes new) maps → Simulates env l (with_held flat flat.memory new) (record s { maps = maps })
+maps_stand {env} {flat = flat} stands i m named new rest maps stand = record {
   slot = stands.slot;
   count = stands.count;
   packet = stands.packet;
@@ -135,5 +135,4 @@ maps_stand {env} {flat = flat} stands i m named new rest maps refused stand flag
       let count = stands.maps.count in
       let fits = slice_get_within env.descriptors i m named in
       others_moved env.bind (part_start env.memory env.tenant) env.memory.bytes flat.memory.bytes flat.maps new i (omega arith) rest.others stands.elsewhere;
-  flag = flag;
 }

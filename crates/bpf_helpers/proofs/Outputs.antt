@@ -218,7 +218,6 @@ module _ (writes : WritesStayInside) (env : Environment) (l : Layout) (flat : Fl
         context = words_kept env l flat.memory.bytes new (start + q) (omega arith) (stack_top env.memory env.tenant) s.words (inr (omega arith)) stands.context;
         maps = maps_behind env l start flat.memory.bytes new flat.maps s.maps stands.maps long q low;
         elsewhere = others_behind env.bind start env.memory.bytes flat.memory.bytes new flat.maps stands.maps.laid long stands.elsewhere q low;
-        flag = stands.flag;
       }
 
   -- the place of the write, and the simulation after it
@@ -292,7 +291,6 @@ module _ (writes : WritesStayInside) (env : Environment) (l : Layout) (flat : Fl
         context = words_kept env l flat.memory.bytes bs (start + (off + y)) (omega arith) (stack_top env.memory env.tenant) s.words (inl (omega arith)) stands.context;
         maps = maps_over env l start flat.memory.bytes bs flat.maps s.maps stands.maps long m number g.0 g.1 i listed.1 g.2 lt y small;
         elsewhere = let count = stands.maps.count in let fits = slice_get_within env.descriptors i m listed.1 in others_over env.bind start env.memory.bytes flat.memory.bytes bs flat.maps stands.maps.laid long stands.elsewhere i (g.2.place number) y (omega arith) g.2.live o.within small;
-        flag = stands.flag;
       }))
 
   output_written : (p : Tagged) (w : ℕ) (bs : List ℕ) (u : RunState) → IsWord env l p w → output s p bs ≡ Some u → Written w bs u

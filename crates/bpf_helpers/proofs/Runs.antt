@@ -26,7 +26,6 @@ use Rattle.bpf_helpers.specs.Stands.{stack_top, IsRoom, HasMap, Simulates, store
 use Rattle.bpf_helpers.specs.Runs.{AreReady, HasContext, AreFirst, RunsBegin, RunsEnd, OthersStay, first_state}
 use Rattle.bpf_maps.specs.LiveLaws.{laid_inside}
 use Rattle.bpf_helpers.proofs.Ends.{maps_begin, maps_end}
-use Rattle.bpf_helpers.proofs.Flags.{or_none}
 use Rattle.bpf_helpers.specs.States.{Environment, FlatState}
 
 -- ---- the position of a descriptor
@@ -178,7 +177,6 @@ module _ (env : Environment) (memory : Memory) (registers : List ℕ) (maps : Ma
       laid = ready.laid;
     };
     elsewhere = λ key p away live lt. value_stays key p live lt;
-    flag = or_none env.maps.refused;
   }
 
 pub runs_begin : RunsBegin

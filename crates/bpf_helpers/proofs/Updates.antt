@@ -1,5 +1,5 @@
 -- After an update the words, bytes and live maps represent the state after the machine's update.
-use Rattle.std.proofs.Common.{◌≡◌, ◌≢◌, inl, inr, ℕ, ◌+◌, ◌*◌, ◌<◌, ◌≤◌, ◌==◌, ◌||◌, leb, pos, Bool, true, false, List, ◌++◌, length, drop, slice_get, Some, None, Result, Ok, Err, refl, sym, ap, subst, ◌∙◌, ⊎_elim, arith}
+use Rattle.std.proofs.Common.{◌≡◌, ◌≢◌, inl, inr, ℕ, ◌+◌, ◌*◌, ◌<◌, ◌≤◌, ◌==◌, leb, pos, List, ◌++◌, length, drop, slice_get, Some, None, Result, Ok, Err, refl, sym, ap, subst, ◌∙◌, ⊎_elim, arith}
 use Rattle.std.specs.Prelude.{slice_index}
 use Rattle.std.specs.Option.{IsSome}
 use Rattle.std.proofs.lemmas.Bool.{cond_both, cond-true, eqb-true, eqb-false, le-leb}
@@ -13,8 +13,8 @@ use Rattle.tagged_model.specs.declared.value.Object.TheVariants as object
 use Rattle.tagged_model.specs.declared.value.Tagged.TheVariants.{Pointer}
 use Rattle.tagged_model.specs.Table.{Table, Verdict, Refused, Present, New, verdict, verdict_with}
 use Rattle.tagged_model.specs.Cells.{and_then}
-use Rattle.tagged_model.specs.State.{RunState, RunMap, set_at, with_value, with_map, with_refusal, value_written, output}
-use Rattle.tagged_model.specs.Helpers.{put, with_object, with_reply, negative, errno}
+use Rattle.tagged_model.specs.State.{RunState, RunMap, set_at, with_value, with_map, value_written, output}
+use Rattle.tagged_model.specs.Helpers.{put, with_object}
 use Rattle.tagged_model.specs.StateLaws.{found_owned}
 use Rattle.arena.specs.Memory.{Memory as Bytes, base, part_start, with_bytes}
 use Rattle.bpf_maps.specs.Places.{table_of, IsFree, with_place, Claims}
@@ -31,7 +31,6 @@ use Rattle.bpf_helpers.proofs.Outputs.{changed_after, cell_kept, words_kept, lai
 use Rattle.bpf_helpers.specs.Calls.{Extends}
 use Rattle.bpf_helpers.specs.inside.Laws.{UpdateKeepsSimulation, UpdatesKeepSimulation}
 use Rattle.bpf_helpers.proofs.Verdicts.{present_found}
-use Rattle.bpf_helpers.proofs.Flags.{or_none}
 use Rattle.bpf_helpers.proofs.Moved.{other_key, other_bytes, other_moved, maps_moved, maps_again, others_moved, maps_stand}
 use Rattle.bpf_helpers.proofs.Wider.{extends_itself, extended, extends, word_more, cell_more, map_extended}
 use Rattle.bpf_helpers.proofs.Added.{map_with_new}
@@ -56,8 +55,8 @@ module _ (below : LawsBelow) (env : Environment) (l : Layout) (flat : FlatState)
   record Done (v : Verdict ℕ) : Type 0 where
     layout : Layout
     more : Extends l layout
-    answer : reply.word ≡ (put false map key value v).answer
-    standing : Simulates env layout (with_held flat reply.memory reply.maps) (with_reply s m (put false map key value v))
+    answer : reply.word ≡ (put map key value v).answer
+    standing : Simulates env layout (with_held flat reply.memory reply.maps) (with_map s m (put map key value v).map)
 
   has : HasMap l (stored_maps (part_start env.memory env.tenant) flat.memory.bytes flat.maps) k m map
   has =
@@ -67,32 +66,22 @@ module _ (below : LawsBelow) (env : Environment) (l : Layout) (flat : FlatState)
   value_size_is : (shape_at flat.maps k).value_size ≡ length value
   value_size_is = ap (λ (x : Table ℕ). x.shape.value_size) has.table ∙ sym size
 
-  -- the flag of the live maps stays
-  flag_after : reply.maps.refused ≡ (env.maps.refused || (s.refused || false))
-  flag_after = u.flag ∙ stands.flag ∙ ap (λ b. env.maps.refused || b) (or_none s.refused)
-
   -- nothing has changed
-  unchanged : (x : RunState) → x ≡ with_refusal (with_map s m map) false → places_at reply.maps k ≡ places_at flat.maps k → reply.memory ≡ flat.memory → Simulates env l (with_held flat reply.memory reply.maps) x
-  unchanged x e places same =
-      subst (λ (y : RunState). Simulates env l (with_held flat reply.memory reply.maps) y) (sym e)
-      (subst (λ (n : Bytes). Simulates env l (with_held flat n reply.maps) (with_refusal (with_map s m map) false)) (sym same)
-      (maps_stand stands i m named reply.maps u.rest (set_at s.maps m (Some map)) (s.refused || false)
-      (maps_again m is (maps_moved u.rest below.areas places stands.maps))
-      flag_after))
+  unchanged : places_at reply.maps k ≡ places_at flat.maps k → reply.memory ≡ flat.memory → Simulates env l (with_held flat reply.memory reply.maps) (with_map s m map)
+  unchanged places same =
+      subst (λ (n : Bytes). Simulates env l (with_held flat n reply.maps) (with_map s m map)) (sym same)
+      (maps_stand stands i m named reply.maps u.rest (set_at s.maps m (Some map)) (maps_again m is (maps_moved u.rest below.areas places stands.maps)))
 
-  refused_stands : (fault : MapFault) (v : Verdict ℕ) → u.claim ≡ Err fault → places_at reply.maps k ≡ places_at flat.maps k → (put false map key value v).answer ≡ negative (errno fault) → (put false map key value v).map ≡ map → (put false map key value v).refused ≡ false → Done v
-  refused_stands fault v told places answer map_is flag_is = record {
+  refused_stands : (fault : MapFault) → u.claim ≡ Err fault → places_at reply.maps k ≡ places_at flat.maps k → Done (Refused fault)
+  refused_stands fault told places = record {
     layout = l;
     more = extends_itself l;
-    answer = u.word_is ∙ ap claim_word told ∙ sym answer;
-    standing = unchanged (with_reply s m (put false map key value v)) (ap (λ x. with_refusal (with_map s m x) (put false map key value v).refused) map_is ∙ ap (with_refusal (with_map s m map)) flag_is)
-        places (u.memory_is ∙ ap (with_claimed (site_in env flat) pair) told);
+    answer = u.word_is ∙ ap claim_word told;
+    standing = unchanged places (u.memory_is ∙ ap (with_claimed (site_in env flat) pair) told);
   }
 
-  moved : (x : RunState) (n : Bytes) (p : ℕ) → u.claim ≡ Ok p → x.refused ≡ s.refused → places_at reply.maps k ≡ places_at flat.maps k → Simulates env l (with_memory flat n) x → Simulates env l (with_held flat n reply.maps) (with_refusal x false)
-  moved x n p told same places st =
-      maps_stand st i m named reply.maps u.rest x.maps (x.refused || false) (maps_moved u.rest below.areas places st.maps)
-      (flag_after ∙ ap (λ b. env.maps.refused || (b || false)) (sym same))
+  moved : (x : RunState) (n : Bytes) → places_at reply.maps k ≡ places_at flat.maps k → Simulates env l (with_memory flat n) x → Simulates env l (with_held flat n reply.maps) x
+  moved x n places st = maps_stand st i m named reply.maps u.rest x.maps (maps_moved u.rest below.areas places st.maps)
 
   long_memory : part_start env.memory env.tenant + PART ≤ length flat.memory.bytes
   long_memory = memory_long env l flat s room stands
@@ -138,8 +127,8 @@ module _ (below : LawsBelow) (env : Environment) (l : Layout) (flat : FlatState)
         layout = l;
         more = extends_itself l;
         answer = u.word_is ∙ ap claim_word told;
-        standing = subst (λ (n : Bytes). Simulates env l (with_held flat n reply.maps) (with_refusal (with_map s m (with_value map number value)) false)) (sym memory_is)
-            (moved (with_map s m (with_value map number value)) (with_bytes flat.memory (part_start flat.memory env.tenant + off) value) (has.place number) told refl places
+        standing = subst (λ (n : Bytes). Simulates env l (with_held flat n reply.maps) (with_map s m (with_value map number value))) (sym memory_is)
+            (moved (with_map s m (with_value map number value)) (with_bytes flat.memory (part_start flat.memory env.tenant + off) value) places
             (at_place off w (with_map s m (with_value map number value)) at_off (outputs_keep_simulation below.writes env l flat s (with_map s m (with_value map number value)) (Pointer (object.Value m number) (pos 0)) w value room stands word_is out)));
       }
 
@@ -220,7 +209,7 @@ module _ (below : LawsBelow) (env : Environment) (l : Layout) (flat : FlatState)
           layout = wider;
           more = more;
           answer = u.word_is ∙ ap claim_word told;
-          standing = subst (λ (n : Bytes). Simulates env wider (with_held flat n reply.maps) (with_refusal (with_map s m (with_object map key value)) false)) (sym memory_is) (record {
+          standing = subst (λ (n : Bytes). Simulates env wider (with_held flat n reply.maps) (with_map s m (with_object map key value))) (sym memory_is) (record {
             slot = stands.slot;
             count = stands.count;
             packet = stands.packet;
@@ -233,7 +222,6 @@ module _ (below : LawsBelow) (env : Environment) (l : Layout) (flat : FlatState)
             maps = maps_after;
             elsewhere = others_moved env.bind (part_start env.memory env.tenant) env.memory.bytes bytes flat.maps reply.maps i index_within u.rest.others
                 (λ other q away live lt. place_kept other q live lt (λ same. absurd (away i index_within (sym same))) ∙ stands.elsewhere other q away live lt);
-            flag = flag_after;
           });
         }
 
@@ -244,7 +232,7 @@ module _ (below : LawsBelow) (env : Environment) (l : Layout) (flat : FlatState)
   new_done (Err fault) e c = absurd c
 
   done : (v : Verdict ℕ) → verdict map.table key flags ≡ v → Claims (verdict_with has.place v) key (places_at flat.maps k) u.claim (places_at reply.maps k) → Done v
-  done (Refused fault) e c = refused_stands fault (Refused fault) c.0 c.1 refl refl refl
+  done (Refused fault) e c = refused_stands fault c.0 c.1
   done (Present number) e c = present_stands number c.0 c.1 (found_owned map.count key map.table.entries number has.owns (present_found map.table key flags number e))
   done New e c = new_done u.claim refl c
 

@@ -1,7 +1,6 @@
 -- Consequences of the verdicts on an update and on a deletion.
-use Rattle.std.proofs.Common.{◌≡◌, ℕ, ◌==◌, nat_le, false, if◌then◌else◌, List, Option, Some, None, Ok, Err, refl, ap, subst}
+use Rattle.std.proofs.Common.{◌≡◌, ℕ, ◌==◌, nat_le, if◌then◌else◌, List, Option, Some, None, Ok, refl, ap, subst}
 use Rattle.std.proofs.lemmas.Bool.{cond_both}
-use Rattle.tagged_model.specs.declared.fault.MapFault.{MapFault}
 use Rattle.tagged_model.specs.declared.fault.MapFault.TheVariants.{NoEntry, TooBig, Exists, Invalid}
 use Rattle.tagged_model.specs.declared.shape.MapKind.{MapKind}
 use Rattle.tagged_model.specs.declared.shape.MapKind.TheVariants.{Hash, Array}

@@ -8,9 +8,9 @@
 //!
 //! # What is proved
 //!
-//! - A call simulates the call on tagged values, if its words simulate values for which that is defined. No call is refused memory:
-//!   its result is that of the call without a refusal, and the flag of the live maps stays. All maps keep their areas and reference counts, those
-//!   that the run does not name their keys and values, and the other parts all bytes: `follows` of `call`.
+//! - A call simulates the call on tagged values, if its words simulate values for which that is defined. Then all maps keep their
+//!   areas and reference counts, those that the run does not name their keys and values, and the other parts all bytes; the flag
+//!   of refused memory stays: `follows` of `call`.
 //! - If a word names no map of the run, or bytes that are not in the tenant's part, a look-up returns null, an update and a
 //!   delete EINVAL, a load of bytes EFAULT, and nothing changes: `unnamed` of `call`.
 //! - A run that knows which of its maps are arrays, and the addresses of their elements, looks keys up like `call`: `follows`, `unnamed`

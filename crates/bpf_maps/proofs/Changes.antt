@@ -14,8 +14,8 @@ use Rattle.bpf_maps.proofs.Whole.{laid, sound_at, whole_replaced}
 use Rattle.bpf_maps.proofs.Stays.{keeps_live, keeps_places}
 
 -- the fields with another map under a key
-abbrev pub with_stored : Inside → ℕ → StoredMap → Bool → Inside
-with_stored a key new refused = record a { maps = with_value a.maps key new; refused = refused }
+abbrev pub with_stored : Inside → ℕ → StoredMap → Inside
+with_stored a key new = record a { maps = with_value a.maps key new }
 
 -- a property of the map of a handle is that of the live map
 pub told_of : {P : Type 0} (f : LiveMap → P) {o : Option LiveMap} {l : LiveMap} → o ≡ Some l → f (live_or o) ≡ f l
@@ -72,12 +72,8 @@ module _ {a : Inside} {t : LiveMaps} {handle map key : ℕ} {e : StoredMap} (u :
   placed_under = u.whole.placed handle e at_handle
 
 module _ {a : Inside} {t : LiveMaps} {handle map key : ℕ} {old new : StoredMap} (c : IsChange a t handle map key old new) where
-  abbrev after : Bool → Inside
-  after refused = with_stored a key new refused
-
-  -- the maps, whether or not memory was refused
   abbrev now : Inside
-  now = after a.refused
+  now = with_stored a key new
 
   is : get_or (stored_in now) handle None ≡ Some new
   is = changed_here a.keys a.maps c.under.whole.keys handle key c.under.keyed old new c.under.here
@@ -99,16 +95,16 @@ module _ {a : Inside} {t : LiveMaps} {handle map key : ℕ} {old new : StoredMap
   pub areas_stay : SameAreas t (as_live_maps now)
   areas_stay = one_changed t (as_live_maps now) map (live_of old) (live_of new) live_old live_new c.shape c.start c.stride others_stay
 
-  pub whole_stays : {refused : Bool} → IsWellFormedMaps (after refused)
-  whole_stays {refused} =
-      whole_replaced (after refused) handle c.under.whole others old new (at_handle c.under) is c.start c.stride c.shape c.held c.sound refl
+  pub whole_stays : IsWellFormedMaps now
+  whole_stays =
+      whole_replaced now handle c.under.whole others old new (at_handle c.under) is c.start c.stride c.shape c.held c.sound refl
       (changed_keys a.keys a.maps c.under.whole.keys handle key c.under.keyed old new c.under.here) c.under.whole.room
 
-  pub laid_stays : {refused : Bool} → IsLaid (as_live_maps (after refused))
-  laid_stays {refused} = laid (whole_stays {refused = refused})
+  pub laid_stays : IsLaid (as_live_maps now)
+  laid_stays = laid whole_stays
 
   pub room_stays : areas (as_live_maps now) ≡ areas t
-  room_stays = sym (whole_stays {refused = a.refused}).sum ∙ c.under.whole.sum ∙ ap areas c.under.view
+  room_stays = sym whole_stays.sum ∙ c.under.whole.sum ∙ ap areas c.under.view
 
   -- a property of the map that does not change
   pub part_stays : {P : Type 0} (f : LiveMap → P) → f (live_of new) ≡ f (live_of old) → f (live_or (live_at (as_live_maps now) map)) ≡ f (live_or (live_at t map))

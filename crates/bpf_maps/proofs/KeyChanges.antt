@@ -1,5 +1,5 @@
 -- A call that changes the keys of one map and nothing else.
-use Rattle.std.proofs.Common.{◌≡◌, ℕ, Bool, refl, sym, ap, subst, is_some}
+use Rattle.std.proofs.Common.{◌≡◌, ℕ, refl, sym, ap, subst, is_some}
 use Rattle.bpf_maps.specs.declared.bpf_map.BpfMap.{BpfMap}
 use Rattle.bpf_maps.specs.declared.stored_map.StoredMap.{StoredMap}
 use Rattle.bpf_maps.specs.declared.maps.Maps.TheInside.{Inside}
@@ -20,8 +20,8 @@ pub record IsKeyChange (a : Inside) (t : LiveMaps) (handle map key : ℕ) (old :
   pub sound : IsSound (places_of table)
 
 module _ {a : Inside} {t : LiveMaps} {handle map key : ℕ} {old : StoredMap} {table : BpfMap} (c : IsKeyChange a t handle map key old table) where
-  abbrev after : Bool → Inside
-  after refused = with_stored a key (with_map old table) refused
+  abbrev after : Inside
+  after = with_stored a key (with_map old table)
 
   change : IsChange a t handle map key old (with_map old table)
   change = record { under = c.under; start = refl; stride = refl; shape = c.shape; held = (placed_under c.under).held; sound = c.sound }
@@ -29,14 +29,14 @@ module _ {a : Inside} {t : LiveMaps} {handle map key : ℕ} {old : StoredMap} {t
   pub places_before : places_of old.map ≡ places_at t map
   places_before = sym (told_of (λ l. l.places) (live_old change))
 
-  pub places_after : places_of table ≡ places_at (as_live_maps (after a.refused)) map
+  pub places_after : places_of table ≡ places_at (as_live_maps after) map
   places_after = sym (told_of (λ l. l.places) (live_new change))
 
-  pub keys_whole : {refused : Bool} → IsWellFormedMaps (after refused)
-  keys_whole {refused} = whole_stays change {refused = refused}
+  pub keys_whole : IsWellFormedMaps after
+  keys_whole = whole_stays change
 
-  pub only_keys : {refused : Bool} → OnlyKeysChange map t (as_live_maps (after refused))
-  only_keys {refused} = record {
+  pub only_keys : OnlyKeysChange map t (as_live_maps after)
+  only_keys = record {
     live = ap is_some (live_new change);
     holds = part_stays change (λ l. l.holds) refl;
     shape = part_stays change (λ l. l.places.shape) c.shape;
@@ -44,5 +44,6 @@ module _ {a : Inside} {t : LiveMaps} {handle map key : ℕ} {old : StoredMap} {t
     others = others_stay change;
     areas = areas_stay change;
     room = room_stays change;
-    laid = laid_stays change {refused = refused};
+    laid = laid_stays change;
+    refused = ap (λ (u : LiveMaps). u.refused) c.under.view;
   }

@@ -1,5 +1,5 @@
 -- A tenant's live maps, and the addresses of their values in the tenant's part. The limits and the layout are this project's own.
-use Rattle.std.specs.Prelude.{◌≡◌, ◌≢◌, ℕ, ◌+◌, ◌-◌, ◌*◌, ◌/◌, ◌%◌, ◌^◌, ◌<◌, ◌≤◌, ◌⊎◌, Bool, true, false, ◌||◌, nat_le, nat_lt, if◌then◌else◌, List, take, drop, Option, Some, None, IsSome, is_none, option_map, position, Result, Ok, Err, slice_index_or, refl}
+use Rattle.std.specs.Prelude.{◌≡◌, ◌≢◌, ℕ, ◌+◌, ◌-◌, ◌*◌, ◌/◌, ◌%◌, ◌^◌, ◌<◌, ◌≤◌, ◌⊎◌, Bool, true, ◌||◌, nat_le, nat_lt, if◌then◌else◌, List, take, drop, Option, Some, None, IsSome, is_none, option_map, position, Result, Ok, Err, slice_index_or, refl}
 use Rattle.tagged_model.specs.declared.shape.MapKind.TheVariants.{Hash}
 use Rattle.tagged_model.specs.declared.shape.MapShape.{MapShape}
 use Rattle.tagged_model.specs.declared.fault.MapFault.{MapFault}
@@ -150,7 +150,7 @@ ClosesUp k old new = (other : ℕ) → other ≢ k → live_at new other ≡ opt
 
 -- ---- the keys of one map change
 
--- only the map of handle k may have changed, and only in its keys and their places; this says nothing of `refused`
+-- only the map of handle k may have changed, and only in its keys and their places
 pub record OnlyKeysChange (k : ℕ) (old new : LiveMaps) : Type 0 where
   pub live : IsSome (live_at new k)
   pub holds : holds_at new k ≡ holds_at old k
@@ -162,6 +162,7 @@ pub record OnlyKeysChange (k : ℕ) (old new : LiveMaps) : Type 0 where
   pub areas : SameAreas old new
   -- the values of all live maps lie in the part and don't overlap
   pub laid : IsLaid new
+  pub refused : new.refused ≡ old.refused
 
 -- ---- a new map
 

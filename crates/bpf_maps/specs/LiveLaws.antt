@@ -157,4 +157,5 @@ keys_along key old mid new first then = record {
   areas = areas_along old mid new first.areas then.areas;
   room = then.room ∙ first.room;
   laid = then.laid;
+  refused = then.refused ∙ first.refused;
 }

@@ -48,7 +48,8 @@
 //! - A new hash map has no key, and the values of a new array are zero; every other live map keeps its keys and values:
 //!   `fresh`, `cleared`, `values`, `maps` of `create`, `values`, `maps`, `kept` of `release`.
 //! - A claim, a delete and the end of a run only change the keys of one map: it keeps its shape, its area and its references,
-//!   and the other maps are unchanged: `rest` of `claim`, `remove` and `end_run` (`OnlyKeysChange`).
+//!   and the other maps and the flag of refused memory are unchanged: `rest` of `claim`, `remove` and `end_run`
+//!   (`OnlyKeysChange`).
 //! - The areas of live maps do not overlap and leave no gap: they take as many bytes after the stack and the context as all
 //!   their values, each rounded up to a multiple of eight: `packed` of `maps_are_laid`.
 //! - A new map comes after the others and leaves them unchanged. The last release of a map moves each later map down by its

@@ -58,7 +58,7 @@ fn steps_stay_inside()
     bpf_helpers::laws::stores_keep_simulation();
 }
 
-/// The premises of a run's proof: the laws of its steps, its start and its end, and those of the machine of tagged values.
+/// The premises of a run's proof: the laws of its steps, its start and its end, and of the maps of a program.
 pub(crate) fn run_premises()
     ensures { RunLaws }
 {
@@ -67,7 +67,6 @@ pub(crate) fn run_premises()
     bpf_helpers::laws::runs_begin();
     bpf_helpers::laws::runs_end();
     bpf_helpers::laws::others_stay();
-    tagged_model::laws::refusals_are_told();
     verifier::laws::maps_are_listed();
     bpf_maps::laws::areas_keep_places();
 }

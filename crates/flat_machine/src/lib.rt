@@ -5,8 +5,8 @@
 //! # What is proved
 //!
 //! - A run of an accepted program returns what the tagged machine returns on the same maps, context and packet, and leaves the
-//!   same pairs in the maps that are bound to it, whatever else is in memory. It is refused no memory: `runs` of `run`.
-//! - It never faults, whatever memory is refused: `no_fault` of `run`.
+//!   same pairs in the maps that are bound to it, whatever else is in memory. The flag of refused memory stays: `runs` of `run`.
+//! - It never faults: `no_fault` of `run`.
 //! - It takes as many steps as the tagged machine, which are at most as many as the program has slots: `runs`, `few` of `run`.
 //! - Each range of addresses that it requests is in its tenant's part: `ranges` of `run`.
 //! - All live maps stay, with their areas and reference counts. Maps that are not bound keep their keys and all bytes of their

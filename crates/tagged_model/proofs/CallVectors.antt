@@ -1,6 +1,6 @@
 -- Worked cases of runs with maps and calls, by hand from the kernel's documentation of helpers and maps and from
 -- this project's rules. The comments spell the programs.
-use Rattle.std.proofs.Common.{◌≡◌, ℕ, ◌==◌, pos, if◌then◌else◌, Bool, true, false, replicate, List, [], ◌∷◌, ◌++◌, Some, None, refl}
+use Rattle.std.proofs.Common.{◌≡◌, ℕ, ◌==◌, pos, if◌then◌else◌, true, replicate, List, [], ◌∷◌, ◌++◌, Some, None, refl}
 use Rattle.words.specs.declared.operator.AluOp.TheVariants.{Add}
 use Rattle.words.specs.declared.operator.Condition.TheVariants.{Equal, NotEqual, Above}
 use Rattle.words.specs.declared.stack.AccessSize.TheVariants.{Byte, Word, Double}
@@ -14,7 +14,7 @@ use Rattle.tagged_model.specs.declared.value.Outcome.TheVariants.{Value, Fault}
 use Rattle.tagged_model.specs.Cells.{gathered}
 use Rattle.tagged_model.specs.Helpers.{known_helpers}
 use Rattle.tagged_model.specs.Table.{Table, index_key}
-use Rattle.tagged_model.specs.Step.{MapsByDescriptor, run, numbered, result_of, result_with, left_with, was_refused}
+use Rattle.tagged_model.specs.Step.{MapsByDescriptor, run, numbered, result_of, left_of}
 use Rattle.tagged_model.proofs.RunVectors.{minus, context, set, copy, get, put}
 
 abbrev less : ℕ → ℕ → Insn
@@ -86,7 +86,7 @@ unfolding run begins_at gathered numbered index_key
 direct_outside = (refl, refl)
 
 -- r1 = map_value 3 + 0 ll; *(u64 *)(r1 + 0) = 6; r0 = 0
-direct_value_is_written : left_with [] (MapValue 1 (pos 3) 0 ∷ put Double 1 (pos 0) (pos 6) ∷ set 0 (pos 0) ∷ Exit ∷ []) eight_bytes (context 0) [] 3 ≡ Some (array (6 ∷ 0 ∷ 0 ∷ 0 ∷ 0 ∷ 0 ∷ 0 ∷ 0 ∷ []))
+direct_value_is_written : left_of (MapValue 1 (pos 3) 0 ∷ put Double 1 (pos 0) (pos 6) ∷ set 0 (pos 0) ∷ Exit ∷ []) eight_bytes (context 0) [] 3 ≡ Some (array (6 ∷ 0 ∷ 0 ∷ 0 ∷ 0 ∷ 0 ∷ 0 ∷ 0 ∷ []))
 unfolding run begins_at gathered numbered index_key
 direct_value_is_written = refl
 
@@ -158,12 +158,12 @@ replaces_the_key =
 -- -7, too big; after the run the map is empty
 full_with_the_deleted_key :
     (result_of replaces_the_key key_1 (context 0) [] ≡ Value 4294967289)
-    × (left_with [] replaces_the_key key_1 (context 0) [] 3 ≡ Some (hash []))
+    × (left_of replaces_the_key key_1 (context 0) [] 3 ≡ Some (hash []))
     × (result_of replaces_the_key (only (hash [])) (context 0) [] ≡ Value 1)
 unfolding run begins_at gathered known_helpers numbered
 full_with_the_deleted_key = (refl, refl, refl)
 
--- ---- a new key that is refused memory
+-- ---- a new key
 
 -- *(u32 *)(r10 - 4) = 1; *(u64 *)(r10 - 16) = 6; r2 = r10; r2 += -4; r3 = r10; r3 += -16; r1 = map_fd 3 ll; r4 = 0; call 2; exit
 abbrev puts_a_key : List Insn
@@ -171,17 +171,6 @@ puts_a_key =
     (put Word 10 (minus 4) (pos 1) ∷ put Double 10 (minus 16) (pos 6) ∷ copy 2 10 ∷ less 2 4 ∷ copy 3 10 ∷ less 3 16 ∷ MapFd 1 (pos 3) ∷ set 4 (pos 0) ∷ [])
     ++ (Call (pos 2) ∷ Exit ∷ [])
 
-key_is_put : left_with [] puts_a_key (only (hash [])) (context 0) [] 3 ≡ Some (hash ((1 ∷ 0 ∷ 0 ∷ 0 ∷ [], 6 ∷ 0 ∷ 0 ∷ 0 ∷ 0 ∷ 0 ∷ 0 ∷ 0 ∷ []) ∷ []))
+key_is_put : left_of puts_a_key (only (hash [])) (context 0) [] 3 ≡ Some (hash ((1 ∷ 0 ∷ 0 ∷ 0 ∷ [], 6 ∷ 0 ∷ 0 ∷ 0 ∷ 0 ∷ 0 ∷ 0 ∷ 0 ∷ []) ∷ []))
 unfolding run begins_at gathered known_helpers numbered
 key_is_put = refl
-
--- -12, out of memory, at the ninth step; the refusal is noted, and the map is not changed
-abbrev at_the_call : List Bool
-at_the_call = replicate 8 false ++ (true ∷ [])
-
-key_is_refused :
-    (result_with at_the_call puts_a_key (only (hash [])) (context 0) [] ≡ Value 4294967284)
-    × (was_refused at_the_call puts_a_key (only (hash [])) (context 0) [] ≡ true)
-    × (left_with at_the_call puts_a_key (only (hash [])) (context 0) [] 3 ≡ Some (hash []))
-unfolding run begins_at gathered known_helpers numbered
-key_is_refused = (refl, refl, refl)

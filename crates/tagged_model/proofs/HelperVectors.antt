@@ -1,5 +1,5 @@
 -- Worked cases of helpers, by hand from the kernel's documentation of them and from this project's rules.
-use Rattle.std.proofs.Common.{◌≡◌, ℕ, ◌-◌, ◌^◌, false, true, List, [], ◌∷◌, refl}
+use Rattle.std.proofs.Common.{◌≡◌, ℕ, ◌-◌, ◌^◌, List, [], ◌∷◌, refl}
 use Rattle.std.specs.Prelude.{Some}
 use Rattle.tagged_model.specs.declared.shape.MapKind.TheVariants.{Hash}
 use Rattle.tagged_model.specs.State.{RunMap}
@@ -34,30 +34,24 @@ empty = record {
 }
 
 abbrev one : RunMap
-one = (updated false empty (7 ∷ []) (5 ∷ 6 ∷ []) 0).map
+one = (updated empty (7 ∷ []) (5 ∷ 6 ∷ []) 0).map
 
 new_key :
-    ((updated false empty (7 ∷ []) (5 ∷ 6 ∷ []) 0).answer ≡ 0)
+    ((updated empty (7 ∷ []) (5 ∷ 6 ∷ []) 0).answer ≡ 0)
     × (look_up one.table (7 ∷ []) ≡ Some 0)
     × (one.values 0 ≡ 5 ∷ 6 ∷ [])
 new_key = (refl, refl, refl)
 
--- if memory is refused the result is -12, and the refusal is noted
-refused_key :
-    ((updated true empty (7 ∷ []) (5 ∷ 6 ∷ []) 0).answer ≡ 2 ^ 64 - 12)
-    × ((updated true empty (7 ∷ []) (5 ∷ 6 ∷ []) 0).refused ≡ true)
-refused_key = (refl, refl)
-
--- a present key needs no memory
+-- a present key keeps its object
 present_key :
-    ((updated true one (7 ∷ []) (8 ∷ 9 ∷ []) 0).answer ≡ 0)
-    × ((updated true one (7 ∷ []) (8 ∷ 9 ∷ []) 0).map.values 0 ≡ 8 ∷ 9 ∷ [])
+    ((updated one (7 ∷ []) (8 ∷ 9 ∷ []) 0).answer ≡ 0)
+    × ((updated one (7 ∷ []) (8 ∷ 9 ∷ []) 0).map.values 0 ≡ 8 ∷ 9 ∷ [])
 present_key = (refl, refl)
 
 -- a second key, flags that are unknown, and an absent key
 faults :
-    ((updated false one (8 ∷ []) (5 ∷ 6 ∷ []) 0).answer ≡ 2 ^ 64 - 7)
-    × ((updated false one (7 ∷ []) (5 ∷ 6 ∷ []) 3).answer ≡ 2 ^ 64 - 22)
+    ((updated one (8 ∷ []) (5 ∷ 6 ∷ []) 0).answer ≡ 2 ^ 64 - 7)
+    × ((updated one (7 ∷ []) (5 ∷ 6 ∷ []) 3).answer ≡ 2 ^ 64 - 22)
     × ((removed one (8 ∷ [])).answer ≡ 2 ^ 64 - 2)
 faults = (refl, refl, refl)
 
@@ -65,5 +59,5 @@ faults = (refl, refl, refl)
 deleted_key :
     ((removed one (7 ∷ [])).answer ≡ 0)
     × ((removed one (7 ∷ [])).map.values 0 ≡ 5 ∷ 6 ∷ [])
-    × ((updated false (removed one (7 ∷ [])).map (8 ∷ []) (5 ∷ 6 ∷ []) 0).answer ≡ 2 ^ 64 - 7)
+    × ((updated (removed one (7 ∷ [])).map (8 ∷ []) (5 ∷ 6 ∷ []) 0).answer ≡ 2 ^ 64 - 7)
 deleted_key = (refl, refl, refl)

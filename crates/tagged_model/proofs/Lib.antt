@@ -18,7 +18,6 @@ pub mod MapVerdicts
 pub mod AfterCalls
 pub mod NamedTargets
 pub mod ValueAccess
-pub mod Refusals
 pub mod RunVectors
 mod HelperVectors
 mod CallVectors

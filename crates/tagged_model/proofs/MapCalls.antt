@@ -72,14 +72,13 @@ module _ (shape : MapShape) (t : RunMap) (is : IsMapOf shape t) (bytes : (number
       bytes = values_small t t.count value small bytes;
     }
 
-    put_keeps : (refused : Bool) (key : List ℕ) (v : Verdict ℕ) → (v ≡ New → t.table.shape.kind ≡ Hash) → KeepsShape shape t (put refused t key value v).map
-    put_keeps refused key (Refused fault) h = unchanged
-    put_keeps refused key (Present number) h = valued number
-    put_keeps true key New h = unchanged
-    put_keeps false key New h = with_new_object key (h refl)
+    put_keeps : (key : List ℕ) (v : Verdict ℕ) → (v ≡ New → t.table.shape.kind ≡ Hash) → KeepsShape shape t (put t key value v).map
+    put_keeps key (Refused fault) h = unchanged
+    put_keeps key (Present number) h = valued number
+    put_keeps key New h = with_new_object key (h refl)
 
-    pub updated_keeps : (refused : Bool) (key : List ℕ) (flags : ℕ) → KeepsShape shape t (updated refused t key value flags).map
-    updated_keeps refused key flags = put_keeps refused key (verdict t.table key flags) (new_of_hash t.table key flags)
+    pub updated_keeps : (key : List ℕ) (flags : ℕ) → KeepsShape shape t (updated t key value flags).map
+    updated_keeps key flags = put_keeps key (verdict t.table key flags) (new_of_hash t.table key flags)
 
   taken_keeps : (key : List ℕ) (r : Result ℕ MapFault) → ((number : ℕ) → r ≡ Ok number → t.table.shape.kind ≡ Hash) → KeepsShape shape t (taken_out t key r).map
   taken_keeps key (Err fault) h = unchanged

@@ -110,8 +110,8 @@ twice = set 0 (pos 2) ∷ Alu true Sub 0 (Imm (pos 1)) ∷ Jump true NotEqual 0 
 
 -- one step fewer is too few, and so are as many as slots
 six_steps :
-    ((run twice 6 [] (start_of_run no_maps (context 0) [])).outcome ≡ Value 0)
-    × ((run twice 5 [] (start_of_run no_maps (context 0) [])).outcome ≡ Fault)
+    ((run twice 6 (start_of_run no_maps (context 0) [])).outcome ≡ Value 0)
+    × ((run twice 5 (start_of_run no_maps (context 0) [])).outcome ≡ Fault)
     × (answer twice ≡ Fault)
 unfolding run begins_at gathered
 six_steps = (refl, refl, refl)

@@ -40,7 +40,7 @@ number_of_found id helper e = (signed_Decides id (pos (id_of helper))).0 (found_
 pub data MapAfterCall (t : RunMap) : RunMap → Type 0 where
   unchanged : MapAfterCall t t
   written : (number : ℕ) (offset : ℤ) (bs value : List ℕ) → value_written (t.values number) offset bs ≡ Some value → MapAfterCall t (with_value t number value)
-  after_update : (refused : Bool) (key value : List ℕ) (flags : ℕ) → length key ≡ t.table.shape.key_size → length value ≡ t.table.shape.value_size → MapAfterCall t (updated refused t key value flags).map
+  after_update : (key value : List ℕ) (flags : ℕ) → length key ≡ t.table.shape.key_size → length value ≡ t.table.shape.value_size → MapAfterCall t (updated t key value flags).map
   after_delete : (key : List ℕ) → MapAfterCall t (removed t key).map
 
 -- a descriptor has a map after a call exactly if it had one before
@@ -157,15 +157,15 @@ output_leaves s p bs = tt
 -- ---- the calls
 
 -- a call of any helper leaves such a state
-pub call_leaves : (refused : Bool) (helper : Helper) (s : RunState) → LeavesAfterCall s (called refused helper s)
-call_leaves refused LookUp s =
+pub call_leaves : (helper : Helper) (s : RunState) → LeavesAfterCall s (called helper s)
+call_leaves LookUp s =
     map_leaves s 1 _ (λ m t _. bytes_leave s 2 t.table.shape.key_size _ (λ key _. returned s s (looked_up m (look_up t.table key)) (state_same s)))
-call_leaves refused Update s =
+call_leaves Update s =
     map_leaves s 1 _ (λ m t there. bytes_leave s 2 t.table.shape.key_size _ (λ key key_size. bytes_leave s 3 t.table.shape.value_size _ (λ value value_size. then_leaves s (argument s 4 number_given) _
-    (λ flags _. replied s m t (updated refused t key value flags) there (after_update refused key value flags key_size value_size)))))
-call_leaves refused Delete s =
+    (λ flags _. replied s m t (updated t key value flags) there (after_update key value flags key_size value_size)))))
+call_leaves Delete s =
     map_leaves s 1 _ (λ m t there. bytes_leave s 2 t.table.shape.key_size _ (λ key _. replied s m t (removed t key) there (after_delete key)))
-call_leaves refused LoadBytes s =
+call_leaves LoadBytes s =
     then_leaves s (argument s 1 context_given) _ (λ _ _. then_leaves s (argument s 2 number_given) _ (λ offset _. then_leaves s (argument s 4 length_given) _ (λ n _.
     let bs = packet_bytes s.packet offset n in
     return_leaves s (argument s 3 (λ p. output s p bs)) (Scalar (packet_answer s.packet offset n)) (then_leaves s (s.registers 3) _ (λ p _. output_leaves s p bs)))))

@@ -2,7 +2,7 @@
 -- and which registers it reads and clobbers is the kernel documentation's calling convention (bpf/standardization/abi.rst). The
 -- results of maps are in the definition of a map. No documentation says that a failed load of bytes writes zeros: it is this
 -- project's own, and as the kernel does.
-use Rattle.std.specs.Prelude.{ℕ, ◌+◌, ◌-◌, ◌%◌, ◌^◌, ◌==◌, ℤ, pos, Bool, true, false, ◌&&◌, nat_le, if◌then◌else◌, List, [], ◌∷◌, length, replicate, find, Option, Some, None, Result, Ok, Err}
+use Rattle.std.specs.Prelude.{ℕ, ◌+◌, ◌-◌, ◌%◌, ◌^◌, ◌==◌, ℤ, pos, Bool, ◌&&◌, nat_le, if◌then◌else◌, List, [], ◌∷◌, length, replicate, find, Option, Some, None, Result, Ok, Err}
 use Rattle.std.specs.Ordering.{int_eq}
 use Rattle.words.specs.Bytes.{bytes_at}
 use Rattle.tagged_model.specs.declared.fault.MapFault.{MapFault}
@@ -14,7 +14,7 @@ use Rattle.tagged_model.specs.declared.value.Tagged.{Tagged}
 use Rattle.tagged_model.specs.declared.value.Tagged.TheVariants.{Scalar, Map, Pointer}
 use Rattle.tagged_model.specs.Table.{Verdict, Refused, Present, New, look_up, verdict, removal, with_new, with_deleted}
 use Rattle.tagged_model.specs.Cells.{and_then}
-use Rattle.tagged_model.specs.State.{RunState, RunMap, set_at, with_value, input, output, with_map, with_refusal}
+use Rattle.tagged_model.specs.State.{RunState, RunMap, set_at, with_value, input, output, with_map}
 
 -- the helper's number in bpf_func_id
 abbrev pub id_of : Helper → ℕ
@@ -48,21 +48,16 @@ outside = 14
 abbrev pub negative : ℕ → ℕ
 negative n = 2 ^ 64 - n
 
--- the result of a call of a map, the map after it, and whether memory was refused to a new key
+-- the result of a call of a map, and the map after it
 pub record MapReply : Type 0 where
   pub answer : ℕ
   pub map : RunMap
-  pub refused : Bool
 
 abbrev pub fails_by : MapFault → RunMap → MapReply
-fails_by fault t = record { answer = negative (errno fault); map = t; refused = false }
+fails_by fault t = record { answer = negative (errno fault); map = t }
 
 abbrev pub succeeds : RunMap → MapReply
-succeeds t = record { answer = 0; map = t; refused = false }
-
--- memory is refused, and the map is unchanged
-abbrev pub has_no_memory : RunMap → MapReply
-has_no_memory t = record { answer = negative (errno Memory); map = t; refused = true }
+succeeds t = record { answer = 0; map = t }
 
 -- ---- the calls of a map
 
@@ -79,15 +74,14 @@ with_object t key value = record { table = with_new t.table key t.count; count =
 abbrev pub without_key : RunMap → List ℕ → RunMap
 without_key t key = record t { table = with_deleted t.table key }
 
--- the value of a present key is written in place; a new key may be refused memory
-abbrev pub put : Bool → RunMap → List ℕ → List ℕ → Verdict ℕ → MapReply
-put refused t key value (Refused fault) = fails_by fault t
-put refused t key value (Present number) = succeeds (with_value t number value)
-put true t key value New = has_no_memory t
-put false t key value New = succeeds (with_object t key value)
+-- the value of a present key is written in place; a new key gets a new object
+abbrev pub put : RunMap → List ℕ → List ℕ → Verdict ℕ → MapReply
+put t key value (Refused fault) = fails_by fault t
+put t key value (Present number) = succeeds (with_value t number value)
+put t key value New = succeeds (with_object t key value)
 
-abbrev pub updated : Bool → RunMap → List ℕ → List ℕ → ℕ → MapReply
-updated refused t key value flags = put refused t key value (verdict t.table key flags)
+abbrev pub updated : RunMap → List ℕ → List ℕ → ℕ → MapReply
+updated t key value flags = put t key value (verdict t.table key flags)
 
 abbrev pub taken_out : RunMap → List ℕ → Result ℕ MapFault → MapReply
 taken_out t key (Err fault) = fails_by fault t
@@ -147,23 +141,20 @@ after_call registers v r = if r == 0 then Some v else (if nat_le r 5 then None e
 abbrev pub returns : RunState → Tagged → RunState
 returns s v = record s { registers = after_call s.registers v }
 
--- the state after a call of map m: it has the map of the reply, and records if memory was refused
-abbrev pub with_reply : RunState → ℕ → MapReply → RunState
-with_reply s m reply = with_refusal (with_map s m reply.map) reply.refused
-
+-- the state after a call of map m: it has the map of the reply, and its answer in register 0
 abbrev pub replies : RunState → ℕ → MapReply → RunState
-replies s m reply = returns (with_reply s m reply) (Scalar reply.answer)
+replies s m reply = returns (with_map s m reply.map) (Scalar reply.answer)
 
-abbrev pub called : Bool → Helper → RunState → Option RunState
-called refused LookUp s =
+abbrev pub called : Helper → RunState → Option RunState
+called LookUp s =
     and_then (map_argument s 1) (λ g. and_then (argument s 2 (λ p. input s p g.map.table.shape.key_size)) (λ key.
     Some (returns s (looked_up g.descriptor (look_up g.map.table key)))))
-called refused Update s =
+called Update s =
     and_then (map_argument s 1) (λ g. and_then (argument s 2 (λ p. input s p g.map.table.shape.key_size)) (λ key. and_then (argument s 3 (λ p. input s p g.map.table.shape.value_size)) (λ value. and_then (argument s 4 number_given) (λ flags.
-    Some (replies s g.descriptor (updated refused g.map key value flags))))))
-called refused Delete s =
+    Some (replies s g.descriptor (updated g.map key value flags))))))
+called Delete s =
     and_then (map_argument s 1) (λ g. and_then (argument s 2 (λ p. input s p g.map.table.shape.key_size)) (λ key.
     Some (replies s g.descriptor (removed g.map key))))
-called refused LoadBytes s =
+called LoadBytes s =
     and_then (argument s 1 context_given) (λ c. and_then (argument s 2 number_given) (λ offset. and_then (argument s 4 length_given) (λ n. and_then (argument s 3 (λ p. output s p (packet_bytes s.packet offset n))) (λ t.
     Some (returns t (Scalar (packet_answer s.packet offset n)))))))

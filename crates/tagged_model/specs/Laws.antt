@@ -97,8 +97,8 @@ pub record KeepsShape (shape : MapShape) (t u : RunMap) : Type 0 where
 pub record MapCallsKeep : Type 0 where
   pub direct : (shape : MapShape) (t : RunMap) (offset : ℕ) → IsMapOf shape t → has_direct_value shape offset ≡ true → (number : ℕ) × (direct_object t.table offset ≡ Some number) × (number < t.count)
   pub owned : (shape : MapShape) (t : RunMap) (key : List ℕ) (number : ℕ) → IsMapOf shape t → look_up t.table key ≡ Some number → number < t.count
-  pub updated : (shape : MapShape) (t : RunMap) (key value : List ℕ) (flags : ℕ) (refused : Bool) → IsMapOf shape t → ((number : ℕ) → AreBytes (t.values number)) → length value ≡ shape.value_size → AreBytes value
-      → KeepsShape shape t (helpers.updated refused t key value flags).map
+  pub updated : (shape : MapShape) (t : RunMap) (key value : List ℕ) (flags : ℕ) → IsMapOf shape t → ((number : ℕ) → AreBytes (t.values number)) → length value ≡ shape.value_size → AreBytes value
+      → KeepsShape shape t (helpers.updated t key value flags).map
   pub removed : (shape : MapShape) (t : RunMap) (key : List ℕ) → IsMapOf shape t → ((number : ℕ) → AreBytes (t.values number)) → KeepsShape shape t (helpers.removed t key).map
 
 -- if a map changes to one that keeps its shape and its objects, the facts still describe the state

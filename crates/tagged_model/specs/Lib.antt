@@ -9,7 +9,6 @@ pub mod Helpers
 pub mod HelperLaws
 pub mod Step
 pub mod StateInvariant
-pub mod RunLaws
 pub mod StateLaws
 pub mod Admits
 pub mod Laws

@@ -2,7 +2,6 @@
 
 ghost use Rattle.std.specs.Prelude.{ℕ, List};
 ghost use Rattle.tagged_model.specs.MapLaws.{CallsRefineValues, MapVerdictsMatchLookUps};
-ghost use Rattle.tagged_model.specs.RunLaws.{RefusalsAreTold};
 ghost use Rattle.tagged_model.specs.Laws.{JoinAdmits, StackReadAdmits, StackWriteAdmits, StackInputAdmits, StackOutputAdmits, ObjectReadAdmits, ObjectWriteAdmits, ValueLoadAdmits, ValueStoreAdmits, MapCallsKeep, MapChangeAdmits, CallAdmits, SiteAdmits, NullTestAdmits};
 
 /// The join of two facts admits every state that one of them admits.
@@ -90,10 +89,4 @@ pub fn site_admits()
 /// After a null test of a look-up, the settled facts admit the state, on both edges.
 pub fn null_test_admits()
     ensures { NullTestAdmits }
-{}
-
-/// A run in which memory was refused to no new key equals the run without refusals, in which none is refused either. A run
-/// without maps is refused no memory.
-pub fn refusals_are_told()
-    ensures { RefusalsAreTold }
 {}

@@ -4,15 +4,15 @@
 //! The objects are the stack, the context, and the values of maps, which are named by their map and a number that is given once
 //! in a run. A state has the slot of the next instruction; eleven registers, each empty or with a value; 64 cells of eight
 //! stack bytes, each with a whole pointer or with bytes that may each be absent; the maps by their descriptors; the eleven
-//! words of the context; the packet; and whether memory was refused to a new key. A map of a run (`RunMap`) is a list of keys
-//! with the numbers of their objects, and the bytes of each object, also of a deleted one.
+//! words of the context; and the packet. A map of a run (`RunMap`) is a list of keys with the numbers of their objects, and the
+//! bytes of each object, also of a deleted one.
 //!
 //! `act` defines the step of each instruction, by the equations of `words`, and `called` that of each helper. If
 //! they are undefined, the run faults: on reading an empty register, on an access outside its object, an absent byte, a part of
 //! a pointer, a stack access that is not aligned, or a pointer instead of a number, and on a pointer that is stored
 //! outside the stack, truncated, or moved farther than 2^29 bytes. `run` is one recursion with the outcome, the steps and the
-//! final state; it takes at most as many steps as the program has slots. Its argument is a list of refusals of memory: if it
-//! has one for a step, a new key of a hash map is refused with the result -12, and the run continues.
+//! final state; it takes at most as many steps as the program has slots. It knows nothing of memory: a map has all that it can
+//! need from its creation.
 //!
 //! `AdmitsBy` says which states facts admit: each register and each cell is what its kind says, and the result of a look-up is
 //! one value in all its copies.
@@ -27,8 +27,6 @@
 //!   `object_read_admits`, `object_write_admits`, `value_load_admits`, `value_store_admits`, `map_calls_keep`,
 //!   `map_change_admits`, `call_admits`, `site_admits`.
 //! - After a null test of a look-up's result, the settled facts admit the state: `null_test_admits`.
-//! - A run in which memory was refused to a new key records this in its final state; any other run is the run without refusals:
-//!   `refusals_are_told`.
 //! - Whatever the objects of a map represent, as their places or their bytes, the replies are those of the map of what they
 //!   represent, which changes as the definition says: `calls_refine_values`.
 //! - A key that an update finds present is in the map, a new one is not, and no verdict is out of memory:
@@ -51,8 +49,6 @@
 //! - A move does not read its destination: its first operand is 0 in the definition.
 //! - Registers and cells of a state are functions of their number, so that no definition needs lengths.
 //! - A run is one recursion: its outcome, its steps and its final state come together, so that each statement is proved once.
-//! - The state records a refusal of memory, as `Maps::refused` of `bpf_maps` does in the machine that runs: a flag that no
-//!   instruction reads. So "memory was refused in this run" needs no second definition of which calls add a key.
 //! - Stack bytes that a helper reads or writes are numbered over all cells; cells remain the unit of loads and stores.
 //! - There is no second machine on tagged values. Vectors (`proofs/RunVectors.antt`) show what a run returns: the definition
 //!   computes on programs that were worked out by hand, including those that fault. That the machine which runs returns the

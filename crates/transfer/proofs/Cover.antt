@@ -58,7 +58,7 @@ pub record Laws : Type 0 where
   pub map_calls : MapCallsKeep
   pub site : SiteAdmits
 
-module _ (laws : Laws) (here : Here) (refused : Bool) (f : Facts) (s : RunState) (is_known : IsKnown here f s) (below : AreBelow s.at f) where
+module _ (laws : Laws) (here : Here) (f : Facts) (s : RunState) (is_known : IsKnown here f s) (below : AreBelow s.at f) where
   -- the target slot of a jump
   abbrev target_of : View → Option ℕ
   target_of v = natural (pos (s.at + 1) +ℤ offset_by (profile_of v).successors)
@@ -69,7 +69,7 @@ module _ (laws : Laws) (here : Here) (refused : Bool) (f : Facts) (s : RunState)
 
   -- if the facts permit the instruction, it is covered
   abbrev CoveredBy : View → ℕ → Type 0
-  CoveredBy v slots = IsCoveredIf (OnTaken v slots (jumps_in v s)) (effect_of here.shapes s.at v f) (act_of refused v s)
+  CoveredBy v slots = IsCoveredIf (OnTaken v slots (jumps_in v s)) (effect_of here.shapes s.at v f) (act_of v s)
 
   abbrev Covered : View → Type 0
   Covered v = CoveredBy v (profile_of v).slots
@@ -174,12 +174,12 @@ module _ (laws : Laws) (here : Here) (refused : Bool) (f : Facts) (s : RunState)
           (record { admits = still.admits; words = is_known.words; proper = still.proper; maps = still.maps })
           (record { is = (there.0, pos offset, refl, low, p.ordered, owned); words = tt })))
 
-  called_covered : (h : Helper) → IsCoveredIf Next (and_then_ok (call_facts here.shapes s.at h f) falls) (or_fault (called refused h s) (λ t. goes (advanced 1 t)))
+  called_covered : (h : Helper) → IsCoveredIf Next (and_then_ok (call_facts here.shapes s.at h f) falls) (or_fault (called h s) (λ t. goes (advanced 1 t)))
   called_covered h =
-      then_covered Next (λ g u. CallIsAdmitted g here.shapes s u) _ _ falls (λ t. goes (advanced 1 t)) (by_law _ _ _ (λ g ok. laws.calls here.witness refused here.shapes h f g s below (still_of is_known) ok))
+      then_covered Next (λ g u. CallIsAdmitted g here.shapes s u) _ _ falls (λ t. goes (advanced 1 t)) (by_law _ _ _ (λ g ok. laws.calls here.witness here.shapes h f g s below (still_of is_known) ok))
       (λ g u is. (ap (λ (n : ℕ). Some (n + 1)) (sym is.at), is.witness, still_at is.still (u.at + 1)))
 
-  helper_covered : (o : Option Helper) → IsCoveredIf Next (and_then_ok (known o) (λ h. and_then_ok (call_facts here.shapes s.at h f) falls)) (or_fault o (λ h. or_fault (called refused h s) (λ t. goes (advanced 1 t))))
+  helper_covered : (o : Option Helper) → IsCoveredIf Next (and_then_ok (known o) (λ h. and_then_ok (call_facts here.shapes s.at h f) falls)) (or_fault o (λ h. or_fault (called h s) (λ t. goes (advanced 1 t))))
   helper_covered None = tt
   helper_covered (Some h) = called_covered h
 
@@ -213,8 +213,8 @@ slot_below n (Bytes mask) h = tt
 slot_below n (Spill k) h = kind_below n k h
 
 pub effects_covered : Laws → TransferIsSound
-effects_covered laws witness shapes refused i f s edges is there words still e =
+effects_covered laws witness shapes i f s edges is there words still e =
     let here : Here = record { shapes = shapes; witness = witness; slot = s.at } in
     let below : AreBelow s.at f = record { registers = λ r. kind_below s.at (kind_at f r) (words.registers r); slots = λ j. slot_below s.at (slot_at f j) (words.slots j) } in
-    ok_is (λ e. CoversStep shapes i s e (act refused i s)) (effect shapes s.at i f) edges
-    (insn_covered laws here refused f s (record { admits = still.admits; words = words; proper = still.proper; maps = still.maps }) below i is there) e
+    ok_is (λ e. CoversStep shapes i s e (act i s)) (effect shapes s.at i f) edges
+    (insn_covered laws here f s (record { admits = still.admits; words = words; proper = still.proper; maps = still.maps }) below i is there) e

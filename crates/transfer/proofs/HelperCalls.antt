@@ -28,7 +28,7 @@ use Rattle.tagged_model.specs.declared.value.Tagged.{Tagged}
 use Rattle.tagged_model.specs.declared.value.Tagged.TheVariants.{Scalar, Map, Pointer}
 use Rattle.tagged_model.specs.Table.{look_up, verdict, Verdict, Refused, Present, New, removal}
 use Rattle.tagged_model.specs.Cells.{and_then, cell_over}
-use Rattle.tagged_model.specs.State.{RunState, RunMap, with_map, with_refusal, with_cells, stack_bytes, stack_written, object_bytes, object_written, input, output}
+use Rattle.tagged_model.specs.State.{RunState, RunMap, with_map, with_cells, stack_bytes, stack_written, object_bytes, object_written, input, output}
 use Rattle.tagged_model.specs.Helpers.{GivenMap, map_given, number_given, length_given, context_given, argument, map_argument, looked_up, MapReply, put, updated, taken_out, removed, errno, packet_bytes, packet_answer, is_in_packet, negative, outside, returns, replies, called}
 use Rattle.tagged_model.specs.StateInvariant.{AreBytes, IsMapOf, HasMaps}
 use Rattle.tagged_model.specs.Admits.{Witness, IsOfKind, IsLookup, HasKind, AdmitsBy, objects_of, AreBelow, witness_at}
@@ -39,7 +39,7 @@ use Rattle.transfer.specs.declared.calls.ShapedMap.{ShapedMap}
 use Rattle.transfer.specs.Calls.{shaped, map_kind, room_of, input_kind, output_facts, number_kind, length_kind, context_kind, readable_two, readable_four, any_number, call_facts}
 use Rattle.transfer.specs.Sound.{CallIsAdmitted, CallsAreSound}
 use Rattle.transfer.proofs.Rooms.{owned, room_here}
-use Rattle.transfer.proofs.Parts.{Agree, by_law, refused, same_ok, still_noted, IsReadable}
+use Rattle.transfer.proofs.Parts.{Agree, by_law, refused, same_ok, IsReadable}
 
 -- ---- steps in sequence
 
@@ -86,11 +86,10 @@ fault_small Exists = omega arith
 fault_small Invalid = omega arith
 fault_small NoSpace = omega arith
 
-put_small : (refused : Bool) (t : RunMap) (key value : List ℕ) (v : Verdict ℕ) → (put refused t key value v).answer < 2 ^ 64
-put_small refused t key value (Refused fault) = fault_small fault
-put_small refused t key value (Present number) = omega arith
-put_small true t key value New = fault_small Memory
-put_small false t key value New = omega arith
+put_small : (t : RunMap) (key value : List ℕ) (v : Verdict ℕ) → (put t key value v).answer < 2 ^ 64
+put_small t key value (Refused fault) = fault_small fault
+put_small t key value (Present number) = omega arith
+put_small t key value New = omega arith
 
 taken_small : (t : RunMap) (key : List ℕ) (r : Result ℕ MapFault) → (taken_out t key r).answer < 2 ^ 64
 taken_small t key (Err fault) = fault_small fault
@@ -255,7 +254,7 @@ module _ (laws : Laws) {witness : Witness} {shapes : Shapes} {f : Facts} {s : Ru
         let known = laws.map_change witness f shapes s g.descriptor x.shape g.map reply.map still is.there (subst (λ m. shapes m ≡ Some x.shape) is.named is.shape_is) keeps in
         record {
           witness = witness;
-          still = laws.call witness f shapes (with_refusal changed reply.refused) any_number (Scalar reply.answer) (still_noted known reply.refused) (any_is witness reply.answer small);
+          still = laws.call witness f shapes changed any_number (Scalar reply.answer) known (any_is witness reply.answer small);
           at = refl;
         }
 
@@ -288,17 +287,17 @@ module _ (laws : Laws) {witness : Witness} {shapes : Shapes} {f : Facts} {s : Ru
         also_agree IsMap IsAdmitted _ _ _ _ (map_agrees 1 (kind_at f 1) r1 (kinds 1))
         (λ x g is. also_agree (AreRead x.shape.key_size) IsAdmitted _ _ _ _ (sized_agrees x.shape.key_size g.map.table.shape.key_size 2 (kind_at f 2) (key_size x g is) r2 (kinds 2)) (λ _ key read. next x g key is))
 
-    all_covered : (refused : Bool) (h : Helper) → Agree IsAdmitted (call_facts shapes s.at h f) (called refused h s)
-    all_covered refused LookUp = two_read _ _ (λ r1 r2. key_given _ _ r1 r2 (λ x g key is. looked x g key is))
-    all_covered refused Update =
+    all_covered : (h : Helper) → Agree IsAdmitted (call_facts shapes s.at h f) (called h s)
+    all_covered LookUp = two_read _ _ (λ r1 r2. key_given _ _ r1 r2 (λ x g key is. looked x g key is))
+    all_covered Update =
         four_read _ _ (λ r1 r2 r3 r4. key_given _ _ r1 r2 (λ x g key is.
         also_agree (AreRead x.shape.value_size) IsAdmitted _ _ _ _ (sized_agrees x.shape.value_size g.map.table.shape.value_size 3 (kind_at f 3) (value_size x g is) r3 (kinds 3)) (λ _ value got.
         also_agree InRange IsAdmitted _ _ _ _ (number_agrees 4 (kind_at f 4) r4 (kinds 4)) (λ range flags within.
-        replied x g (updated refused g.map key value flags) is (laws.map_calls.updated x.shape g.map key value flags refused is.is (bytes_of_map x g is) got.0 got.1) (put_small refused g.map key value (verdict g.map.table key flags))))))
-    all_covered refused Delete =
+        replied x g (updated g.map key value flags) is (laws.map_calls.updated x.shape g.map key value flags is.is (bytes_of_map x g is) got.0 got.1) (put_small g.map key value (verdict g.map.table key flags))))))
+    all_covered Delete =
         two_read _ _ (λ r1 r2. key_given _ _ r1 r2 (λ x g key is.
         replied x g (removed g.map key) is (laws.map_calls.removed x.shape g.map key is.is (bytes_of_map x g is)) (taken_small g.map key (removal g.map.table key))))
-    all_covered refused LoadBytes =
+    all_covered LoadBytes =
         four_read _ _ (λ r1 r2 r3 r4.
         also_agree Anything IsAdmitted _ _ _ _ (context_agrees 1 (kind_at f 1) r1 (kinds 1)) (λ _ _ _.
         also_agree InRange IsAdmitted _ _ _ _ (number_agrees 2 (kind_at f 2) r2 (kinds 2)) (λ _ offset _.
@@ -312,5 +311,5 @@ module _ (laws : Laws) {witness : Witness} {shapes : Shapes} {f : Facts} {s : Ru
         })))))
 
 pub calls_are_sound : Laws → CallsAreSound
-calls_are_sound laws witness refused shapes h f g s below still e =
-    from_agree (λ g u. CallIsAdmitted g shapes s u) (call_facts shapes s.at h f) (called refused h s) g (all_covered laws still below refused h) e
+calls_are_sound laws witness shapes h f g s below still e =
+    from_agree (λ g u. CallIsAdmitted g shapes s u) (call_facts shapes s.at h f) (called h s) g (all_covered laws still below h) e

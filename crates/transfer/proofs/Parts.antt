@@ -1,6 +1,5 @@
 -- Results of the facts agree with results of the machine, operator by operator.
 use Rattle.std.proofs.Common.{◌≡◌, ℕ, ◌<◌, ◌^◌, Bool, true, false, Option, Some, None, Result, Ok, Err, refl, sym, subst}
-use Rattle.std.specs.Prelude.{◌||◌}
 use Rattle.words.specs.Widths.{width}
 use Rattle.reg_kinds.specs.declared.kind.Kind.{Kind}
 use Rattle.reg_kinds.specs.declared.kind.Kind.TheVariants as kind
@@ -8,7 +7,7 @@ use Rattle.reg_kinds.specs.declared.facts.Facts.{Facts}
 use Rattle.reg_kinds.specs.declared.reason.Reason.{Reason}
 use Rattle.reg_kinds.specs.Reason.{and_then_ok}
 use Rattle.tagged_model.specs.declared.value.Tagged.{Tagged}
-use Rattle.tagged_model.specs.State.{RunState, at_slot, with_refusal}
+use Rattle.tagged_model.specs.State.{RunState, at_slot}
 use Rattle.tagged_model.specs.Step.{Step, goes, ends, faults, or_fault}
 use Rattle.tagged_model.specs.StateInvariant.{IsInRange, HasMaps}
 use Rattle.tagged_model.specs.Admits.{Witness, IsOfKind, AdmitsBy}
@@ -103,21 +102,14 @@ pub record IsKnown (here : Here) (f : Facts) (s : RunState) : Type 0 where
 pub still_of : {here : Here} {f : Facts} {s : RunState} → IsKnown here f s → Describes here.witness f here.shapes s
 still_of known = record { admits = known.admits; proper = known.proper; maps = known.maps }
 
--- this still holds at another slot, and after a refusal of memory is noted
-module _ {witness : Witness} {f : Facts} {shapes : Shapes} {s : RunState} (still : Describes witness f shapes s) where
-  still_after : (n : ℕ) (b : Bool) → Describes witness f shapes (record s { at = n; refused = b })
-  still_after n b =
-      record {
-        admits = record { registers = still.admits.registers; slots = still.admits.slots; objects = still.admits.objects };
-        proper = record { bytes = still.proper.bytes; words = still.proper.words; count = still.proper.count; values = still.proper.values; packet = still.proper.packet };
-        maps = still.maps;
-      }
-
-  pub still_at : (n : ℕ) → Describes witness f shapes (at_slot n s)
-  still_at n = still_after n s.refused
-
-  pub still_noted : (b : Bool) → Describes witness f shapes (with_refusal s b)
-  still_noted b = still_after s.at (s.refused || b)
+-- this still holds at another slot
+pub still_at : {witness : Witness} {f : Facts} {shapes : Shapes} {s : RunState} → Describes witness f shapes s → (n : ℕ) → Describes witness f shapes (at_slot n s)
+still_at still n =
+    record {
+      admits = record { registers = still.admits.registers; slots = still.admits.slots; objects = still.admits.objects };
+      proper = record { bytes = still.proper.bytes; words = still.proper.words; count = still.proper.count; values = still.proper.values; packet = still.proper.packet };
+      maps = still.maps;
+    }
 
 -- ---- steps: `On` relates the edges to the state after the step
 

@@ -69,11 +69,11 @@ CoversStep shapes i s edges (ends n) = n < 2 ^ 32
 CoversStep shapes i s edges faults = ⊥
 
 -- soundness: if facts describe a state and let an instruction be run, its step is no fault, and the edge that it takes admits the
--- state after it, whether or not memory is refused at it; the state has a map of each shape, and so has the next one
+-- state after it; the state has a map of each shape, and so has the next one
 abbrev pub TransferIsSound : Type 0
 TransferIsSound =
-    (witness : Witness) (shapes : Shapes) (refused : Bool) (i : Insn) (f : Facts) (s : RunState) (edges : Edges) → IsInsn i → IsSome (jumps_to i s.at) → AreWellFormedAt s.at f → Describes witness f shapes s → effect shapes s.at i f ≡ Ok edges
-    → CoversStep shapes i s edges (act refused i s)
+    (witness : Witness) (shapes : Shapes) (i : Insn) (f : Facts) (s : RunState) (edges : Edges) → IsInsn i → IsSome (jumps_to i s.at) → AreWellFormedAt s.at f → Describes witness f shapes s → effect shapes s.at i f ≡ Ok edges
+    → CoversStep shapes i s edges (act i s)
 
 -- ---- the facts on the edges are well formed at each later slot
 
@@ -96,5 +96,5 @@ pub record CallIsAdmitted (g : Facts) (shapes : Shapes) (s u : RunState) : Type 
 -- if facts describe a state and allow a call, the machine has a step for it, and the facts after it describe the state after it
 abbrev pub CallsAreSound : Type 0
 CallsAreSound =
-    (witness : Witness) (refused : Bool) (shapes : Shapes) (h : Helper) (f g : Facts) (s : RunState) → AreBelow s.at f → Describes witness f shapes s → call_facts shapes s.at h f ≡ Ok g
-    → (u : RunState) × (called refused h s ≡ Some u) × CallIsAdmitted g shapes s u
+    (witness : Witness) (shapes : Shapes) (h : Helper) (f g : Facts) (s : RunState) → AreBelow s.at f → Describes witness f shapes s → call_facts shapes s.at h f ≡ Ok g
+    → (u : RunState) × (called h s ≡ Some u) × CallIsAdmitted g shapes s u

@@ -9,8 +9,7 @@
 //! - The transfer function is sound. Take facts that are well formed (ranges of words, look-ups at slots below) and allow an
 //!   instruction that does not jump below slot 0, and a state that they admit and that has a map of each shape. Then the step
 //!   on tagged values is no fault, the next state is at the end of the edge that the step takes, and the facts on that edge
-//!   admit it, whatever memory is refused: `transfer_is_sound`. The same holds for a call of each helper:
-//!   `calls_are_sound`.
+//!   admit it: `transfer_is_sound`. The same holds for a call of each helper: `calls_are_sound`.
 //! - Well-formed facts stay well formed on both edges: `transfer_keeps_well_formed`.
 //! - Only a call is rejected for an unknown helper, only a load of a map or of a value of one for a descriptor that is no map,
 //!   only a direct load of a value for a value that the map does not have, and no instruction for any other reason of shape or

@@ -17,7 +17,7 @@ use Rattle.tagged_model.specs.declared.value.Tagged.TheVariants.{Scalar, Pointer
 use Rattle.tagged_model.specs.declared.value.Outcome.TheVariants.{Value, Fault}
 use Rattle.tagged_model.specs.Cells.{bytes}
 use Rattle.tagged_model.specs.State.{RunState}
-use Rattle.tagged_model.specs.Step.{Step, goes, ends, faults, step, Ending, ending_after, refused_at_first, refused_later, run, begins_with, MapsByDescriptor, start_of_run}
+use Rattle.tagged_model.specs.Step.{Step, goes, ends, faults, step, Ending, ending_after, run, begins_with, MapsByDescriptor, start_of_run}
 use Rattle.tagged_model.specs.Admits.{Witness, objects_of, HasKind, HasSlot, AdmitsBy}
 use Rattle.tagged_model.specs.AdmitsLaws.{no_bytes}
 use Rattle.verifier.specs.Maps.{shapes_of}
@@ -89,13 +89,13 @@ module _ (law : StepsGoOn) (code : List Insn) (named : List Named) (program : Is
       begins_within code s.at begun.0 begun.1
 
   -- each step goes to a later slot, so the number of steps is enough
-  no_fault : (n : ℕ) (refusals : List Bool) (s : RunState) → slot_count code ≤ s.at + n → IsAdmitted (shapes_of code named) code s → (run code n refusals s).outcome ≢ Fault
+  no_fault : (n : ℕ) (s : RunState) → slot_count code ≤ s.at + n → IsAdmitted (shapes_of code named) code s → (run code n s).outcome ≢ Fault
   unfolding run
-  no_fault zero refusals s enough here = absurd (let inside = within s here in omega arith)
-  no_fault (suc n) refusals s enough here =
-      after_step (shapes_of code named) code s (step (refused_at_first refusals) code s) (run code n (refused_later refusals)) (law code named (refused_at_first refusals) s program accepted here)
-      (λ t farther there. no_fault n (refused_later refusals) t (omega arith) there)
+  no_fault zero s enough here = absurd (let inside = within s here in omega arith)
+  no_fault (suc n) s enough here =
+      after_step (shapes_of code named) code s (step code s) (run code n) (law code named s program accepted here)
+      (λ t farther there. no_fault n t (omega arith) there)
 
 pub never_faults : StepsGoOn → NeverFaults
-never_faults law code named refusals maps words packet program accepted given =
-    no_fault law code named program accepted (slot_count code) refusals (start_of_run maps words packet) (omega arith) (beginning (shapes_of code named) code maps words packet given)
+never_faults law code named maps words packet program accepted given =
+    no_fault law code named program accepted (slot_count code) (start_of_run maps words packet) (omega arith) (beginning (shapes_of code named) code maps words packet given)

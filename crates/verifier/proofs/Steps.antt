@@ -36,10 +36,10 @@ well_formed_before : TransferKeepsWellFormed → (shapes : Shapes) (code : List 
 well_formed_before stay shapes code program n f e = subst (AreWellFormedOn n) e (inflow_words stay shapes code program.each n n)
 
 pub slots_covered : TransferIsSound → TransferKeepsWellFormed → StepIsSound
-slots_covered cover stay code named witness refused s i f edges program fine begins known still e =
+slots_covered cover stay code named witness s i f edges program fine begins known still e =
     let shapes = shapes_of code named in
     let shape = shape_at shapes code named program fine s.at i begins in
-    cover witness shapes refused i f s edges (begun_is_insn code s.at i begins program.each) (target_is code s.at i shape) (well_formed_before stay shapes code program s.at f known) still e
+    cover witness shapes i f s edges (begun_is_insn code s.at i begins program.each) (target_is code s.at i shape) (well_formed_before stay shapes code program s.at f known) still e
 
 -- the premises of a step
 pub record Laws : Type 0 where
@@ -101,24 +101,24 @@ unfolding safety_fault
 safe shapes code n i f begins known none =
     sym (ap (λ o. and_then o (λ f. and_then (begins_at code n) (λ i. reason_of (effect shapes n i f)))) known ∙ ap (λ o. and_then o (λ i. reason_of (effect shapes n i f))) begins) ∙ none
 
-module _ (laws : Laws) (code : List Insn) (named : List Named) (refused : Bool) (s : RunState) (program : IsProgram code) (accepted : IsAccepted code named) (here : IsAdmitted (shapes_of code named) code s) where
+module _ (laws : Laws) (code : List Insn) (named : List Named) (s : RunState) (program : IsProgram code) (accepted : IsAccepted code named) (here : IsAdmitted (shapes_of code named) code s) where
   abbrev Given : Shapes
   Given = shapes_of code named
 
   abbrev Goes : Step → Type 0
   Goes st = NextIsAdmitted Given code s.at st
 
-  runs_on : (i : Insn) → begins_at code s.at ≡ Some i → (r : Result Edges Reason) → effect Given s.at i here.facts ≡ r → Goes (act refused i s)
+  runs_on : (i : Insn) → begins_at code s.at ≡ Some i → (r : Result Edges Reason) → effect Given s.at i here.facts ≡ r → Goes (act i s)
   runs_on i begins (Err reason) e =
       absurd (none-some reason (sym (safe Given code s.at i here.facts begins here.known (accepted.1 s.at)) ∙ ap reason_of e))
   runs_on i begins (Ok edges) e =
       let shape = shape_at Given code named program accepted.0 s.at i begins in
-      covered_on laws.join Given code s i here.facts edges begins here.known e shape (act refused i s)
-      (slots_covered laws.cover laws.stay code named here.witness refused s i here.facts edges program accepted.0 begins here.known here.still e)
+      covered_on laws.join Given code s i here.facts edges begins here.known e shape (act i s)
+      (slots_covered laws.cover laws.stay code named here.witness s i here.facts edges program accepted.0 begins here.known here.still e)
 
-  step_on : (o : Option Insn) → begins_at code s.at ≡ o → Goes (or_fault o (λ i. act refused i s))
+  step_on : (o : Option Insn) → begins_at code s.at ≡ o → Goes (or_fault o (λ i. act i s))
   step_on None e = absurd (false≢true (subst (λ o. IsSome o) e (begins_before Given code named program accepted.0 s.at here.facts here.known)))
   step_on (Some i) e = runs_on i e (effect Given s.at i here.facts) refl
 
 pub each_step : Laws → StepsGoOn
-each_step laws code named refused s program accepted here = step_on laws code named refused s program accepted here (begins_at code s.at) refl
+each_step laws code named s program accepted here = step_on laws code named s program accepted here (begins_at code s.at) refl

@@ -1,5 +1,5 @@
 -- Soundness of the verifier: no run of an accepted program faults. This project's own.
-use Rattle.std.specs.Prelude.{◌≡◌, ◌≢◌, ℕ, ◌<◌, ◌^◌, Bool, List, length, Some, Ok}
+use Rattle.std.specs.Prelude.{◌≡◌, ◌≢◌, ℕ, ◌<◌, ◌^◌, List, length, Some, Ok}
 use Rattle.std.specs.List.{All}
 use Rattle.std.specs.Map.{keys_of, values_of}
 use Rattle.insn_set.specs.declared.insn.Insn.{Insn}
@@ -12,7 +12,7 @@ use Rattle.tagged_model.specs.declared.value.Outcome.TheVariants.{Fault}
 use Rattle.tagged_model.specs.Named.{Shapes}
 use Rattle.tagged_model.specs.Table.{Table, indexed}
 use Rattle.tagged_model.specs.State.{RunState, context_words}
-use Rattle.tagged_model.specs.Step.{Step, goes, ends, faults, act, step, MapsByDescriptor, result_with}
+use Rattle.tagged_model.specs.Step.{Step, goes, ends, faults, act, step, MapsByDescriptor, result_of}
 use Rattle.tagged_model.specs.StateInvariant.{AreBytes}
 use Rattle.tagged_model.specs.Admits.{Witness}
 use Rattle.tagged_model.specs.Laws.{Describes}
@@ -27,13 +27,12 @@ use Rattle.verifier.specs.Verdict.{HasNoFault, IsAccepted}
 -- ---- one step
 
 -- in a program without a fault of its shape: if the facts before a slot describe a state there, and let the instruction be run, the
--- machine has a step, whether or not memory is refused at it; the next state has a map of each shape again, and the facts on the
--- edge that the step takes admit it
+-- machine has a step; the next state has a map of each shape again, and the facts on the edge that the step takes admit it
 abbrev pub StepIsSound : Type 0
 StepIsSound =
-    (code : List Insn) (named : List Named) (witness : Witness) (refused : Bool) (s : RunState) (i : Insn) (f : Facts) (edges : Edges) → IsProgram code → HasNoFault (structure_fault code named) → begins_at code s.at ≡ Some i
+    (code : List Insn) (named : List Named) (witness : Witness) (s : RunState) (i : Insn) (f : Facts) (edges : Edges) → IsProgram code → HasNoFault (structure_fault code named) → begins_at code s.at ≡ Some i
     → facts_before (shapes_of code named) code s.at ≡ Some f → Describes witness f (shapes_of code named) s → effect (shapes_of code named) s.at i f ≡ Ok edges
-    → CoversStep (shapes_of code named) i s edges (act refused i s)
+    → CoversStep (shapes_of code named) i s edges (act i s)
 
 -- the facts before the state's slot describe it
 pub record IsAdmitted (shapes : Shapes) (code : List Insn) (s : RunState) : Type 0 where
@@ -48,11 +47,11 @@ NextIsAdmitted shapes code at (goes t) = (at < t.at) × IsAdmitted shapes code t
 NextIsAdmitted shapes code at (ends n) = n < 2 ^ 32
 NextIsAdmitted shapes code at faults = ⊥
 
--- no step of an accepted program from an admitted state faults, whatever memory is refused, and the state after it is admitted
+-- no step of an accepted program from an admitted state faults, and the state after it is admitted
 abbrev pub StepsGoOn : Type 0
 StepsGoOn =
-    (code : List Insn) (named : List Named) (refused : Bool) (s : RunState) → IsProgram code → IsAccepted code named → IsAdmitted (shapes_of code named) code s
-    → NextIsAdmitted (shapes_of code named) code s.at (step refused code s)
+    (code : List Insn) (named : List Named) (s : RunState) → IsProgram code → IsAccepted code named → IsAdmitted (shapes_of code named) code s
+    → NextIsAdmitted (shapes_of code named) code s.at (step code s)
 
 -- ---- runs
 
@@ -70,8 +69,8 @@ pub record AreRunInputs (shapes : Shapes) (maps : MapsByDescriptor) (words packe
   pub count : length words ≡ context_words
   pub bytes : AreBytes packet
 
--- no run of an accepted program faults, whatever memory is refused
+-- no run of an accepted program faults
 abbrev pub NeverFaults : Type 0
 NeverFaults =
-    (code : List Insn) (named : List Named) (refusals : List Bool) (maps : MapsByDescriptor) (words packet : List ℕ) → IsProgram code → IsAccepted code named → AreRunInputs (shapes_of code named) maps words packet
-    → result_with refusals code maps words packet ≢ Fault
+    (code : List Insn) (named : List Named) (maps : MapsByDescriptor) (words packet : List ℕ) → IsProgram code → IsAccepted code named → AreRunInputs (shapes_of code named) maps words packet
+    → result_of code maps words packet ≢ Fault

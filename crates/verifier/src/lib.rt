@@ -37,7 +37,7 @@
 //! - Each step of an accepted program preserves this: the facts before the next slot admit the state after it: `steps_go_on`.
 //! - Every successor of an instruction of an accepted program is the beginning of an instruction at a higher slot: the next
 //!   one, unless the instruction is an exit or always jumps, and the target of its jump: `Verified::goes_ahead`.
-//! - No run of an accepted program faults, on any maps of the shapes, any context and packet, whatever memory is refused in it:
+//! - No run of an accepted program faults, on any maps of the shapes, any context and packet:
 //!   `accepted_programs_never_fault`, `Verified::never_faults`.
 //!
 //! # Decisions

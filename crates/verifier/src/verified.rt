@@ -1,9 +1,9 @@
 //! Accepted programs.
 
-ghost use Rattle.std.specs.Prelude.{◌≡◌, ◌≢◌, ℕ, ◌*◌, ◌≤◌, Bool, List, length, None, Ok, Err, IfErr, IfOk, OnOk};
+ghost use Rattle.std.specs.Prelude.{◌≡◌, ◌≢◌, ℕ, ◌*◌, ◌≤◌, List, length, None, Ok, Err, IfErr, IfOk, OnOk};
 ghost use Rattle.insn_codec.specs.ProgramFault.{length_fault};
 ghost use Rattle.tagged_model.specs.declared.value.Outcome.TheVariants.{Fault};
-ghost use Rattle.tagged_model.specs.Step.{MapsByDescriptor, result_with};
+ghost use Rattle.tagged_model.specs.Step.{MapsByDescriptor, result_of};
 ghost use Rattle.verifier.specs.Judgement.{Judges};
 ghost use Rattle.verifier.specs.Maps.{maps_of, entries_of};
 ghost use Rattle.verifier.specs.Sound.{AreRunInputs};
@@ -59,12 +59,12 @@ impl Verified {
         &self.loaded.maps
     }
 
-    /// A law: no run of the program faults that is given maps of the shapes with which it was accepted, whatever memory is refused
-    /// in it. It does nothing when it runs.
+    /// A law: no run of the program faults that is given maps of the shapes with which it was accepted. It does nothing when it
+    /// runs.
     pub fn never_faults(&self)
-        ensures { (refusals : List Bool) (maps : MapsByDescriptor) (words packet : List ℕ)
+        ensures { (maps : MapsByDescriptor) (words packet : List ℕ)
             → AreRunInputs (shapes_in self.now) maps words packet
-            → result_with refusals self.now.code maps words packet ≢ Fault }
+            → result_of self.now.code maps words packet ≢ Fault }
     {
         self.program.code();
         laws::accepted_programs_never_fault();

@@ -66,7 +66,6 @@ pub record Updates (site : CallSite) (pair : NamedPair) (flags : ℕ) (answer : 
   pub claimed : Claims (verdict (table_of (places_at site.maps pair.map)) pair.key flags) pair.key
       (places_at site.maps pair.map) claim (places_at answer.maps pair.map)
   pub rest : OnlyKeysChange pair.map site.maps answer.maps
-  pub flag : answer.maps.refused ≡ site.maps.refused
   pub word_is : answer.word ≡ claim_word claim
   pub memory_is : answer.memory ≡ with_claimed site pair claim
 
@@ -89,7 +88,6 @@ pub record Deletes (old : LiveMaps) (named : NamedKey) (word : ℕ) (new : LiveM
   pub removed : Removes (removal (table_of (places_at old named.map)) named.key) named.key
       (places_at old named.map) outcome (places_at new named.map)
   pub rest : OnlyKeysChange named.map old new
-  pub flag : new.refused ≡ old.refused
   pub word_is : word ≡ removal_word outcome
 
 -- a deletion of what its words name

@@ -1,13 +1,13 @@
 -- Laws of the words and bytes that represent a state, helper by helper. This project's own.
-use Rattle.std.specs.Prelude.{◌≡◌, ℕ, ◌+◌, ◌<◌, ◌≤◌, ℤ, Bool, false, List, [], length, slice_get, slice_index, Option, Some, None, IsSome}
+use Rattle.std.specs.Prelude.{◌≡◌, ℕ, ◌+◌, ◌<◌, ◌≤◌, ℤ, List, [], length, slice_get, slice_index, Option, Some, None, IsSome}
 use Rattle.std.specs.Map.{values_of}
 use Rattle.words.specs.Bytes.{bytes_at, written_at}
 use Rattle.words.specs.Stack.{stack_size, place}
 use Rattle.tagged_model.specs.declared.helper.Helper.TheVariants.{LookUp}
 use Rattle.tagged_model.specs.declared.value.Tagged.{Tagged}
 use Rattle.tagged_model.specs.declared.value.Tagged.TheVariants.{Scalar}
-use Rattle.tagged_model.specs.State.{RunState, RunMap, stack_bytes, stack_written, output}
-use Rattle.tagged_model.specs.Helpers.{called, with_reply, returns, updated, removed, packet_bytes, packet_answer, GivenMap, MapReply}
+use Rattle.tagged_model.specs.State.{RunState, RunMap, with_map, stack_bytes, stack_written, output}
+use Rattle.tagged_model.specs.Helpers.{called, returns, updated, removed, packet_bytes, packet_answer, GivenMap, MapReply}
 use Rattle.tagged_model.specs.Table.{with_values}
 use Rattle.tagged_model.specs.Step.{first_map, last_map}
 use Rattle.arena.specs.Memory.{base, part_start, with_bytes}
@@ -62,9 +62,9 @@ GivesWord env l (Some w) (Some v) = IsWord env l v w
 -- a look-up on words and bytes has the result of the machine's
 abbrev pub LookUpsFollow : Type 0
 LookUpsFollow =
-    (env : Environment) (l : Layout) (flat : FlatState) (s u : RunState) (refused : Bool)
+    (env : Environment) (l : Layout) (flat : FlatState) (s u : RunState)
     → IsRoom env.memory env.tenant → Simulates env l flat s
-    → called refused LookUp s ≡ Some u
+    → called LookUp s ≡ Some u
     → (v : Tagged) × (u ≡ returns s v)
     × GivesWord env l
     (flat_look_up (site_in env flat) (slice_index flat.registers 1) (slice_index flat.registers 2))
@@ -78,16 +78,16 @@ pub record TaggedUpdate : Type 0 where
   pub flags : ℕ
 
 abbrev pub update_reply : TaggedUpdate → MapReply
-update_reply asked = updated false asked.given.map asked.key asked.value asked.flags
+update_reply asked = updated asked.given.map asked.key asked.value asked.flags
 
--- the machine's update, which is refused no memory, and a layout in which words and bytes represent the state after it
+-- the machine's update, and a layout in which words and bytes represent the state after it
 pub record UpdateKeepsSimulation (env : Environment) (l : Layout) (flat : FlatState) (s : RunState)
     (asked : TaggedUpdate) (answer : CallAnswer) : Type 0 where
   pub layout : Layout
   pub extends : Extends l layout
   pub answer_is : answer.word ≡ (update_reply asked).answer
   pub stands : Simulates env layout (with_held flat answer.memory answer.maps)
-      (with_reply s asked.given.descriptor (update_reply asked))
+      (with_map s asked.given.descriptor (update_reply asked).map)
 
 abbrev pub UpdatesKeepSimulation : Type 0
 UpdatesKeepSimulation =
@@ -110,7 +110,7 @@ DeletesKeepSimulation =
     → slice_get env.descriptors i ≡ Some m → s.maps m ≡ Some map
     → Deletes flat.maps (record { map = slice_index env.bind i; key = key }) word new
     → (word ≡ (removed map key).answer)
-    × Simulates env l (with_held flat flat.memory new) (with_reply s m (removed map key))
+    × Simulates env l (with_held flat flat.memory new) (with_map s m (removed map key).map)
 
 -- the packet bytes, or zeros, that the machine writes have a place in the part, and the memory with them there
 -- represents the state with them

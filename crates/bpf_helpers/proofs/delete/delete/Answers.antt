@@ -9,14 +9,14 @@ returns-in-Ok-clause-deleted c =
     let size = ap (λ (s : MapShape). s.key_size) c.shape-size.ensures in
     let there = key_there (site_of c.args.caller c.args.arena.now c.args.maps.now) c.args.map c.args.key (sym c.in-Some.ensures.value) size c.in-Some-traced_place.at c.in-Some-traced_place.ensures.value c.part-part.ensures.bytes c.in-Some-traced_place.ensures.within in
     subst (λ o. DeletesNamed c.args.maps.now o 0 c.remove.new.self) (sym there)
-    (record { outcome = Ok tt; removed = c.in-Ok.ensures.removed; rest = c.in-Ok.ensures.rest; flag = c.in-Ok.ensures.refused; word_is = refl })
+    (record { outcome = Ok tt; removed = c.in-Ok.ensures.removed; rest = c.in-Ok.ensures.rest; word_is = refl })
 
 pub returns-in-Err-clause-deleted : goal.returns-in-Err-clause-deleted
 returns-in-Err-clause-deleted c =
     let size = ap (λ (s : MapShape). s.key_size) c.shape-size.ensures in
     let there = key_there (site_of c.args.caller c.args.arena.now c.args.maps.now) c.args.map c.args.key (sym c.in-Some.ensures.value) size c.in-Some-traced_place.at c.in-Some-traced_place.ensures.value c.part-part.ensures.bytes c.in-Some-traced_place.ensures.within in
     subst (λ o. DeletesNamed c.args.maps.now o c.refusal-in-Err.result c.remove.new.self) (sym there)
-    (record { outcome = Err c.in-Err.fault; removed = c.in-Err.ensures.removed; rest = c.in-Err.ensures.rest; flag = c.in-Err.ensures.refused; word_is = c.refusal-in-Err.ensures })
+    (record { outcome = Err c.in-Err.fault; removed = c.in-Err.ensures.removed; rest = c.in-Err.ensures.rest; word_is = c.refusal-in-Err.ensures })
 
 pub returns-in_default-clause-deleted : goal.returns-in_default-clause-deleted
 returns-in_default-clause-deleted c =

@@ -38,7 +38,6 @@ returns-in-Ok-clause-updated c =
       claim = Ok c.in-Ok.place;
       claimed = subst (λ (b : List ℕ). Claims (verdict (table_of (places_at old k)) b c.args.flags) b (places_at old k) (Ok c.in-Ok.place) (places_at new k)) (key_read (goal.at.returns-in-Ok-clause-updated c).After-claim) c.in-Ok.ensures.claimed;
       rest = c.in-Ok.ensures.rest;
-      flag = c.in-Ok.ensures.refused;
       word_is = refl;
       memory_is = c.copy_inside.ensures.bytes
           ∙ copied_is memory c.shape-shape.result.value_size (c.address-start.result + c.args.value) (c.address-start.result + c.value_at.result) (part_start memory t + c.args.value) (part_start memory t + offset_at old k c.in-Ok.place)
@@ -58,7 +57,6 @@ returns-in-Err-clause-updated c =
       claim = Err c.in-Err.fault;
       claimed = subst (λ (b : List ℕ). Claims (verdict (table_of (places_at old k)) b c.args.flags) b (places_at old k) (Err c.in-Err.fault) (places_at new k)) (key_read (goal.at.returns-in-Err-clause-updated c).After-claim) c.in-Err.ensures.claimed;
       rest = c.in-Err.ensures.rest;
-      flag = c.in-Err.ensures.refused;
       word_is = c.refusal.ensures;
       memory_is = refl;
     }

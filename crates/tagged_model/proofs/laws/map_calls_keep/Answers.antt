@@ -7,6 +7,6 @@ pub returns : goal.returns
 returns c = record {
   direct = direct_found;
   owned = λ shape t key number is e. found_owned t.count key t.table.entries number is.owns e;
-  updated = λ shape t key value flags refused is bytes size small. updated_keeps shape t is bytes value size small refused key flags;
+  updated = λ shape t key value flags is bytes size small. updated_keeps shape t is bytes value size small key flags;
   removed = λ shape t key is bytes. removed_keeps shape t is bytes key;
 }

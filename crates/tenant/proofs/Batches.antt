@@ -54,7 +54,7 @@ module _ (listed : MapsAreListed) (fd : ℕ) (k : KeptTenant) (l : LoadedProgram
   unfolding RunsInOrder RunsOnEach
   runs_in_order [] [] before after kept short none = ap stood_for none
   runs_in_order (input ∷ inputs) (result ∷ results) before after kept short (between, one, rest) =
-      let (refusals, told) = told_of listed fd kept opened (short 0 input (omega arith)) places same refl one.runs one.maps one.values in
-      (refusals, stood_for between, told, runs_in_order inputs results between after (kept_after kept one.maps) (λ i d lt. short (suc i) d (omega arith)) rest)
+      let told = told_of listed fd kept opened (short 0 input (omega arith)) places same refl one.runs one.maps one.values in
+      (stood_for between, told, runs_in_order inputs results between after (kept_after kept one.maps) (λ i d lt. short (suc i) d (omega arith)) rest)
   runs_in_order [] (result ∷ results) before after kept short wrong = absurd wrong
   runs_in_order (input ∷ inputs) [] before after kept short wrong = absurd wrong

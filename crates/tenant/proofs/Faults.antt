@@ -17,7 +17,6 @@ use Rattle.tagged_model.specs.declared.value.Outcome.{Outcome}
 use Rattle.tagged_model.specs.declared.value.Outcome.TheVariants.{Value, Fault}
 use Rattle.tagged_model.specs.Shape.{area}
 use Rattle.tagged_model.specs.Table as call
-use Rattle.tagged_model.specs.Step.{refused_at_first}
 use Rattle.tagged_model.specs.Table.{verdict, removal, look_up, next_of}
 use Rattle.verifier.specs.declared.refusal.Cause.{Cause}
 use Rattle.verifier.specs.declared.refusal.Cause.TheVariants as cause
@@ -124,11 +123,10 @@ bare_found : (s : TenantState) (o : Option (List ℕ)) → IsBare (gives_if_foun
 bare_found s None e = refl
 bare_found s (Some value) e = no_zero value e
 
-bare_put : (b : Bool) (s : TenantState) (place : ℕ) (t : Map) (key value : List ℕ) (v : call.Verdict (List ℕ)) → IsBare (element_put b s place t key value v)
-bare_put b s place t key value (call.Refused fault) e = refl
-bare_put b s place t key value (call.Present old) e = refl
-bare_put true s place t key value call.New e = refl
-bare_put false s place t key value call.New e = refl
+bare_put : (s : TenantState) (place : ℕ) (t : Map) (key value : List ℕ) (v : call.Verdict (List ℕ)) → IsBare (element_put s place t key value v)
+bare_put s place t key value (call.Refused fault) e = refl
+bare_put s place t key value (call.Present old) e = refl
+bare_put s place t key value call.New e = refl
 
 bare_taken : (s : TenantState) (place : ℕ) (t : Map) (key : List ℕ) (r : Result (List ℕ) MapFault) → IsBare (element_taken_out s place t key r)
 bare_taken s place t key (Err fault) e = refl
@@ -154,12 +152,12 @@ bare_ended : (o : Outcome) (s : TenantState) → IsBare (outcome_answer o s)
 bare_ended (Value n) s e = no_zero (little_bytes 4 n) e
 bare_ended Fault s e = refl
 
-bare_run : (refusals : List Bool) (s : TenantState) (words packet : List ℕ) (o : Option OpenObject) → IsBare (run_of refusals s words packet o)
-bare_run refusals s words packet None e = refl
-bare_run refusals s words packet (Some (object.Map place)) e = refl
-bare_run refusals s words packet (Some (object.Program l)) e = by_length (nat_lt longest_packet (length packet)) e
+bare_run : (s : TenantState) (words packet : List ℕ) (o : Option OpenObject) → IsBare (run_of s words packet o)
+bare_run s words packet None e = refl
+bare_run s words packet (Some (object.Map place)) e = refl
+bare_run s words packet (Some (object.Program l)) e = by_length (nat_lt longest_packet (length packet)) e
   where
-    by_length : (long : Bool) → IsBare (if long then refuses TooBig s else ran refusals s l words packet)
+    by_length : (long : Bool) → IsBare (if long then refuses TooBig s else ran s l words packet)
     by_length true e = refl
     by_length false e = bare_ended _ _ e
 
@@ -167,21 +165,21 @@ bare_closed : (s : TenantState) (fd : ℕ) (o : Option OpenObject) → IsBare (c
 bare_closed s fd None e = refl
 bare_closed s fd (Some o) e = refl
 
-bare_answer : (refusals : List Bool) (s : TenantState) (command : Command) (a : Answer) → Answers refusals s command a → IsBare a
-bare_answer refusals s (map_create kind key value max flags) a h = bare_told a _ h (bare_created (refused_at_first refusals) s (asked_shape (kind_of kind) key value max flags))
-bare_answer refusals s (map_lookup fd key) a h = bare_told a _ h (bare_tested s fd (has_size key) _ (λ place t. bare_found s (look_up t key)))
-bare_answer refusals s (map_update fd flags bytes) a h =
-    bare_told a _ h (bare_tested s fd (has_sizes bytes) (put_of (refused_at_first refusals) s flags bytes)
-    (λ place t. bare_put (refused_at_first refusals) s place t (key_of t.shape bytes) (value_of t.shape bytes) (verdict t (key_of t.shape bytes) flags)))
-bare_answer refusals s (map_delete fd key) a h = bare_told a _ h (bare_tested s fd (has_size key) _ (λ place t. bare_taken s place t key (removal t key)))
-bare_answer refusals s (map_next_key fd key) a h = bare_told a _ h (bare_tested s fd (is_empty_or_fits key) _ (λ place t. bare_found s (next_of t key)))
-bare_answer refusals s (prog_load kind slots) a h = bare_loads (kind == 1) (refused_at_first refusals) s slots a (refuses Invalid s) refl h
-bare_answer refusals s (prog_test_run fd words packet) a h = bare_told a _ h (bare_run refusals s words packet (table.named s.objects fd))
-bare_answer refusals s (close fd) a h = bare_told a _ h (bare_closed s fd (table.named s.objects fd))
+bare_answer : (refused : Bool) (s : TenantState) (command : Command) (a : Answer) → Answers refused s command a → IsBare a
+bare_answer refused s (map_create kind key value max flags) a h = bare_told a _ h (bare_created refused s (asked_shape (kind_of kind) key value max flags))
+bare_answer refused s (map_lookup fd key) a h = bare_told a _ h (bare_tested s fd (has_size key) _ (λ place t. bare_found s (look_up t key)))
+bare_answer refused s (map_update fd flags bytes) a h =
+    bare_told a _ h (bare_tested s fd (has_sizes bytes) (put_of s flags bytes)
+    (λ place t. bare_put s place t (key_of t.shape bytes) (value_of t.shape bytes) (verdict t (key_of t.shape bytes) flags)))
+bare_answer refused s (map_delete fd key) a h = bare_told a _ h (bare_tested s fd (has_size key) _ (λ place t. bare_taken s place t key (removal t key)))
+bare_answer refused s (map_next_key fd key) a h = bare_told a _ h (bare_tested s fd (is_empty_or_fits key) _ (λ place t. bare_found s (next_of t key)))
+bare_answer refused s (prog_load kind slots) a h = bare_loads (kind == 1) refused s slots a (refuses Invalid s) refl h
+bare_answer refused s (prog_test_run fd words packet) a h = bare_told a _ h (bare_run s words packet (table.named s.objects fd))
+bare_answer refused s (close fd) a h = bare_told a _ h (bare_closed s fd (table.named s.objects fd))
 
-bare_frame : (refusals : List Bool) (s : TenantState) (r : Result Command BadFrame) (a : Answer) → AnswersFrame refusals s r a → IsBare a
-bare_frame refusals s (Err fault) a h = bare_told a _ h (λ e. refl)
-bare_frame refusals s (Ok command) a h = bare_answer refusals s command a h
+bare_frame : (refused : Bool) (s : TenantState) (r : Result Command BadFrame) (a : Answer) → AnswersFrame refused s r a → IsBare a
+bare_frame refused s (Err fault) a h = bare_told a _ h (λ e. refl)
+bare_frame refused s (Ok command) a h = bare_answer refused s command a h
 
 -- ---- replies
 
@@ -196,8 +194,8 @@ same_status frame status payload e none =
     ∙ ap (λ (b : List ℕ). little_bytes 4 8 ++ (little_bytes 2 (owner frame) ++ (little_bytes 2 (command_number frame) ++ b))) e
 
 pub faults_have_no_payload : FaultsHaveNoPayload
-faults_have_no_payload frame reply None after (refusals, (goes, told)) e = absurd (unserved (nat_lt (length frame) 4) frame (subst IsFault told e))
-faults_have_no_payload frame reply (Some s) after (refusals, (a, answers, told, goes)) e =
+faults_have_no_payload frame reply None after (refused, (goes, told)) e = absurd (unserved (nat_lt (length frame) 4) frame (subst IsFault told e))
+faults_have_no_payload frame reply (Some s) after (refused, (a, answers, told, goes)) e =
     let fault = subst IsFault told e in
-    let bare = bare_frame refusals s (parsed frame) a answers (ap (λ (b : List ℕ). get_or b 0 0) fault) in
+    let bare = bare_frame refused s (parsed frame) a answers (ap (λ (b : List ℕ). get_or b 0 0) fault) in
     told ∙ same_status frame a.status a.payload fault bare

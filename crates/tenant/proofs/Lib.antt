@@ -17,6 +17,7 @@ mod Releases
 mod Times
 mod Closes
 mod Targets
+mod Memory
 mod Flag
 mod Faults
 mod LoadingHolds

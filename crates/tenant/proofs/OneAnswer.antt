@@ -5,7 +5,6 @@ use Rattle.command_frames.specs.declared.command.BadFrame.{BadFrame}
 use Rattle.command_frames.specs.Frame.{reply_to}
 use Rattle.command_frames.specs.Command.{Command, prog_load, parsed}
 use Rattle.fd_table.specs.Table as table
-use Rattle.tagged_model.specs.Step.{refused_at_first}
 use Rattle.verifier.specs.Laws.{OneJudgement}
 use Rattle.tenant.specs.State.{TenantState}
 use Rattle.tenant.specs.Machine.{Answer, answer_of_judgement, targets, LoadsAs, LoadsUnder}
@@ -26,19 +25,19 @@ loads_by one true refused s o slots x a b h k = loads_under one refused s o slot
 loads_by one false refused s o slots x a b h k = h ∙ sym k
 
 pub one_answer_is : OneJudgement → OneAnswer
-one_answer_is one refusals s (prog_load kind slots) a b x y = loads_by one (kind == 1) (refused_at_first refusals) s (table.lowest s.objects) slots _ a b x y
-one_answer_is one refusals s other a b x y = x ∙ sym y
+one_answer_is one refused s (prog_load kind slots) a b x y = loads_by one (kind == 1) refused s (table.lowest s.objects) slots _ a b x y
+one_answer_is one refused s other a b x y = x ∙ sym y
 
 -- ---- frames
 
-one_frame : OneAnswer → (refusals : List Bool) (s : TenantState) (r : Result Command BadFrame) (a b : Answer) → AnswersFrame refusals s r a → AnswersFrame refusals s r b → a ≡ b
-one_frame one refusals s (Err fault) a b x y = x ∙ sym y
-one_frame one refusals s (Ok command) a b x y = one refusals s command a b x y
+one_frame : OneAnswer → (refused : Bool) (s : TenantState) (r : Result Command BadFrame) (a b : Answer) → AnswersFrame refused s r a → AnswersFrame refused s r b → a ≡ b
+one_frame one refused s (Err fault) a b x y = x ∙ sym y
+one_frame one refused s (Ok command) a b x y = one refused s command a b x y
 
 pub one_reply_is : OneAnswer → OneReply
-one_reply_is one refusals frame x y None a b h k = (h.1 ∙ sym k.1, h.0 ∙ sym k.0)
-one_reply_is one refusals frame x y (Some s) a b (p, h, x_is, a_is) (q, k, y_is, b_is) =
-    let same : p ≡ q = one_frame one refusals s (parsed frame) p q h k in
+one_reply_is one refused frame x y None a b h k = (h.1 ∙ sym k.1, h.0 ∙ sym k.0)
+one_reply_is one refused frame x y (Some s) a b (p, h, x_is, a_is) (q, k, y_is, b_is) =
+    let same : p ≡ q = one_frame one refused s (parsed frame) p q h k in
     (x_is ∙ ap (λ (r : Answer). reply_to frame r.status r.payload) same ∙ sym y_is, a_is ∙ ap (λ (r : Answer). Some r.after) same ∙ sym b_is)
 
 pub one_alone_is : OneReply → OneAlone
@@ -48,6 +47,6 @@ one_alone_is one before a b [] [] (y ∷ ys) h k = absurd k
 one_alone_is one before a b (f ∷ fs) [] ys h k = absurd h
 one_alone_is one before a b (f ∷ fs) (x ∷ xs) [] h k = absurd k
 one_alone_is one before a b (f ∷ fs) (x ∷ xs) (y ∷ ys) (m, told, h) (n, told_too, k) =
-    let here = one [] f x y before m n told told_too in
+    let here = one false f x y before m n told told_too in
     let rest = one_alone_is one m a b fs xs ys h (subst (λ (o : Option TenantState). IsToldAlone o fs ys b) (sym here.1) k) in
     (ap₂ (λ (z : List ℕ) (zs : List (List ℕ)). z ∷ zs) here.0 rest.0, rest.1)

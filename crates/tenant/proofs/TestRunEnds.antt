@@ -1,12 +1,12 @@
 -- Replies to test runs.
-use Rattle.std.proofs.Common.{◌≡◌, ℕ, ◌≤◌, Bool, true, false, List, [], ◌∷◌, length, Option, Some, refl, sym, ap, ap₂, subst, ◌∙◌, arith}
+use Rattle.std.proofs.Common.{◌≡◌, ℕ, ◌≤◌, Bool, false, List, [], ◌∷◌, length, Option, Some, sym, ap, ap₂, subst, ◌∙◌, arith}
 use Rattle.std.specs.Prelude.{◌||◌, nat_lt, if◌then◌else◌}
 use Rattle.std.proofs.lemmas.Bool.Decides.{nat_tests}
 use Rattle.bpf_maps.specs.Live.{LiveMaps}
 use Rattle.fd_table.specs.Table.{named}
 use Rattle.flat_machine.specs.Runs.{RunInput, Standing, run_on, SimulatesRun, RunKeepsMaps, KeepsValues}
 use Rattle.insn_set.specs.declared.insn.Insn.{Insn}
-use Rattle.tagged_model.specs.Step.{MapsByDescriptor, left_with, was_refused}
+use Rattle.tagged_model.specs.Step.{MapsByDescriptor, left_with}
 use Rattle.tagged_model.specs.declared.value.Outcome.{Outcome}
 use Rattle.verifier.specs.Laws.{MapsAreListed}
 use Rattle.tenant.specs.declared.errno.Errno.TheVariants.{TooBig}
@@ -19,15 +19,11 @@ use Rattle.tenant.proofs.StillKept.{with_live}
 use Rattle.tenant.proofs.TestRunKeys.{bound_of}
 use Rattle.tenant.proofs.TestRunMaps.{stood, given_is, left_is}
 
-or_none : (b : Bool) → b ≡ (b || false)
-or_none true = refl
-or_none false = refl
-
 -- a packet that is not too long
-fits_is : (refusals : List Bool) (s : TenantState) (l : LoadedProgram) (words packet : List ℕ) → length packet ≤ longest_packet → ran refusals s l words packet ≡ run_of refusals s words packet (Some (object.Program l))
-fits_is refusals s l words packet fits =
+fits_is : (s : TenantState) (l : LoadedProgram) (words packet : List ℕ) → length packet ≤ longest_packet → ran s l words packet ≡ run_of s words packet (Some (object.Program l))
+fits_is s l words packet fits =
     let within : nat_lt longest_packet (length packet) ≡ false = grind (arith, nat_tests) in
-    ap (λ (b : Bool). if b then refuses TooBig s else ran refusals s l words packet) (sym within)
+    ap (λ (b : Bool). if b then refuses TooBig s else ran s l words packet) (sym within)
 
 -- the premises on a run, and the state that it leaves
 pub record HasRun (k : KeptTenant) (l : LoadedProgram) (words packet : List ℕ) (part : List ℕ) (first : ℕ) (outcome : Outcome) (after : Standing) : Type 0 where
@@ -38,7 +34,7 @@ pub record HasRun (k : KeptTenant) (l : LoadedProgram) (words packet : List ℕ)
   pub values : KeepsValues (map_places l) (stood k.live part first) after
 
 ran_as : MapsAreListed → {k : KeptTenant} {l : LoadedProgram} {words packet part : List ℕ} {first : ℕ} {outcome : Outcome} {after : Standing} → HasRun k l words packet part first outcome after
-    → (refusals : List Bool) × (outcome_answer outcome (state_in after.part (with_live k after.maps)) ≡ ran refusals (state_in part k) l words packet)
+    → outcome_answer outcome (state_in after.part (with_live k after.maps)) ≡ ran (state_in part k) l words packet
 ran_as listed {k} {l} {words} {packet} {part} {first} {outcome} {after} h =
     let s = state_in part k in
     let bind = map_places l in
@@ -47,18 +43,15 @@ ran_as listed {k} {l} {words} {packet} {part} {first} {outcome} {after} h =
     let input : RunInput = record { code = l.insns; bind = bind; maps = given; context = context; packet = packet } in
     let r : SimulatesRun input (stood k.live part first) outcome after =
     subst (λ (m : MapsByDescriptor). SimulatesRun (record { code = l.insns; bind = bind; maps = m; context = context; packet = packet }) (stood k.live part first) outcome after) (given_is part h.kept h.bound listed) h.runs in
-    let refused = was_refused [] l.insns given context packet in
     let maps = left_is h.kept h.bound listed h.maps h.values (left_with [] l.insns given context packet) r.left in
-    let flag : (k.refused || after.maps.refused) ≡ (s.refused || refused) = ap (λ (b : Bool). k.refused || b) r.flag ∙ or_none s.refused ∙ ap (λ (b : Bool). s.refused || b) (sym r.clear) in
-    let state : state_in after.part (with_live k after.maps) ≡ _ = ap₂ (λ (ms : List (Option Map)) (b : Bool). record { objects = k.objects; maps = ms; refused = b }) (sym maps) flag in (
-      [],
-      ap₂ outcome_answer r.value state,
-    )
+    let flag : (k.refused || after.maps.refused) ≡ s.refused = ap (λ (b : Bool). k.refused || b) r.flag in
+    let state : state_in after.part (with_live k after.maps) ≡ _ = ap₂ (λ (ms : List (Option Map)) (b : Bool). record { objects = k.objects; maps = ms; refused = b }) (sym maps) flag in
+    ap₂ outcome_answer r.value state
 
--- the reply to a test run of an open program, and the state after it, for some refusals
+-- the reply to a test run of an open program, and the state after it
 abbrev pub IsTold : (before : KeptTenant) (part : List ℕ) (fd : ℕ) (words packet : List ℕ) (outcome : Outcome) (later : List ℕ) (after : KeptTenant) → Type 0
 IsTold before part fd words packet outcome later after =
-    (refusals : List Bool) × (outcome_answer outcome (state_in later after) ≡ run_of refusals (state_in part before) words packet (named before.objects fd))
+    outcome_answer outcome (state_in later after) ≡ run_of (state_in part before) words packet (named before.objects fd)
 
 -- from the run of the code to the reply, for an open program
 pub told_of : MapsAreListed → {part later words packet bind context : List ℕ} {k : KeptTenant} {l : LoadedProgram} {new : LiveMaps} {code : List Insn} {before steps : ℕ} {outcome : Outcome} (fd : ℕ)
@@ -79,5 +72,4 @@ told_of listed {part} {later} {words} {packet} {bind} {context} {k} {l} {new} {c
       maps = subst (λ (ps : List ℕ). RunKeepsMaps ps k.live new) places keeps;
       values = subst (λ (ps : List ℕ). KeepsValues ps found left) places values;
     } in
-    let (refusals, answer) = ran_as listed has in
-    (refusals, answer ∙ fits_is refusals (state_in part k) l words packet fits ∙ ap (λ o. run_of refusals (state_in part k) words packet o) (sym opened))
+    ran_as listed has ∙ fits_is (state_in part k) l words packet fits ∙ ap (λ o. run_of (state_in part k) words packet o) (sym opened)

@@ -1,5 +1,5 @@
 -- The state after an update.
-use Rattle.std.proofs.Common.{◌≡◌, ◌≢◌, ℕ, ◌+◌, Bool, true, false, List, [], length, take, drop, Option, Result, Ok, Err, refl, sym, ap, subst, ◌∙◌, arith, length-drop}
+use Rattle.std.proofs.Common.{◌≡◌, ◌≢◌, ℕ, ◌+◌, Bool, List, [], length, take, drop, Option, Result, Ok, Err, refl, sym, ap, subst, ◌∙◌, arith, length-drop}
 use Rattle.std.specs.Prelude.{◌==◌, ◌||◌}
 use Rattle.bpf_maps.specs.Live.{LiveMaps, places_at, shape_at, map_in, value_in, OnlyKeysChange}
 use Rattle.bpf_maps.specs.Places.{PlaceTable, table_of, Claims}
@@ -30,8 +30,8 @@ abbrev pub value_of : MapShape → List ℕ → List ℕ
 value_of shape bytes = drop shape.key_size bytes
 
 -- the reply to an update with a key and a value of the map's sizes
-abbrev pub put_of : Bool → TenantState → ℕ → List ℕ → ℕ → Map → Answer
-put_of refused s flags bytes place t = element_put refused s place t (key_of t.shape bytes) (value_of t.shape bytes) (verdict t (key_of t.shape bytes) flags)
+abbrev pub put_of : TenantState → ℕ → List ℕ → ℕ → Map → Answer
+put_of s flags bytes place t = element_put s place t (key_of t.shape bytes) (value_of t.shape bytes) (verdict t (key_of t.shape bytes) flags)
 
 -- ---- the result of a claim
 
@@ -59,21 +59,21 @@ claimed_kept New key old (Err f) new h = absurd h
 
 -- after a claim the update is done
 done_by : (v : Verdict ℕ) (key : List ℕ) (old : PlaceTable) (p : ℕ) (new : PlaceTable) → Claims v key old (Ok p) new → (f : ℕ → List ℕ) (s : TenantState) (place : ℕ) (T : Map) (value : List ℕ)
-    → element_put false s place T key value (verdict_with f v) ≡ gives [] (with_map_at s place (change (verdict_with f v) T key value))
+    → element_put s place T key value (verdict_with f v) ≡ gives [] (with_map_at s place (change (verdict_with f v) T key value))
 done_by (Refused g) key old p new (is, same) f s place T value = absurd (not_ok g p (sym is))
 done_by (Present q) key old p new h f s place T value = refl
 done_by New key old p new h f s place T value = refl
 
 done_put : (v : Verdict ℕ) (w : Verdict (List ℕ)) (key : List ℕ) (old : PlaceTable) (p : ℕ) (new : PlaceTable) → Claims v key old (Ok p) new → (f : ℕ → List ℕ) → w ≡ verdict_with f v
-    → (s : TenantState) (place : ℕ) (T : Map) (value : List ℕ) → element_put false s place T key value w ≡ gives [] (with_map_at s place (change w T key value))
+    → (s : TenantState) (place : ℕ) (T : Map) (value : List ℕ) → element_put s place T key value w ≡ gives [] (with_map_at s place (change w T key value))
 done_put v w key old p new claimed f same s place T value =
-    subst (λ (x : Verdict (List ℕ)). element_put false s place T key value x ≡ gives [] (with_map_at s place (change x T key value))) (sym same) (done_by v key old p new claimed f s place T value)
+    subst (λ (x : Verdict (List ℕ)). element_put s place T key value x ≡ gives [] (with_map_at s place (change x T key value))) (sym same) (done_by v key old p new claimed f s place T value)
 
 -- ---- a rejected claim
 
 -- the reply to an update that is rejected, which is never for lack of memory
 abbrev Fails : Verdict (List ℕ) → MapFault → List ℕ → TenantState → ℕ → Map → List ℕ → Type 0
-Fails w f key s place T value = element_put false s place T key value w ≡ refuses (map_errno f) s
+Fails w f key s place T value = element_put s place T key value w ≡ refuses (map_errno f) s
 
 failed_by : (v : Verdict ℕ) (key : List ℕ) (old : PlaceTable) (f : MapFault) (new : PlaceTable) → Claims v key old (Err f) new
     → (g : ℕ → List ℕ) (s : TenantState) (place : ℕ) (T : Map) (value : List ℕ) → Fails (verdict_with g v) f key s place T value
@@ -121,12 +121,12 @@ value_fits {k} {t} {fd} {m} {flags} {bytes} {r} c =
     long ∙ sym (ap (λ (s : MapShape). s.value_size) c.rest.shape)
 
 -- the reply is that to the machine's update of this map
-update_is : (refused : Bool) (part : List ℕ) {k : KeptTenant} {t : LiveMaps} {fd m flags : ℕ} {bytes : List ℕ} {r : Claim} → IsClaimed k t fd m flags bytes r
-    → element_updated refused (state_in part k) fd flags bytes ≡ put_of refused (state_in part k) flags bytes m (map_in part k.live m)
-update_is refused part {k} {t} {fd} {m} {flags} {bytes} {r} c = on_map_is part (has_sizes bytes) (put_of refused (state_in part k) flags bytes) c.found (same_size (length bytes) c.size)
+update_is : (part : List ℕ) {k : KeptTenant} {t : LiveMaps} {fd m flags : ℕ} {bytes : List ℕ} {r : Claim} → IsClaimed k t fd m flags bytes r
+    → element_updated (state_in part k) fd flags bytes ≡ put_of (state_in part k) flags bytes m (map_in part k.live m)
+update_is part {k} {t} {fd} {m} {flags} {bytes} {r} c = on_map_is part (has_sizes bytes) (put_of (state_in part k) flags bytes) c.found (same_size (length bytes) c.size)
 
 pub updated_at : LiveMapsRefineValues → ValuesAreWritten → CallsRefineValues ℕ (List ℕ) → (part : List ℕ) {k : KeptTenant} {t : LiveMaps} {fd m flags p : ℕ} {bytes : List ℕ} → IsClaimed k t fd m flags bytes (Ok p)
-    → let value = value_of (shape_at k.live m) bytes in IsValueAt part t m p value → gives [] (state_in (with_value part t m p value) (with_live k t)) ≡ element_updated false (state_in part k) fd flags bytes
+    → let value = value_of (shape_at k.live m) bytes in IsValueAt part t m p value → gives [] (state_in (with_value part t m p value) (with_live k t)) ≡ element_updated (state_in part k) fd flags bytes
 updated_at along written calls part {k} {t} {fd} {m} {flags} {p} {bytes} c at =
     let key = key_of (shape_at k.live m) bytes in
     let value = value_of (shape_at k.live m) bytes in
@@ -141,10 +141,10 @@ updated_at along written calls part {k} {t} {fd} {m} {flags} {p} {bytes} c at =
     one_map part later k t m c.found.within c.rest.live others ((along part k.live t m c.rest.areas c.rest.live).update flags p key value at c.claimed) c.refused in
     ap (gives []) state
     ∙ sym (done_put (verdict (table_of (places_at k.live m)) key flags) w key (places_at k.live m) p (places_at t m) c.claimed (value_in part k.live m) (calls.verdict (value_in part k.live m) (table_of (places_at k.live m)) key flags) s m T value)
-    ∙ sym (update_is false part c)
+    ∙ sym (update_is part c)
 
 pub update_refused : LiveMapsRefineValues → CallsRefineValues ℕ (List ℕ) → (part : List ℕ) {k : KeptTenant} {t : LiveMaps} {fd m flags : ℕ} {f : MapFault} {bytes : List ℕ} → IsClaimed k t fd m flags bytes (Err f)
-    → refuses (map_errno f) (state_in part (with_live k t)) ≡ element_updated false (state_in part k) fd flags bytes
+    → refuses (map_errno f) (state_in part (with_live k t)) ≡ element_updated (state_in part k) fd flags bytes
 update_refused along calls part {k} {t} {fd} {m} {flags} {f} {bytes} c =
     let key = key_of (shape_at k.live m) bytes in
     let value = value_of (shape_at k.live m) bytes in
@@ -157,4 +157,4 @@ update_refused along calls part {k} {t} {fd} {m} {flags} {f} {bytes} c =
     let state : state_in part (with_live k t) ≡ s =
     ap (λ (ms : List (Option Map)). record { objects = k.objects; maps = ms; refused = k.refused || t.refused }) maps
     ∙ ap (λ (b : Bool). record s { refused = k.refused || b }) c.refused in
-    ap (refuses (map_errno f)) state ∙ sym put_is ∙ sym (update_is false part c)
+    ap (refuses (map_errno f)) state ∙ sym put_is ∙ sym (update_is part c)

@@ -1,13 +1,14 @@
 -- The replies to one tenant: those of its own machine, on its own frames. This project's own.
-use Rattle.std.specs.Prelude.{◌≡◌, ℕ, Bool, true, List, [], ◌∷◌, ◌++◌, length, take, drop, filter, Option, Some, None, Result, Ok, Err, nat_lt, ◌==◌, if◌then◌else◌}
+use Rattle.std.specs.Prelude.{◌≡◌, ℕ, Bool, false, List, [], ◌∷◌, length, take, drop, filter, Option, Some, None, Result, Ok, Err, nat_lt, ◌==◌, if◌then◌else◌}
 use Rattle.std.specs.Int.{w32, cast_unsigned}
+use Rattle.std.specs.List.{AllByRecursion}
 use Rattle.byteorder.specs.Endian.{little_bytes}
 use Rattle.command_frames.specs.declared.command.BadFrame.{BadFrame}
 use Rattle.command_frames.specs.declared.command.BadFrame.TheVariants as bad
 use Rattle.command_frames.specs.Frame.{head_length, owner, reply_to}
 use Rattle.command_frames.specs.Command.{Command, parsed}
 use Rattle.tenant.specs.declared.errno.Errno.{Errno}
-use Rattle.tenant.specs.declared.errno.Errno.TheVariants.{NotPermitted, TooBig, BadAddress, Invalid}
+use Rattle.tenant.specs.declared.errno.Errno.TheVariants.{NotPermitted, TooBig, NoMemory, BadAddress, Invalid}
 use Rattle.tenant.specs.Errno.{status_of}
 use Rattle.tenant.specs.State.{TenantState}
 use Rattle.tenant.specs.Machine.{Answer, refuses, Answers}
@@ -18,29 +19,38 @@ frame_errno bad.TooLong = TooBig
 frame_errno bad.Unknown = Invalid
 frame_errno bad.Body = Invalid
 
-abbrev pub AnswersFrame : List Bool → TenantState → Result Command BadFrame → Answer → Type 0
-AnswersFrame refusals s (Err fault) a = a ≡ refuses (frame_errno fault) s
-AnswersFrame refusals s (Ok command) a = Answers refusals s command a
+abbrev pub AnswersFrame : Bool → TenantState → Result Command BadFrame → Answer → Type 0
+AnswersFrame refused s (Err fault) a = a ≡ refuses (frame_errno fault) s
+AnswersFrame refused s (Ok command) a = Answers refused s command a
 
 -- the error for a frame of a tenant that is not served, or for one that has no head
 abbrev pub unserved_errno : List ℕ → Errno
 unserved_errno frame = if nat_lt (length frame) head_length then Invalid else NotPermitted
 
--- a frame, its reply, and the state of its tenant before and after it, with these refusals of memory; a tenant that is not served
+-- a frame, its reply, and the state of its tenant before and after it, if memory is refused or not; a tenant that is not served
 -- has no state, and the reply reports that, or that the frame has no head
-abbrev pub RepliesUnder : List Bool → List ℕ → List ℕ → Option TenantState → Option TenantState → Type 0
-RepliesUnder refusals frame reply None after =
+abbrev pub RepliesUnder : Bool → List ℕ → List ℕ → Option TenantState → Option TenantState → Type 0
+RepliesUnder refused frame reply None after =
     (after ≡ None) × (reply ≡ reply_to frame (status_of (unserved_errno frame)) [])
-RepliesUnder refusals frame reply (Some s) after =
-    (a : Answer) × AnswersFrame refusals s (parsed frame) a × (reply ≡ reply_to frame a.status a.payload) × (after ≡ Some a.after)
+RepliesUnder refused frame reply (Some s) after =
+    (a : Answer) × AnswersFrame refused s (parsed frame) a
+    × (reply ≡ reply_to frame a.status a.payload) × (after ≡ Some a.after)
 
--- with some refusals of memory
+-- memory may be refused
 abbrev pub MayReply : List ℕ → List ℕ → Option TenantState → Option TenantState → Type 0
-MayReply frame reply before after = (refusals : List Bool) × RepliesUnder refusals frame reply before after
+MayReply frame reply before after = (refused : Bool) × RepliesUnder refused frame reply before after
+
+-- the status of a reply is that of this error
+abbrev pub HasErrno : Errno → List ℕ → Type 0
+HasErrno errno reply = take 4 (drop 8 reply) ≡ little_bytes 4 (cast_unsigned w32 (status_of errno))
 
 -- the status of a reply is that of a faulting test run (EFAULT)
 abbrev pub IsFault : List ℕ → Type 0
-IsFault reply = take 4 (drop 8 reply) ≡ little_bytes 4 (cast_unsigned w32 (status_of BadAddress))
+IsFault reply = HasErrno BadAddress reply
+
+-- the status of a reply is that of a command to which memory was refused (ENOMEM)
+abbrev pub IsRefusedMemory : List ℕ → Type 0
+IsRefusedMemory reply = HasErrno NoMemory reply
 
 -- ---- a list of frames
 
@@ -64,27 +74,12 @@ RepliesInOrder tells before (frame ∷ frames) [] after = ⊥
 
 -- the replies are those of the tenant's machine, without refusals of memory and with some
 abbrev pub IsToldAlone : Option TenantState → List (List ℕ) → List (List ℕ) → Option TenantState → Type 0
-IsToldAlone before frames replies after = RepliesInOrder (RepliesUnder []) before frames replies after
+IsToldAlone before frames replies after =
+    RepliesInOrder (RepliesUnder false) before frames replies after
 
 abbrev pub AloneWithRefusals : Option TenantState → List (List ℕ) → List (List ℕ) → Option TenantState → Type 0
 AloneWithRefusals before frames replies after = RepliesInOrder MayReply before frames replies after
 
--- ---- until memory is refused
-
--- there are no more frames, or the flag of refused memory is set with the reply to the first of these frames
-abbrev pub EndsOrIsRefused : Option TenantState → List (List ℕ) → List (List ℕ) → Type 0
-EndsOrIsRefused before [] [] = Unit {0}
-EndsOrIsRefused before (frame ∷ frames) (reply ∷ replies) = (s : TenantState) × MayReply frame reply before (Some s) × (s.refused ≡ true)
-EndsOrIsRefused before _ _ = ⊥
-
--- the tenant gets the replies of its machine without refusals up to the first with which its flag is set, or to all frames
-pub record IsToldAloneUntilRefused (before : Option TenantState) (frames replies : List (List ℕ)) : Type 0 where
-  pub first : List (List ℕ)
-  pub told : List (List ℕ)
-  pub later : List (List ℕ)
-  pub rest : List (List ℕ)
-  pub between : Option TenantState
-  pub frames_are : frames ≡ first ++ later
-  pub replies_are : replies ≡ told ++ rest
-  pub alone : IsToldAlone before first told between
-  pub next : EndsOrIsRefused between later rest
+-- none of these replies is that of a command to which memory was refused
+abbrev pub NoneIsRefusedMemory : List (List ℕ) → Type 0
+NoneIsRefusedMemory replies = AllByRecursion (λ reply. ¬ IsRefusedMemory reply) replies

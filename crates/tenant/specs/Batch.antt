@@ -1,5 +1,5 @@
 -- A program on many packets: the test runs of the packets, one after another. Packets are counted from 0. This project's own.
-use Rattle.std.specs.Prelude.{◌≡◌, ℕ, pos, Bool, nat_lt, List, [], ◌∷◌, ◌++◌, length, drop, Option, Some, None, option_map, Ok, if◌then◌else◌}
+use Rattle.std.specs.Prelude.{◌≡◌, ℕ, pos, nat_lt, List, [], ◌∷◌, ◌++◌, length, drop, Option, Some, None, option_map, Ok, if◌then◌else◌}
 use Rattle.byteorder.specs.Endian.{little_bytes}
 use Rattle.command_frames.specs.Command.{prog_test_run, parsed}
 use Rattle.command_frames.specs.Frame.{reply_to}
@@ -13,18 +13,18 @@ use Rattle.tenant.specs.declared.errno.Errno.TheVariants.{TooBig, BadDescriptor,
 use Rattle.tenant.specs.declared.object.OpenObject.{OpenObject}
 use Rattle.tenant.specs.declared.object.OpenObject.TheVariants as object
 use Rattle.tenant.specs.Alone.{AloneWithRefusals}
-use Rattle.tenant.specs.Machine.{Answers, gives, refuses, longest_packet}
+use Rattle.tenant.specs.Machine.{gives, refuses, run_of, longest_packet}
 use Rattle.tenant.specs.State.{TenantState}
 
 -- ---- the runs
 
 -- The test-run commands of packets, one after another, each on the words of context that are given with it: each succeeds with its
--- result, and the states before and after them. To each of them memory may be refused.
+-- result, and the states before and after them.
 unfoldable pub RunsInOrder : ℕ → TenantState → List BatchInput → List ℕ → TenantState → Type 0
 RunsInOrder fd before [] [] after = after ≡ before
 RunsInOrder fd before (input ∷ inputs) (result ∷ results) after =
-    (refusals : List Bool) × (between : TenantState)
-    × Answers refusals before (prog_test_run fd input.words input.packet) (gives (little_bytes 4 result) between)
+    (between : TenantState) × (gives (little_bytes 4 result) between
+    ≡ run_of before input.words input.packet (named before.objects fd))
     × RunsInOrder fd between inputs results after
 RunsInOrder fd before [] (result ∷ results) after = ⊥
 RunsInOrder fd before (input ∷ inputs) [] after = ⊥
@@ -95,8 +95,9 @@ BatchIsItsFrames =
 -- the test-run command of a packet has the error of a run
 abbrev pub RefusedAsItsFrame : Type 0
 RefusedAsItsFrame =
-    (refusals : List Bool) (s : TenantState) (fd : ℕ) (words packet : List ℕ) (errno : Errno) → run_refusal (named s.objects fd) (length packet) ≡ Some errno
-    → Answers refusals s (prog_test_run fd words packet) (refuses errno s)
+    (s : TenantState) (fd : ℕ) (words packet : List ℕ) (errno : Errno)
+    → run_refusal (named s.objects fd) (length packet) ≡ Some errno
+    → refuses errno s ≡ run_of s words packet (named s.objects fd)
 
 -- there are as many results as packets
 abbrev pub OneResultEach : Type 0

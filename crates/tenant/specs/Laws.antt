@@ -1,20 +1,23 @@
--- The machine is deterministic: with the same refusals of memory a command has one answer, and a list of frames has one list
--- of replies. This project's own.
-use Rattle.std.specs.Prelude.{◌≡◌, ℕ, Bool, false, [], List, Option, Some}
-use Rattle.command_frames.specs.Command.{Command}
+-- The machine is deterministic: if memory is refused to the same commands, they have the same answers and frames the same replies.
+-- What the replies say of refused memory. This project's own.
+use Rattle.std.specs.Prelude.{◌≡◌, ◌≢◌, ◌⊎◌, ℕ, Bool, true, false, [], List, Option, Some, Ok}
+use Rattle.command_frames.specs.Command.{Command, map_create, prog_load, parsed}
 use Rattle.tenant.specs.State.{TenantState}
-use Rattle.tenant.specs.Machine.{Answer, Answers}
+use Rattle.tenant.specs.Machine.{Answer, Answers, refuses_for_memory}
 use Rattle.command_frames.specs.Frame.{reply_to}
-use Rattle.tenant.specs.declared.errno.Errno.TheVariants.{BadAddress}
+use Rattle.tenant.specs.declared.errno.Errno.TheVariants.{NoMemory, BadAddress}
 use Rattle.tenant.specs.Errno.{status_of}
-use Rattle.tenant.specs.Alone.{RepliesUnder, MayReply, IsFault, IsToldAlone, AloneWithRefusals, IsToldAloneUntilRefused}
+use Rattle.tenant.specs.Alone.{RepliesUnder, MayReply, IsFault, IsRefusedMemory, NoneIsRefusedMemory, IsToldAlone, AloneWithRefusals}
 
 abbrev pub OneAnswer : Type 0
-OneAnswer = (refusals : List Bool) (s : TenantState) (command : Command) (a b : Answer) → Answers refusals s command a → Answers refusals s command b → a ≡ b
+OneAnswer =
+    (refused : Bool) (s : TenantState) (command : Command) (a b : Answer)
+    → Answers refused s command a → Answers refused s command b → a ≡ b
 
 abbrev pub OneReply : Type 0
 OneReply =
-    (refusals : List Bool) (frame x y : List ℕ) (before a b : Option TenantState) → RepliesUnder refusals frame x before a → RepliesUnder refusals frame y before b
+    (refused : Bool) (frame x y : List ℕ) (before a b : Option TenantState)
+    → RepliesUnder refused frame x before a → RepliesUnder refused frame y before b
     → (x ≡ y) × (a ≡ b)
 
 -- if no memory is refused
@@ -26,8 +29,8 @@ OneAlone =
 -- if a tenant's flag is clear after a command, the answer is that without refusals of memory
 abbrev pub ClearFlagMeansNoRefusal : Type 0
 ClearFlagMeansNoRefusal =
-    (refusals : List Bool) (s : TenantState) (command : Command) (a : Answer) → Answers refusals s command a → a.after.refused ≡ false
-    → Answers [] s command a
+    (refused : Bool) (s : TenantState) (command : Command) (a : Answer)
+    → Answers refused s command a → a.after.refused ≡ false → Answers false s command a
 
 -- if a tenant's flag is clear at the end, its replies are those of its machine without refusals
 abbrev pub ClearFlagMeansAlone : Type 0
@@ -35,11 +38,41 @@ ClearFlagMeansAlone =
     (before : Option TenantState) (after : TenantState) (frames replies : List (List ℕ)) → AloneWithRefusals before frames replies (Some after)
     → after.refused ≡ false → IsToldAlone before frames replies (Some after)
 
--- a tenant gets the replies of its machine without refusals until its flag is set
-abbrev pub AloneUntilRefused : Type 0
-AloneUntilRefused =
-    (before after : Option TenantState) (frames replies : List (List ℕ)) → AloneWithRefusals before frames replies after
-    → IsToldAloneUntilRefused before frames replies
+-- ---- what a tenant is answered of refused memory
+
+-- a creation of a map and a load of a program take memory, which may be refused
+abbrev pub takes_memory : Command → Bool
+takes_memory (map_create kind key value max flags) = true
+takes_memory (prog_load kind slots) = true
+takes_memory other = false
+
+-- the answer is not that memory was refused, and the flag is as before
+abbrev pub IsNoRefusal : TenantState → Answer → Type 0
+IsNoRefusal s a = (a.status ≢ status_of NoMemory) × (a.after.refused ≡ s.refused)
+
+-- A refusal of memory changes only the answer of a creation or a load: it is told (ENOMEM), and only the flag changes. Nothing else is
+-- told so, or sets the flag: no command to which memory is not refused, and no other command.
+pub record RefusalsAreTold : Type 0 where
+  pub refused : (s : TenantState) (command : Command) (a : Answer) → Answers true s command a
+      → Answers false s command a ⊎ ((takes_memory command ≡ true) × (a ≡ refuses_for_memory s))
+  pub unrefused : (s : TenantState) (command : Command) (a : Answer)
+      → Answers false s command a → IsNoRefusal s a
+  pub others : (refused : Bool) (s : TenantState) (command : Command) (a : Answer)
+      → Answers refused s command a → takes_memory command ≡ false → IsNoRefusal s a
+
+-- only the reply to a creation or a load may be that memory was refused
+abbrev pub OnlyCreationsAndLoadsAreRefused : Type 0
+OnlyCreationsAndLoadsAreRefused =
+    (frame reply : List ℕ) (before after : Option TenantState) → MayReply frame reply before after
+    → IsRefusedMemory reply
+    → (command : Command) × (parsed frame ≡ Ok command) × (takes_memory command ≡ true)
+
+-- if none of a tenant's replies is that memory was refused, they are those of its machine without refusals, whatever its flag was
+abbrev pub UnrefusedRepliesMeanAlone : Type 0
+UnrefusedRepliesMeanAlone =
+    (before after : Option TenantState) (frames replies : List (List ℕ))
+    → AloneWithRefusals before frames replies after → NoneIsRefusedMemory replies
+    → IsToldAlone before frames replies after
 
 -- a reply with the status of a fault has no payload
 abbrev pub FaultsHaveNoPayload : Type 0

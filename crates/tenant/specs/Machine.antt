@@ -22,7 +22,7 @@ use Rattle.tagged_model.specs.declared.value.Outcome.{Outcome}
 use Rattle.tagged_model.specs.declared.value.Outcome.TheVariants.{Value, Fault}
 use Rattle.tagged_model.specs.Cells.{and_then}
 use Rattle.tagged_model.specs.Shape.{is_shape, is_valid}
-use Rattle.tagged_model.specs.Step.{refused_at_first, MapsByDescriptor, result_with, left_with, was_refused}
+use Rattle.tagged_model.specs.Step.{MapsByDescriptor, result_of, left_with}
 use Rattle.tagged_model.specs.Table as call
 use Rattle.tagged_model.specs.Table.{look_up, verdict, removal, next_of, with_new, with_object, with_deleted, after_run, new_table}
 use Rattle.verifier.specs.declared.refusal.Cause.{Cause}
@@ -127,16 +127,17 @@ abbrev pub element_looked_up : TenantState → ℕ → List ℕ → Answer
 element_looked_up s fd key = on_map s fd (λ place t. if length key == t.shape.key_size then gives_if_found s (look_up t key) else refuses Invalid s)
 
 -- MAP_UPDATE_ELEM: a present key keeps its position, and a new one goes to the end
-abbrev pub element_put : Bool → TenantState → ℕ → Map → List ℕ → List ℕ → call.Verdict (List ℕ) → Answer
-element_put refused s place t key value (call.Refused fault) = refuses (map_errno fault) s
-element_put refused s place t key value (call.Present old) = gives [] (with_map_at s place (with_object t key value))
-element_put true s place t key value call.New = refuses_for_memory s
-element_put false s place t key value call.New = gives [] (with_map_at s place (with_new t key value))
+abbrev pub element_put : TenantState → ℕ → Map → List ℕ → List ℕ → call.Verdict (List ℕ) → Answer
+element_put s place t key value (call.Refused fault) = refuses (map_errno fault) s
+element_put s place t key value (call.Present old) =
+    gives [] (with_map_at s place (with_object t key value))
+element_put s place t key value call.New = gives [] (with_map_at s place (with_new t key value))
 
-abbrev pub element_updated : Bool → TenantState → ℕ → ℕ → List ℕ → Answer
-element_updated refused s fd flags bytes =
+abbrev pub element_updated : TenantState → ℕ → ℕ → List ℕ → Answer
+element_updated s fd flags bytes =
     on_map s fd (λ place t. if length bytes == t.shape.key_size + t.shape.value_size
-    then element_put refused s place t (take t.shape.key_size bytes) (drop t.shape.key_size bytes) (verdict t (take t.shape.key_size bytes) flags)
+    then element_put s place t (take t.shape.key_size bytes) (drop t.shape.key_size bytes)
+    (verdict t (take t.shape.key_size bytes) flags)
     else refuses Invalid s)
 
 -- MAP_DELETE_ELEM: no run is in progress, so the deleted value is gone
@@ -276,18 +277,19 @@ outcome_answer (Value n) s = gives (little_bytes 4 n) s
 outcome_answer Fault s = refuses BadAddress s
 
 -- word 0 of the context is the packet's length
-abbrev pub ran : List Bool → TenantState → LoadedProgram → List ℕ → List ℕ → Answer
-ran refusals s l words packet =
+abbrev pub ran : TenantState → LoadedProgram → List ℕ → List ℕ → Answer
+ran s l words packet =
     let given = maps_given s l in
-    outcome_answer (result_with refusals l.insns given (length packet ∷ words) packet) (record s {
-      maps = maps_left (left_with refusals l.insns given (length packet ∷ words) packet) l.maps s.maps;
-      refused = s.refused || was_refused refusals l.insns given (length packet ∷ words) packet;
+    let context = length packet ∷ words in
+    outcome_answer (result_of l.insns given context packet) (record s {
+      maps = maps_left (left_with [] l.insns given context packet) l.maps s.maps;
     })
 
-abbrev pub run_of : List Bool → TenantState → List ℕ → List ℕ → Option OpenObject → Answer
-run_of refusals s words packet None = refuses BadDescriptor s
-run_of refusals s words packet (Some (object.Map place)) = refuses Invalid s
-run_of refusals s words packet (Some (object.Program l)) = if nat_lt longest_packet (length packet) then refuses TooBig s else ran refusals s l words packet
+abbrev pub run_of : TenantState → List ℕ → List ℕ → Option OpenObject → Answer
+run_of s words packet None = refuses BadDescriptor s
+run_of s words packet (Some (object.Map place)) = refuses Invalid s
+run_of s words packet (Some (object.Program l)) =
+    if nat_lt longest_packet (length packet) then refuses TooBig s else ran s l words packet
 
 -- ---- CLOSE
 
@@ -297,14 +299,15 @@ closed s fd (Some o) = gives [] (with_objects s (table.with_closed s.objects fd)
 
 -- ---- every command
 
--- The answers that a command may have. Memory may be refused to it: by the first of the refusals, and in a test
--- run at the steps that they name.
-abbrev pub Answers : List Bool → TenantState → Command → Answer → Type 0
-Answers refusals s (map_create kind key value max flags) a = a ≡ created (refused_at_first refusals) s (asked_shape (kind_of kind) key value max flags)
-Answers refusals s (map_lookup fd key) a = a ≡ element_looked_up s fd key
-Answers refusals s (map_update fd flags bytes) a = a ≡ element_updated (refused_at_first refusals) s fd flags bytes
-Answers refusals s (map_delete fd key) a = a ≡ element_deleted s fd key
-Answers refusals s (map_next_key fd key) a = a ≡ given_next s fd key
-Answers refusals s (prog_load kind slots) a = Loads (refused_at_first refusals) s kind slots a
-Answers refusals s (prog_test_run fd words packet) a = a ≡ run_of refusals s words packet (table.named s.objects fd)
-Answers refusals s (close fd) a = a ≡ closed s fd (table.named s.objects fd)
+-- The answer of a command, whether memory is refused to it or not. Only MAP_CREATE and PROG_LOAD take memory.
+abbrev pub Answers : Bool → TenantState → Command → Answer → Type 0
+Answers refused s (map_create kind key value max flags) a =
+    a ≡ created refused s (asked_shape (kind_of kind) key value max flags)
+Answers refused s (map_lookup fd key) a = a ≡ element_looked_up s fd key
+Answers refused s (map_update fd flags bytes) a = a ≡ element_updated s fd flags bytes
+Answers refused s (map_delete fd key) a = a ≡ element_deleted s fd key
+Answers refused s (map_next_key fd key) a = a ≡ given_next s fd key
+Answers refused s (prog_load kind slots) a = Loads refused s kind slots a
+Answers refused s (prog_test_run fd words packet) a =
+    a ≡ run_of s words packet (table.named s.objects fd)
+Answers refused s (close fd) a = a ≡ closed s fd (table.named s.objects fd)

@@ -1,16 +1,16 @@
 //! Laws of the machine. Each law is the contract of a function that does nothing.
 
 ghost use Rattle.tenant.specs.Batch.{BatchIsItsFrames, RefusedAsItsFrame, OneResultEach};
-ghost use Rattle.tenant.specs.Laws.{OneAnswer, OneReply, OneAlone, ClearFlagMeansNoRefusal, ClearFlagMeansAlone, AloneUntilRefused, FaultsHaveNoPayload};
+ghost use Rattle.tenant.specs.Laws.{OneAnswer, OneReply, OneAlone, ClearFlagMeansNoRefusal, ClearFlagMeansAlone, RefusalsAreTold, OnlyCreationsAndLoadsAreRefused, UnrefusedRepliesMeanAlone, FaultsHaveNoPayload};
 
-/// The answer to a command is unique, for the same refusals of memory.
+/// The answer to a command is unique, whether memory is refused to it or not.
 pub fn one_answer()
     ensures { OneAnswer }
 {
     verifier::laws::one_judgement();
 }
 
-/// The reply to a frame is unique, for the same refusals of memory.
+/// The reply to a frame is unique, whether memory is refused to it or not.
 pub fn one_reply()
     ensures { OneReply }
 {
@@ -27,23 +27,32 @@ pub fn one_alone()
 /// If a tenant's flag is clear after a command, the answer is that without refusals of memory.
 pub fn clear_flag_means_no_refusal()
     ensures { ClearFlagMeansNoRefusal }
-{
-    tagged_model::laws::refusals_are_told();
-}
+{}
 
 /// If a tenant's flag is clear at the end, its replies are those of its machine without refusals.
 pub fn clear_flag_means_alone()
     ensures { ClearFlagMeansAlone }
+{}
+
+/// A refusal of memory changes only the answer of a creation or a load, which then is `NoMemory` and changes nothing but the flag. No
+/// other command, and none to which memory is not refused, is answered `NoMemory` or sets the flag; so no verdict on a program is
+/// `NoMemory`.
+pub fn refusals_are_told()
+    ensures { RefusalsAreTold }
 {
-    tagged_model::laws::refusals_are_told();
+    insn_codec::laws::one_fault();
+    verifier::laws::refused_by_a_rule();
 }
 
-/// Up to the first reply with which a tenant's flag is set, its replies are those of its machine without refusals.
-pub fn alone_until_refused()
-    ensures { AloneUntilRefused }
-{
-    tagged_model::laws::refusals_are_told();
-}
+/// Only the reply to a creation or a load has the status `NoMemory`.
+pub fn only_creations_and_loads_are_refused()
+    ensures { OnlyCreationsAndLoadsAreRefused }
+{}
+
+/// If none of a tenant's replies has the status `NoMemory`, they are those of its machine without refusals, whatever its flag was.
+pub fn unrefused_replies_mean_alone()
+    ensures { UnrefusedRepliesMeanAlone }
+{}
 
 /// A reply with the status of a fault has no payload.
 pub fn faults_have_no_payload()

@@ -2,8 +2,8 @@
 //!
 //! A definition (`Machine` in the specs) is the machine of one tenant: one equation for each command gives the status, the
 //! payload and the next state. A state (`TenantState`) is what the 64 descriptors name, the live maps at 16 places with the
-//! bytes of their values, and whether memory was ever refused to the tenant. Memory may be refused to a command; otherwise the
-//! machine is deterministic.
+//! bytes of their values, and whether memory was ever refused to the tenant. Memory may be refused to MAP_CREATE and PROG_LOAD,
+//! and no other command takes any; otherwise the machine is deterministic.
 //!
 //! # What is proved
 //!
@@ -16,20 +16,22 @@
 //! - The open objects, the live maps and their entries in their order can be read: `object`, `is_live`, `map_shape`,
 //!   `map_entry` of `Tenant`.
 //! - A new tenant has nothing open: `Tenant::new`.
-//! - With the same refusals a command has one result and a frame one reply; without refusals a tenant's frames have one list of
-//!   replies and lead to one state: `one_answer`, `one_reply`, `one_alone`.
-//! - If a tenant's flag is clear, no memory was refused, and its replies are those of its machine without refusals:
-//!   `clear_flag_means_no_refusal`, `clear_flag_means_alone`. Until the flag is set, its replies are those:
-//!   `alone_until_refused`.
+//! - A command to which memory is refused has one result, and so has one to which it is not; likewise a frame has one reply.
+//!   Without refusals a tenant's frames have one list of replies and lead to one state: `one_answer`, `one_reply`, `one_alone`.
+//! - A refusal of memory changes only the answer of a creation or a load, which then has the status -12, and changes only the
+//!   flag. Nothing else has this status or sets the flag: `refusals_are_told`, `only_creations_and_loads_are_refused`.
+//! - If none of a tenant's replies has the status -12, they are those of its machine without refusals, whatever its flag was:
+//!   `unrefused_replies_mean_alone`. The same holds if its flag is clear at the end: `clear_flag_means_no_refusal`,
+//!   `clear_flag_means_alone`.
 //! - A reply with the status of a fault has no payload: `faults_have_no_payload`.
-//! - A program is run on many packets, with one context for all (`with_words`) or one for each (`with_own_words`): the machine carries
-//!   out the test-run command of each, one after another, with its result, and memory may be refused to each (`RunsInOrder`). The results are at the front of the room, whose rest is
+//! - A program is run on many packets, with one context for all or one for each: the machine carries out the test-run command of
+//!   each, one after another, with its result (`RunsInOrder`). The results are at the front of the room, whose rest is
 //!   unchanged: `runs` of `Tenant::run_packets`.
 //! - Or the batch is rejected before its first packet, by the first of these: the descriptor names no program; there is room
 //!   for fewer results than packets; there is neither one context nor one for each packet; or, packet by packet, one is outside
 //!   the bytes or is too long. Then nothing has changed: `refusal`, `unchanged` of `Tenant::run_packets`.
-//! - The runs of a batch are the test-run frames of its packets, with replies that have its results; memory refused to a run is
-//!   refused to its frame; there are as many results as packets: `batch_is_its_frames`, `refused_as_its_frame`,
+//! - The runs of a batch are the test-run frames of its packets, with replies that have its results; a run is rejected with the
+//!   status of its frame; there are as many results as packets: `batch_is_its_frames`, `refused_as_its_frame`,
 //!   `one_result_each`.
 //!
 //! # Decisions

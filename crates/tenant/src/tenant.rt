@@ -214,9 +214,8 @@ impl Tenant {
         part: &mut [u8],
     ) -> Result<Reply<'static>, Errno>
         requires { length part.old ≡ PART }
-        ensures answer { (refused : Bool)
-            × (shown_answer result (state_in part.new self.new)
-            ≡ element_updated refused (state_in part.old self.old) fd flags key_and_value.now) }
+        ensures answer { shown_answer result (state_in part.new self.new)
+            ≡ element_updated (state_in part.old self.old) fd flags key_and_value.now }
         ensures writable { IsWritable result }
         ensures length { length part.new ≡ PART }
     {
@@ -316,7 +315,7 @@ impl Tenant {
         }
     }
 
-    /// Whether memory was ever refused to this tenant: to a load, to a new map or to a new key.
+    /// Whether memory was ever refused to this tenant: to a load or to a new map.
     pub fn memory_was_refused(&self) -> bool
         ensures { (part : List ℕ) → result ≡ (state_in part self.now).refused }
     {

@@ -1,6 +1,6 @@
 //! Test runs of loaded programs.
 
-ghost use Rattle.std.specs.Prelude.{◌≡◌, ◌≢◌, ℕ, Bool, List};
+ghost use Rattle.std.specs.Prelude.{◌≡◌, ◌≢◌, ℕ};
 ghost use Rattle.arena.specs.Memory.{part_bytes};
 ghost use Rattle.bpf_helpers.specs.Parts.{IsPartOf};
 ghost use Rattle.fd_table.specs.Table.{named};
@@ -19,8 +19,8 @@ use verifier::laws;
 
 impl Tenant {
     /// PROG_TEST_RUN: runs the program at a descriptor on ten words of context and a packet, with the maps with which it was loaded,
-    /// and returns its result. It runs in this tenant's part of the memory, and every other part is unchanged. Only new keys of hash
-    /// maps take memory. A run never faults.
+    /// and returns its result. It runs in this tenant's part of the memory, and every other part is unchanged. It takes no memory,
+    /// and never faults.
     ///
     /// # Errors
     ///
@@ -35,10 +35,9 @@ impl Tenant {
         arena: &mut Arena,
     ) -> Result<Reply<'static>, Errno>
         requires part { IsPartOf tenant arena.old }
-        ensures answer { (refusals : List Bool)
-            × (shown_answer result (state_in (part_bytes arena.new tenant) self.new)
-            ≡ run_of refusals (state_in (part_bytes arena.old tenant) self.old)
-            words.now packet.now (named self.old.objects fd)) }
+        ensures answer { shown_answer result (state_in (part_bytes arena.new tenant) self.new)
+            ≡ run_of (state_in (part_bytes arena.old tenant) self.old)
+            words.now packet.now (named self.old.objects fd) }
         ensures writable { IsWritable result }
         ensures parts { arena.new.parts ≡ arena.old.parts }
         ensures part { arena.new.part ≡ arena.old.part }

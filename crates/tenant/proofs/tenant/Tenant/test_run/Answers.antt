@@ -30,10 +30,8 @@ returns-clause-answer c =
     let run = c.run_with-outcome in
     let later = part_bytes run.new.arena t in
     let after = state_in later (with_live k run.new.maps) in
-    let (refusals, is) = told_of c.maps_are_listed.ensures c.args.fd c.self.invariant c.in_ok-program.ensures.found c.if-packet-gt-LONGEST_PACKET.false
-    c.maps.ensures c.program.ensures.code c.context_words-context.ensures run.ensures.runs run.ensures.maps run.ensures.values in (
-      refusals,
-      ap (λ (o : Outcome). outcome_answer o after) (sym c.in-Value.is)
-          ∙ is
-          ∙ ap (λ (x : KeptTenant). run_of refusals (state_in part x) words packet (named x.objects c.args.fd)) c.self.view_is,
-    )
+    let is = told_of c.maps_are_listed.ensures c.args.fd c.self.invariant c.in_ok-program.ensures.found c.if-packet-gt-LONGEST_PACKET.false
+    c.maps.ensures c.program.ensures.code c.context_words-context.ensures run.ensures.runs run.ensures.maps run.ensures.values in
+    ap (λ (o : Outcome). outcome_answer o after) (sym c.in-Value.is)
+    ∙ is
+    ∙ ap (λ (x : KeptTenant). run_of (state_in part x) words packet (named x.objects c.args.fd)) c.self.view_is

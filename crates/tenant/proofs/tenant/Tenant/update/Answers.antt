@@ -1,4 +1,4 @@
-use Rattle.std.proofs.Common.{◌≡◌, ℕ, ◌+◌, false, List, [], length, Ok, Err, sym, ap, ap₂, ◌∙◌}
+use Rattle.std.proofs.Common.{◌≡◌, ℕ, ◌+◌, List, [], length, Ok, Err, sym, ap, ap₂, ◌∙◌}
 use Rattle.bpf_maps.specs.InPart.{IsValueAt, with_value}
 use Rattle.words.specs.Bytes.{written_at}
 use Rattle.tagged_model.specs.declared.shape.MapShape.{MapShape}
@@ -26,12 +26,10 @@ invariant_of-self c = still_claimed c.self.invariant (not_claimed c)
 pub returns-in-Err-clause-answer : goal.returns-in-Err-clause-answer
 returns-in-Err-clause-answer c =
     let part = c.args.part.now in
-    let is = update_refused c.live_maps_refine_values.ensures c.calls_refine_values.ensures.bytes part (not_claimed c) in (
-      false,
-      ap (λ (errno : Errno). refuses errno (state_in part (with_live (kept_in c.self.inside) c.claim.new.self))) c.of_map.ensures.errno
-          ∙ is
-          ∙ ap (λ (old : KeptTenant). element_updated false (state_in part old) c.args.fd c.args.flags c.args.key_and_value.now) c.self.view_is,
-    )
+    let is = update_refused c.live_maps_refine_values.ensures c.calls_refine_values.ensures.bytes part (not_claimed c) in
+    ap (λ (errno : Errno). refuses errno (state_in part (with_live (kept_in c.self.inside) c.claim.new.self))) c.of_map.ensures.errno
+    ∙ is
+    ∙ ap (λ (old : KeptTenant). element_updated (state_in part old) c.args.fd c.args.flags c.args.key_and_value.now) c.self.view_is
 
 -- ---- the claim gives a place
 
@@ -56,12 +54,10 @@ returns-clause-answer c =
     let value = value_of (shape_at k.live m) bytes in
     let value_is : c.split_at.result.1.now ≡ value = c.split_at.ensures.back ∙ ap (λ (s : MapShape). value_of s bytes) c.shape-shape.ensures in
     let at : IsValueAt part t m p value = record { whole = c.requires; laid = c.maps_are_laid.ensures.laid; sound = c.maps_are_laid.ensures.sound; live = e.rest.live; within = e.within; size = value_fits (claimed c) } in
-    let later : c.write_at.new.part ≡ with_value part t m p value = c.write_at.ensures ∙ ap₂ (written_at part) c.value_at-start.ensures.offset value_is in (
-      false,
-      ap (λ (ps : List ℕ). gives [] (state_in ps (with_live k t))) later
-          ∙ updated_at c.live_maps_refine_values.ensures c.values_are_written.ensures c.calls_refine_values.ensures.bytes part (claimed c) at
-          ∙ ap (λ (old : KeptTenant). element_updated false (state_in part old) c.args.fd c.args.flags bytes) c.self.view_is,
-    )
+    let later : c.write_at.new.part ≡ with_value part t m p value = c.write_at.ensures ∙ ap₂ (written_at part) c.value_at-start.ensures.offset value_is in
+    ap (λ (ps : List ℕ). gives [] (state_in ps (with_live k t))) later
+    ∙ updated_at c.live_maps_refine_values.ensures c.values_are_written.ensures c.calls_refine_values.ensures.bytes part (claimed c) at
+    ∙ ap (λ (old : KeptTenant). element_updated (state_in part old) c.args.fd c.args.flags bytes) c.self.view_is
 
 -- ---- bytes of another size
 
@@ -70,7 +66,5 @@ returns-then-key_and_value-key_size-clause-answer c =
     let k = c.args.self.now in
     let part = c.args.part.now in
     let bytes = c.args.key_and_value.now in
-    let shape : c.shape-shape.result ≡ shape_at k.live c.in_ok-map.map = c.shape-shape.ensures ∙ ap (λ (x : KeptTenant). shape_at x.live c.in_ok-map.map) c.self.view_is in (
-      false,
-      sym (on_map_is part (has_sizes bytes) (put_of false (state_in part k) c.args.flags bytes) c.in_ok-map.ensures.found (other_size (length bytes) c.if-key_and_value-key_size.true (ap (λ (s : MapShape). s.key_size + s.value_size) shape))),
-    )
+    let shape : c.shape-shape.result ≡ shape_at k.live c.in_ok-map.map = c.shape-shape.ensures ∙ ap (λ (x : KeptTenant). shape_at x.live c.in_ok-map.map) c.self.view_is in
+    sym (on_map_is part (has_sizes bytes) (put_of (state_in part k) c.args.flags bytes) c.in_ok-map.ensures.found (other_size (length bytes) c.if-key_and_value-key_size.true (ap (λ (s : MapShape). s.key_size + s.value_size) shape)))

@@ -12,7 +12,7 @@ use Rattle.tagged_model.specs.declared.value.Outcome.{Outcome}
 use Rattle.tagged_model.specs.declared.value.Outcome.TheVariants.{Value, Fault}
 use Rattle.tagged_model.specs.Table as call
 use Rattle.tagged_model.specs.Table.{look_up, verdict, removal, next_of}
-use Rattle.tagged_model.specs.Step.{refused_at_first, result_with}
+use Rattle.tagged_model.specs.Step.{result_of}
 use Rattle.verifier.specs.Maps.{maps_of}
 use Rattle.tenant.specs.declared.errno.Errno.{Errno}
 use Rattle.tenant.specs.declared.errno.Errno.TheVariants.{NotPermitted, NoEntry, TooBig, BadDescriptor, NoMemory, AccessDenied, BadAddress, Exists, Invalid, TooManyOpen, NoSpace}
@@ -417,11 +417,10 @@ module _ (s : TenantState) where
   found_same None = refl
   found_same (Some value) = refl
 
-  put_same : (refused : Bool) (place : ℕ) (m : Map) (key value : List ℕ) (v : call.Verdict (List ℕ)) → (element_put refused s place m key value v).after.objects ≡ s.objects
-  put_same refused place m key value (call.Refused fault) = refl
-  put_same refused place m key value (call.Present old) = refl
-  put_same true place m key value call.New = refl
-  put_same false place m key value call.New = refl
+  put_same : (place : ℕ) (m : Map) (key value : List ℕ) (v : call.Verdict (List ℕ)) → (element_put s place m key value v).after.objects ≡ s.objects
+  put_same place m key value (call.Refused fault) = refl
+  put_same place m key value (call.Present old) = refl
+  put_same place m key value call.New = refl
 
   taken_same : (place : ℕ) (m : Map) (key : List ℕ) (r : Result (List ℕ) MapFault) → (element_taken_out s place m key r).after.objects ≡ s.objects
   taken_same place m key (Err fault) = refl
@@ -431,16 +430,16 @@ module _ (s : TenantState) where
   outcome_same (Value n) t e = e
   outcome_same Fault t e = e
 
-  run_same : (refusals : List Bool) (words packet : List ℕ) (o : Option OpenObject) → (run_of refusals s words packet o).after.objects ≡ s.objects
-  run_same refusals words packet None = refl
-  run_same refusals words packet (Some (object.Map place)) = refl
-  run_same refusals words packet (Some (object.Program l)) =
-      if_same (nat_lt longest_packet (length packet)) _ _ refl (outcome_same (result_with refusals l.insns (maps_given s l) (length packet ∷ words) packet) _ refl)
+  run_same : (words packet : List ℕ) (o : Option OpenObject) → (run_of s words packet o).after.objects ≡ s.objects
+  run_same words packet None = refl
+  run_same words packet (Some (object.Map place)) = refl
+  run_same words packet (Some (object.Program l)) =
+      if_same (nat_lt longest_packet (length packet)) _ _ refl (outcome_same (result_of l.insns (maps_given s l) (length packet ∷ words) packet) _ refl)
 
 -- ---- every command
 
-births_kept : MapsAreHeld → (refusals : List Bool) (s : TenantState) (command : Command) (a : Answer) (births : List Birth) → HoldsItsMaps s → AreBirths s births → Answers refusals s command a → AreBirths a.after (births_after command a births)
-births_kept held refusals s command a births h are is = by command is (held.kept refusals s command a h is)
+births_kept : MapsAreHeld → (refused : Bool) (s : TenantState) (command : Command) (a : Answer) (births : List Birth) → HoldsItsMaps s → AreBirths s births → Answers refused s command a → AreBirths a.after (births_after command a births)
+births_kept held refused s command a births h are is = by command is (held.kept refused s command a h is)
   where
     -- a command that does not change the open objects keeps the births
     quiet : (b : Answer) → a ≡ b → b.after.objects ≡ s.objects → HoldsItsMaps a.after → AreBirths a.after births
@@ -452,17 +451,17 @@ births_kept held refusals s command a births h are is = by command is (held.kept
     closes fd (Some o) there = close_births s h fd births are
     closes fd None there = subst (λ (bs : List Birth). AreBirths s bs) (sym (all_live s births are.order)) are
 
-    by : (c : Command) → Answers refusals s c a → HoldsItsMaps a.after → AreBirths a.after (births_after c a births)
-    by (map_create kind key value max flags) is now = subst (λ (x : Answer). AreBirths x.after (with_opened x.status x.after births)) (sym is) (created_births h births are (refused_at_first refusals) (asked_shape (kind_of kind) key value max flags))
-    by (prog_load kind slots) is now = loads_births h births are (refused_at_first refusals) kind slots a is
+    by : (c : Command) → Answers refused s c a → HoldsItsMaps a.after → AreBirths a.after (births_after c a births)
+    by (map_create kind key value max flags) is now = subst (λ (x : Answer). AreBirths x.after (with_opened x.status x.after births)) (sym is) (created_births h births are refused (asked_shape (kind_of kind) key value max flags))
+    by (prog_load kind slots) is now = loads_births h births are refused kind slots a is
     by (close fd) is now = subst (λ (x : Answer). AreBirths x.after (filter (lives x.after) births)) (sym is) (closes fd (table.named s.objects fd) refl)
     by (map_lookup fd key) is now = quiet _ is (on_map_same s fd _ (λ place m. if_same s (length key == m.shape.key_size) _ _ (found_same s (look_up m key)) refl)) now
     by (map_update fd flags bytes) is now =
         quiet _ is (on_map_same s fd _ (λ place m. if_same s (length bytes == m.shape.key_size + m.shape.value_size) _ _
-        (put_same s (refused_at_first refusals) place m (take m.shape.key_size bytes) (drop m.shape.key_size bytes) (verdict m (take m.shape.key_size bytes) flags)) refl)) now
+        (put_same s place m (take m.shape.key_size bytes) (drop m.shape.key_size bytes) (verdict m (take m.shape.key_size bytes) flags)) refl)) now
     by (map_delete fd key) is now = quiet _ is (on_map_same s fd _ (λ place m. if_same s (length key == m.shape.key_size) _ _ (taken_same s place m key (removal m key)) refl)) now
     by (map_next_key fd key) is now = quiet _ is (on_map_same s fd _ (λ place m. if_same s (length key == 0 || length key == m.shape.key_size) _ _ (found_same s (next_of m key)) refl)) now
-    by (prog_test_run fd words packet) is now = quiet _ is (run_same s refusals words packet (table.named s.objects fd)) now
+    by (prog_test_run fd words packet) is now = quiet _ is (run_same s words packet (table.named s.objects fd)) now
 
 -- a new tenant has no open objects
 nothing_named : (n fd : ℕ) → get_or (replicate n (let none : Option OpenObject = None in none)) fd None ≡ None

@@ -116,7 +116,7 @@ module _ (tenant : ℕ) where
       let frame = frame_of tenant c in
       record {
         replies = reply_to frame a.status a.payload ∷ later.replies;
-        told = (Some a.after, (a, subst (λ (p : Result Command BadFrame). AnswersFrame [] s p a) (sym carried.0) answers, refl, refl), later.told);
+        told = (Some a.after, (a, subst (λ (p : Result Command BadFrame). AnswersFrame false s p a) (sym carried.0) answers, refl, refl), later.told);
         good = ((well.0, a.payload, ap (λ (status : ℤ). reply_to frame status a.payload) well.1), later.good);
       }
 

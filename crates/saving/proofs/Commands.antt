@@ -14,7 +14,7 @@ use Rattle.tagged_model.specs.declared.value.Outcome.{Outcome}
 use Rattle.tagged_model.specs.declared.value.Outcome.TheVariants.{Value, Fault}
 use Rattle.tagged_model.specs.Cells.{and_then}
 use Rattle.tagged_model.specs.State.{set_at}
-use Rattle.tagged_model.specs.Step.{refused_at_first, MapsByDescriptor, result_with, left_with, was_refused}
+use Rattle.tagged_model.specs.Step.{MapsByDescriptor, result_of, left_with}
 use Rattle.tagged_model.specs.Table as call
 use Rattle.tagged_model.specs.Table.{look_up, verdict, removal, next_of, with_new, with_object, with_deleted, after_run}
 use Rattle.verifier.specs.Maps.{maps_of, entries_of}
@@ -105,12 +105,11 @@ module _ {move : ℕ → ℕ} {s t : TenantState} (h : ArePair move s t) where
   one_too : (place : ℕ) (m : Map) → is_named s.objects place ≡ true → IsAlikeAnswer (gives [] (with_map_at s place m)) (gives [] (with_map_at t (move place) m))
   one_too place m named = record { status = refl; payload = refl; after = (move, changed_one h place m named) }
 
-  put_too : (refused : Bool) (place : ℕ) (m : Map) (key value : List ℕ) (v : call.Verdict (List ℕ)) → is_named s.objects place ≡ true
-      → IsAlikeAnswer (element_put refused s place m key value v) (element_put refused t (move place) m key value v)
-  put_too refused place m key value (call.Refused fault) named = refused_too (map_errno fault)
-  put_too refused place m key value (call.Present old) named = one_too place (with_object m key value) named
-  put_too true place m key value call.New named = no_memory
-  put_too false place m key value call.New named = one_too place (with_new m key value) named
+  put_too : (place : ℕ) (m : Map) (key value : List ℕ) (v : call.Verdict (List ℕ)) → is_named s.objects place ≡ true
+      → IsAlikeAnswer (element_put s place m key value v) (element_put t (move place) m key value v)
+  put_too place m key value (call.Refused fault) named = refused_too (map_errno fault)
+  put_too place m key value (call.Present old) named = one_too place (with_object m key value) named
+  put_too place m key value call.New named = one_too place (with_new m key value) named
 
   taken_too : (place : ℕ) (m : Map) (key : List ℕ) (r : Result (List ℕ) MapFault) → is_named s.objects place ≡ true → IsAlikeAnswer (element_taken_out s place m key r) (element_taken_out t (move place) m key r)
   taken_too place m key (Err fault) named = refused_too (map_errno fault)
@@ -177,15 +176,15 @@ module _ {move : ℕ → ℕ} {s t : TenantState} (h : ArePair move s t) where
       by fd (Some place) is = same_named h place (named place (lookup_names l.maps fd place is))
 
   -- the reply to a run that leaves these maps
-  abbrev came_to : Outcome → TenantState → MapsByDescriptor → Bool → LoadedProgram → Answer
-  came_to o u left refused l = outcome_answer o (record u { maps = maps_left left l.maps u.maps; refused = u.refused || refused })
+  abbrev came_to : Outcome → TenantState → MapsByDescriptor → LoadedProgram → Answer
+  came_to o u left l = outcome_answer o (record u { maps = maps_left left l.maps u.maps })
 
   abbrev with_moved : LoadedProgram → LoadedProgram
   with_moved l = record l { maps = moved_maps move l.maps }
 
-  came_too : (l : LoadedProgram) → IsIn s l → IsIn t (with_moved l) → (left : MapsByDescriptor) → ((fd : ℕ) → is_some (left fd) ≡ is_some (maps_given s l fd)) → (o : Outcome) (refused : Bool)
-      → IsAlikeAnswer (came_to o s left refused l) (came_to o t left refused (with_moved l))
-  came_too l named named_too left same o refused = by o
+  came_too : (l : LoadedProgram) → IsIn s l → IsIn t (with_moved l) → (left : MapsByDescriptor) → ((fd : ℕ) → is_some (left fd) ≡ is_some (maps_given s l fd)) → (o : Outcome)
+      → IsAlikeAnswer (came_to o s left l) (came_to o t left (with_moved l))
+  came_too l named named_too left same o = by o
     where
       places : AreLeft left l.maps s.maps
       places = program_left l h.one named left same
@@ -193,30 +192,30 @@ module _ {move : ℕ → ℕ} {s t : TenantState} (h : ArePair move s t) where
       places_too : AreLeft left (moved_maps move l.maps) t.maps
       places_too = program_left (with_moved l) h.two named_too left (λ fd. same fd ∙ sym (ap (λ (given : MapsByDescriptor). is_some (given fd)) (same_given l named)))
 
-      moved : IsMovedBy move (record s { maps = maps_left left l.maps s.maps; refused = s.refused || refused }) (record t { maps = maps_left left (moved_maps move l.maps) t.maps; refused = t.refused || refused })
+      moved : IsMovedBy move (record s { maps = maps_left left l.maps s.maps }) (record t { maps = maps_left left (moved_maps move l.maps) t.maps })
       moved =
-          changed h (maps_left left l.maps s.maps) (maps_left left (moved_maps move l.maps) t.maps) (s.refused || refused) (t.refused || refused)
+          changed h (maps_left left l.maps s.maps) (maps_left left (moved_maps move l.maps) t.maps) s.refused t.refused
           (left_places left l.maps s.maps places)
           (left_places left (moved_maps move l.maps) t.maps places_too)
           (λ p e. left_moved move left l.maps s.maps t.maps p places places_too (λ q listed at. h.by.apart q p (h.one.live_if_named q (named q listed)) (h.one.live_if_named p e) at) (same_named h p e))
 
-      by : (o : Outcome) → IsAlikeAnswer (came_to o s left refused l) (came_to o t left refused (with_moved l))
+      by : (o : Outcome) → IsAlikeAnswer (came_to o s left l) (came_to o t left (with_moved l))
       by (Value n) = record { status = refl; payload = refl; after = (move, moved) }
       by Fault = record { status = refl; payload = refl; after = (move, moved) }
 
-  ran_too : (refusals : List Bool) (l : LoadedProgram) (words packet : List ℕ) → IsIn s l → IsIn t (with_moved l) → IsAlikeAnswer (ran refusals s l words packet) (ran refusals t (with_moved l) words packet)
-  ran_too refusals l words packet named named_too =
+  ran_too : (l : LoadedProgram) (words packet : List ℕ) → IsIn s l → IsIn t (with_moved l) → IsAlikeAnswer (ran s l words packet) (ran t (with_moved l) words packet)
+  ran_too l words packet named named_too =
       let context = length packet ∷ words in
       subst
-      (λ (given : MapsByDescriptor). IsAlikeAnswer (ran refusals s l words packet) (came_to (result_with refusals l.insns given context packet) t (left_with refusals l.insns given context packet) (was_refused refusals l.insns given context packet) (with_moved l)))
+      (λ (given : MapsByDescriptor). IsAlikeAnswer (ran s l words packet) (came_to (result_of l.insns given context packet) t (left_with [] l.insns given context packet) (with_moved l)))
       (sym (same_given l named))
-      (came_too l named named_too (left_with refusals l.insns (maps_given s l) context packet) (left_same refusals l.insns (maps_given s l) context packet) (result_with refusals l.insns (maps_given s l) context packet) (was_refused refusals l.insns (maps_given s l) context packet))
+      (came_too l named named_too (left_with [] l.insns (maps_given s l) context packet) (left_same l.insns (maps_given s l) context packet) (result_of l.insns (maps_given s l) context packet))
 
-  run_too : (refusals : List Bool) (words packet : List ℕ) (o : Option OpenObject) → ((l : LoadedProgram) → o ≡ Some (object.Program l) → IsIn s l × IsIn t (with_moved l))
-      → IsAlikeAnswer (run_of refusals s words packet o) (run_of refusals t words packet (option_map (moved_object move) o))
-  run_too refusals words packet None named = refused_too BadDescriptor
-  run_too refusals words packet (Some (object.Map place)) named = refused_too Invalid
-  run_too refusals words packet (Some (object.Program l)) named = let both = named l refl in if_too (nat_lt longest_packet (length packet)) (refused_too TooBig) (ran_too refusals l words packet both.0 both.1)
+  run_too : (words packet : List ℕ) (o : Option OpenObject) → ((l : LoadedProgram) → o ≡ Some (object.Program l) → IsIn s l × IsIn t (with_moved l))
+      → IsAlikeAnswer (run_of s words packet o) (run_of t words packet (option_map (moved_object move) o))
+  run_too words packet None named = refused_too BadDescriptor
+  run_too words packet (Some (object.Map place)) named = refused_too Invalid
+  run_too words packet (Some (object.Program l)) named = let both = named l refl in if_too (nat_lt longest_packet (length packet)) (refused_too TooBig) (ran_too l words packet both.0 both.1)
 
   -- ---- CLOSE
 
@@ -235,8 +234,8 @@ module _ {move : ℕ → ℕ} {s t : TenantState} (h : ArePair move s t) where
 
   -- ---- every command
 
-  abbrev AnswersToo : List Bool → Command → Answer → Type 0
-  AnswersToo refusals command a = (b : Answer) × Answers refusals t command b × IsAlikeAnswer a b
+  abbrev AnswersToo : Bool → Command → Answer → Type 0
+  AnswersToo refused command a = (b : Answer) × Answers refused t command b × IsAlikeAnswer a b
 
   moved_named : (fd : ℕ) → option_map (moved_object move) (table.named s.objects fd) ≡ table.named t.objects fd
   moved_named fd = sym (ap (λ (os : List (Option OpenObject)). table.named os fd) h.by.objects ∙ named_moved move s.objects fd)
@@ -245,21 +244,21 @@ module _ {move : ℕ → ℕ} {s t : TenantState} (h : ArePair move s t) where
   as_told : (a x y : Answer) → a ≡ x → IsAlikeAnswer x y → (b : Answer) × (b ≡ y) × IsAlikeAnswer a b
   as_told a x y is alike = (y, refl, subst (λ (z : Answer). IsAlikeAnswer z y) (sym is) alike)
 
-  answers_too : (refusals : List Bool) (command : Command) (a : Answer) → Answers refusals s command a → AnswersToo refusals command a
-  answers_too refusals (map_create kind key value max flags) a is = as_told a _ _ is (created_too (refused_at_first refusals) (asked_shape (kind_of kind) key value max flags))
-  answers_too refusals (map_lookup fd key) a is = as_told a _ _ is (on_map_too fd _ _ (λ place m named. if_too (length key == m.shape.key_size) (found_too (look_up m key)) (refused_too Invalid)))
-  answers_too refusals (map_update fd flags bytes) a is =
+  answers_too : (refused : Bool) (command : Command) (a : Answer) → Answers refused s command a → AnswersToo refused command a
+  answers_too refused (map_create kind key value max flags) a is = as_told a _ _ is (created_too refused (asked_shape (kind_of kind) key value max flags))
+  answers_too refused (map_lookup fd key) a is = as_told a _ _ is (on_map_too fd _ _ (λ place m named. if_too (length key == m.shape.key_size) (found_too (look_up m key)) (refused_too Invalid)))
+  answers_too refused (map_update fd flags bytes) a is =
       as_told a _ _ is (on_map_too fd _ _ (λ place m named. if_too (length bytes == m.shape.key_size + m.shape.value_size)
-      (put_too (refused_at_first refusals) place m (take m.shape.key_size bytes) (drop m.shape.key_size bytes) (verdict m (take m.shape.key_size bytes) flags) named)
+      (put_too place m (take m.shape.key_size bytes) (drop m.shape.key_size bytes) (verdict m (take m.shape.key_size bytes) flags) named)
       (refused_too Invalid)))
-  answers_too refusals (map_delete fd key) a is = as_told a _ _ is (on_map_too fd _ _ (λ place m named. if_too (length key == m.shape.key_size) (taken_too place m key (removal m key) named) (refused_too Invalid)))
-  answers_too refusals (map_next_key fd key) a is = as_told a _ _ is (on_map_too fd _ _ (λ place m named. if_too (length key == 0 || length key == m.shape.key_size) (found_too (next_of m key)) (refused_too Invalid)))
-  answers_too refusals (prog_load kind slots) a is = loads_too (refused_at_first refusals) kind slots a is
-  answers_too refusals (prog_test_run fd words packet) a is =
-      as_told a _ _ is (subst (λ (o : Option OpenObject). IsAlikeAnswer (run_of refusals s words packet (table.named s.objects fd)) (run_of refusals t words packet o)) (moved_named fd)
-      (run_too refusals words packet (table.named s.objects fd) (λ l here. (program_in s fd l here, program_in t fd (with_moved l) (sym (moved_named fd) ∙ ap (option_map (moved_object move)) here)))))
-  answers_too refusals (close fd) a is =
+  answers_too refused (map_delete fd key) a is = as_told a _ _ is (on_map_too fd _ _ (λ place m named. if_too (length key == m.shape.key_size) (taken_too place m key (removal m key) named) (refused_too Invalid)))
+  answers_too refused (map_next_key fd key) a is = as_told a _ _ is (on_map_too fd _ _ (λ place m named. if_too (length key == 0 || length key == m.shape.key_size) (found_too (next_of m key)) (refused_too Invalid)))
+  answers_too refused (prog_load kind slots) a is = loads_too refused kind slots a is
+  answers_too refused (prog_test_run fd words packet) a is =
+      as_told a _ _ is (subst (λ (o : Option OpenObject). IsAlikeAnswer (run_of s words packet (table.named s.objects fd)) (run_of t words packet o)) (moved_named fd)
+      (run_too words packet (table.named s.objects fd) (λ l here. (program_in s fd l here, program_in t fd (with_moved l) (sym (moved_named fd) ∙ ap (option_map (moved_object move)) here)))))
+  answers_too refused (close fd) a is =
       as_told a _ _ is (subst (λ (o : Option OpenObject). IsAlikeAnswer (closed s fd (table.named s.objects fd)) (closed t fd o)) (moved_named fd) (closed_too fd (table.named s.objects fd)))
 
 pub alike_is_bisimulation : AlikeIsBisimulation
-alike_is_bisimulation refusals s t command a one two (move, by) is = answers_too (record { one = one; two = two; by = by }) refusals command a is
+alike_is_bisimulation refused s t command a one two (move, by) is = answers_too (record { one = one; two = two; by = by }) refused command a is

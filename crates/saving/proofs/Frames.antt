@@ -1,5 +1,5 @@
 -- Two states that are alike give the same replies to a list of frames.
-use Rattle.std.proofs.Common.{◌≡◌, ℕ, Bool, List, [], ◌∷◌, Option, Some, Result, Ok, Err, refl, sym, ap₂, subst, ◌∙◌}
+use Rattle.std.proofs.Common.{◌≡◌, ℕ, Bool, false, List, [], ◌∷◌, Option, Some, Result, Ok, Err, refl, sym, ap₂, subst, ◌∙◌}
 use Rattle.std.specs.Prelude.{ℤ}
 use Rattle.command_frames.specs.declared.command.BadFrame.{BadFrame}
 use Rattle.command_frames.specs.Command.{Command, parsed}
@@ -19,23 +19,23 @@ record AreAlike (s t : TenantState) : Type 0 where
 
 module _ (one_alone : OneAlone) (held : MapsAreHeld) (bisimulation : AlikeIsBisimulation) where
   -- the reply to a frame in the other state, and the state after it
-  record FrameToo (refusals : List Bool) (t : TenantState) (p : Result Command BadFrame) (a : Answer) : Type 0 where
+  record FrameToo (refused : Bool) (t : TenantState) (p : Result Command BadFrame) (a : Answer) : Type 0 where
     b : Answer
-    answers : AnswersFrame refusals t p b
+    answers : AnswersFrame refused t p b
     status : b.status ≡ a.status
     payload : b.payload ≡ a.payload
     after : AreAlike a.after b.after
 
-  frame_too : (refusals : List Bool) (s t : TenantState) (p : Result Command BadFrame) (a : Answer) → AreAlike s t → AnswersFrame refusals s p a → FrameToo refusals t p a
-  frame_too refusals s t (Err fault) a h is = subst (λ (x : Answer). FrameToo refusals t (Err fault) x) (sym is) (record { b = refuses (frame_errno fault) t; answers = refl; status = refl; payload = refl; after = h })
-  frame_too refusals s t (Ok command) a h is =
-      let (b, answers, alike) = bisimulation refusals s t command a h.one h.two h.alike is in
+  frame_too : (refused : Bool) (s t : TenantState) (p : Result Command BadFrame) (a : Answer) → AreAlike s t → AnswersFrame refused s p a → FrameToo refused t p a
+  frame_too refused s t (Err fault) a h is = subst (λ (x : Answer). FrameToo refused t (Err fault) x) (sym is) (record { b = refuses (frame_errno fault) t; answers = refl; status = refl; payload = refl; after = h })
+  frame_too refused s t (Ok command) a h is =
+      let (b, answers, alike) = bisimulation refused s t command a h.one h.two h.alike is in
       record {
         b = b;
         answers = answers;
         status = alike.status;
         payload = alike.payload;
-        after = record { one = held.kept refusals s command a h.one is; two = held.kept refusals t command b h.two answers; alike = alike.after };
+        after = record { one = held.kept refused s command a h.one is; two = held.kept refused t command b h.two answers; alike = alike.after };
       }
 
   -- the frames have these replies and lead to some state
@@ -50,9 +50,9 @@ module _ (one_alone : OneAlone) (held : MapsAreHeld) (bisimulation : AlikeIsBisi
     told : tells frame reply (Some t) (Some right)
     alike : AreAlike left right
 
-  reply_under : (refusals : List Bool) (s t : TenantState) (frame reply : List ℕ) (after : Option TenantState) → AreAlike s t → RepliesUnder refusals frame reply (Some s) after → ReplyToo (RepliesUnder refusals) t frame reply after
-  reply_under refusals s t frame reply after h (a, is, said, goes) =
-      let too = frame_too refusals s t (parsed frame) a h is in
+  reply_under : (refused : Bool) (s t : TenantState) (frame reply : List ℕ) (after : Option TenantState) → AreAlike s t → RepliesUnder refused frame reply (Some s) after → ReplyToo (RepliesUnder refused) t frame reply after
+  reply_under refused s t frame reply after h (a, is, said, goes) =
+      let too = frame_too refused s t (parsed frame) a h is in
       record {
         left = a.after;
         right = too.b.after;
@@ -62,9 +62,9 @@ module _ (one_alone : OneAlone) (held : MapsAreHeld) (bisimulation : AlikeIsBisi
       }
 
   may_reply : (s t : TenantState) (frame reply : List ℕ) (after : Option TenantState) → AreAlike s t → MayReply frame reply (Some s) after → ReplyToo MayReply t frame reply after
-  may_reply s t frame reply after h (refusals, told) =
-      let too = reply_under refusals s t frame reply after h told in
-      record { left = too.left; right = too.right; left_is = too.left_is; told = (refusals, too.told); alike = too.alike }
+  may_reply s t frame reply after h (refused, told) =
+      let too = reply_under refused s t frame reply after h told in
+      record { left = too.left; right = too.right; left_is = too.left_is; told = (refused, too.told); alike = too.alike }
 
   in_order : (tells : List ℕ → List ℕ → Option TenantState → Option TenantState → Type 0)
       → ((s t : TenantState) (frame reply : List ℕ) (after : Option TenantState) → AreAlike s t → tells frame reply (Some s) after → ReplyToo tells t frame reply after)
@@ -77,8 +77,8 @@ module _ (one_alone : OneAlone) (held : MapsAreHeld) (bisimulation : AlikeIsBisi
       let (end, later) = in_order tells each frames replies too.left too.right after too.alike (subst (λ (x : Option TenantState). RepliesInOrder tells x frames replies after) too.left_is rest) in
       (end, (Some too.right, too.told, later))
 
-  alone_too : (s t : TenantState) (frames replies : List (List ℕ)) (after : Option TenantState) → HoldsItsMaps s → HoldsItsMaps t → IsAlike s t → IsToldAlone (Some s) frames replies after → Reaches (RepliesUnder []) t frames replies
-  alone_too s t frames replies after one two alike is = in_order (RepliesUnder []) (reply_under []) frames replies s t after (record { one = one; two = two; alike = alike }) is
+  alone_too : (s t : TenantState) (frames replies : List (List ℕ)) (after : Option TenantState) → HoldsItsMaps s → HoldsItsMaps t → IsAlike s t → IsToldAlone (Some s) frames replies after → Reaches (RepliesUnder false) t frames replies
+  alone_too s t frames replies after one two alike is = in_order (RepliesUnder false) (reply_under false) frames replies s t after (record { one = one; two = two; alike = alike }) is
 
   pub replies_alike : AlikeStatesReplyAlike
   replies_alike = record {

@@ -1,5 +1,5 @@
 -- Replies to frames, by their heads.
-use Rattle.std.proofs.Common.{Result, Ok, Err, ◌≡◌, ◌≢◌, ℕ, List, [], length, drop, Some, refl, sym, ap, subst, ◌∙◌}
+use Rattle.std.proofs.Common.{Result, Ok, Err, ◌≡◌, ◌≢◌, ℕ, false, List, [], length, drop, Some, refl, sym, ap, subst, ◌∙◌}
 use Rattle.std.specs.Prelude.{ℤ, nat_lt}
 use Rattle.byteorder.specs.Endian.{little_number}
 use Rattle.command_frames.specs.declared.command.BadFrame.{BadFrame}
@@ -27,16 +27,16 @@ by_head frame h headed status payload =
 pub may_tell : {births later : List Birth} (frame : List ℕ) (command : Command) (h : Head) (reply : List ℕ) (before after : TenantState) → head_of frame ≡ Some h → parsed frame ≡ Ok command
     → AnswersCommand command h reply before after births later → MayReply frame reply (Some before) (Some after)
 may_tell frame command h reply before after headed is t = (
-  t.refusals,
-  (t.answer, subst (λ (r : Result Command BadFrame). AnswersFrame t.refusals before r t.answer) (sym is) t.answers, t.written ∙ by_head frame h headed t.answer.status t.answer.payload, ap Some t.left),
+  t.refused,
+  (t.answer, subst (λ (r : Result Command BadFrame). AnswersFrame t.refused before r t.answer) (sym is) t.answers, t.written ∙ by_head frame h headed t.answer.status t.answer.payload, ap Some t.left),
 )
 
 pub may_record : (frame : List ℕ) (command : Command) (h : Head) (reply : List ℕ) (before after : TenantState) (births later : List Birth) → head_of frame ≡ Some h → parsed frame ≡ Ok command
     → AnswersCommand command h reply before after births later → RecordsFrame frame reply before after births later
 may_record frame command h reply before after births later headed is t = record {
-  refusals = t.refusals;
+  refused = t.refused;
   answer = t.answer;
-  answers = subst (λ (r : Result Command BadFrame). AnswersFrame t.refusals before r t.answer) (sym is) t.answers;
+  answers = subst (λ (r : Result Command BadFrame). AnswersFrame t.refused before r t.answer) (sym is) t.answers;
   reply_is = t.written ∙ by_head frame h headed t.answer.status t.answer.payload;
   left = t.left;
   recorded = subst (λ (r : Result Command BadFrame). later ≡ births_after_frame r t.answer births) (sym is) t.recorded;
@@ -50,16 +50,16 @@ no_fault_told frame h reply headed apart e = apart (e ∙ sym (by_head frame h h
 pub refused_frame : (frame reply : List ℕ) (s : TenantState) (fault : BadFrame) (errno : Errno) (h : Head) → head_of frame ≡ Some h → parsed frame ≡ Err fault → errno ≡ frame_errno fault
     → reply ≡ reply_bytes h.tenant h.command (status_of errno) [] → MayReply frame reply (Some s) (Some s)
 refused_frame frame reply s fault errno h headed is same written = (
-  [],
-  (refuses errno s, subst (λ (r : Result Command BadFrame). AnswersFrame [] s r (refuses errno s)) (sym is) (ap (λ (x : Errno). refuses x s) same), written ∙ by_head frame h headed (status_of errno) [], refl),
+  false,
+  (refuses errno s, subst (λ (r : Result Command BadFrame). AnswersFrame false s r (refuses errno s)) (sym is) (ap (λ (x : Errno). refuses x s) same), written ∙ by_head frame h headed (status_of errno) [], refl),
 )
 
 pub refused_record : (frame reply : List ℕ) (s : TenantState) (births : List Birth) (fault : BadFrame) (errno : Errno) (h : Head) → head_of frame ≡ Some h → parsed frame ≡ Err fault → errno ≡ frame_errno fault
     → reply ≡ reply_bytes h.tenant h.command (status_of errno) [] → RecordsFrame frame reply s s births births
 refused_record frame reply s births fault errno h headed is same written = record {
-  refusals = [];
+  refused = false;
   answer = refuses errno s;
-  answers = subst (λ (r : Result Command BadFrame). AnswersFrame [] s r (refuses errno s)) (sym is) (ap (λ (x : Errno). refuses x s) same);
+  answers = subst (λ (r : Result Command BadFrame). AnswersFrame false s r (refuses errno s)) (sym is) (ap (λ (x : Errno). refuses x s) same);
   reply_is = written ∙ by_head frame h headed (status_of errno) [];
   left = refl;
   recorded = subst (λ (r : Result Command BadFrame). births ≡ births_after_frame r (refuses errno s) births) (sym is) refl;

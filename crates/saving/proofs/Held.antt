@@ -1,5 +1,5 @@
 -- After each command exactly the maps that an open object names are live.
-use Rattle.std.proofs.Common.{◌≡◌, ℕ, zero, suc, ◌+◌, ◌-◌, ◌<◌, Bool, true, false, List, ◌∷◌, length, set, get_or, take, drop, replicate, Option, Some, None, Result, Ok, Err, IsSome, is_some, refl, sym, ap, subst, ◌∙◌, inl, inr, arith, true≢false, length-set}
+use Rattle.std.proofs.Common.{◌≡◌, ℕ, zero, suc, ◌+◌, ◌-◌, ◌<◌, Bool, true, false, List, [], ◌∷◌, length, set, get_or, take, drop, replicate, Option, Some, None, Result, Ok, Err, IsSome, is_some, refl, sym, ap, subst, ◌∙◌, inl, inr, arith, true≢false, length-set}
 use Rattle.std.specs.Prelude.{◌⊎◌, ◌==◌, ◌||◌, nat_lt, is_none, position, option_map, if◌then◌else◌, MatchBool}
 use Rattle.std.specs.List.{list_any}
 use Rattle.std.proofs.lemmas.Bool.{eq-eqb, eqb-true}
@@ -11,7 +11,7 @@ use Rattle.tagged_model.specs.declared.fault.MapFault.{MapFault}
 use Rattle.tagged_model.specs.declared.shape.MapShape.{MapShape}
 use Rattle.tagged_model.specs.declared.value.Outcome.{Outcome}
 use Rattle.tagged_model.specs.declared.value.Outcome.TheVariants.{Value, Fault}
-use Rattle.tagged_model.specs.Step.{refused_at_first, MapsByDescriptor, result_with, left_with}
+use Rattle.tagged_model.specs.Step.{MapsByDescriptor, result_of, left_with}
 use Rattle.tagged_model.specs.Table as call
 use Rattle.tagged_model.specs.Table.{look_up, verdict, removal, next_of, with_new, with_object, with_deleted, after_run}
 use Rattle.verifier.specs.Maps.{maps_of}
@@ -158,11 +158,10 @@ module _ {s : TenantState} (h : HoldsItsMaps s) where
   found_held None = h
   found_held (Some value) = h
 
-  put_held : (refused : Bool) (place : ℕ) (m : Map) (key value : List ℕ) (v : call.Verdict (List ℕ)) → is_named s.objects place ≡ true → HoldsItsMaps (element_put refused s place m key value v).after
-  put_held refused place m key value (call.Refused fault) named = h
-  put_held refused place m key value (call.Present old) named = one_held place (with_object m key value) named
-  put_held true place m key value call.New named = flag_held true
-  put_held false place m key value call.New named = one_held place (with_new m key value) named
+  put_held : (place : ℕ) (m : Map) (key value : List ℕ) (v : call.Verdict (List ℕ)) → is_named s.objects place ≡ true → HoldsItsMaps (element_put s place m key value v).after
+  put_held place m key value (call.Refused fault) named = h
+  put_held place m key value (call.Present old) named = one_held place (with_object m key value) named
+  put_held place m key value call.New named = one_held place (with_new m key value) named
 
   taken_held : (place : ℕ) (m : Map) (key : List ℕ) (r : Result (List ℕ) MapFault) → is_named s.objects place ≡ true → HoldsItsMaps (element_taken_out s place m key r).after
   taken_held place m key (Err fault) named = h
@@ -211,19 +210,19 @@ module _ {s : TenantState} (h : HoldsItsMaps s) where
 
   -- ---- PROG_TEST_RUN
 
-  left_held : (l : LoadedProgram) (left : MapsByDescriptor) → ((place : ℕ) → list_any (λ m. m.1 == place) l.maps ≡ true → is_named s.objects place ≡ true) → ((fd : ℕ) → is_some (left fd) ≡ is_some (maps_given s l fd)) → (o : Outcome) (b : Bool)
-      → HoldsItsMaps (outcome_answer o (record s { maps = maps_left left l.maps s.maps; refused = b })).after
-  left_held l left named same (Value n) b = changed_held (maps_left left l.maps s.maps) b (length_left left l.maps s.maps) (left_places left l.maps s.maps (program_left l h named left same))
-  left_held l left named same Fault b = changed_held (maps_left left l.maps s.maps) b (length_left left l.maps s.maps) (left_places left l.maps s.maps (program_left l h named left same))
+  left_held : (l : LoadedProgram) (left : MapsByDescriptor) → ((place : ℕ) → list_any (λ m. m.1 == place) l.maps ≡ true → is_named s.objects place ≡ true) → ((fd : ℕ) → is_some (left fd) ≡ is_some (maps_given s l fd)) → (o : Outcome)
+      → HoldsItsMaps (outcome_answer o (record s { maps = maps_left left l.maps s.maps })).after
+  left_held l left named same (Value n) = changed_held (maps_left left l.maps s.maps) s.refused (length_left left l.maps s.maps) (left_places left l.maps s.maps (program_left l h named left same))
+  left_held l left named same Fault = changed_held (maps_left left l.maps s.maps) s.refused (length_left left l.maps s.maps) (left_places left l.maps s.maps (program_left l h named left same))
 
-  run_held : (refusals : List Bool) (words packet : List ℕ) (o : Option OpenObject) → ((l : LoadedProgram) → o ≡ Some (object.Program l) → (place : ℕ) → list_any (λ m. m.1 == place) l.maps ≡ true → is_named s.objects place ≡ true)
-      → HoldsItsMaps (run_of refusals s words packet o).after
-  run_held refusals words packet None named = h
-  run_held refusals words packet (Some (object.Map place)) named = h
-  run_held refusals words packet (Some (object.Program l)) named =
+  run_held : (words packet : List ℕ) (o : Option OpenObject) → ((l : LoadedProgram) → o ≡ Some (object.Program l) → (place : ℕ) → list_any (λ m. m.1 == place) l.maps ≡ true → is_named s.objects place ≡ true)
+      → HoldsItsMaps (run_of s words packet o).after
+  run_held words packet None named = h
+  run_held words packet (Some (object.Map place)) named = h
+  run_held words packet (Some (object.Program l)) named =
       if_held (nat_lt longest_packet (length packet)) _ _ h
-      (left_held l (left_with refusals l.insns (maps_given s l) (length packet ∷ words) packet) (named l refl) (left_same refusals l.insns (maps_given s l) (length packet ∷ words) packet)
-      (result_with refusals l.insns (maps_given s l) (length packet ∷ words) packet) _)
+      (left_held l (left_with [] l.insns (maps_given s l) (length packet ∷ words) packet) (named l refl) (left_same l.insns (maps_given s l) (length packet ∷ words) packet)
+      (result_of l.insns (maps_given s l) (length packet ∷ words) packet))
 
   -- ---- every command
 
@@ -234,19 +233,19 @@ module _ {s : TenantState} (h : HoldsItsMaps s) where
   as_held : (a x : Answer) → a ≡ x → HoldsItsMaps x.after → HoldsItsMaps a.after
   as_held a x is held = subst (λ (y : Answer). HoldsItsMaps y.after) (sym is) held
 
-  answer_held : (refusals : List Bool) (command : Command) (a : Answer) → Answers refusals s command a → HoldsItsMaps a.after
-  answer_held refusals (map_create kind key value max flags) a is = as_held a _ is (create_held (refused_at_first refusals) (asked_shape (kind_of kind) key value max flags))
-  answer_held refusals (map_lookup fd key) a is = as_held a _ is (on_map_held fd _ (λ place m named. if_held (length key == m.shape.key_size) _ _ (found_held (look_up m key)) h))
-  answer_held refusals (map_update fd flags bytes) a is =
+  answer_held : (refused : Bool) (command : Command) (a : Answer) → Answers refused s command a → HoldsItsMaps a.after
+  answer_held refused (map_create kind key value max flags) a is = as_held a _ is (create_held refused (asked_shape (kind_of kind) key value max flags))
+  answer_held refused (map_lookup fd key) a is = as_held a _ is (on_map_held fd _ (λ place m named. if_held (length key == m.shape.key_size) _ _ (found_held (look_up m key)) h))
+  answer_held refused (map_update fd flags bytes) a is =
       as_held a _ is (on_map_held fd _ (λ place m named. if_held (length bytes == m.shape.key_size + m.shape.value_size) _ _
-      (put_held (refused_at_first refusals) place m (take m.shape.key_size bytes) (drop m.shape.key_size bytes) (verdict m (take m.shape.key_size bytes) flags) named)
+      (put_held place m (take m.shape.key_size bytes) (drop m.shape.key_size bytes) (verdict m (take m.shape.key_size bytes) flags) named)
       h))
-  answer_held refusals (map_delete fd key) a is = as_held a _ is (on_map_held fd _ (λ place m named. if_held (length key == m.shape.key_size) _ _ (taken_held place m key (removal m key) named) h))
-  answer_held refusals (map_next_key fd key) a is = as_held a _ is (on_map_held fd _ (λ place m named. if_held (length key == 0 || length key == m.shape.key_size) _ _ (found_held (next_of m key)) h))
-  answer_held refusals (prog_load kind slots) a is = loads_held (refused_at_first refusals) kind slots a is
-  answer_held refusals (prog_test_run fd words packet) a is =
-      as_held a _ is (run_held refusals words packet (table.named s.objects fd) (λ l here place e. named_by s.objects (fd - table.first_descriptor) (object.Program l) place (stands_at s.objects fd (object.Program l) here) e))
-  answer_held refusals (close fd) a is = as_held a _ is (close_held fd (table.named s.objects fd))
+  answer_held refused (map_delete fd key) a is = as_held a _ is (on_map_held fd _ (λ place m named. if_held (length key == m.shape.key_size) _ _ (taken_held place m key (removal m key) named) h))
+  answer_held refused (map_next_key fd key) a is = as_held a _ is (on_map_held fd _ (λ place m named. if_held (length key == 0 || length key == m.shape.key_size) _ _ (found_held (next_of m key)) h))
+  answer_held refused (prog_load kind slots) a is = loads_held refused kind slots a is
+  answer_held refused (prog_test_run fd words packet) a is =
+      as_held a _ is (run_held words packet (table.named s.objects fd) (λ l here place e. named_by s.objects (fd - table.first_descriptor) (object.Program l) place (stands_at s.objects fd (object.Program l) here) e))
+  answer_held refused (close fd) a is = as_held a _ is (close_held fd (table.named s.objects fd))
 
 pub maps_are_held : MapsAreHeld
-maps_are_held = record { new = new_held; kept = λ refusals s command a h is. answer_held h refusals command a is }
+maps_are_held = record { new = new_held; kept = λ refused s command a h is. answer_held h refused command a is }

@@ -12,10 +12,10 @@ record IsReady (s : TenantState) (births : List Birth) : Type 0 where
 
 ready_after : BirthsAreKept → RestorableIsKept → (commands : List Command) (s t : TenantState) (births later : List Birth) → IsReady s births → IsHistory s births commands t later → IsReady t later
 ready_after birth can [] s t births later is (same, same_births) = subst (λ (bs : List Birth). IsReady t bs) (sym same_births) (subst (λ (x : TenantState). IsReady x births) (sym same) is)
-ready_after birth can (c ∷ cs) s t births later is (refusals, a, answers, rest) =
+ready_after birth can (c ∷ cs) s t births later is (refused, a, answers, rest) =
     ready_after birth can cs a.after t (births_after c a births) later (record {
-      can = can.kept refusals s c a is.can answers;
-      are = birth.kept refusals s c a births is.can.held is.are answers;
+      can = can.kept refused s c a is.can answers;
+      are = birth.kept refused s c a births is.can.held is.are answers;
     }) rest
 
 pub histories_are_restored : BirthsAreKept → RestorableIsKept → RestoredByFrames → AlikeStatesReplyAlike → HistoriesAreRestored

@@ -15,7 +15,7 @@ use Rattle.tagged_model.specs.declared.shape.MapKind.TheVariants.{Hash, Array}
 use Rattle.tagged_model.specs.declared.shape.MapShape.{MapShape}
 use Rattle.tagged_model.specs.declared.value.Outcome.{Outcome}
 use Rattle.tagged_model.specs.declared.value.Outcome.TheVariants.{Value, Fault}
-use Rattle.tagged_model.specs.Step.{refused_at_first, MapsByDescriptor, result_with, left_with, was_refused}
+use Rattle.tagged_model.specs.Step.{MapsByDescriptor, result_of, left_with}
 use Rattle.tagged_model.specs.Table as call
 use Rattle.tagged_model.specs.Table.{is_key, index_key, indexed, new_entries, look_up, verdict, removal, next_of, with_new, with_object, with_deleted, after_run}
 use Rattle.verifier.specs.Laws.{LoadedMapsHaveShapes}
@@ -145,12 +145,11 @@ module _ {s : TenantState} (can : IsRestorable s) where
 
   -- ---- the calls of a map
 
-  put_kept : (refused : Bool) (place : ℕ) (t : Map) (key value : List ℕ) (flags : ℕ) (v : call.Verdict (List ℕ)) → live s place ≡ Some t → length key ≡ t.shape.key_size → length value ≡ t.shape.value_size → verdict t key flags ≡ v
-      → Keeps (element_put refused s place t key value v)
-  put_kept refused place t key value flags (call.Refused fault) there key_size value_size e holds = can
-  put_kept refused place t key value flags (call.Present old) there key_size value_size e holds = one_kept place t (with_object t key value) there (old_left t key value value_size) holds
-  put_kept true place t key value flags call.New there key_size value_size e holds = flag_kept true holds
-  put_kept false place t key value flags call.New there key_size value_size e holds = one_kept place t (with_new t key value) there (new_left t key value flags key_size value_size e) holds
+  put_kept : (place : ℕ) (t : Map) (key value : List ℕ) (flags : ℕ) (v : call.Verdict (List ℕ)) → live s place ≡ Some t → length key ≡ t.shape.key_size → length value ≡ t.shape.value_size → verdict t key flags ≡ v
+      → Keeps (element_put s place t key value v)
+  put_kept place t key value flags (call.Refused fault) there key_size value_size e holds = can
+  put_kept place t key value flags (call.Present old) there key_size value_size e holds = one_kept place t (with_object t key value) there (old_left t key value value_size) holds
+  put_kept place t key value flags call.New there key_size value_size e holds = one_kept place t (with_new t key value) there (new_left t key value flags key_size value_size e) holds
 
   taken_kept : (place : ℕ) (t : Map) (key : List ℕ) (r : Result (List ℕ) MapFault) → live s place ≡ Some t → removal t key ≡ r → Keeps (element_taken_out s place t key r)
   taken_kept place t key (Err fault) there e holds = can
@@ -176,20 +175,20 @@ module _ {s : TenantState} (can : IsRestorable s) where
       by (Some (object.Program l)) = λ holds. can
       by (Some (object.Map place)) = there place (live s place) refl
 
-  update_kept : (refused : Bool) (flags : ℕ) (bytes : List ℕ) (place : ℕ) (t : Map) → live s place ≡ Some t
-      → Keeps (if length bytes == t.shape.key_size + t.shape.value_size then element_put refused s place t (take t.shape.key_size bytes) (drop t.shape.key_size bytes) (verdict t (take t.shape.key_size bytes) flags) else refuses Invalid s)
-  update_kept refused flags bytes place t there =
+  update_kept : (flags : ℕ) (bytes : List ℕ) (place : ℕ) (t : Map) → live s place ≡ Some t
+      → Keeps (if length bytes == t.shape.key_size + t.shape.value_size then element_put s place t (take t.shape.key_size bytes) (drop t.shape.key_size bytes) (verdict t (take t.shape.key_size bytes) flags) else refuses Invalid s)
+  update_kept flags bytes place t there =
       if_kept (length bytes == t.shape.key_size + t.shape.value_size) _ (refuses Invalid s)
       (λ e. let size = eqb-true (length bytes) (t.shape.key_size + t.shape.value_size) e in
-      put_kept refused place t (take t.shape.key_size bytes) (drop t.shape.key_size bytes) flags (verdict t (take t.shape.key_size bytes) flags) there
+      put_kept place t (take t.shape.key_size bytes) (drop t.shape.key_size bytes) flags (verdict t (take t.shape.key_size bytes) flags) there
       (length-take-le t.shape.key_size bytes (omega arith)) (let long = length-drop t.shape.key_size bytes in omega arith) refl)
       (λ holds. can)
 
   -- ---- PROG_TEST_RUN
 
-  ran_kept : (l : LoadedProgram) (fd : ℕ) → table.named s.objects fd ≡ Some (object.Program l) → (left : MapsByDescriptor) → ((m : ℕ) → LeavesMap (maps_given s l m) (left m)) → (o : Outcome) (b : Bool)
-      → Keeps (outcome_answer o (record s { maps = maps_left left l.maps s.maps; refused = b }))
-  ran_kept l fd there left each o b = by o
+  ran_kept : (l : LoadedProgram) (fd : ℕ) → table.named s.objects fd ≡ Some (object.Program l) → (left : MapsByDescriptor) → ((m : ℕ) → LeavesMap (maps_given s l m) (left m)) → (o : Outcome)
+      → Keeps (outcome_answer o (record s { maps = maps_left left l.maps s.maps }))
+  ran_kept l fd there left each o = by o
     where
       whole : IsWholeProgram s l
       whole = can.programs fd l there
@@ -200,17 +199,17 @@ module _ {s : TenantState} (can : IsRestorable s) where
           (found_all left s l.maps l.maps each (λ d e. refl) (subst AreOnce (sym whole.bound) (distinct_once _)))
           refl (λ p. leaves_self (live s p))
 
-      by : (o : Outcome) → Keeps (outcome_answer o (record s { maps = maps_left left l.maps s.maps; refused = b }))
-      by (Value n) holds = contents_kept can (maps_left left l.maps s.maps) b holds pointwise
-      by Fault holds = contents_kept can (maps_left left l.maps s.maps) b holds pointwise
+      by : (o : Outcome) → Keeps (outcome_answer o (record s { maps = maps_left left l.maps s.maps }))
+      by (Value n) holds = contents_kept can (maps_left left l.maps s.maps) s.refused holds pointwise
+      by Fault holds = contents_kept can (maps_left left l.maps s.maps) s.refused holds pointwise
 
-  run_kept : (refusals : List Bool) (words packet : List ℕ) (fd : ℕ) (o : Option OpenObject) → table.named s.objects fd ≡ o → Keeps (run_of refusals s words packet o)
-  run_kept refusals words packet fd None there = λ holds. can
-  run_kept refusals words packet fd (Some (object.Map place)) there = λ holds. can
-  run_kept refusals words packet fd (Some (object.Program l)) there =
+  run_kept : (words packet : List ℕ) (fd : ℕ) (o : Option OpenObject) → table.named s.objects fd ≡ o → Keeps (run_of s words packet o)
+  run_kept words packet fd None there = λ holds. can
+  run_kept words packet fd (Some (object.Map place)) there = λ holds. can
+  run_kept words packet fd (Some (object.Program l)) there =
       if_kept (nat_lt longest_packet (length packet)) (refuses TooBig s) _ (λ e holds. can)
-      (ran_kept l fd there (left_with refusals l.insns (maps_given s l) (length packet ∷ words) packet) (leaves_maps refusals l.insns (maps_given s l) (length packet ∷ words) packet)
-      (result_with refusals l.insns (maps_given s l) (length packet ∷ words) packet) (s.refused || was_refused refusals l.insns (maps_given s l) (length packet ∷ words) packet))
+      (ran_kept l fd there (left_with [] l.insns (maps_given s l) (length packet ∷ words) packet) (leaves_maps l.insns (maps_given s l) (length packet ∷ words) packet)
+      (result_of l.insns (maps_given s l) (length packet ∷ words) packet))
 
   -- ---- MAP_CREATE
 
@@ -312,20 +311,20 @@ module _ {s : TenantState} (can : IsRestorable s) where
 
 -- ---- every command
 
-answer_kept : MapsAreHeld → LoadedMapsHaveShapes → (refusals : List Bool) (s : TenantState) (command : Command) (a : Answer) → IsRestorable s → Answers refusals s command a → IsRestorable a.after
-answer_kept held law refusals s command a can is = by command is (held.kept refusals s command a can.held is)
+answer_kept : MapsAreHeld → LoadedMapsHaveShapes → (refused : Bool) (s : TenantState) (command : Command) (a : Answer) → IsRestorable s → Answers refused s command a → IsRestorable a.after
+answer_kept held law refused s command a can is = by command is (held.kept refused s command a can.held is)
   where
     told : (x : Answer) → a ≡ x → (HoldsItsMaps x.after → IsRestorable x.after) → HoldsItsMaps a.after → IsRestorable a.after
     told x e keeps = subst (λ (y : Answer). HoldsItsMaps y.after → IsRestorable y.after) (sym e) keeps
 
-    by : (c : Command) → Answers refusals s c a → HoldsItsMaps a.after → IsRestorable a.after
-    by (map_create kind key value max flags) is = told _ is (create_kept can (refused_at_first refusals) (asked_shape (kind_of kind) key value max flags))
+    by : (c : Command) → Answers refused s c a → HoldsItsMaps a.after → IsRestorable a.after
+    by (map_create kind key value max flags) is = told _ is (create_kept can refused (asked_shape (kind_of kind) key value max flags))
     by (map_lookup fd key) is = told _ is (on_map_kept can fd _ (λ place t there. if_kept can (length key == t.shape.key_size) _ _ (λ e. found_kept can (look_up t key)) (λ holds. can)))
-    by (map_update fd flags bytes) is = told _ is (on_map_kept can fd _ (update_kept can (refused_at_first refusals) flags bytes))
+    by (map_update fd flags bytes) is = told _ is (on_map_kept can fd _ (update_kept can flags bytes))
     by (map_delete fd key) is = told _ is (on_map_kept can fd _ (λ place t there. if_kept can (length key == t.shape.key_size) _ _ (λ e. taken_kept can place t key (removal t key) there refl) (λ holds. can)))
     by (map_next_key fd key) is = told _ is (on_map_kept can fd _ (λ place t there. if_kept can (length key == 0 || length key == t.shape.key_size) _ _ (λ e. found_kept can (next_of t key)) (λ holds. can)))
-    by (prog_load kind slots) is = loads_kept can law (refused_at_first refusals) kind slots a is
-    by (prog_test_run fd words packet) is = told _ is (run_kept can refusals words packet fd (table.named s.objects fd) refl)
+    by (prog_load kind slots) is = loads_kept can law refused kind slots a is
+    by (prog_test_run fd words packet) is = told _ is (run_kept can words packet fd (table.named s.objects fd) refl)
     by (close fd) is = told _ is (close_kept can fd (table.named s.objects fd))
 
 -- a new tenant can be restored

@@ -133,7 +133,7 @@ module _ (s : TenantState) (f : Opened) (l : LoadedProgram) (whole : IsWholeProg
   names_old : (place : ℕ) → names place (object.Program l) ≡ true → is_named (table f) place ≡ true
   names_old place e = open_named f l.maps place are_open e
 
-  pub load_answer : SameEntriesSameVerdict → (fd : ℕ) → IsOnlyFree f fd → Answers [] (state_of s f) (load_of l.insns) (opens fd (state_of s (set_at f fd (Some (object.Program l)))))
+  pub load_answer : SameEntriesSameVerdict → (fd : ℕ) → IsOnlyFree f fd → Answers false (state_of s f) (load_of l.insns) (opens fd (state_of s (set_at f fd (Some (object.Program l)))))
   load_answer same fd free =
       subst (λ (o : Option ℕ). LoadsUnder false (state_of s f) o (program_bytes l.insns) (opens fd (state_of s (set_at f fd (Some (object.Program l)))))) (sym (lowest-table f fd free))
       (Ok l.insns, (whole.program, refl, accepted_again same), ap (opens fd) (sym after))

@@ -190,15 +190,15 @@ put_all t whole = by t.shape.kind refl
 -- ---- the updates
 
 put_answer : (x : TenantState) (fd place : ℕ) (t u : Map) (e : Pair) → named x.objects fd ≡ Some (object.Map place) → live x place ≡ Some t → IsPut t e u → length e.0 ≡ t.shape.key_size → length e.1 ≡ t.shape.value_size
-    → Answers [] x (put_of fd e) (gives [] (with_map_at x place u))
+    → Answers false x (put_of fd e) (gives [] (with_map_at x place u))
 put_answer x fd place t u e opened there put key_size value_size =
-    sym (ap (of_object x update) opened ∙ ap (of_place x place update) there ∙ ap (λ (b : Bool). if b then element_put false x place t (take t.shape.key_size (e.0 ++ e.1)) (drop t.shape.key_size (e.0 ++ e.1)) (verdict t (take t.shape.key_size (e.0 ++ e.1)) 0) else refuses Invalid x) fits_both
-    ∙ ap₂ (λ (key value : List ℕ). element_put false x place t key value (verdict t key 0)) front back ∙ by put)
+    sym (ap (of_object x update) opened ∙ ap (of_place x place update) there ∙ ap (λ (b : Bool). if b then element_put x place t (take t.shape.key_size (e.0 ++ e.1)) (drop t.shape.key_size (e.0 ++ e.1)) (verdict t (take t.shape.key_size (e.0 ++ e.1)) 0) else refuses Invalid x) fits_both
+    ∙ ap₂ (λ (key value : List ℕ). element_put x place t key value (verdict t key 0)) front back ∙ by put)
   where
     update : ℕ → Map → Answer
     update p m =
         if length (e.0 ++ e.1) == m.shape.key_size + m.shape.value_size
-        then element_put false x p m (take m.shape.key_size (e.0 ++ e.1)) (drop m.shape.key_size (e.0 ++ e.1)) (verdict m (take m.shape.key_size (e.0 ++ e.1)) 0)
+        then element_put x p m (take m.shape.key_size (e.0 ++ e.1)) (drop m.shape.key_size (e.0 ++ e.1)) (verdict m (take m.shape.key_size (e.0 ++ e.1)) 0)
         else refuses Invalid x
 
     fits_both : (length (e.0 ++ e.1) == t.shape.key_size + t.shape.value_size) ≡ true
@@ -210,9 +210,9 @@ put_answer x fd place t u e opened there put key_size value_size =
     back : drop t.shape.key_size (e.0 ++ e.1) ≡ e.1
     back = ap (λ (n : ℕ). drop n (e.0 ++ e.1)) (sym key_size) ∙ drop-append_seam e.0 e.1
 
-    by : IsPut t e u → element_put false x place t e.0 e.1 (verdict t e.0 0) ≡ gives [] (with_map_at x place u)
-    by (inl (new, is)) = ap (element_put false x place t e.0 e.1) new ∙ ap (λ (m : Map). gives [] (with_map_at x place m)) (sym is)
-    by (inr (old, present, is)) = ap (element_put false x place t e.0 e.1) present ∙ ap (λ (m : Map). gives [] (with_map_at x place m)) (sym is)
+    by : IsPut t e u → element_put x place t e.0 e.1 (verdict t e.0 0) ≡ gives [] (with_map_at x place u)
+    by (inl (new, is)) = ap (element_put x place t e.0 e.1) new ∙ ap (λ (m : Map). gives [] (with_map_at x place m)) (sym is)
+    by (inr (old, present, is)) = ap (element_put x place t e.0 e.1) present ∙ ap (λ (m : Map). gives [] (with_map_at x place m)) (sym is)
 
 -- ---- room for the map
 
@@ -292,17 +292,17 @@ module _ (held : MapsAreHeld) (bisimulation : AlikeIsBisimulation) where
 
   -- a new map is created at a free place of each state
   create_leads : (x t : TenantState) (fd place : ℕ) (shape : MapShape) → Follows x t → lowest x.objects ≡ Some fd → IsFree x place → maps_area x.maps + shape_area shape ≤ most_bytes
-      → (b : Answer) × Answers [] t (create_of shape) b × (b.status ≡ pos fd) × Follows (with_new_map x fd place (new_map shape)) b.after
+      → (b : Answer) × Answers false t (create_of shape) b × (b.status ≡ pos fd) × Follows (with_new_map x fd place (new_map shape)) b.after
   create_leads x t fd place shape h low free fits = by (room_of x place (shape_area shape) free fits) (same_room_for h.pair (shape_area shape))
     where
       low_too : lowest t.objects ≡ Some fd
       low_too = ap lowest h.pair.by.objects ∙ lowest_moved h.move x.objects ∙ low
 
-      by : (p : ℕ) × (room_for x (shape_area shape) ≡ Some p) → SameRoom x t (shape_area shape) → (b : Answer) × Answers [] t (create_of shape) b × (b.status ≡ pos fd) × Follows (with_new_map x fd place (new_map shape)) b.after
+      by : (p : ℕ) × (room_for x (shape_area shape) ≡ Some p) → SameRoom x t (shape_area shape) → (b : Answer) × Answers false t (create_of shape) b × (b.status ≡ pos fd) × Follows (with_new_map x fd place (new_map shape)) b.after
       by (p, room) (inl (none, too)) = absurd (none-some p (sym none ∙ room))
       by (p, room) (inr (p', q, room_too, room_there, free_p, free_q)) =
           let b = opens fd (with_new_map t fd q (new_map shape)) in
-          let answers : Answers [] t (create_of shape) b = sym (
+          let answers : Answers false t (create_of shape) b = sym (
           ap (created false t) (asked_again shape)
           ∙ ap (created_under false t shape) low_too
           ∙ ap (created_as false t shape fd) room_there) in (
@@ -313,7 +313,7 @@ module _ (held : MapsAreHeld) (bisimulation : AlikeIsBisimulation) where
               move = set_at h.move place q;
               pair = record {
                 one = created_held h.pair.one fd place (new_map shape) low free;
-                two = held.kept [] t (create_of shape) b h.pair.two answers;
+                two = held.kept false t (create_of shape) b h.pair.two answers;
                 by = created_pair h.pair fd place q (new_map shape) free free_q;
               };
             },

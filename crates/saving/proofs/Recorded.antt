@@ -57,19 +57,19 @@ module _ (maps : MapsAreHeld) (law : BirthsAreKept) where
 
   module _ (k : KeptTenant) (births : List Birth) (is : IsRecorded (record { kept = k; births = births })) (p : List ℕ) where
     -- after a command there are at most as many births as there is room for
-    pub few_after : (refusals : List Bool) (command : Command) (a : Answer) → Answers refusals (state_in p k) command a → length (births_after command a births) ≤ most + most_maps
-    few_after refusals command a answers =
+    pub few_after : (refused : Bool) (command : Command) (a : Answer) → Answers refused (state_in p k) command a → length (births_after command a births) ≤ most + most_maps
+    few_after refused command a answers =
         let (held, are) = is p in
-        law.few a.after (births_after command a births) (maps.kept refusals (state_in p k) command a held answers) (law.kept refusals (state_in p k) command a births held are answers)
+        law.few a.after (births_after command a births) (maps.kept refused (state_in p k) command a held answers) (law.kept refused (state_in p k) command a births held are answers)
 
     pub recorded_after : {command : Command} {h : Head} {reply : List ℕ} (l : KeptTenant) (later : List Birth) (q : List ℕ) → AnswersCommand command h reply (state_in p k) (state_in q l) births later
         → IsRecorded (record { kept = l; births = later })
     recorded_after {command} l later q t =
         let (held, are) = is p in
         recorded_by l later q
-        (subst HoldsItsMaps (sym t.left) (maps.kept t.refusals (state_in p k) command t.answer held t.answers))
+        (subst HoldsItsMaps (sym t.left) (maps.kept t.refused (state_in p k) command t.answer held t.answers))
         (subst (λ (bs : List Birth). AreBirths (state_in q l) bs) (sym t.recorded)
-        (subst (λ (s : TenantState). AreBirths s (births_after command t.answer births)) (sym t.left) (law.kept t.refusals (state_in p k) command t.answer births held are t.answers)))
+        (subst (λ (s : TenantState). AreBirths s (births_after command t.answer births)) (sym t.left) (law.kept t.refused (state_in p k) command t.answer births held are t.answers)))
 
   -- ---- a list of test runs
 
@@ -79,10 +79,10 @@ module _ (maps : MapsAreHeld) (law : BirthsAreKept) where
   runs_keep births fd s t [] [] held are same = (subst HoldsItsMaps (sym same) held, subst (λ (u : TenantState). AreBirths u births) (sym same) are)
   runs_keep births fd s t [] (r ∷ rs) held are wrong = absurd wrong
   runs_keep births fd s t (input ∷ inputs) [] held are wrong = absurd wrong
-  runs_keep births fd s t (input ∷ inputs) (r ∷ rs) held are (refusals, between, answers, rest) =
+  runs_keep births fd s t (input ∷ inputs) (r ∷ rs) held are (between, told, rest) =
       let command = prog_test_run fd input.words input.packet in
       let a = gives (little_bytes 4 r) between in
-      runs_keep births fd between t inputs rs (maps.kept refusals s command a held answers) (law.kept refusals s command a births held are answers) rest
+      runs_keep births fd between t inputs rs (maps.kept false s command a held told) (law.kept false s command a births held are told) rest
 
   -- packets are run, or nothing is changed
   pub recorded_runs : {U E : Type 0} (r : Result U E) (k l : KeptTenant) (births : List Birth) (p q : List ℕ) (fd : ℕ) (inputs : List BatchInput) (room written : List ℕ)

@@ -78,7 +78,7 @@ next_filled k fd = by (cases_eq fd k)
         below (inl lt) = ap (λ (b : Bool). if b then Some (object.Program filler_program) else None) (lt-ltb fd k lt ∙ sym (lt-ltb fd (k + 1) (omega arith)))
         below (inr le) = ap (λ (b : Bool). if b then Some (object.Program filler_program) else None) (le-ltb fd k le ∙ sym (le-ltb fd (k + 1) (omega arith)))
 
-fill_answer : FillerIsAccepted → (k : ℕ) → IsDescriptor k → Answers [] (filling k) (load_of filler) (opens k (filling (k + 1)))
+fill_answer : FillerIsAccepted → (k : ℕ) → IsDescriptor k → Answers false (filling k) (load_of filler) (opens k (filling (k + 1)))
 fill_answer fine k is =
     subst (λ (o : Option ℕ). LoadsUnder false (filling k) o (program_bytes filler) (opens k (filling (k + 1)))) (sym (lowest-is (filled_to k) k free))
     (Ok filler, (fine.0, refl, fine.1 (targets (filling k))), ap (λ (os : List (Option OpenObject)). opens k (record { objects = os; maps = no_maps; refused = false })) (sym objects))
@@ -103,7 +103,7 @@ fill_leads fine (suc n) k low all = (opens k (filling (k + 1)), fill_answer fine
 
 leads_held : MapsAreHeld → (cs : List Command) (s t : TenantState) → HoldsItsMaps s → Leads s cs t → HoldsItsMaps t
 leads_held held [] s t h e = subst HoldsItsMaps (sym e) h
-leads_held held (c ∷ cs) s t h (a, answers, well, rest) = leads_held held cs a.after t (held.kept [] s c a h answers) rest
+leads_held held (c ∷ cs) s t h (a, answers, well, rest) = leads_held held cs a.after t (held.kept false s c a h answers) rest
 
 -- ---- the descriptors that are not open are closed
 

@@ -303,8 +303,8 @@ ends_whole t whole = record {
   ended = refl;
 }
 
-pub leaves_maps : (refusals : List Bool) (code : List Insn) (maps : MapsByDescriptor) (words packet : List ℕ) (m : ℕ) → LeavesMap (maps m) (left_with refusals code maps words packet m)
-leaves_maps refusals code maps words packet m = by (maps m) ((run_with refusals code maps words packet).state.maps m) (run_same code (slot_count code) refusals (start_of_run maps words packet) m)
+pub leaves_maps : (code : List Insn) (maps : MapsByDescriptor) (words packet : List ℕ) (m : ℕ) → LeavesMap (maps m) (left_with [] code maps words packet m)
+leaves_maps code maps words packet m = by (maps m) ((run_with [] code maps words packet).state.maps m) (run_same code (slot_count code) [] (start_of_run maps words packet) m)
   where
     by : (o : Option (Table (List ℕ))) (p : Option RunMap) → IsSameMap (option_map first_map o) p → LeavesMap o (option_map last_map p)
     by None None h = tt
@@ -313,8 +313,8 @@ leaves_maps refusals code maps words packet m = by (maps m) ((run_with refusals 
     by (Some t) (Some u) h = record { shape = h.shape; whole = λ whole. ends_whole u (h.whole (begins_whole t whole)) }
 
 -- the run leaves a map if and only if it was given one
-pub left_same : (refusals : List Bool) (code : List Insn) (maps : MapsByDescriptor) (words packet : List ℕ) (m : ℕ) → is_some (left_with refusals code maps words packet m) ≡ is_some (maps m)
-left_same refusals code maps words packet m = by (maps m) (left_with refusals code maps words packet m) (leaves_maps refusals code maps words packet m)
+pub left_same : (code : List Insn) (maps : MapsByDescriptor) (words packet : List ℕ) (m : ℕ) → is_some (left_with [] code maps words packet m) ≡ is_some (maps m)
+left_same code maps words packet m = by (maps m) (left_with [] code maps words packet m) (leaves_maps code maps words packet m)
   where
     by : (o p : Option (Table (List ℕ))) → LeavesMap o p → is_some p ≡ is_some o
     by None None h = refl

@@ -1,13 +1,15 @@
 -- The frame of a command is read as this command.
-use Rattle.std.proofs.Common.{◌≡◌, ℕ, ◌+◌, ◌^◌, ◌<◌, ◌≤◌, Bool, List, [], ◌++◌, length, drop, Result, Ok, Err, refl, ap, ◌∙◌, arith}
+use Rattle.std.proofs.Common.{◌≡◌, ℕ, zero, suc, ◌+◌, ◌*◌, ◌^◌, ◌<◌, ◌≤◌, Bool, List, [], ◌∷◌, ◌++◌, length, drop, Result, Ok, Err, refl, ap, ap₂, ◌∙◌, arith}
 use Rattle.std.specs.Prelude.{if◌then◌else◌}
+use Rattle.std.specs.List.{AllByRecursion, flat_map}
 use Rattle.std.proofs.lemmas.Bool.{le-leb, le-ltb}
 use Rattle.byteorder.specs.Endian.{little_number, little_bytes}
 use Rattle.command_frames.specs.declared.command.BadFrame.{BadFrame}
 use Rattle.command_frames.specs.declared.command.BadFrame.TheVariants.{TooLong, Body}
-use Rattle.command_frames.specs.Command.{Command, map_create, map_lookup, map_update, map_delete, map_next_key, prog_load, prog_test_run, close, parsed, command_in, longest_frame, before_key_and_value, word_length}
+use Rattle.command_frames.specs.Command.{Command, map_create, map_lookup, map_update, map_delete, map_next_key, prog_load, prog_test_run, close, parsed, command_in, longest_frame, before_key_and_value, word_length, given_words, before_packet, words}
 use Rattle.command_frames.specs.Frame.{head_length}
-use Rattle.saving.specs.Laws.{FramesHaveOwners}
+use Rattle.tenant.specs.Batch.{BatchInput}
+use Rattle.saving.specs.Laws.{FramesHaveOwners, FitsFrame, TestRunsHaveFrames}
 use Rattle.saving.specs.Frames.{command_code, body_of, frame_of}
 
 -- ---- numbers
@@ -63,6 +65,48 @@ load_parsed tenant slots short =
 
 pub close_parsed : (tenant fd : ℕ) → fd < 2 ^ 32 → parsed (frame_of tenant (close fd)) ≡ Ok (close fd)
 close_parsed tenant fd a = ap (λ (n : ℕ). Ok (close n)) (number_of_bytes fd [] a)
+
+-- ---- test runs
+
+-- words are read from their bytes
+words_read : (n : ℕ) (ws packet : List ℕ) → length ws ≡ n → AllByRecursion (λ w. w < 2 ^ 32) ws → words n (flat_map (little_bytes 4) ws ++ packet) ≡ ws
+unfolding words
+words_read zero [] packet e small = refl
+words_read zero (w ∷ ws) packet e small = absurd (omega (arith, e))
+words_read (suc n) [] packet e small = absurd (omega (arith, e))
+words_read (suc n) (w ∷ ws) packet e small =
+    ap₂ (λ (x : ℕ) (xs : List ℕ). x ∷ xs) (number_of_bytes w (flat_map (little_bytes 4) ws ++ packet) small.0) (words_read n ws packet (omega (arith, e)) small.1)
+
+-- the packet begins after four bytes for each word
+after_words : (ws packet : List ℕ) → drop (4 * length ws) (flat_map (little_bytes 4) ws ++ packet) ≡ packet
+after_words [] packet = refl
+after_words (w ∷ ws) packet =
+    let four : 4 * length (w ∷ ws) ≡ suc (suc (suc (suc (4 * length ws)))) = omega arith in
+    ap (λ (k : ℕ). drop k (flat_map (little_bytes 4) (w ∷ ws) ++ packet)) four ∙ after_words ws packet
+
+words_long : (ws packet : List ℕ) → length (flat_map (little_bytes 4) ws ++ packet) ≡ 4 * length ws + length packet
+words_long [] packet = omega arith
+words_long (w ∷ ws) packet = let rest = words_long ws packet in omega (arith, rest)
+
+same_run : (a b : ℕ) (ws vs packet other : List ℕ) → a ≡ b → ws ≡ vs → packet ≡ other → prog_test_run a ws packet ≡ prog_test_run b vs other
+same_run a b ws vs packet other p q r = cc
+
+test_run_parsed : (tenant fd : ℕ) (input : BatchInput) → fd < 2 ^ 32 → FitsFrame input → parsed (frame_of tenant (prog_test_run fd input.words input.packet)) ≡ Ok (prog_test_run fd input.words input.packet)
+test_run_parsed tenant fd input a (ten, small, fits) =
+    let command = prog_test_run fd input.words input.packet in
+    let body = body_of command in
+    let rest = flat_map (little_bytes 4) input.words ++ input.packet in
+    let long : length rest ≡ 40 + length input.packet = let all = words_long input.words input.packet in omega (arith, all, ten) in
+    let size : length body ≡ 4 + length rest = omega arith in
+    let behind : drop 40 rest ≡ input.packet =
+    ap (λ (k : ℕ). drop k rest) (let forty : 40 ≡ 4 * length input.words = omega (arith, ten) in forty) ∙ after_words input.words input.packet in
+    parsed_as tenant command (omega (arith, long, size, fits))
+    ∙ ap (λ (b : Bool). at_least_if b (prog_test_run (little_number 4 body) (words given_words rest) (drop 40 rest))) (le-leb before_packet (length body) (omega (arith, long, size)))
+    ∙ ap (λ (c : Command). Ok c) (same_run _ fd _ input.words _ input.packet (number_of_bytes fd rest a) (words_read given_words input.words input.packet ten small) behind)
+
+pub test_runs_have_frames : TestRunsHaveFrames
+test_runs_have_frames tenant fd [] small fit = tt
+test_runs_have_frames tenant fd (input ∷ inputs) small fit = (test_run_parsed tenant fd input small fit.0, test_runs_have_frames tenant fd inputs small fit.1)
 
 -- ---- the owners of the frames
 

@@ -30,19 +30,19 @@ pub record Follows (x t : TenantState) : Type 0 where
 -- the reply of the other state to the same command, and the state after it
 pub record FollowsTo (t : TenantState) (c : Command) (a : Answer) : Type 0 where
   pub b : Answer
-  pub answers : Answers [] t c b
+  pub answers : Answers false t c b
   pub status : b.status ≡ a.status
   pub after : Follows a.after b.after
 
 module _ (held : MapsAreHeld) (bisimulation : AlikeIsBisimulation) where
-  pub follows : (x t : TenantState) (c : Command) (a : Answer) → Follows x t → Answers [] x c a → FollowsTo t c a
+  pub follows : (x t : TenantState) (c : Command) (a : Answer) → Follows x t → Answers false x c a → FollowsTo t c a
   follows x t c a h is =
-      let (b, answers, alike) = bisimulation [] x t c a h.pair.one h.pair.two (h.move, h.pair.by) is in
+      let (b, answers, alike) = bisimulation false x t c a h.pair.one h.pair.two (h.move, h.pair.by) is in
       record {
         b = b;
         answers = answers;
         status = alike.status;
-        after = record { move = alike.after.0; pair = record { one = held.kept [] x c a h.pair.one is; two = held.kept [] t c b h.pair.two answers; by = alike.after.1 } };
+        after = record { move = alike.after.0; pair = record { one = held.kept false x c a h.pair.one is; two = held.kept false t c b h.pair.two answers; by = alike.after.1 } };
       }
 
 -- ---- states by their open objects
@@ -85,7 +85,7 @@ narrowed s f g fewer =
 pub closed_names : (f : Opened) (fd : ℕ) → IsDescriptor fd → NamesFewer (table (set_at f fd None)) (table f)
 closed_names f fd is = subst (λ (os : List (Option OpenObject)). NamesFewer os (table f)) (table-closed f fd is) (closed_fewer (table f) fd)
 
-pub close_answer : (s : TenantState) (f : Opened) (fd : ℕ) (o : OpenObject) → IsDescriptor fd → f fd ≡ Some o → Answers [] (state_of s f) (close fd) (gives [] (state_of s (set_at f fd None)))
+pub close_answer : (s : TenantState) (f : Opened) (fd : ℕ) (o : OpenObject) → IsDescriptor fd → f fd ≡ Some o → Answers false (state_of s f) (close fd) (gives [] (state_of s (set_at f fd None)))
 close_answer s f fd o is there =
     ap (gives []) (sym (narrowed s f (set_at f fd None) (closed_names f fd is)) ∙ ap (with_objects (state_of s f)) (sym (table-closed f fd is)))
     ∙ sym (ap (closed (state_of s f) fd) (named-table f fd is ∙ there))

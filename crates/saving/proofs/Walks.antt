@@ -156,7 +156,7 @@ module _ (held : MapsAreHeld) (bisimulation : AlikeIsBisimulation) (same_verdict
       subst (λ (o : Option OpenObject). LeadsTo t (made_program o) (state_of s (set_at f fd (Some (program_or o))))) (sym there)
       (record { end = one.b.after; leads = (one.b, one.answers, (fd, one.status), refl); after = one.after })
 
-  close_here : (b : Birth) (older : List Birth) → IsDescriptor (number b) → Answers [] (state_of s (at_births s older)) (close (number b)) (gives [] (state_of s (without b older)))
+  close_here : (b : Birth) (older : List Birth) → IsDescriptor (number b) → Answers false (state_of s (at_births s older)) (close (number b)) (gives [] (state_of s (without b older)))
   unfolding without
   close_here b older is = close_answer s (at_births s older) (number b) (object_of s (latest_at older (number b))) is refl
 

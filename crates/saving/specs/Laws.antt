@@ -1,11 +1,13 @@
 -- Laws of alike states. This project's own.
 use Rattle.std.specs.Prelude.{◌≡◌, ℕ, ◌+◌, ◌^◌, ◌≤◌, ◌<◌, Bool, List, [], ◌∷◌, length, map, Option, Some}
-use Rattle.command_frames.specs.Command.{Command}
+use Rattle.std.specs.List.{AllByRecursion}
+use Rattle.command_frames.specs.Command.{Command, prog_test_run, given_words}
 use Rattle.command_frames.specs.Frame.{owner}
 use Rattle.fd_table.specs.Table.{most}
 use Rattle.bpf_maps.specs.Limits.{most_maps}
 use Rattle.tenant.specs.State.{TenantState, new_tenant}
-use Rattle.tenant.specs.Machine.{Answer, Answers}
+use Rattle.tenant.specs.Batch.{BatchInput, AreTestRuns}
+use Rattle.tenant.specs.Machine.{Answer, Answers, longest_packet}
 use Rattle.tenant.specs.Alone.{IsToldAlone, AloneWithRefusals}
 use Rattle.saving.specs.Alike.{IsAlike, IsAlikeAnswer, HoldsItsMaps}
 use Rattle.saving.specs.Births.{Birth, AreBirths, births_after}
@@ -16,13 +18,15 @@ use Rattle.saving.specs.Restorable.{IsRestorable}
 -- a new tenant holds its maps, and each command preserves this
 pub record MapsAreHeld : Type 0 where
   pub new : HoldsItsMaps new_tenant
-  pub kept : (refusals : List Bool) (s : TenantState) (command : Command) (a : Answer) → HoldsItsMaps s → Answers refusals s command a → HoldsItsMaps a.after
+  pub kept : (refused : Bool) (s : TenantState) (command : Command) (a : Answer)
+      → HoldsItsMaps s → Answers refused s command a → HoldsItsMaps a.after
 
 -- a bisimulation: states that are alike give each command the same reply, and are alike after it
 abbrev pub AlikeIsBisimulation : Type 0
 AlikeIsBisimulation =
-    (refusals : List Bool) (s t : TenantState) (command : Command) (a : Answer) → HoldsItsMaps s → HoldsItsMaps t → IsAlike s t → Answers refusals s command a
-    → (b : Answer) × Answers refusals t command b × IsAlikeAnswer a b
+    (refused : Bool) (s t : TenantState) (command : Command) (a : Answer)
+    → HoldsItsMaps s → HoldsItsMaps t → IsAlike s t → Answers refused s command a
+    → (b : Answer) × Answers refused t command b × IsAlikeAnswer a b
 
 -- states that are alike give each list of frames the same replies
 pub record AlikeStatesReplyAlike : Type 0 where
@@ -36,7 +40,9 @@ pub record AlikeStatesReplyAlike : Type 0 where
 -- the births of a tenant's objects: a new tenant has none, each command preserves the invariant, and there is a bound on their number
 pub record BirthsAreKept : Type 0 where
   pub new : AreBirths new_tenant []
-  pub kept : (refusals : List Bool) (s : TenantState) (command : Command) (a : Answer) (births : List Birth) → HoldsItsMaps s → AreBirths s births → Answers refusals s command a → AreBirths a.after (births_after command a births)
+  pub kept : (refused : Bool) (s : TenantState) (command : Command) (a : Answer)
+      (births : List Birth) → HoldsItsMaps s → AreBirths s births → Answers refused s command a
+      → AreBirths a.after (births_after command a births)
   pub few : (s : TenantState) (births : List Birth) → HoldsItsMaps s → AreBirths s births → length births ≤ most + most_maps
 
 -- a new tenant that gets the commands of a save succeeds at each, and is then alike to the saved state
@@ -46,6 +52,22 @@ RestoredIsAlike = (s : TenantState) (births : List Birth) → IsRestorable s →
 -- the owner of a frame is its tenant
 abbrev pub FramesHaveOwners : Type 0
 FramesHaveOwners = (tenant : ℕ) (c : Command) → tenant < 2 ^ 16 → owner (frame_of tenant c) ≡ tenant
+
+-- a test run fits into a frame: it has ten words of context, each in four bytes, and a packet that is not too long
+abbrev pub FitsFrame : BatchInput → Type 0
+FitsFrame input =
+    (length input.words ≡ given_words) × AllByRecursion (λ word. word < 2 ^ 32) input.words
+    × (length input.packet ≤ longest_packet)
+
+-- the frame of a test run of a program
+abbrev pub test_run_frame : ℕ → ℕ → BatchInput → List ℕ
+test_run_frame tenant fd input = frame_of tenant (prog_test_run fd input.words input.packet)
+
+-- the frames of test runs carry them
+abbrev pub TestRunsHaveFrames : Type 0
+TestRunsHaveFrames =
+    (tenant fd : ℕ) (inputs : List BatchInput) → fd < 2 ^ 32 → AllByRecursion FitsFrame inputs
+    → AreTestRuns fd (map (test_run_frame tenant fd) inputs) inputs
 
 -- the same for the commands as frames
 abbrev pub RestoredByFrames : Type 0
@@ -57,14 +79,17 @@ RestoredByFrames =
 -- a new tenant can be restored, and each command preserves this
 pub record RestorableIsKept : Type 0 where
   pub new : IsRestorable new_tenant
-  pub kept : (refusals : List Bool) (s : TenantState) (command : Command) (a : Answer) → IsRestorable s → Answers refusals s command a → IsRestorable a.after
+  pub kept : (refused : Bool) (s : TenantState) (command : Command) (a : Answer)
+      → IsRestorable s → Answers refused s command a → IsRestorable a.after
 
 -- ---- histories
 
--- a list of commands, with any refusals of memory, and the state and the births before and after it
+-- a list of commands, whether memory is refused to them or not, and the state and the births before and after it
 abbrev pub IsHistory : TenantState → List Birth → List Command → TenantState → List Birth → Type 0
 IsHistory s births [] t later = (t ≡ s) × (later ≡ births)
-IsHistory s births (c ∷ cs) t later = (refusals : List Bool) × (a : Answer) × Answers refusals s c a × IsHistory a.after (births_after c a births) cs t later
+IsHistory s births (c ∷ cs) t later =
+    (refused : Bool) × (a : Answer) × Answers refused s c a
+    × IsHistory a.after (births_after c a births) cs t later
 
 -- A new tenant succeeds at each of these frames, and from then on it gives each list of frames the replies that this state gives.
 abbrev pub IsRestoredBy : TenantState → List (List ℕ) → Type 0

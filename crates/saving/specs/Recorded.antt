@@ -28,11 +28,11 @@ abbrev pub births_after_frame : Result Command BadFrame → Answer → List Birt
 births_after_frame (Err fault) a births = births
 births_after_frame (Ok command) a births = births_after command a births
 
--- a frame, its reply, and the state and the births of its tenant before and after it, with some refusals of memory
+-- a frame, its reply, and the state and the births of its tenant before and after it; memory may be refused
 pub record RecordsFrame (frame reply : List ℕ) (before after : TenantState) (births later : List Birth) : Type 0 where
-  pub refusals : List Bool
+  pub refused : Bool
   pub answer : Answer
-  pub answers : AnswersFrame refusals before (parsed frame) answer
+  pub answers : AnswersFrame refused before (parsed frame) answer
   pub reply_is : reply ≡ reply_to frame answer.status answer.payload
   pub left : after ≡ answer.after
   pub recorded : later ≡ births_after_frame (parsed frame) answer births

@@ -1,6 +1,6 @@
 -- The commands that restore a state: a walk over the births in order. Each descriptor is open at all times, if to nothing else then to
 -- a program of two instructions, so a new object gets the descriptor that was closed last. This project's own.
-use Rattle.std.specs.Prelude.{◌≡◌, ℕ, zero, suc, ◌+◌, pos, List, [], ◌∷◌, ◌++◌, map, Option, Some, None, is_none, if◌then◌else◌}
+use Rattle.std.specs.Prelude.{◌≡◌, ℕ, zero, suc, ◌+◌, pos, false, List, [], ◌∷◌, ◌++◌, map, Option, Some, None, is_none, if◌then◌else◌}
 use Rattle.insn_set.specs.declared.insn.Insn.{Insn}
 use Rattle.insn_set.specs.Program.{program_bytes}
 use Rattle.command_frames.specs.Command.{Command, map_create, map_update, prog_load, close}
@@ -66,4 +66,5 @@ restored s births = filled most ++ (born s births ++ closings s.objects first_de
 -- each command succeeds, without refusals of memory
 abbrev pub Leads : TenantState → List Command → TenantState → Type 0
 Leads s [] t = t ≡ s
-Leads s (c ∷ cs) t = (a : Answer) × Answers [] s c a × ((n : ℕ) × (a.status ≡ pos n)) × Leads a.after cs t
+Leads s (c ∷ cs) t =
+    (a : Answer) × Answers false s c a × ((n : ℕ) × (a.status ≡ pos n)) × Leads a.after cs t

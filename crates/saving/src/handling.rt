@@ -90,9 +90,9 @@ fn reply_to_command(
             write_answer(head, answer, reply);
         }
         Command::ProgLoad { kind, slots } => {
-            let answer = tenant.load(alloc, kind, slots);
-            births.note(tenant, &answer);
-            write_answer(head, answer, reply);
+            let loaded = tenant.load(alloc, kind, slots);
+            births.note(tenant, &loaded);
+            write_answer(head, loaded, reply);
         }
         Command::ProgTestRun { fd, words, packet } => {
             let answer = tenant.test_run(fd, &words, packet, number, arena);

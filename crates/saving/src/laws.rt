@@ -2,7 +2,7 @@
 //! function that does nothing.
 
 ghost use Rattle.saving.specs.SaveParts.{PartsAreWhole};
-ghost use Rattle.saving.specs.Laws.{MapsAreHeld, AlikeIsBisimulation, AlikeStatesReplyAlike, BirthsAreKept, RestorableIsKept, RestoredIsAlike, FramesHaveOwners, RestoredByFrames, HistoriesAreRestored};
+ghost use Rattle.saving.specs.Laws.{MapsAreHeld, AlikeIsBisimulation, AlikeStatesReplyAlike, BirthsAreKept, RestorableIsKept, RestoredIsAlike, FramesHaveOwners, TestRunsHaveFrames, RestoredByFrames, HistoriesAreRestored};
 
 /// Exactly the maps that an open object names are live, in a new tenant and after each command.
 pub fn maps_are_held()
@@ -52,7 +52,12 @@ pub fn frames_have_owners()
     ensures { FramesHaveOwners }
 {}
 
-/// The same for the commands as frames.
+/// Each test run that fits into a frame has one, which is read as this test run.
+pub fn test_runs_have_frames()
+    ensures { TestRunsHaveFrames }
+{}
+
+/// A new tenant that gets the commands of a save as frames succeeds at each, and is then alike to the saved state.
 pub fn restored_by_frames()
     ensures { RestoredByFrames }
 {

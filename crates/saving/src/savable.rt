@@ -54,7 +54,7 @@ impl SavableTenant {
         })
     }
 
-    /// Whether memory was ever refused to this tenant: to a load, to a new map or to a new key.
+    /// Whether memory was ever refused to this tenant: to a load or to a new map.
     pub fn memory_was_refused(&self) -> bool
         ensures { (part : List ℕ) → result ≡ (tenant_state part self.now).refused }
     {

@@ -22,12 +22,12 @@ tail_length (prog_load kind slots) = length slots
 tail_length (prog_test_run fd words packet) = length packet
 tail_length (close fd) = 0
 
--- The reply to a command is the machine's, with some refusals of memory, and is not the reply to a run that faults. The state after
+-- The reply to a command is the machine's, if memory is refused or not, and is not the reply to a run that faults. The state after
 -- it is the machine's, and the births are those after the command.
 pub record AnswersCommand (command : Command) (head : Head) (reply : List ℕ) (before after : TenantState) (births later : List Birth) : Type 0 where
-  pub refusals : List Bool
+  pub refused : Bool
   pub answer : Answer
-  pub answers : Answers refusals before command answer
+  pub answers : Answers refused before command answer
   pub written : Writes head reply answer
   pub left : after ≡ answer.after
   pub recorded : later ≡ births_after command answer births

@@ -1,0 +1,5 @@
+use Rattle.saving.proofs.Spelled.{test_runs_have_frames}
+use Rattle.saving.proofs.laws.test_runs_have_frames.Goals as goal
+
+pub returns : goal.returns
+returns c = test_runs_have_frames

@@ -14,7 +14,7 @@ use Rattle.tagged_model.specs.declared.value.Outcome.{Outcome}
 use Rattle.tagged_model.specs.declared.value.Outcome.TheVariants.{Value, Fault}
 use Rattle.tagged_model.specs.Cells.{and_then}
 use Rattle.tagged_model.specs.State.{set_at}
-use Rattle.tagged_model.specs.Step.{MapsByDescriptor, result_of, left_with}
+use Rattle.tagged_model.specs.Step.{MapsByDescriptor, result_of, left_of}
 use Rattle.tagged_model.specs.Table as call
 use Rattle.tagged_model.specs.Table.{look_up, verdict, removal, next_of, with_new, with_object, with_deleted, after_run}
 use Rattle.verifier.specs.Maps.{maps_of, entries_of}
@@ -207,9 +207,9 @@ module _ {move : ℕ → ℕ} {s t : TenantState} (h : ArePair move s t) where
   ran_too l words packet named named_too =
       let context = length packet ∷ words in
       subst
-      (λ (given : MapsByDescriptor). IsAlikeAnswer (ran s l words packet) (came_to (result_of l.insns given context packet) t (left_with [] l.insns given context packet) (with_moved l)))
+      (λ (given : MapsByDescriptor). IsAlikeAnswer (ran s l words packet) (came_to (result_of l.insns given context packet) t (left_of l.insns given context packet) (with_moved l)))
       (sym (same_given l named))
-      (came_too l named named_too (left_with [] l.insns (maps_given s l) context packet) (left_same l.insns (maps_given s l) context packet) (result_of l.insns (maps_given s l) context packet))
+      (came_too l named named_too (left_of l.insns (maps_given s l) context packet) (left_same l.insns (maps_given s l) context packet) (result_of l.insns (maps_given s l) context packet))
 
   run_too : (words packet : List ℕ) (o : Option OpenObject) → ((l : LoadedProgram) → o ≡ Some (object.Program l) → IsIn s l × IsIn t (with_moved l))
       → IsAlikeAnswer (run_of s words packet o) (run_of t words packet (option_map (moved_object move) o))

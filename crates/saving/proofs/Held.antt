@@ -11,7 +11,7 @@ use Rattle.tagged_model.specs.declared.fault.MapFault.{MapFault}
 use Rattle.tagged_model.specs.declared.shape.MapShape.{MapShape}
 use Rattle.tagged_model.specs.declared.value.Outcome.{Outcome}
 use Rattle.tagged_model.specs.declared.value.Outcome.TheVariants.{Value, Fault}
-use Rattle.tagged_model.specs.Step.{MapsByDescriptor, result_of, left_with}
+use Rattle.tagged_model.specs.Step.{MapsByDescriptor, result_of, left_of}
 use Rattle.tagged_model.specs.Table as call
 use Rattle.tagged_model.specs.Table.{look_up, verdict, removal, next_of, with_new, with_object, with_deleted, after_run}
 use Rattle.verifier.specs.Maps.{maps_of}
@@ -221,7 +221,7 @@ module _ {s : TenantState} (h : HoldsItsMaps s) where
   run_held words packet (Some (object.Map place)) named = h
   run_held words packet (Some (object.Program l)) named =
       if_held (nat_lt longest_packet (length packet)) _ _ h
-      (left_held l (left_with [] l.insns (maps_given s l) (length packet ∷ words) packet) (named l refl) (left_same l.insns (maps_given s l) (length packet ∷ words) packet)
+      (left_held l (left_of l.insns (maps_given s l) (length packet ∷ words) packet) (named l refl) (left_same l.insns (maps_given s l) (length packet ∷ words) packet)
       (result_of l.insns (maps_given s l) (length packet ∷ words) packet))
 
   -- ---- every command

@@ -15,7 +15,7 @@ use Rattle.tagged_model.specs.declared.shape.MapKind.TheVariants.{Hash, Array}
 use Rattle.tagged_model.specs.declared.shape.MapShape.{MapShape}
 use Rattle.tagged_model.specs.declared.value.Outcome.{Outcome}
 use Rattle.tagged_model.specs.declared.value.Outcome.TheVariants.{Value, Fault}
-use Rattle.tagged_model.specs.Step.{MapsByDescriptor, result_of, left_with}
+use Rattle.tagged_model.specs.Step.{MapsByDescriptor, result_of, left_of}
 use Rattle.tagged_model.specs.Table as call
 use Rattle.tagged_model.specs.Table.{is_key, index_key, indexed, new_entries, look_up, verdict, removal, next_of, with_new, with_object, with_deleted, after_run}
 use Rattle.verifier.specs.Laws.{LoadedMapsHaveShapes}
@@ -208,7 +208,7 @@ module _ {s : TenantState} (can : IsRestorable s) where
   run_kept words packet fd (Some (object.Map place)) there = λ holds. can
   run_kept words packet fd (Some (object.Program l)) there =
       if_kept (nat_lt longest_packet (length packet)) (refuses TooBig s) _ (λ e holds. can)
-      (ran_kept l fd there (left_with [] l.insns (maps_given s l) (length packet ∷ words) packet) (leaves_maps l.insns (maps_given s l) (length packet ∷ words) packet)
+      (ran_kept l fd there (left_of l.insns (maps_given s l) (length packet ∷ words) packet) (leaves_maps l.insns (maps_given s l) (length packet ∷ words) packet)
       (result_of l.insns (maps_given s l) (length packet ∷ words) packet))
 
   -- ---- MAP_CREATE

@@ -31,7 +31,7 @@ use Rattle.insn_set.specs.Flow.{natural}
 use Rattle.tagged_model.specs.State.{RunState, RunMap, at_slot, with_cell, with_map, stack_place, stack_store, object_written, object_stored, value_written, with_value, store, load, is_aligned_at}
 use Rattle.tagged_model.specs.Helpers.{called, helper_of, put, taken_out}
 use Rattle.tagged_model.specs.HelperLaws.{MapAfterCall, unchanged, written, after_update, after_delete, EntryAfterCall, LeavesAfterCall, call_leaves}
-use Rattle.tagged_model.specs.Step.{Step, goes, ends, faults, or_fault, assigned, operand_value, jumped, branched, ended, changed, accessed, loaded_wide, act_of, step, run, Ending, ending_after, refused_at_first, refused_later, MapsByDescriptor, start_of_run, numbered, first_map, last_map, left_with, run_with}
+use Rattle.tagged_model.specs.Step.{Step, goes, ends, faults, or_fault, assigned, operand_value, jumped, branched, ended, changed, accessed, loaded_wide, act_of, step, run, Ending, ending_after, MapsByDescriptor, start_of_run, numbered, first_map, last_map, left_of, run_with}
 
 -- ---- a map of a run
 
@@ -154,11 +154,10 @@ store_same s size (Pointer (object.Value m number) x) off v = stored_same s size
 -- ---- calls
 
 -- an update, and a deletion
-later_put : (refused : Bool) (t : RunMap) (key value : List ℕ) (flags : ℕ) (v : Verdict ℕ) → verdict t.table key flags ≡ v → length key ≡ t.table.shape.key_size → length value ≡ t.table.shape.value_size → IsLater t (put refused t key value v).map
-later_put refused t key value flags (Refused fault) is key_size value_size = later_self t
-later_put refused t key value flags (Present number) is key_size value_size = later_value t number value (λ whole lt. value_size)
-later_put true t key value flags New is key_size value_size = later_self t
-later_put false t key value flags New is key_size value_size = record {
+later_put : (t : RunMap) (key value : List ℕ) (flags : ℕ) (v : Verdict ℕ) → verdict t.table key flags ≡ v → length key ≡ t.table.shape.key_size → length value ≡ t.table.shape.value_size → IsLater t (put t key value v).map
+later_put t key value flags (Refused fault) is key_size value_size = later_self t
+later_put t key value flags (Present number) is key_size value_size = later_value t number value (λ whole lt. value_size)
+later_put t key value flags New is key_size value_size = record {
   shape = refl;
   whole = λ whole. record {
     table = whole_with_new whole.table key t.count flags key_size is;
@@ -179,7 +178,7 @@ later_taken t key (Ok number) is = record { shape = refl; whole = λ whole. reco
 later_called : (t : RunMap) {u : RunMap} → MapAfterCall t u → IsLater t u
 later_called t unchanged = later_self t
 later_called t (written number y bs value is) = later_value t number value (λ whole lt. written_long (t.values number) y bs value is ∙ whole.sized number lt)
-later_called t (after_update refused key value flags key_size value_size) = later_put refused t key value flags (verdict t.table key flags) refl key_size value_size
+later_called t (after_update key value flags key_size value_size) = later_put t key value flags (verdict t.table key flags) refl key_size value_size
 later_called t (after_delete key) = later_taken t key (removal t.table key) refl
 
 entry_called : (o p : Option RunMap) → EntryAfterCall o p → IsSameMap o p
@@ -228,18 +227,18 @@ wide_same s dst (immediate n) = λ m. same_self (s.maps m)
 wide_same s dst (map_ref m) = or_fault_same s (s.maps m) _ (λ t. assigned_same s 2 dst (Some (Map m)))
 wide_same s dst (value_ref m off) = or_fault_same s (s.maps m) _ (λ t. or_fault_same s (direct_object t.table off) _ (λ number. assigned_same s 2 dst (Some (Pointer (object.Value m number) (pos off)))))
 
-act_same : (refused : Bool) (v : View) (s : RunState) → StepHasSame s (act_of refused v s)
-act_same refused (binary wide op dst src) s = or_fault_same s (first_operand op (s.registers dst)) _ (λ a. or_fault_same s (operand_value s wide src) _ (λ b. assigned_same s 1 dst _))
-act_same refused (unary wide op dst src) s = or_fault_same s (s.registers src) _ (λ a. assigned_same s 1 dst _)
-act_same refused (jump off) s = jumped_same s off
-act_same refused (branch wide cond dst src off) s = or_fault_same s (s.registers dst) _ (λ a. or_fault_same s (operand_value s wide src) _ (λ b. or_fault_same s (compared wide cond src a b) _ (branched_same s off)))
-act_same refused (access what base off) s = or_fault_same s (s.registers base) _ (λ p. accessed_same s what p off)
-act_same refused (wide_load dst value) s = wide_same s dst value
-act_same refused (call id) s = or_fault_same s (helper_of id) _ (λ h. goes_same s (called refused h s) 1 (called_same s (called refused h s) (call_leaves refused h s)))
-act_same refused exit s = or_fault_same s (s.registers 0) _ (ended_same s)
+act_same : (v : View) (s : RunState) → StepHasSame s (act_of v s)
+act_same (binary wide op dst src) s = or_fault_same s (first_operand op (s.registers dst)) _ (λ a. or_fault_same s (operand_value s wide src) _ (λ b. assigned_same s 1 dst _))
+act_same (unary wide op dst src) s = or_fault_same s (s.registers src) _ (λ a. assigned_same s 1 dst _)
+act_same (jump off) s = jumped_same s off
+act_same (branch wide cond dst src off) s = or_fault_same s (s.registers dst) _ (λ a. or_fault_same s (operand_value s wide src) _ (λ b. or_fault_same s (compared wide cond src a b) _ (branched_same s off)))
+act_same (access what base off) s = or_fault_same s (s.registers base) _ (λ p. accessed_same s what p off)
+act_same (wide_load dst value) s = wide_same s dst value
+act_same (call id) s = or_fault_same s (helper_of id) _ (λ h. goes_same s (called h s) 1 (called_same s (called h s) (call_leaves h s)))
+act_same exit s = or_fault_same s (s.registers 0) _ (ended_same s)
 
-step_same : (refused : Bool) (code : List Insn) (s : RunState) → StepHasSame s (step refused code s)
-step_same refused code s = or_fault_same s (begins_at code s.at) _ (λ i. act_same refused (view i) s)
+step_same : (code : List Insn) (s : RunState) → StepHasSame s (step code s)
+step_same code s = or_fault_same s (begins_at code s.at) _ (λ i. act_same (view i) s)
 
 -- ---- runs
 
@@ -248,10 +247,10 @@ ending_same s (goes t) f h each m = same_then (s.maps m) (t.maps m) ((f t).state
 ending_same s (ends n) f h each m = same_self (s.maps m)
 ending_same s faults f h each m = same_self (s.maps m)
 
-run_same : (code : List Insn) (n : ℕ) (refusals : List Bool) (s : RunState) → HasSame s (run code n refusals s).state
+run_same : (code : List Insn) (n : ℕ) (s : RunState) → HasSame s (run code n s).state
 unfolding run
-run_same code zero refusals s m = same_self (s.maps m)
-run_same code (suc n) refusals s m = ending_same s (step (refused_at_first refusals) code s) (run code n (refused_later refusals)) (step_same (refused_at_first refusals) code s) (λ t. run_same code n (refused_later refusals) t) m
+run_same code zero s m = same_self (s.maps m)
+run_same code (suc n) s m = ending_same s (step code s) (run code n) (step_same code s) (λ t. run_same code n t) m
 
 -- ---- the maps after a run
 
@@ -303,8 +302,8 @@ ends_whole t whole = record {
   ended = refl;
 }
 
-pub leaves_maps : (code : List Insn) (maps : MapsByDescriptor) (words packet : List ℕ) (m : ℕ) → LeavesMap (maps m) (left_with [] code maps words packet m)
-leaves_maps code maps words packet m = by (maps m) ((run_with [] code maps words packet).state.maps m) (run_same code (slot_count code) [] (start_of_run maps words packet) m)
+pub leaves_maps : (code : List Insn) (maps : MapsByDescriptor) (words packet : List ℕ) (m : ℕ) → LeavesMap (maps m) (left_of code maps words packet m)
+leaves_maps code maps words packet m = by (maps m) ((run_with code maps words packet).state.maps m) (run_same code (slot_count code) (start_of_run maps words packet) m)
   where
     by : (o : Option (Table (List ℕ))) (p : Option RunMap) → IsSameMap (option_map first_map o) p → LeavesMap o (option_map last_map p)
     by None None h = tt
@@ -313,8 +312,8 @@ leaves_maps code maps words packet m = by (maps m) ((run_with [] code maps words
     by (Some t) (Some u) h = record { shape = h.shape; whole = λ whole. ends_whole u (h.whole (begins_whole t whole)) }
 
 -- the run leaves a map if and only if it was given one
-pub left_same : (code : List Insn) (maps : MapsByDescriptor) (words packet : List ℕ) (m : ℕ) → is_some (left_with [] code maps words packet m) ≡ is_some (maps m)
-left_same code maps words packet m = by (maps m) (left_with [] code maps words packet m) (leaves_maps code maps words packet m)
+pub left_same : (code : List Insn) (maps : MapsByDescriptor) (words packet : List ℕ) (m : ℕ) → is_some (left_of code maps words packet m) ≡ is_some (maps m)
+left_same code maps words packet m = by (maps m) (left_of code maps words packet m) (leaves_maps code maps words packet m)
   where
     by : (o p : Option (Table (List ℕ))) → LeavesMap o p → is_some p ≡ is_some o
     by None None h = refl

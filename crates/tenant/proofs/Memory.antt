@@ -20,7 +20,7 @@ use Rattle.tagged_model.specs.declared.fault.MapFault.TheVariants as map
 use Rattle.tagged_model.specs.declared.value.Outcome.{Outcome}
 use Rattle.tagged_model.specs.declared.value.Outcome.TheVariants.{Value, Fault}
 use Rattle.tagged_model.specs.Shape.{is_shape, is_valid}
-use Rattle.tagged_model.specs.Step.{result_of, left_with}
+use Rattle.tagged_model.specs.Step.{result_of, left_of}
 use Rattle.tagged_model.specs.Table as call
 use Rattle.tagged_model.specs.Table.{verdict, removal, removal_of, look_up, next_of, of_found, of_absent, exist, no_exist, is_full}
 use Rattle.verifier.specs.declared.refusal.Cause.{Cause}
@@ -189,7 +189,7 @@ module _ (s : TenantState) where
       by_length false =
           let context = length packet ∷ words in
           let given = maps_given s l in
-          ended (result_of l.insns given context packet) (maps_left (left_with [] l.insns given context packet) l.maps s.maps)
+          ended (result_of l.insns given context packet) (maps_left (left_of l.insns given context packet) l.maps s.maps)
 
   closed_other : (fd : ℕ) (o : Option OpenObject) → IsOther s (closed s fd o)
   closed_other fd None = not_open

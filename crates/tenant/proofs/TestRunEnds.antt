@@ -6,7 +6,7 @@ use Rattle.bpf_maps.specs.Live.{LiveMaps}
 use Rattle.fd_table.specs.Table.{named}
 use Rattle.flat_machine.specs.Runs.{RunInput, Standing, run_on, SimulatesRun, RunKeepsMaps, KeepsValues}
 use Rattle.insn_set.specs.declared.insn.Insn.{Insn}
-use Rattle.tagged_model.specs.Step.{MapsByDescriptor, left_with}
+use Rattle.tagged_model.specs.Step.{MapsByDescriptor, left_of}
 use Rattle.tagged_model.specs.declared.value.Outcome.{Outcome}
 use Rattle.verifier.specs.Laws.{MapsAreListed}
 use Rattle.tenant.specs.declared.errno.Errno.TheVariants.{TooBig}
@@ -43,7 +43,7 @@ ran_as listed {k} {l} {words} {packet} {part} {first} {outcome} {after} h =
     let input : RunInput = record { code = l.insns; bind = bind; maps = given; context = context; packet = packet } in
     let r : SimulatesRun input (stood k.live part first) outcome after =
     subst (λ (m : MapsByDescriptor). SimulatesRun (record { code = l.insns; bind = bind; maps = m; context = context; packet = packet }) (stood k.live part first) outcome after) (given_is part h.kept h.bound listed) h.runs in
-    let maps = left_is h.kept h.bound listed h.maps h.values (left_with [] l.insns given context packet) r.left in
+    let maps = left_is h.kept h.bound listed h.maps h.values (left_of l.insns given context packet) r.left in
     let flag : (k.refused || after.maps.refused) ≡ s.refused = ap (λ (b : Bool). k.refused || b) r.flag in
     let state : state_in after.part (with_live k after.maps) ≡ _ = ap₂ (λ (ms : List (Option Map)) (b : Bool). record { objects = k.objects; maps = ms; refused = b }) (sym maps) flag in
     ap₂ outcome_answer r.value state

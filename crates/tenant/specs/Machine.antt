@@ -22,7 +22,7 @@ use Rattle.tagged_model.specs.declared.value.Outcome.{Outcome}
 use Rattle.tagged_model.specs.declared.value.Outcome.TheVariants.{Value, Fault}
 use Rattle.tagged_model.specs.Cells.{and_then}
 use Rattle.tagged_model.specs.Shape.{is_shape, is_valid}
-use Rattle.tagged_model.specs.Step.{MapsByDescriptor, result_of, left_with}
+use Rattle.tagged_model.specs.Step.{MapsByDescriptor, result_of, left_of}
 use Rattle.tagged_model.specs.Table as call
 use Rattle.tagged_model.specs.Table.{look_up, verdict, removal, next_of, with_new, with_object, with_deleted, after_run, new_table}
 use Rattle.verifier.specs.declared.refusal.Cause.{Cause}
@@ -282,7 +282,7 @@ ran s l words packet =
     let given = maps_given s l in
     let context = length packet ∷ words in
     outcome_answer (result_of l.insns given context packet) (record s {
-      maps = maps_left (left_with [] l.insns given context packet) l.maps s.maps;
+      maps = maps_left (left_of l.insns given context packet) l.maps s.maps;
     })
 
 abbrev pub run_of : TenantState → List ℕ → List ℕ → Option OpenObject → Answer

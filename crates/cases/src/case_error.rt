@@ -30,6 +30,12 @@ pub enum CaseError {
     /// A number is out of its range.
     #[error("out of range")]
     OutOfRange,
+    /// The line names no map that is live.
+    #[error("no such map")]
+    NoMap,
+    /// The bytes are fewer or more than those of a key or a value of the map.
+    #[error("wrong size")]
+    Size,
     #[error("no hex digits")]
     Digits(#[from] FromHexError),
     /// The bytes are not UTF-8.

@@ -4,7 +4,7 @@ use crate::case_error::CaseError;
 use crate::lines::first_word;
 use host::read_shape;
 use std::alloc::{AllocError, Global};
-use tagged_model::{Named, Target};
+use tagged_model::{MapShape, Named, Target};
 
 /// The open descriptors. Of two with the same number the first counts.
 ///
@@ -17,14 +17,22 @@ pub struct Descriptors {
     named: Vec<Named>,
 }
 
+/// The shape `KIND:KEY:VALUE:MAX`.
+pub fn shape_of(alloc: Global, text: &str) -> Result<MapShape, CaseError> {
+    let argument = format!(in alloc; "3:{text}")?;
+    match read_shape(argument.as_str())?.target {
+        Target::Map(shape) => Ok(shape),
+        Target::Program => Err(CaseError::Notation),
+    }
+}
+
 /// The map of a descriptor, which may be any number of 32 bits.
 fn named_map(alloc: Global, text: &str) -> Result<Named, CaseError> {
     let (fd, shape) = text.split_once(':').ok_or(CaseError::Notation)?;
-    let argument = format!(in alloc; "3:{shape}")?;
-    let map = read_shape(argument.as_str())?;
+    let shape = shape_of(alloc, shape)?;
     Ok(Named {
         fd: fd.parse()?,
-        target: map.target,
+        target: Target::Map(shape),
     })
 }
 

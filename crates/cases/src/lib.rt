@@ -10,7 +10,7 @@
 //! | `\xHH` in a text | the byte with these two hex digits |
 //! | `{COUNT*PART}` | the part COUNT times, where each `#` in the part is the number of times before |
 //! | hex digits | bytes; blanks may separate them |
-//! | `FD:KIND:KEY:VALUE:MAX` | a map at a descriptor, as the arguments of `verify` name it |
+//! | `FD:KIND:KEY:VALUE:MAX` | a map at a descriptor, as the arguments of `verify` name it; `KIND:KEY:VALUE:MAX` is its shape |
 //!
 //! Texts in answers have the same notation. Of a program that is run, the answer is its status, and below it the lines of
 //! its output and of its fault.
@@ -24,8 +24,8 @@ mod notation;
 mod playing;
 
 pub use case_error::CaseError;
-pub use descriptors::Descriptors;
+pub use descriptors::{Descriptors, shape_of};
 pub use endings::outcome;
 pub use lines::{first_word, input_of, is_remark};
-pub use notation::{GROUP, bytes_of, hex_groups, shown, text_of, times, written};
+pub use notation::{GROUP, bytes_of, bytes_of_size, hex_groups, shown, text_of, times, written};
 pub use playing::{Player, play_lines};

@@ -1,6 +1,8 @@
 //! Texts and bytes on one line: `;` is a line feed, `\xHH` the byte with these two hex digits, and `{COUNT*PART}` the part
 //! COUNT times, where each `#` in the part is the number of times before.
 
+ghost use Rattle.std.specs.Prelude.{◌≡◌, length, IfOk};
+
 use crate::case_error::CaseError;
 use hex::FromHex;
 use std::alloc::{AllocError, Global};
@@ -109,6 +111,17 @@ pub fn bytes_of(alloc: Global, text: &str) -> Result<Vec<u8>, CaseError> {
     let digits = text_of(&text)?;
     let digits: String = digits.chars().filter(|c| *c != ' ').collect(alloc)?;
     let bytes = hex::decode(alloc, digits.as_str())?;
+    Ok(bytes)
+}
+
+/// The bytes of hex digits, which are as many as those of a map's key or value.
+pub fn bytes_of_size(alloc: Global, text: &str, size: u32) -> Result<Vec<u8>, CaseError>
+    ensures { IfOk result (λ bytes. length bytes.items ≡ size) }
+{
+    let bytes = bytes_of(alloc, text)?;
+    if bytes.len() != size as usize {
+        return Err(CaseError::Size);
+    }
     Ok(bytes)
 }
 

@@ -1,6 +1,6 @@
 //! Plays lines on a host.
 
-use crate::streams::{cut, program, stream};
+use crate::streams::{cut, program, relay, stream};
 use bpf_text::assemble;
 use cases::{CaseError, GROUP, Player, bytes_of, first_word, hex_groups, text_of, written};
 use host::{HashSeed, Host, MOST_TENANTS, ReplyBuf};
@@ -260,6 +260,7 @@ impl Player for HostPlayer {
             "rounds" => self.rounds(rest),
             "stream" => stream(self.alloc, rest),
             "cut" => cut(self.alloc, rest),
+            "relay" => relay(self.alloc, rest),
             "program" => program(self.alloc, rest),
             _ => self.reply_to_line(word, rest),
         }

@@ -2,8 +2,13 @@
 
 use crate::player::new_host;
 use cases::{CaseError, GROUP, bytes_of, first_word, hex_groups, input_of, outcome};
-use host::{Counted, Failure, HashSeed, Host, MOST_FRAMES, ServeFault, run_words, serve};
+use host::{
+    Counted, Failure, HashSeed, Host, MOST_FRAMES, ServeFault, Sink, Source, run_words, serve,
+};
 use std::alloc::{AllocError, Global};
+
+/// The room for the bytes of one call of a reader.
+const ROOM: usize = 4;
 
 /// How a stream ended: by the fault line of the program, if it ended with a fault.
 fn end_of(alloc: Global, end: Result<u32, ServeFault>) -> Result<String, AllocError> {
@@ -60,6 +65,25 @@ pub fn cut(alloc: Global, line: &str) -> Result<String, CaseError> {
     let mut host = new_host(alloc, tenants)?;
     let input = front(alloc, count, digits)?;
     served(alloc, &mut host, limit, &input)
+}
+
+/// What is written and flushed of the bytes that one call of a reader gives, with room for `ROOM` of them.
+pub fn relay(alloc: Global, digits: &str) -> Result<String, CaseError> {
+    let input = bytes_of(alloc, digits)?;
+    let mut reader = Counted::new(input.as_slice());
+    let mut writer = Counted::new(Vec::new(alloc));
+    let mut buffer = [0; ROOM];
+    let Ok(count) = reader.read(&mut buffer) else {
+        return Ok("no read".to_string(alloc)?);
+    };
+    let Ok(written) = writer.write(&buffer[..count]) else {
+        return Ok("no write".to_string(alloc)?);
+    };
+    if writer.flush().is_err() {
+        return Ok("no flush".to_string(alloc)?);
+    }
+    let output = hex_groups(alloc, &writer.into_inner(), GROUP)?;
+    Ok(format!(in alloc; "{written} of {count} [{output}]")?)
 }
 
 /// The argument that a word of a line represents.

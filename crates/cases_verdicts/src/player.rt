@@ -1,5 +1,6 @@
 //! Plays lines with the descriptors that are open.
 
+use crate::joins::joined;
 use crate::jumps::jumping;
 use bpf_text::assemble;
 use cases::{CaseError, Descriptors, Player, first_word, text_of, written};
@@ -65,6 +66,7 @@ impl Player for VerdictPlayer {
             "start" => self.verdict_of_start(rest),
             "jumps" => self.verdict_of_jumps(rest),
             "maps" => self.maps(rest),
+            "join" => joined(self.alloc, rest),
             _ => self.descriptors.play(line),
         }
     }

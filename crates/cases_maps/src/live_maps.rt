@@ -1,0 +1,254 @@
+//! Calls of a tenant's live maps.
+
+ghost use Rattle.std.specs.Prelude.{◌≡◌, length, IfOk, IsSome};
+ghost use Rattle.bpf_maps.specs.Live.{live_at};
+
+use crate::outcomes::{done, fault_text, key_text, nothing};
+use crate::test_run::run_text;
+use arena::Arena;
+use bpf_maps::{KEY_ROOM, MapFault, MapKey, Maps, PART};
+use cases::{CaseError, GROUP, bytes_of, bytes_of_size, first_word, hex_groups, shape_of};
+use seeded_hash::HashSeed;
+use std::alloc::{AllocError, Global};
+use std::marker::Model;
+use tagged_model::{MapShape, Outcome};
+
+/// A tenant's live maps, with their values in the one part of a memory. Contracts see the live maps.
+#[derive(Drop)]
+pub struct LiveMapsPlayer {
+    alloc: Global,
+    maps: Maps,
+    arena: Arena,
+    // The keys of all maps so far, each once. A map's number is the place of its key.
+    keys: Vec<MapKey>,
+}
+
+impl Model for LiveMapsPlayer {
+    ghost use Rattle.bpf_maps.specs.Live.{LiveMaps};
+    ghost use Rattle.bpf_helpers.specs.Parts.{IsPartOf};
+
+    ghost Value = { LiveMaps };
+
+    ghost view = { λ p. p.maps };
+
+    ghost invariant = { λ p. IsPartOf 0 p.arena };
+}
+
+/// Creates a map, and adds this number of references to it.
+fn create_held(
+    maps: &mut Maps,
+    shape: MapShape,
+    holds: u8,
+    part: &mut [u8],
+) -> Result<MapKey, MapFault>
+    requires { length part.old ≡ PART }
+    ensures { IfOk result (λ map. IsSome (live_at maps.new map)) }
+{
+    let map = maps.create(shape, part)?;
+    for _ in 0..holds {
+        maps.hold(map);
+    }
+    Ok(map)
+}
+
+impl LiveMapsPlayer {
+    /// A player without maps.
+    pub fn new(alloc: Global) -> Result<LiveMapsPlayer, AllocError> {
+        Ok(LiveMapsPlayer {
+            alloc,
+            maps: Maps::new(alloc, HashSeed::new(1, 2))?,
+            arena: Arena::new(alloc, 1, PART)?,
+            keys: Vec::new(alloc),
+        })
+    }
+
+    /// Plays the lines that follow on no live maps.
+    fn begin(&mut self) -> Result<String, CaseError> {
+        *self = LiveMapsPlayer::new(self.alloc)?;
+        Ok(nothing(self.alloc))
+    }
+
+    /// The live map of a number.
+    fn live_map(&self, number: &str) -> Result<MapKey, CaseError>
+        ensures { IfOk result (λ map. IsSome (live_at self.now map)) }
+    {
+        let number: usize = number.parse()?;
+        match self.keys.get(number) {
+            Some(map) if self.maps.is_live(*map) => Ok(*map),
+            _ => Err(CaseError::NoMap),
+        }
+    }
+
+    /// The number of a map, which it has from here on.
+    fn number_of(&mut self, map: MapKey) -> Result<usize, AllocError>
+        ensures { self.new ≡ self.old }
+    {
+        if let Some(number) = self.keys.iter().position(|key| *key == map) {
+            return Ok(number);
+        }
+        self.keys.push(map)?;
+        Ok(self.keys.len() - 1)
+    }
+
+    /// A new map: its shape, and the number of references that are added.
+    fn create(&mut self, rest: &str) -> Result<String, CaseError> {
+        let (shape, holds) = first_word(rest);
+        let shape = shape_of(self.alloc, shape)?;
+        let holds = holds.parse()?;
+        self.arena.memory_is_its_parts();
+        match create_held(&mut self.maps, shape, holds, self.arena.part_mut(0)) {
+            Ok(map) => {
+                let number = self.number_of(map)?;
+                Ok(format!(in self.alloc; "map {number} at {}", self.offset(map, 0)?)?)
+            }
+            Err(fault) => Ok(fault_text(self.alloc, fault)?),
+        }
+    }
+
+    /// Drops a reference to a map.
+    fn release(&mut self, number: &str) -> Result<String, CaseError> {
+        let map = self.live_map(number)?;
+        self.arena.memory_is_its_parts();
+        self.maps.release(map, self.arena.part_mut(0));
+        let text = if self.maps.is_live(map) {
+            "live"
+        } else {
+            "gone"
+        };
+        Ok(text.to_string(self.alloc)?)
+    }
+
+    /// The shape of a map.
+    fn shape(&self, number: &str) -> Result<String, CaseError> {
+        let map = self.live_map(number)?;
+        let shape = self.maps.shape(map);
+        let (kind, key, value, entries) = (
+            shape.kind,
+            shape.key_size,
+            shape.value_size,
+            shape.max_entries,
+        );
+        Ok(format!(in self.alloc; "{kind:?} {key} {value} {entries}")?)
+    }
+
+    /// The offset of the value at a place.
+    fn offset(&self, map: MapKey, place: u32) -> Result<usize, CaseError>
+        requires { IsSome (live_at self.now map) }
+    {
+        if place >= self.maps.shape(map).max_entries {
+            return Err(CaseError::OutOfRange);
+        }
+        Ok(self.maps.value_at(map, place))
+    }
+
+    /// The offset of a value: the map and the place.
+    fn at(&self, rest: &str) -> Result<String, CaseError> {
+        let (number, place) = first_word(rest);
+        let map = self.live_map(number)?;
+        let offset = self.offset(map, place.parse()?)?;
+        Ok(format!(in self.alloc; "at {offset}")?)
+    }
+
+    /// The value of a key: the map and the key.
+    fn find(&self, rest: &str) -> Result<String, CaseError> {
+        let (number, digits) = first_word(rest);
+        let map = self.live_map(number)?;
+        let shape = self.maps.shape(map);
+        let key = bytes_of_size(self.alloc, digits, shape.key_size)?;
+        let Some(place) = self.maps.find(map, &key) else {
+            return Ok("absent".to_string(self.alloc)?);
+        };
+        let start = self.maps.value_at(map, place);
+        let value = &self.arena.part(0)[start..start + shape.value_size as usize];
+        Ok(hex_groups(self.alloc, value, GROUP)?)
+    }
+
+    /// An update: the map, the flags, the key and the value.
+    fn claim(&mut self, rest: &str) -> Result<String, CaseError> {
+        let (number, rest) = first_word(rest);
+        let (flags, rest) = first_word(rest);
+        let (key, value) = first_word(rest);
+        let map = self.live_map(number)?;
+        let flags = flags.parse()?;
+        let shape = self.maps.shape(map);
+        let key = bytes_of_size(self.alloc, key, shape.key_size)?;
+        let value = bytes_of_size(self.alloc, value, shape.value_size)?;
+        match self.maps.claim(map, &key, flags) {
+            Ok(place) => {
+                let start = self.maps.value_at(map, place);
+                self.arena.memory_is_its_parts();
+                let part = self.arena.part_mut(0);
+                part[start..start + value.len()].copy_from_slice(&value);
+                Ok("claimed".to_string(self.alloc)?)
+            }
+            Err(fault) => Ok(fault_text(self.alloc, fault)?),
+        }
+    }
+
+    /// The removal of a key: the map and the key.
+    fn remove(&mut self, rest: &str) -> Result<String, CaseError> {
+        let (number, digits) = first_word(rest);
+        let map = self.live_map(number)?;
+        let key = bytes_of_size(self.alloc, digits, self.maps.shape(map).key_size)?;
+        Ok(done(self.alloc, self.maps.remove(map, &key), "removed")?)
+    }
+
+    /// The key that follows a key: the map, and the key or nothing.
+    fn next(&self, rest: &str) -> Result<String, CaseError> {
+        let (number, digits) = first_word(rest);
+        let map = self.live_map(number)?;
+        let size = self.maps.shape(map).key_size;
+        let key = bytes_of(self.alloc, digits)?;
+        if !key.is_empty() && key.len() != size as usize {
+            return Err(CaseError::Size);
+        }
+        let mut buffer = [0; KEY_ROOM];
+        let outcome = self.maps.next_key(map, &key, &mut buffer);
+        key_text(self.alloc, outcome, &buffer, size)
+    }
+
+    /// The end of a run on a map.
+    fn end(&mut self, number: &str) -> Result<String, CaseError> {
+        let map = self.live_map(number)?;
+        self.maps.end_run(map);
+        Ok(nothing(self.alloc))
+    }
+
+    /// A test run: the map, the packet and the program's text.
+    fn run(&mut self, rest: &str) -> Result<String, CaseError> {
+        let (number, rest) = first_word(rest);
+        let (packet, text) = first_word(rest);
+        let map = self.live_map(number)?;
+        let packet = bytes_of(self.alloc, packet)?;
+        match run_text(
+            self.alloc,
+            text,
+            map,
+            &mut self.arena,
+            &mut self.maps,
+            &packet,
+        )? {
+            Outcome::Value(value) => Ok(value.to_string(self.alloc)?),
+            Outcome::Fault => Ok("fault".to_string(self.alloc)?),
+        }
+    }
+
+    /// Plays a line.
+    pub fn play(&mut self, call: &str, rest: &str) -> Result<String, CaseError> {
+        match call {
+            "new" => self.begin(),
+            "create" => self.create(rest),
+            "release" => self.release(rest),
+            "shape" => self.shape(rest),
+            "at" => self.at(rest),
+            "find" => self.find(rest),
+            "claim" => self.claim(rest),
+            "remove" => self.remove(rest),
+            "next" => self.next(rest),
+            "end" => self.end(rest),
+            "refused" => Ok(self.maps.refused().to_string(self.alloc)?),
+            "run" => self.run(rest),
+            _ => Err(CaseError::UnknownWord),
+        }
+    }
+}

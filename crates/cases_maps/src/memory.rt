@@ -1,0 +1,135 @@
+//! Loads, stores and copies of a memory.
+
+ghost use Rattle.std.specs.Prelude.{IfOk};
+ghost use Rattle.arena.specs.Bytes.{IsSize};
+
+use crate::outcomes::{done_inside, nothing};
+use arena::{Arena, BASE, Trace};
+use cases::{CaseError, first_word};
+use std::alloc::{AllocError, Global};
+
+/// The most parts of a memory, and the most bytes of a part.
+const MOST_PARTS: usize = 16;
+
+const LARGEST_PART: usize = 4096;
+
+/// An address: a number, or after `+` its distance from the first address.
+fn address(text: &str) -> Result<u64, CaseError> {
+    match text.strip_prefix('+') {
+        Some(offset) => BASE
+            .checked_add(offset.parse()?)
+            .ok_or(CaseError::OutOfRange),
+        None => Ok(text.parse()?),
+    }
+}
+
+/// The size of a load or a store in bytes.
+fn size_of(text: &str) -> Result<usize, CaseError>
+    ensures { IfOk result (λ size. IsSize size) }
+{
+    match text {
+        "1" => Ok(1),
+        "2" => Ok(2),
+        "4" => Ok(4),
+        "8" => Ok(8),
+        _ => Err(CaseError::OutOfRange),
+    }
+}
+
+/// A memory of this number of parts of this size.
+fn new_memory(alloc: Global, parts: usize, size: usize) -> Result<Arena, CaseError> {
+    if parts < 1 || parts > MOST_PARTS || size < 1 || size > LARGEST_PART {
+        return Err(CaseError::OutOfRange);
+    }
+    Ok(Arena::new(alloc, parts, size)?)
+}
+
+/// The memory of the calls.
+#[derive(Drop)]
+pub struct MemoryPlayer {
+    alloc: Global,
+    arena: Arena,
+}
+
+impl MemoryPlayer {
+    /// A player with a memory of one byte.
+    pub fn new(alloc: Global) -> Result<MemoryPlayer, AllocError> {
+        Ok(MemoryPlayer {
+            alloc,
+            arena: Arena::new(alloc, 1, 1)?,
+        })
+    }
+
+    /// Plays the lines that follow on a new memory: the number of its parts, and their size.
+    fn begin(&mut self, rest: &str) -> Result<String, CaseError> {
+        let (parts, size) = first_word(rest);
+        self.arena = new_memory(self.alloc, parts.parse()?, size.parse()?)?;
+        Ok(nothing(self.alloc))
+    }
+
+    /// A load: the address and the size.
+    fn load(&self, rest: &str) -> Result<String, CaseError> {
+        let (at, size) = first_word(rest);
+        match self
+            .arena
+            .load(address(at)?, size_of(size)?, &mut Trace::new())
+        {
+            Some(value) => Ok(value.to_string(self.alloc)?),
+            None => Ok("outside".to_string(self.alloc)?),
+        }
+    }
+
+    /// A store: the address, the size and the number.
+    fn store(&mut self, rest: &str) -> Result<String, CaseError> {
+        let (at, rest) = first_word(rest);
+        let (size, value) = first_word(rest);
+        let (at, size, value) = (address(at)?, size_of(size)?, value.parse()?);
+        let outcome = self.arena.store(at, size, value, &mut Trace::new());
+        Ok(done_inside(self.alloc, outcome, "stored")?)
+    }
+
+    /// A copy: the addresses of the target and of the source, and the length.
+    fn copy(&mut self, rest: &str) -> Result<String, CaseError> {
+        let (to, rest) = first_word(rest);
+        let (from, length) = first_word(rest);
+        let (to, from, length) = (address(to)?, address(from)?, length.parse()?);
+        if length == 0 {
+            return Err(CaseError::OutOfRange);
+        }
+        let outcome = self.arena.copy(to, from, length, &mut Trace::new());
+        Ok(done_inside(self.alloc, outcome, "copied")?)
+    }
+
+    /// The bytes from an address on, of which each is loaded: the address, and how many.
+    fn bytes(&self, rest: &str) -> Result<String, CaseError> {
+        let (from, count) = first_word(rest);
+        let from = address(from)?;
+        let count: u8 = count.parse()?;
+        let mut text = String::new(self.alloc);
+        for index in 0..count {
+            let at = from
+                .checked_add(u64::from(index))
+                .ok_or(CaseError::OutOfRange)?;
+            let Some(byte) = self.arena.load(at, 1, &mut Trace::new()) else {
+                return Ok("outside".to_string(self.alloc)?);
+            };
+            if !text.is_empty() {
+                text.push(' ')?;
+            }
+            text.push_str(&byte.to_string(self.alloc)?)?;
+        }
+        Ok(text)
+    }
+
+    /// Plays a line.
+    pub fn play(&mut self, call: &str, rest: &str) -> Result<String, CaseError> {
+        match call {
+            "new" => self.begin(rest),
+            "load" => self.load(rest),
+            "store" => self.store(rest),
+            "copy" => self.copy(rest),
+            "bytes" => self.bytes(rest),
+            _ => Err(CaseError::UnknownWord),
+        }
+    }
+}

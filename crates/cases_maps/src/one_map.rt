@@ -1,0 +1,123 @@
+//! Calls of the trait `ValueMap` on a map of either kind.
+
+ghost use Rattle.std.specs.Prelude.{◌≡◌};
+
+use crate::outcomes::{done, key_text, nothing};
+use bpf_maps::{BpfMap, KEY_ROOM, ValueMap};
+use cases::{CaseError, bytes_of, bytes_of_size, first_word, shape_of};
+use seeded_hash::HashSeed;
+use std::alloc::Global;
+
+/// The place of a key of this size.
+fn find<M: ValueMap>(alloc: Global, map: &M, size: u32, digits: &str) -> Result<String, CaseError>
+    requires { size ≡ (M.places map.now).shape.key_size }
+{
+    let key = bytes_of_size(alloc, digits, size)?;
+    match map.find(&key) {
+        Some(place) => Ok(format!(in alloc; "place {place}")?),
+        None => Ok("absent".to_string(alloc)?),
+    }
+}
+
+/// A claim of a place: the flags, and a key of this size.
+fn claim<M: ValueMap>(
+    alloc: Global,
+    map: &mut M,
+    size: u32,
+    rest: &str,
+) -> Result<String, CaseError>
+    requires { size ≡ (M.places map.old).shape.key_size }
+{
+    let (flags, digits) = first_word(rest);
+    let flags = flags.parse()?;
+    let key = bytes_of_size(alloc, digits, size)?;
+    Ok(done(alloc, map.claim(&key, flags), "claimed")?)
+}
+
+/// The removal of a key of this size.
+fn remove<M: ValueMap>(
+    alloc: Global,
+    map: &mut M,
+    size: u32,
+    digits: &str,
+) -> Result<String, CaseError>
+    requires { size ≡ (M.places map.old).shape.key_size }
+{
+    let key = bytes_of_size(alloc, digits, size)?;
+    Ok(done(alloc, map.remove(&key), "removed")?)
+}
+
+/// The key that follows one of this size, or none.
+fn next<M: ValueMap>(alloc: Global, map: &M, size: u32, digits: &str) -> Result<String, CaseError>
+    requires { size ≡ (M.places map.now).shape.key_size }
+{
+    let key = bytes_of(alloc, digits)?;
+    if !key.is_empty() && key.len() != size as usize {
+        return Err(CaseError::Size);
+    }
+    let mut buffer = [0; KEY_ROOM];
+    let outcome = map.next_key(&key, &mut buffer);
+    key_text(alloc, outcome, &buffer, size)
+}
+
+/// What a call on a map returns whose keys have this size.
+fn play_call<M: ValueMap>(
+    alloc: Global,
+    map: &mut M,
+    size: u32,
+    call: &str,
+    rest: &str,
+) -> Result<String, CaseError>
+    requires { size ≡ (M.places map.old).shape.key_size }
+{
+    match call {
+        "find" => find(alloc, map, size, rest),
+        "claim" => claim(alloc, map, size, rest),
+        "remove" => remove(alloc, map, size, rest),
+        "next" => next(alloc, map, size, rest),
+        "end" => {
+            map.end_run();
+            Ok(nothing(alloc))
+        }
+        _ => Err(CaseError::UnknownWord),
+    }
+}
+
+/// The map of the calls, if there is one.
+#[derive(Drop)]
+pub struct OneMapPlayer {
+    alloc: Global,
+    map: Option<BpfMap>,
+}
+
+impl OneMapPlayer {
+    /// A player without a map.
+    pub fn new(alloc: Global) -> OneMapPlayer {
+        OneMapPlayer { alloc, map: None }
+    }
+
+    /// Plays the lines that follow on a new map of this shape.
+    fn begin(&mut self, shape: &str) -> Result<String, CaseError> {
+        let shape = shape_of(self.alloc, shape)?;
+        self.map = Some(BpfMap::new(self.alloc, shape, HashSeed::new(1, 2))?);
+        Ok(nothing(self.alloc))
+    }
+
+    /// Plays a line.
+    pub fn play(&mut self, call: &str, rest: &str) -> Result<String, CaseError> {
+        if call == "new" {
+            return self.begin(rest);
+        }
+        match &mut self.map {
+            Some(BpfMap::Array(map)) => {
+                let size = map.shape().key_size;
+                play_call(self.alloc, map, size, call, rest)
+            }
+            Some(BpfMap::Hash(map)) => {
+                let size = map.shape().key_size;
+                play_call(self.alloc, map, size, call, rest)
+            }
+            None => Err(CaseError::NoMap),
+        }
+    }
+}

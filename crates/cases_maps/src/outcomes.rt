@@ -1,0 +1,51 @@
+//! What calls return, as text.
+
+use bpf_maps::MapFault;
+use cases::{CaseError, GROUP, hex_groups};
+use std::alloc::{AllocError, Global};
+
+/// The text of a call that returns nothing.
+pub fn nothing(alloc: Global) -> String {
+    String::new(alloc)
+}
+
+/// What was done, or the fault.
+pub fn done<T: Drop>(
+    alloc: Global,
+    outcome: Result<T, MapFault>,
+    what: &str,
+) -> Result<String, AllocError> {
+    match outcome {
+        Ok(_) => what.to_string(alloc),
+        Err(fault) => fault_text(alloc, fault),
+    }
+}
+
+/// What was done, or that an address is outside of the memory.
+pub fn done_inside(alloc: Global, outcome: Option<()>, what: &str) -> Result<String, AllocError> {
+    match outcome {
+        Some(()) => what.to_string(alloc),
+        None => "outside".to_string(alloc),
+    }
+}
+
+/// The name of a fault.
+pub fn fault_text(alloc: Global, fault: MapFault) -> Result<String, AllocError> {
+    format!(in alloc; "{fault:?}")
+}
+
+/// The key of this size at the front of a buffer, or the fault.
+pub fn key_text(
+    alloc: Global,
+    outcome: Result<(), MapFault>,
+    buffer: &[u8],
+    size: u32,
+) -> Result<String, CaseError> {
+    match outcome {
+        Ok(()) => {
+            let key = buffer.get(..size as usize).ok_or(CaseError::Size)?;
+            Ok(hex_groups(alloc, key, GROUP)?)
+        }
+        Err(fault) => Ok(fault_text(alloc, fault)?),
+    }
+}

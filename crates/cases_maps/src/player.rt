@@ -1,0 +1,39 @@
+//! Plays lines, by what their calls are on.
+
+use crate::live_maps::LiveMapsPlayer;
+use crate::memory::MemoryPlayer;
+use crate::one_map::OneMapPlayer;
+use cases::{CaseError, Player, first_word};
+use std::alloc::{AllocError, Global};
+
+/// A map, the live maps of a tenant, and a memory, which have nothing to do with each other.
+#[derive(Drop)]
+pub struct MapPlayer {
+    one: OneMapPlayer,
+    live: LiveMapsPlayer,
+    memory: MemoryPlayer,
+}
+
+impl MapPlayer {
+    /// A player with no map, and with a memory of one byte.
+    pub fn new(alloc: Global) -> Result<MapPlayer, AllocError> {
+        Ok(MapPlayer {
+            one: OneMapPlayer::new(alloc),
+            live: LiveMapsPlayer::new(alloc)?,
+            memory: MemoryPlayer::new(alloc)?,
+        })
+    }
+}
+
+impl Player for MapPlayer {
+    fn play(&mut self, line: &str) -> Result<String, CaseError> {
+        let (word, rest) = first_word(line);
+        let (call, rest) = first_word(rest);
+        match word {
+            "map" => self.one.play(call, rest),
+            "maps" => self.live.play(call, rest),
+            "memory" => self.memory.play(call, rest),
+            _ => Err(CaseError::UnknownWord),
+        }
+    }
+}

@@ -1,0 +1,69 @@
+//! Test runs of programs with one map.
+
+ghost use Rattle.std.specs.Prelude.{◌≡◌, ℕ, ◌<◌, length, slice_index, Some, IsSome, IfOk};
+ghost use Rattle.verifier.specs.Maps.{maps_of};
+ghost use Rattle.verifier.specs.Verified.{shapes_in};
+ghost use Rattle.bpf_maps.specs.Live.{live_at};
+ghost use Rattle.bpf_helpers.specs.Parts.{IsPartOf};
+
+use arena::{Arena, Trace};
+use bpf_maps::{MapKey, Maps};
+use bpf_text::assemble;
+use cases::{CaseError, text_of, written};
+use flat_machine::{GIVEN_WORDS, LONGEST_PACKET, context_words, run};
+use std::alloc::Global;
+use tagged_model::{MapShape, Named, Outcome, Target};
+use verifier::{Verified, laws, verify};
+
+/// The descriptor of the map.
+const DESCRIPTOR: u32 = 3;
+
+/// The program of a text, accepted with a map of this shape.
+fn accepted(alloc: Global, text: &str, shape: MapShape) -> Result<Verified, CaseError>
+    ensures { IfOk result (λ program. (i : ℕ) → i < length (maps_of program.code)
+        → shapes_in program (slice_index (maps_of program.code) i) ≡ Some shape) }
+{
+    laws::loaded_maps_have_shapes();
+    let text = written(alloc, text)?;
+    let program = assemble(alloc, text_of(&text)?)?;
+    let map = Named {
+        fd: DESCRIPTOR,
+        target: Target::Map(shape),
+    };
+    let verified = verify(alloc, &program, &[map])?;
+    Ok(verified)
+}
+
+/// How a program's text runs on this packet and zeros as the other words of the context, with this map. It has to load the map.
+pub fn run_text(
+    alloc: Global,
+    text: &str,
+    map: MapKey,
+    arena: &mut Arena,
+    maps: &mut Maps,
+    packet: &[u8],
+) -> Result<Outcome, CaseError>
+    requires part { IsPartOf 0 arena.old }
+    requires live { IsSome (live_at maps.old map) }
+    ensures { IsPartOf 0 arena.new }
+{
+    let program = accepted(alloc, text, maps.shape(map))?;
+    if program.maps().len() != 1 {
+        return Err(CaseError::NoMap);
+    }
+    if packet.len() > LONGEST_PACKET {
+        return Err(CaseError::OutOfRange);
+    }
+    let context = context_words(packet.len() as u32, &[0; GIVEN_WORDS]);
+    maps.end_run(map);
+    Ok(run(
+        &program,
+        &[map],
+        0,
+        arena,
+        maps,
+        &context,
+        packet,
+        &mut Trace::new(),
+    ))
+}

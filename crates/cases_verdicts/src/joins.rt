@@ -1,0 +1,86 @@
+//! Joins of the facts on two edges, each written as what is known of one value.
+
+use cases::{CaseError, first_word};
+use interval::Range;
+use reg_kinds::{Facts, Kind, Slot, ValuePointer, join, join_into};
+use std::alloc::Global;
+
+/// The register and the stack slot of which something is known.
+const REGISTER: usize = 0;
+
+const SLOT: usize = 0;
+
+/// The numbers `LO HI`.
+fn range_of(text: &str) -> Result<Range, CaseError> {
+    let (lo, hi) = first_word(text);
+    let (lo, hi): (u64, u64) = (lo.parse()?, hi.parse()?);
+    if lo > hi {
+        return Err(CaseError::OutOfRange);
+    }
+    Ok(Range::new(lo, hi))
+}
+
+/// A pointer into a value: `FD LO HI`.
+fn value_of(text: &str) -> Result<ValuePointer, CaseError> {
+    let (map, rest) = first_word(text);
+    let (lo, hi) = first_word(rest);
+    let (lo, hi): (i32, i32) = (lo.parse()?, hi.parse()?);
+    if lo > hi {
+        return Err(CaseError::OutOfRange);
+    }
+    Ok(ValuePointer::new(map.parse()?, lo, hi))
+}
+
+/// The result of a look-up: `FD SITE`.
+fn looked_up(text: &str) -> Result<Kind, CaseError> {
+    let (map, site) = first_word(text);
+    Ok(Kind::MaybeValue {
+        map: map.parse()?,
+        site: site.parse()?,
+    })
+}
+
+/// A kind: a word, and its numbers.
+fn kind_of(text: &str) -> Result<Kind, CaseError> {
+    let (word, rest) = first_word(text);
+    match word {
+        "unreadable" => Ok(Kind::Unreadable),
+        "scalar" => Ok(Kind::Scalar(range_of(rest)?)),
+        "map" => Ok(Kind::MapRef(rest.parse()?)),
+        "stack" => Ok(Kind::Stack(rest.parse()?)),
+        "context" => Ok(Kind::Ctx),
+        "value" => Ok(Kind::Value(value_of(rest)?)),
+        "looked-up" => looked_up(rest),
+        _ => Err(CaseError::Notation),
+    }
+}
+
+/// The facts at program entry, but for register 0 of this kind, of which the lowest stack slot is a spill if it is a pointer; or but for
+/// this slot, with `bytes` and the mask of its written bytes.
+fn facts_of(text: &str) -> Result<Facts, CaseError> {
+    let mut facts = Facts::at_entry();
+    let (word, rest) = first_word(text);
+    if word == "bytes" {
+        facts.set_slot(SLOT, Slot::Bytes(rest.parse()?));
+        return Ok(facts);
+    }
+    let kind = kind_of(text)?;
+    facts.set_kind(REGISTER, kind);
+    if kind.is_pointer() {
+        facts.set_slot(SLOT, Slot::Spill(kind));
+    }
+    Ok(facts)
+}
+
+/// What the join of two facts says of the register and of the slot, for the texts of both with a `|` between them.
+pub fn joined(alloc: Global, text: &str) -> Result<String, CaseError> {
+    let (one, other) = text.split_once('|').ok_or(CaseError::Notation)?;
+    let (one, other) = (facts_of(one.trim())?, facts_of(other.trim())?);
+    let mut both = one;
+    join_into(&mut both, &other);
+    if both != join(&one, &other) {
+        return Ok("join and join_into differ".to_string(alloc)?);
+    }
+    let (kind, slot) = (both.kind(REGISTER), both.slot(SLOT));
+    Ok(format!(in alloc; "{kind:?} {slot:?}")?)
+}

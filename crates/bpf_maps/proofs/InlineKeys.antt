@@ -1,4 +1,4 @@
--- An array that begins with a key's bytes and goes on with zeros.
+-- An array of a key's bytes, with zeros after them.
 use Rattle.std.proofs.Common.{◌≡◌, ℕ, zero, suc, ◌-◌, ◌≤◌, List, [], ◌∷◌, ◌++◌, length, drop, replicate, ap, ◌∙◌, arith}
 use Rattle.std.proofs.lemmas.List.{length-replicate}
 

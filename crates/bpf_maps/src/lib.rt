@@ -75,7 +75,7 @@
 //!   `LongIndex`), so that a map takes all memory for its keys when it is created: with a `Vec` for each key, a new key took memory.
 //!   The arrays are allocated and not written until their key comes. One length for both would take eight times the memory for keys of
 //!   9 to 64 bytes. The two indices are the same code: an index for any length would have to show that the array's length is small
-//!   wherever it uses a key.
+//!   in each place that uses a key.
 //! - Such a key is hashed in one write of all its bytes, which the hasher takes sixteen at a time, and is looked up by borrowed bytes
 //!   (`KeyBytes`). The look-up of a key of 64 bytes took 598 machine instructions before and 218 after this change.
 //! - A look-up in a hash map is three functions in the machine code: one that checks how the keys are stored and ends in a jump

@@ -9,7 +9,7 @@
 //! - A key's place is found, and none for an absent key: `get` of `OrderedMap`.
 //! - The key after a key is the next one of the order, and after an absent key the first: `key_after`, `first` of `OrderedMap`.
 //! - A new key goes to the end with its place: `added` of `insert`. All memory is taken when the map is made, so neither `insert` nor
-//!   `remove` has an answer for want of it.
+//!   `remove` can run out of it.
 //! - A removal returns the place of the key, and the others keep their order: `place`, `left` of `remove`.
 //!
 //! A caller may look up with another type than that of the keys (`Equivalent`, whose laws say that all keys which it is equivalent to

@@ -219,7 +219,7 @@ fn put_last<K: Eq + Hash + Copy, S: BuildHasher>(
     let Ok(_) = added else { unreachable!() };
 }
 
-/// Takes out the entry at an index, which the last entry gets. The table keeps room for `bound` entries: where a removal might lose
+/// Takes out the entry at an index, which the last entry gets. The table keeps room for `bound` entries: if a removal might lose
 /// some of it, the table is filled anew, through `rows`.
 fn take_out<K: Eq + Hash + Copy, S: BuildHasher>(
     table: &mut IndexMap<K, u32, S>,

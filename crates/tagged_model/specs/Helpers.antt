@@ -141,7 +141,7 @@ after_call registers v r = if r == 0 then Some v else (if nat_le r 5 then None e
 abbrev pub returns : RunState → Tagged → RunState
 returns s v = record s { registers = after_call s.registers v }
 
--- the state after a call of map m: it has the map of the reply, and its answer in register 0
+-- the state after a call of map m: it has the map of the reply, and register 0 its result
 abbrev pub replies : RunState → ℕ → MapReply → RunState
 replies s m reply = returns (with_map s m reply.map) (Scalar reply.answer)
 

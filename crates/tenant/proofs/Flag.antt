@@ -15,7 +15,7 @@ use Rattle.tenant.proofs.Memory.{low, unlike, answer_other, flag_kept, told_or_r
 
 -- ---- the flag
 
--- if the flag is clear after a command, the answer is the one without refusals, and the flag was clear before
+-- if the flag is clear after a command, its result is the one without refusals, and the flag was clear before
 clear_answer : (r : Bool) (s : TenantState) (command : Command) (a : Answer) → Answers r s command a → a.after.refused ≡ false → Answers false s command a × (s.refused ≡ false)
 clear_answer r s command a is e = by (told_or_refused r s command a is)
   where
@@ -57,7 +57,7 @@ clear_flag_means_alone before after frames replies h e = (clear_both before (Som
 
 -- ---- the replies
 
--- the answer without refusals, or that memory was refused
+-- the result without refusals, or that memory was refused
 frame_told : (r : Bool) (s : TenantState) (p : Result Command BadFrame) (a : Answer) → AnswersFrame r s p a → AnswersFrame false s p a ⊎ (a ≡ refuses_for_memory s)
 frame_told r s (Err fault) a is = inl is
 frame_told r s (Ok command) a is = by (told_or_refused r s command a is)

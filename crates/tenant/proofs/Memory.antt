@@ -1,4 +1,4 @@
--- Refused memory: what a command is answered, and what it does to the flag.
+-- Refused memory: the status of a command, and what it does to the flag.
 use Rattle.std.proofs.Common.{Result, Ok, Err, ◌≡◌, ◌≢◌, ℕ, Bool, true, false, List, [], ◌∷◌, length, Option, Some, None, refl, sym, ap, subst, ◌∙◌, ◌⊎◌, inl, inr, get_or}
 use Rattle.std.specs.Prelude.{ℤ, pos, ◌==◌, nat_lt, nat_le, if◌then◌else◌, MatchBool}
 use Rattle.std.specs.Int.{w32, cast_unsigned}
@@ -42,7 +42,7 @@ use Rattle.tenant.proofs.Updates.{has_sizes, key_of, value_of, put_of}
 
 -- ---- with a refusal
 
--- the answer without a refusal, or that memory was refused
+-- the result without a refusal, or that memory was refused
 abbrev OrRefused : TenantState → Answer → Answer → Type 0
 OrRefused s told refused = (refused ≡ told) ⊎ (refused ≡ refuses_for_memory s)
 
@@ -89,11 +89,11 @@ low status = get_or (little_bytes 4 (cast_unsigned w32 status)) 0 0
 pub unlike : (n : ℕ) → (n == 244) ≡ false → n ≢ 244
 unlike n differs e = let wrong : true ≡ false = sym (ap (λ (m : ℕ). m == 244) e) ∙ differs in cc wrong
 
--- the answer has another status, and the flag is as before
+-- the status is another one, and the flag is as before
 abbrev pub IsOther : TenantState → Answer → Type 0
 IsOther s a = (low a.status ≢ 244) × (a.after.refused ≡ s.refused)
 
--- an answer that is this one
+-- a result that is this one
 is_other : (s : TenantState) (a b : Answer) → a ≡ b → IsOther s b → IsOther s a
 is_other s a b same h = subst (IsOther s) (sym same) h
 
@@ -136,7 +136,7 @@ module _ (s : TenantState) where
   found_other None = no_entry
   found_other (Some value) = (unlike 0 refl, refl)
 
-  -- no update is rejected for want of memory
+  -- no update runs out of memory
   module _ (place : ℕ) (t : Map) (key value : List ℕ) (flags : ℕ) where
     abbrev IsOtherPut : call.Verdict (List ℕ) → Type 0
     IsOtherPut v = IsOther s (element_put s place t key value v)
@@ -262,7 +262,7 @@ flag_kept s (map_create kind key value max flags) a is = (is_spared s a _ is (cr
 flag_kept s (prog_load kind slots) a is = loads_flag (kind == 1) s (table.lowest s.objects) slots a is
 flag_kept s other a is = (answer_other s false other a is refl).1
 
--- slots are rejected for a fault, and a program by a rule, never for want of memory
+-- slots are rejected for a fault, and a program by a rule, never since memory is refused
 pub record NoVerdictIsMemory : Type 0 where
   pub slots : (bytes : List ℕ) (fault : CodecFault) → IsProgramFault bytes fault → fault.kind ≢ kind.Memory
   pub rules : (code : List Insn) (named : List Named) (slot : ℕ) (why : Reason) → IsRefused code named slot why → why ≢ reason.Memory

@@ -1,4 +1,4 @@
--- The machine is deterministic: if memory is refused to the same commands, they have the same answers and frames the same replies.
+-- The machine is deterministic: if memory is refused to the same commands, they have the same results and frames the same replies.
 -- What the replies say of refused memory. This project's own.
 use Rattle.std.specs.Prelude.{◌≡◌, ◌≢◌, ◌⊎◌, ℕ, Bool, true, false, [], List, Option, Some, Ok}
 use Rattle.command_frames.specs.Command.{Command, map_create, prog_load, parsed}
@@ -26,7 +26,7 @@ OneAlone =
     (before a b : Option TenantState) (frames xs ys : List (List ℕ)) → IsToldAlone before frames xs a → IsToldAlone before frames ys b
     → (xs ≡ ys) × (a ≡ b)
 
--- if a tenant's flag is clear after a command, the answer is that without refusals of memory
+-- if a tenant's flag is clear after a command, its result is that without refusals of memory
 abbrev pub ClearFlagMeansNoRefusal : Type 0
 ClearFlagMeansNoRefusal =
     (refused : Bool) (s : TenantState) (command : Command) (a : Answer)
@@ -38,7 +38,7 @@ ClearFlagMeansAlone =
     (before : Option TenantState) (after : TenantState) (frames replies : List (List ℕ)) → AloneWithRefusals before frames replies (Some after)
     → after.refused ≡ false → IsToldAlone before frames replies (Some after)
 
--- ---- what a tenant is answered of refused memory
+-- ---- the status of refused memory
 
 -- a creation of a map and a load of a program take memory, which may be refused
 abbrev pub takes_memory : Command → Bool
@@ -46,12 +46,12 @@ takes_memory (map_create kind key value max flags) = true
 takes_memory (prog_load kind slots) = true
 takes_memory other = false
 
--- the answer is not that memory was refused, and the flag is as before
+-- the status is not that memory was refused, and the flag is as before
 abbrev pub IsNoRefusal : TenantState → Answer → Type 0
 IsNoRefusal s a = (a.status ≢ status_of NoMemory) × (a.after.refused ≡ s.refused)
 
--- A refusal of memory changes only the answer of a creation or a load: it is told (ENOMEM), and only the flag changes. Nothing else is
--- told so, or sets the flag: no command to which memory is not refused, and no other command.
+-- A refusal of memory changes only what a creation or a load does: its status is ENOMEM, and only the flag changes. Nothing else has this
+-- status or sets the flag: no command to which memory is not refused, and no other command.
 pub record RefusalsAreTold : Type 0 where
   pub refused : (s : TenantState) (command : Command) (a : Answer) → Answers true s command a
       → Answers false s command a ⊎ ((takes_memory command ≡ true) × (a ≡ refuses_for_memory s))

@@ -3,7 +3,7 @@
 ghost use Rattle.tenant.specs.Batch.{BatchIsItsFrames, RefusedAsItsFrame, OneResultEach};
 ghost use Rattle.tenant.specs.Laws.{OneAnswer, OneReply, OneAlone, ClearFlagMeansNoRefusal, ClearFlagMeansAlone, RefusalsAreTold, OnlyCreationsAndLoadsAreRefused, UnrefusedRepliesMeanAlone, FaultsHaveNoPayload};
 
-/// The answer to a command is unique, whether memory is refused to it or not.
+/// The result of a command is unique, whether memory is refused to it or not.
 pub fn one_answer()
     ensures { OneAnswer }
 {
@@ -24,7 +24,7 @@ pub fn one_alone()
     one_reply();
 }
 
-/// If a tenant's flag is clear after a command, the answer is that without refusals of memory.
+/// If a tenant's flag is clear after a command, its result is that without refusals of memory.
 pub fn clear_flag_means_no_refusal()
     ensures { ClearFlagMeansNoRefusal }
 {}
@@ -34,8 +34,8 @@ pub fn clear_flag_means_alone()
     ensures { ClearFlagMeansAlone }
 {}
 
-/// A refusal of memory changes only the answer of a creation or a load, which then is `NoMemory` and changes nothing but the flag. No
-/// other command, and none to which memory is not refused, is answered `NoMemory` or sets the flag; so no verdict on a program is
+/// A refusal of memory changes only what a creation or a load does: its status is `NoMemory`, and only the flag changes. No
+/// other command, and none to which memory is not refused, has the status `NoMemory` or sets the flag; so no verdict on a program is
 /// `NoMemory`.
 pub fn refusals_are_told()
     ensures { RefusalsAreTold }

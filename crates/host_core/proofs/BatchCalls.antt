@@ -1,5 +1,5 @@
 -- A batch is the same as the calls with its frames.
-use Rattle.std.proofs.Common.{◌≡◌, ℕ, zero, suc, ◌<◌, List, [], ◌∷◌, length, set, get_or, Option, Some, None, refl, sym, ap, subst, ◌∙◌, inl, inr, arith, length-set}
+use Rattle.std.proofs.Common.{◌≡◌, ℕ, zero, suc, ◌<◌, false, List, [], ◌∷◌, length, set, get_or, Option, Some, None, refl, sym, ap, subst, ◌∙◌, inl, inr, arith, length-set}
 use Rattle.std.specs.Prelude.{pos, slice_get, Result, ◌⊎◌}
 use Rattle.std.proofs.lemmas.Bool.{cases_eq}
 use Rattle.byteorder.specs.Endian.{little_bytes}
@@ -71,9 +71,9 @@ batch_is_its_calls t fd [] (input ∷ inputs) results before after s last owned 
 batch_is_its_calls t fd (frame ∷ frames) [] results before after s last owned tests found runs left changes = absurd tests
 batch_is_its_calls t fd (frame ∷ frames) (input ∷ inputs) [] before after s last owned tests found runs left changes = absurd runs
 batch_is_its_calls t fd (frame ∷ frames) (input ∷ inputs) (result ∷ results) before after s last owned tests found runs left changes =
-    let (refusals, between, told, rest) = runs in
+    let (between, told, rest) = runs in
     let answer = gives (little_bytes 4 result) between in
-    let answers = subst (λ (r : Result Command BadFrame). AnswersFrame refusals s r answer) (sym tests.0) told in
+    let answers = subst (λ (r : Result Command BadFrame). AnswersFrame false s r answer) (sym tests.0) told in
     let states = set before t between in
     let reply = reply_to frame (pos 0) (little_bytes 4 result) in
     let turn : Turn = record { frame = frame; reply = reply; states = states } in
@@ -82,5 +82,5 @@ batch_is_its_calls t fd (frame ∷ frames) (input ∷ inputs) (result ∷ result
       turn ∷ turns,
       ap (λ (fs : List (List ℕ)). frame ∷ fs) frames_are,
       ap (λ (rs : List (List ℕ)). reply ∷ rs) replies_are,
-      (one_run t frame (little_bytes 4 result) before s between owned.0 found (refusals, (answer, answers, refl, refl)), later),
+      (one_run t frame (little_bytes 4 result) before s between owned.0 found (false, (answer, answers, refl, refl)), later),
     )

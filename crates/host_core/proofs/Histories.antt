@@ -31,32 +31,32 @@ use Rattle.host_core.proofs.Tenants.{saved_of}
 -- ---- one tenant
 
 -- a history with one more command
-further : (commands : List Command) (s t : TenantState) (births later : List Birth) (refusals : List Bool) (c : Command) (a : Answer) → IsHistory s births commands t later → Answers refusals t c a
+further : (commands : List Command) (s t : TenantState) (births later : List Birth) (refused : Bool) (c : Command) (a : Answer) → IsHistory s births commands t later → Answers refused t c a
     → IsHistory s births (commands ++ c ∷ []) a.after (births_after c a later)
-further [] s t births later refusals c a (same, same_births) answers = (refusals, a, subst (λ (x : TenantState). Answers refusals x c a) same answers, (refl, ap (births_after c a) same_births))
-further (d ∷ ds) s t births later refusals c a (r, b, first, rest) answers = (r, b, first, further ds b.after t (births_after d b births) later refusals c a rest answers)
+further [] s t births later refused c a (same, same_births) answers = (refused, a, subst (λ (x : TenantState). Answers refused x c a) same answers, (refl, ap (births_after c a) same_births))
+further (d ∷ ds) s t births later refused c a (r, b, first, rest) answers = (r, b, first, further ds b.after t (births_after d b births) later refused c a rest answers)
 
-by_command : (s : TenantState) (births : List Birth) (refusals : List Bool) (c : Command) (a : Answer) → IsReached s births → Answers refusals s c a → IsReached a.after (births_after c a births)
-by_command s births refusals c a (commands, history) answers = (commands ++ c ∷ [], further commands new_tenant s [] births refusals c a history answers)
+by_command : (s : TenantState) (births : List Birth) (refused : Bool) (c : Command) (a : Answer) → IsReached s births → Answers refused s c a → IsReached a.after (births_after c a births)
+by_command s births refused c a (commands, history) answers = (commands ++ c ∷ [], further commands new_tenant s [] births refused c a history answers)
 
 by_frame : (frame reply : List ℕ) (s t : TenantState) (births later : List Birth) → IsReached s births → RecordsFrame frame reply s t births later → IsReached t later
 by_frame frame reply s t births later reached told = by (parsed frame) told.answers told.recorded
   where
-    by : (p : Result Command BadFrame) → AnswersFrame told.refusals s p told.answer → later ≡ births_after_frame p told.answer births → IsReached t later
+    by : (p : Result Command BadFrame) → AnswersFrame told.refused s p told.answer → later ≡ births_after_frame p told.answer births → IsReached t later
     by (Err fault) answers recorded =
         let same : t ≡ s = told.left ∙ ap (λ (a : Answer). a.after) answers in
         subst (λ (x : TenantState). IsReached x later) (sym same) (subst (λ (bs : List Birth). IsReached s bs) (sym recorded) reached)
     by (Ok c) answers recorded =
         subst (λ (x : TenantState). IsReached x later) (sym told.left)
-        (subst (λ (bs : List Birth). IsReached told.answer.after bs) (sym recorded) (by_command s births told.refusals c told.answer reached answers))
+        (subst (λ (bs : List Birth). IsReached told.answer.after bs) (sym recorded) (by_command s births told.refused c told.answer reached answers))
 
 by_runs : (births : List Birth) (fd : ℕ) (s t : TenantState) (inputs : List BatchInput) (results : List ℕ) → IsReached s births → RunsInOrder fd s inputs results t → IsReached t births
 unfolding RunsInOrder
 by_runs births fd s t [] [] reached same = subst (λ (x : TenantState). IsReached x births) (sym same) reached
 by_runs births fd s t [] (r ∷ rs) reached wrong = absurd wrong
 by_runs births fd s t (input ∷ inputs) [] reached wrong = absurd wrong
-by_runs births fd s t (input ∷ inputs) (r ∷ rs) reached (refusals, between, answers, rest) =
-    by_runs births fd between t inputs rs (by_command s births refusals (prog_test_run fd input.words input.packet) (gives (little_bytes 4 r) between) reached answers) rest
+by_runs births fd s t (input ∷ inputs) (r ∷ rs) reached (between, answers, rest) =
+    by_runs births fd between t inputs rs (by_command s births false (prog_test_run fd input.words input.packet) (gives (little_bytes 4 r) between) reached answers) rest
 
 -- ---- all tenants
 

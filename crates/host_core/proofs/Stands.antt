@@ -67,12 +67,12 @@ none_status front frame o c long_front long_frame =
 
 pub stands_tells : (front frame reply : List ℕ) (before after : Option TenantState) → IsKeptFrontOf front frame → MayReply front reply before after → MayReply frame reply before after
 stands_tells front frame reply before after (inl same) h = subst (λ (f : List ℕ). MayReply f reply before after) same h
-stands_tells front frame reply None after (inr (long_front, long_frame, e)) (refusals, h) =
+stands_tells front frame reply None after (inr (long_front, long_frame, e)) (refused, h) =
     let o = same_owner front frame long_front long_frame e in
     let c = same_command front frame long_front long_frame e in
-    (refusals, (h.0, h.1 ∙ none_status front frame o c long_front long_frame))
-stands_tells front frame reply (Some s) after (inr (long_front, long_frame, e)) (refusals, (a, answers, told, goes)) =
+    (refused, (h.0, h.1 ∙ none_status front frame o c long_front long_frame))
+stands_tells front frame reply (Some s) after (inr (long_front, long_frame, e)) (refused, (a, answers, told, goes)) =
     let o = same_owner front frame long_front long_frame e in
     let c = same_command front frame long_front long_frame e in
     let same = same_parsed front frame long_front long_frame in
-    (refusals, (a, subst (λ (r : Result Command BadFrame). AnswersFrame refusals s r a) same answers, told ∙ same_head front frame a.status a.payload o c, goes))
+    (refused, (a, subst (λ (r : Result Command BadFrame). AnswersFrame refused s r a) same answers, told ∙ same_head front frame a.status a.payload o c, goes))

@@ -100,7 +100,7 @@ tells_own m n ks states i o k l frame reply is own lt found told =
 -- the reply to a frame of a tenant that is not served
 pub tells_none : (states : List TenantState) (i : ℕ) (frame reply : List ℕ) → slice_get states i ≡ None
     → reply ≡ reply_to frame (status_of (if nat_lt (length frame) 4 then Invalid else NotPermitted)) [] → MayReply frame reply (slice_get states i) (slice_get states i)
-tells_none states i frame reply none told = subst (λ (x : Option TenantState). MayReply frame reply x x) (sym none) ([], (refl, told))
+tells_none states i frame reply none told = subst (λ (x : Option TenantState). MayReply frame reply x x) (sym none) (false, (refl, told))
 
 -- ---- the flag
 

@@ -1,17 +1,19 @@
 -- If a tenant was refused no memory, its replies are those of its own machine without refusals.
-use Rattle.std.proofs.Common.{ℕ, zero, suc, take, List, [], ◌∷◌, Option, Some, None, refl, subst}
-use Rattle.std.specs.Prelude.{slice_get}
-use Rattle.tenant.specs.Laws.{ClearFlagMeansAlone, OneAlone}
+use Rattle.std.proofs.Common.{◌≡◌, ℕ, zero, suc, Bool, true, false, take, drop, List, [], ◌∷◌, Option, Some, None, refl, subst}
+use Rattle.std.specs.Prelude.{◌==◌, slice_get, if◌then◌else◌}
+use Rattle.std.proofs.lemmas.Bool.{eq-eqb}
+use Rattle.command_frames.specs.Frame.{owner}
+use Rattle.tenant.specs.Laws.{ClearFlagMeansAlone, UnrefusedRepliesMeanAlone, OneAlone}
 use Rattle.tenant.specs.State.{TenantState}
-use Rattle.tenant.specs.Alone.{frames_of, replies_of, IsToldAlone, AloneWithRefusals}
-use Rattle.host_core.specs.Laws.{UnrefusedAreToldAlone, CallsAreToldAlone, EachIsToldAloneUntilRefused, SameFramesSameReplies}
-use Rattle.host_core.specs.Handled.{Turn, HandlesInOrder, states_after}
+use Rattle.tenant.specs.Alone.{frames_of, replies_of, IsRefusedMemory, NoneIsRefusedMemory, IsToldAlone, AloneWithRefusals}
+use Rattle.host_core.specs.Laws.{UnrefusedAreToldAlone, CallsAreToldAlone, EachIsToldAloneUntilRefused, EachStretchIsToldAlone, SameFramesSameReplies}
+use Rattle.host_core.specs.Handled.{Handles, Turn, frames_in, replies_in, HandlesInOrder, states_after}
 use Rattle.host_core.specs.Served.{IsUnrefused}
 
 -- a tenant that is served is still served at the end
 stays_served : (s : TenantState) (frames replies : List (List ℕ)) → ¬ AloneWithRefusals (Some s) frames replies None
 stays_served s [] [] h = cc h
-stays_served s (frame ∷ frames) (reply ∷ replies) (between, (refusals, (a, answers, told, goes)), rest) =
+stays_served s (frame ∷ frames) (reply ∷ replies) (between, (refused, (a, answers, told, goes)), rest) =
     stays_served a.after frames replies (subst (λ (o : Option TenantState). AloneWithRefusals o frames replies None) goes rest)
 stays_served s [] (reply ∷ replies) h = absurd h
 stays_served s (frame ∷ frames) [] h = absurd h
@@ -19,7 +21,7 @@ stays_served s (frame ∷ frames) [] h = absurd h
 -- a tenant that is not served is never served
 unserved : (frames replies : List (List ℕ)) (after : Option TenantState) → AloneWithRefusals None frames replies after → IsToldAlone None frames replies after
 unserved [] [] after h = h
-unserved (frame ∷ frames) (reply ∷ replies) after (between, (refusals, (goes, told)), rest) =
+unserved (frame ∷ frames) (reply ∷ replies) after (between, (refused, (goes, told)), rest) =
     (None, (refl, told), unserved frames replies after (subst (λ (o : Option TenantState). AloneWithRefusals o frames replies after) goes rest))
 unserved [] (reply ∷ replies) after h = absurd h
 unserved (frame ∷ frames) [] after h = absurd h
@@ -48,3 +50,31 @@ first_turns before after (turn ∷ turns) (suc n) (first, later) = (first, first
 
 pub each_until_refused : CallsAreToldAlone → EachIsToldAloneUntilRefused
 each_until_refused law before after turns n h = (law before (states_after before (take n turns)) (take n turns) (first_turns before after turns n h)).1
+
+-- the turns after the first m
+later_turns : (before after : List TenantState) (turns : List Turn) (m : ℕ) → HandlesInOrder before turns after → HandlesInOrder (states_after before (take m turns)) (drop m turns) after
+later_turns before after [] zero h = h
+later_turns before after [] (suc m) h = h
+later_turns before after (turn ∷ turns) zero h = h
+later_turns before after (turn ∷ turns) (suc m) (first, later) = later_turns turn.states after turns m later
+
+pub each_stretch : UnrefusedRepliesMeanAlone → CallsAreToldAlone → EachStretchIsToldAlone
+each_stretch told_so law before after turns m n h t none =
+    let start = states_after before (take m turns) in
+    let stretch = take n (drop m turns) in
+    let end = states_after start stretch in
+    let told = (law start end stretch (first_turns start after (drop m turns) n (later_turns before after turns m h))).0 t in
+    told_so (slice_get start t) (slice_get end t) (frames_of t (frames_in stretch)) (replies_of t (frames_in stretch) (replies_in stretch)) told none
+
+-- the reply to one more frame, if it is not that memory was refused
+pub one_more_told : EachStretchIsToldAlone → {before between after : List TenantState} {frame first next reply : List ℕ} → Handles before frame first between → Handles between next reply after → ¬ IsRefusedMemory reply
+    → IsToldAlone (slice_get between (owner next)) (next ∷ []) (reply ∷ []) (slice_get after (owner next))
+one_more_told law {before} {between} {after} {frame} {first} {next} {reply} one two differs =
+    let turns : List Turn = record { frame = frame; reply = first; states = between } ∷ record { frame = next; reply = reply; states = after } ∷ [] in
+    by (owner next == owner next) (eq-eqb (owner next) (owner next) refl) (law before after turns 1 1 (one, (two, refl)) (owner next))
+  where
+    by : (own : Bool) → own ≡ true
+        → (NoneIsRefusedMemory (if own then reply ∷ [] else []) → IsToldAlone (slice_get between (owner next)) (if own then next ∷ [] else []) (if own then reply ∷ [] else []) (slice_get after (owner next)))
+        → IsToldAlone (slice_get between (owner next)) (next ∷ []) (reply ∷ []) (slice_get after (owner next))
+    by true is told = told (differs, tt)
+    by false is told = absurd (let wrong : false ≡ true = is in cc wrong)

@@ -1,11 +1,11 @@
 -- What follows for the tenants from the replies to all, and how a stream ends. This project's own.
-use Rattle.std.specs.Prelude.{◌≡◌, ◌≢◌, ℕ, ◌==◌, List, length, slice_get, take, nat_lt, if◌then◌else◌, Some, Result, Ok, Err}
+use Rattle.std.specs.Prelude.{◌≡◌, ◌≢◌, ℕ, ◌==◌, List, length, slice_get, take, drop, nat_lt, if◌then◌else◌, Some, Result, Ok, Err}
 use Rattle.std.specs.List.{AllByRecursion}
 use Rattle.std.specs.Io.KnownBytes.{Appends}
 use Rattle.command_frames.specs.Frame.{owner}
 use Rattle.command_frames.specs.Laws.{IsStream}
 use Rattle.tenant.specs.State.{TenantState}
-use Rattle.tenant.specs.Alone.{frames_of, replies_of, AloneWithRefusals}
+use Rattle.tenant.specs.Alone.{frames_of, replies_of, NoneIsRefusedMemory, IsToldAlone, AloneWithRefusals}
 use Rattle.host_core.specs.Handled.{Turn, frames_in, replies_in, states_after, HandlesInOrder}
 use Rattle.host_core.specs.declared.server.ServeFault.{ServeFault}
 use Rattle.host_core.specs.declared.server.ServeFaultKind.TheVariants.{Truncated, TooManyFrames, Memory}
@@ -35,6 +35,23 @@ abbrev pub EachIsToldAloneUntilRefused : Type 0
 EachIsToldAloneUntilRefused =
     (before after : List TenantState) (turns : List Turn) (n : ℕ) → HandlesInOrder before turns after
     → Noninterference before (frames_in (take n turns)) (replies_in (take n turns)) (states_after before (take n turns))
+
+-- The same by what a tenant itself is told: if none of the replies to it is that memory was refused, it gets exactly the replies of its
+-- own machine without refusals of memory. Whether its flag is set before does not matter, nor what is refused to others.
+abbrev pub NoninterferenceByReplies
+    : List TenantState → List (List ℕ) → List (List ℕ) → List TenantState → Type 0
+NoninterferenceByReplies before frames replies after =
+    (t : ℕ) → let own = replies_of t frames replies in NoneIsRefusedMemory own
+    → IsToldAlone (slice_get before t) (frames_of t frames) own (slice_get after t)
+
+-- This holds from any number of turns on, for any number of turns, from the states that the tenants then have.
+abbrev pub EachStretchIsToldAlone : Type 0
+EachStretchIsToldAlone =
+    (before after : List TenantState) (turns : List Turn) (m n : ℕ)
+    → HandlesInOrder before turns after
+    → let start = states_after before (take m turns) in
+    let those = take n (drop m turns) in
+    NoninterferenceByReplies start (frames_in those) (replies_in those) (states_after start those)
 
 -- Two streams that agree on a tenant's state at the start and on its frames give it the same replies, if neither refuses memory
 -- to it: it can observe neither the frames of others nor how they interleave with its own.

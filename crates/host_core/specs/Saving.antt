@@ -57,6 +57,6 @@ AreRestored host =
     → (saved : List (List ℕ)) × (frames : List (List ℕ)) × AreParts host tenant saved
     × (flat_map (λ bytes. bytes) saved ≡ flat_map framed frames) × AllByRecursion (λ frame. owner frame ≡ tenant) frames × IsRestoredBy s frames
 
--- so they do after any calls on a new host
+-- so they do after any of these calls on a new host
 abbrev pub TenantsAreRestored : Type 0
 TenantsAreRestored = (count : ℕ) (calls : List HostState) (host : HostState) → Calls (new_host count) calls host → AreRestored host

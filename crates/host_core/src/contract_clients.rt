@@ -1,14 +1,19 @@
-//! What a caller can prove of a stream only from the contracts.
+//! What a caller can prove of a host and of a stream only from the contracts.
 
-ghost use Rattle.std.specs.Prelude.{◌≡◌, ◌≤◌, ◌<◌, ◌-◌, ◌^◌, List, [], replicate, IfSome};
+ghost use Rattle.std.specs.Prelude.{◌≡◌, ◌≤◌, ◌<◌, ◌-◌, ◌^◌, ℕ, List, [], ◌∷◌, replicate, slice_get, IfSome};
+ghost use Rattle.command_frames.specs.Frame.{owner};
+ghost use Rattle.tenant.specs.Alone.{IsRefusedMemory, IsToldAlone};
 ghost use Rattle.tenant.specs.State.{TenantState, new_tenant};
+ghost use Rattle.host_core.specs.Handled.{Handles};
 ghost use Rattle.host_core.specs.Served.{stream_state, ServesAlone};
 ghost use Rattle.host_core.specs.Saving.{AreRestored};
 ghost use Rattle.host_core.specs.Limits.{most_frames, most_tenants};
 
 use crate::host::{Host, MOST_TENANTS};
+use crate::laws::each_stretch_is_told_alone;
 use crate::server::{MOST_FRAMES, serve, serve_new_host};
 use crate::stream::{Sink, Source};
+use command_frames::ReplyBuf;
 use seeded_hash::HashSeed;
 use std::alloc::Global;
 
@@ -45,6 +50,19 @@ fn serve_and_save<R: Source, W: Sink>(
 {
     let _ = serve(alloc, host, reader, writer, 100);
     host.tenants_are_restored();
+}
+
+/// A tenant may go on after a reply of `NoMemory`: if it is not told so again, the reply to its next frame is exactly the one of its own
+/// machine from the state after the first, whose flag is set.
+fn handle_after_a_refusal(host: &mut Host, refused: &[u8], next: &[u8], reply: &mut ReplyBuf)
+    ensures { (first : List ℕ) × (between : List TenantState)
+        × Handles host.old.states refused.now first between
+        × (¬ IsRefusedMemory reply.new → IsToldAlone (slice_get between (owner next.now))
+        (next.now ∷ []) (reply.new ∷ []) (slice_get host.new.states (owner next.now))) }
+{
+    each_stretch_is_told_alone();
+    host.handle(refused, reply);
+    host.handle(next, reply);
 }
 
 /// The limit on tenants is that of the definitions.

@@ -2,7 +2,7 @@
 
 ghost use Rattle.host_core.specs.Batch.{BatchIsItsCalls};
 ghost use Rattle.host_core.specs.Saving.{TenantsAreRestored};
-ghost use Rattle.host_core.specs.Laws.{UnrefusedAreToldAlone, CallsAreToldAlone, EachIsToldAloneUntilRefused, SameFramesSameReplies, SameFramesSameOutput, NoContentEndsAStream};
+ghost use Rattle.host_core.specs.Laws.{UnrefusedAreToldAlone, CallsAreToldAlone, EachIsToldAloneUntilRefused, EachStretchIsToldAlone, SameFramesSameReplies, SameFramesSameOutput, NoContentEndsAStream};
 
 /// Each tenant to which no memory was refused gets exactly the replies of its own machine, whatever was refused to others.
 pub fn unrefused_are_told_alone()
@@ -25,6 +25,16 @@ pub fn each_is_told_alone_until_refused()
     ensures { EachIsToldAloneUntilRefused }
 {
     calls_are_told_alone();
+}
+
+/// In each stretch of calls of `Host::handle` in which none of a tenant's replies has the status `NoMemory`, these replies are exactly
+/// those of its own machine from the state that it has at the beginning, whatever was refused to it before, and to others. Only its own
+/// creations and loads can have that status: `tenant::laws::only_creations_and_loads_are_refused`.
+pub fn each_stretch_is_told_alone()
+    ensures { EachStretchIsToldAlone }
+{
+    calls_are_told_alone();
+    tenant::laws::unrefused_replies_mean_alone();
 }
 
 /// Two streams that agree on a tenant's state at the start and on its frames give it the same replies, if neither refuses
@@ -57,8 +67,9 @@ pub fn batch_is_its_calls()
     ensures { BatchIsItsCalls }
 {}
 
-/// After any calls on a new host, the parts of a tenant are frames, and a new tenant to which no memory is refused succeeds at each of
-/// them and then replies as this one does. The library for C relies on this; a caller in Rattle has `Host::tenants_are_restored`.
+/// After any calls of `Host::handle` and `Host::run_packets` on a new host, the parts of a tenant are frames, and a new tenant to which no
+/// memory is refused succeeds at each of them and then replies as this one does. `Host::tenants_are_restored` promises it of any host,
+/// whatever served it.
 pub fn tenants_are_restored()
     ensures { TenantsAreRestored }
 {

@@ -20,6 +20,10 @@
 //! - `serve` handles its frames one after another, and there are states of all tenants after each of them (`HandlesInOrder`):
 //!   `done`, `fault` of `serve`. After each of these turns, each tenant whose flag is then clear got exactly the replies of its
 //!   own machine, whatever is refused to it later: `each_is_told_alone_until_refused`.
+//! - In each stretch of these turns in which no reply to a tenant has the status -12, the replies to it are exactly those of
+//!   its own machine from the state that it has at the beginning, whether its flag is set or not, and whatever is refused to
+//!   others: `each_stretch_is_told_alone`. Only its own MAP_CREATE and PROG_LOAD can be answered so
+//!   (`only_creations_and_loads_are_refused` of `tenant`).
 //! - Both also hold for a sequence of calls of `Host::handle` without a stream, and no test run faults: `calls_are_told_alone`.
 //! - `serve_new_host` promises the same of a stream that a new host serves, from the states of new tenants.
 //! - A caller can ask whether a tenant's flag is set: `refused`, `unrefused` of `Host::memory_was_refused`.
@@ -58,7 +62,8 @@
 //! - Or the batch is rejected before its first packet, with the first error that applies: the tenant is not served, or an error
 //!   of the tenant. Then nothing has changed: `refusal`, `unchanged` of `Host::run_packets`.
 //! - The runs of a batch are calls of `Host::handle` on the test-run frames of its packets. So what holds for a sequence of
-//!   calls holds if some of them are batches, and no run of a batch faults: `batch_is_its_calls`.
+//!   calls holds if some of them are batches, and no run of a batch faults: `batch_is_its_calls`. These frames exist:
+//!   `test_runs_have_frames` of `saving`.
 //!
 //! Saves:
 //!

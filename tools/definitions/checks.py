@@ -12,7 +12,7 @@ MOST_COLUMNS, MOST_WORDS, MOST_DEFINITIONS, MOST_LINES = 100, 3000, 17, 60
 # What a clause of `handle` calls the names of `Handles`.
 IN_CONTRACT = {"frame.now": "frame", "reply.new": "reply", "self.old.states": "before", "self.new.states": "after"}
 # Quoted definitions that still have a longer line. An entry that is not needed is a fault.
-STILL_LONG = {"EachIsToldAloneUntilRefused", "MayReply", "SameFramesSameReplies"}
+STILL_LONG: set[str] = set()
 
 
 def too_long(page: str) -> list[str]:

@@ -20,6 +20,8 @@ MACHINE, STATE, REPLIES = "tenant/specs/Machine.antt", "tenant/specs/State.antt"
 VERDICT, OF_LAWS = "verifier/specs/Verdict.antt", "host_core/src/laws.rt"
 # The first theorem: two statements on hosts and lists of frames, each the contract of a function in src/laws.rt.
 THEOREM = [name(LAWS, "SameFramesSameReplies"), name(LAWS, "EachIsToldAloneUntilRefused")]
+# The same by replies: what a tenant gets on each stretch of frames on which none of its replies has the status -12.
+STRETCHES = [name(LAWS, "EachStretchIsToldAlone")]
 # The second one: `serve`, what a host begins with, and what the program passes to `serve`.
 STREAMS = [name("host_core/src/server.rt", "serve"), name(HOST, "new"), name("host_core/src/stream.rt", "Counted")]
 # Definitions that get only a tenant's own frames, replies and states: what its machine replies to a frame, and to a list of them.
@@ -36,7 +38,8 @@ TO_AN_ANSWER = frozenset({
 # The tiers: title, what the tier is about besides what those before it are about, and its stops.
 TIERS: tuple[tuple[str, list[Name], frozenset[Name]], ...] = (
     ("For noninterference", THEOREM, OF_THE_MACHINE),
-    ("For streams", STREAMS, OF_THE_MACHINE | {name(STATE, "new_tenant")}),
+    ("For stretches", STRETCHES, OF_THE_MACHINE | {name(REPLIES, "IsRefusedMemory")}),
+    ("For streams", STREAMS, OF_THE_MACHINE | {name(REPLIES, "IsRefusedMemory"), name(STATE, "new_tenant")}),
     ("For what is replied", [], OF_THE_VERDICT),
     ("For which programs are accepted", [], frozenset[Name]()),
     ("For the library", [name(OF_LAWS, "calls_are_told_alone")], frozenset[Name]()),

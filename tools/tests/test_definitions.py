@@ -50,15 +50,16 @@ class Tiers(unittest.TestCase):
         self.assertEqual(idle_stops(found), [])
 
     def test_cuts(self) -> None:
-        first, streams, replies, verdict = tiers()[:4]
+        first, stretches, streams, replies, verdict = tiers()[:5]
         self.assertIn(name("host_core/specs/Handled.antt", "HandlesInOrder"), first.names)
+        self.assertIn(name(LAWS, "EachStretchIsToldAlone"), stretches.names)
         self.assertIn(name("host_core/specs/Served.antt", "ServesStream"), streams.names)
         self.assertIn(name("command_frames/specs/Frame.antt", "reply_to"), replies.names)
         self.assertIn(name("verifier/specs/Maps.antt", "maps_of"), replies.names)
         self.assertIn(name("transfer/specs/Effects.antt", "effect"), verdict.names)
 
     def test_claims(self) -> None:
-        library, batches, saves = tiers()[4:]
+        library, batches, saves = tiers()[5:]
         self.assertIn(name(LAWS, "CallsAreToldAlone"), library.names)
         self.assertLessEqual({name("host_core/src/host.rt", "run_packets"), name("host_core/specs/Batch.antt", "BatchIsItsCalls")}, batches.names)
         self.assertIn(name("host_core/specs/Saving.antt", "TenantsAreRestored"), saves.names)

@@ -33,10 +33,12 @@ CallsAreToldAlone =
 -- is refused to it later.
 abbrev pub EachIsToldAloneUntilRefused : Type 0
 EachIsToldAloneUntilRefused =
-    (before after : List TenantState) (turns : List Turn) (n : ℕ) → HandlesInOrder before turns after
-    → Noninterference before (frames_in (take n turns)) (replies_in (take n turns)) (states_after before (take n turns))
+    (before after : List TenantState) (turns : List Turn) (n : ℕ)
+    → HandlesInOrder before turns after
+    → Noninterference before (frames_in (take n turns)) (replies_in (take n turns))
+        (states_after before (take n turns))
 
--- The same by what a tenant itself is told: if none of the replies to it is that memory was refused, it gets exactly the replies of its
+-- The same by a tenant's own replies: if none of the replies to it is that memory was refused, it gets exactly the replies of its
 -- own machine without refusals of memory. Whether its flag is set before does not matter, nor what is refused to others.
 abbrev pub NoninterferenceByReplies
     : List TenantState → List (List ℕ) → List (List ℕ) → List TenantState → Type 0
@@ -57,8 +59,10 @@ EachStretchIsToldAlone =
 -- to it: it can observe neither the frames of others nor how they interleave with its own.
 abbrev pub SameFramesSameReplies : Type 0
 SameFramesSameReplies =
-    (t : ℕ) (before after before_too after_too : List TenantState) (frames replies frames_too replies_too : List (List ℕ))
-    → Noninterference before frames replies after → Noninterference before_too frames_too replies_too after_too
+    (t : ℕ) (before after before_too after_too : List TenantState)
+    (frames replies frames_too replies_too : List (List ℕ))
+    → Noninterference before frames replies after
+    → Noninterference before_too frames_too replies_too after_too
     → IsUnrefused (slice_get after t) → IsUnrefused (slice_get after_too t)
     → slice_get before t ≡ slice_get before_too t → frames_of t frames ≡ frames_of t frames_too
     → replies_of t frames replies ≡ replies_of t frames_too replies_too

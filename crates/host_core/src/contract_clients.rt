@@ -52,7 +52,7 @@ fn serve_and_save<R: Source, W: Sink>(
     host.tenants_are_restored();
 }
 
-/// A tenant may go on after a reply of `NoMemory`: if it is not told so again, the reply to its next frame is exactly the one of its own
+/// A tenant may go on after a reply of `NoMemory`: if the next one has another status, the reply to its next frame is exactly that of its own
 /// machine from the state after the first, whose flag is set.
 fn handle_after_a_refusal(host: &mut Host, refused: &[u8], next: &[u8], reply: &mut ReplyBuf)
     ensures { (first : List ℕ) × (between : List TenantState)

@@ -22,7 +22,7 @@
 //!   own machine, whatever is refused to it later: `each_is_told_alone_until_refused`.
 //! - In each stretch of these turns in which no reply to a tenant has the status -12, the replies to it are exactly those of
 //!   its own machine from the state that it has at the beginning, whether its flag is set or not, and whatever is refused to
-//!   others: `each_stretch_is_told_alone`. Only its own MAP_CREATE and PROG_LOAD can be answered so
+//!   others: `each_stretch_is_told_alone`. Only its own MAP_CREATE and PROG_LOAD can have that status
 //!   (`only_creations_and_loads_are_refused` of `tenant`).
 //! - Both also hold for a sequence of calls of `Host::handle` without a stream, and no test run faults: `calls_are_told_alone`.
 //! - `serve_new_host` promises the same of a stream that a new host serves, from the states of new tenants.

@@ -23,8 +23,8 @@
 //! - The result of asking whether memory was refused to a tenant is that of the headline (`IsUnrefused`), and nothing changes:
 //!   `refused`, `unrefused`, `code`, `host`, `otherwise` of `bpfhost_c_memory_refused`.
 //! - The frames of a part of a tenant are those of `Host::save`, and are at the returned address, with the returned length; the
-//!   code says whether there is such a part (`save_code`), unless out of memory. No tenant changes: `done`, `code`, `host`,
-//!   `lent` of `bpfhost_c_save`.
+//!   code says whether there is such a part (`save_code`), unless out of memory. The parts of each tenant restore it, whatever
+//!   calls the host had (`AreRestored`). No tenant changes: `done`, `code`, `restored`, `host`, `lent` of `bpfhost_c_save`.
 //! - A new host has new tenants without births: `made` of `bpfhost_c_new`. The other calls do to states and births what calls of
 //!   a host do (`Call`), or nothing: `call` of `bpfhost_c_handle`, `call` of `bpfhost_c_handle_lent`, `call` of
 //!   `bpfhost_c_run_packets`.
@@ -32,8 +32,7 @@
 //! - A handle may be sent from thread to thread: `Send` for `Handle`.
 //!
 //! From `Handles` of each call and `calls_are_told_alone` of `host_core` follows what the headline says of a stream;
-//! `batch_is_its_calls` replaces a call with many packets by its frames. From `call` of each call and `tenants_are_restored`
-//! follows that the parts of a tenant restore it.
+//! `batch_is_its_calls` replaces a call with many packets by its frames.
 //!
 //! An empty handle owns nothing, any other what a box of a session owns (`handle_owns`). So the library frees what it
 //! allocated, and an empty handle keeps no memory. For a lent reply a contract only gives the address: the vector of the
@@ -88,12 +87,12 @@ mod session;
 ghost use Rattle.std.specs.Prelude.{◌≡◌, ◌≢◌, ◌≤◌, ℕ, List, ◌++◌, length, drop, slice_get, true, false, Some, None};
 ghost use Rattle.host_core.specs.Frame.{longest_reply};
 ghost use Rattle.host_core.specs.Handled.{Handles};
-ghost use Rattle.host_core.specs.Saving.{Call, saved_part};
+ghost use Rattle.host_core.specs.Saving.{Call, AreRestored, saved_part};
 ghost use Rattle.host_core.specs.Served.{IsUnrefused};
 ghost use Rattle.host_core.specs.States.{new_host};
 ghost use Rattle.bpfhost_c.specs.Calls.{states, host_of, StandsAt, SavedAt, new_code, host_code, room_code, save_code};
 ghost use Rattle.bpfhost_c.specs.Packets.{RunsPackets};
-ghost use Rattle.bpfhost_c.specs.declared.codes.TheConstants.{DONE, ERR_NO_MEMORY};
+ghost use Rattle.bpfhost_c.specs.declared.codes.TheConstants.{DONE, ERR_NO_HOST, ERR_NO_MEMORY};
 
 use codes::{
     DONE, ERR_BUFFER_TOO_SMALL, ERR_HAS_HOST, ERR_NO_HOST, ERR_NO_MEMORY, ERR_NO_PART,
@@ -256,7 +255,8 @@ pub extern "C" fn bpfhost_c_run_packets(
 
 /// Saves a part of a tenant: writes the address and the length of its frames, each of which has its length before it, to `lent`. They
 /// are valid until the next call with this handle. A new tenant of this number that is given the frames of all parts from 0 on, on
-/// this host or another one, then replies as this one does. Between two parts the tenant must not change.
+/// this host or another one, then replies as this one does, whatever calls this host had. Between two parts the tenant must not
+/// change.
 ///
 /// Returns `DONE`; else `ERR_NO_PART` after the last part and for a tenant that is not served, `ERR_NO_MEMORY` or `ERR_NO_HOST`,
 /// and `lent` is unchanged.
@@ -272,6 +272,7 @@ pub extern "C" fn bpfhost_c_save(
         × (saved_part (host_of handle.old.session) tenant part ≡ Some frames)
         × SavedAt handle.new.session frames lent.new.at lent.new.length }
     ensures code { result ≢ ERR_NO_MEMORY → result ≡ save_code handle.old.session tenant part }
+    ensures restored { result ≢ ERR_NO_HOST → AreRestored (host_of handle.old.session) }
     ensures host { host_of handle.new.session ≡ host_of handle.old.session }
     ensures lent { result ≢ DONE → lent.new ≡ lent.old }
 {

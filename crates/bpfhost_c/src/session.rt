@@ -3,7 +3,7 @@
 ghost use Rattle.std.specs.Prelude.{◌≡◌, ◌≤◌, length, vec_capacity, IfOk, Some, None, if◌then◌else◌};
 ghost use Rattle.host_core.specs.Frame.{longest_reply};
 ghost use Rattle.host_core.specs.Handled.{Handles};
-ghost use Rattle.host_core.specs.Saving.{Records, saved_part};
+ghost use Rattle.host_core.specs.Saving.{Records, AreRestored, saved_part};
 ghost use Rattle.host_core.specs.States.{new_host};
 ghost use Rattle.host_core.specs.Limits.{most_tenants};
 ghost use Rattle.bpfhost_c.specs.Packets.{RunsPackets};
@@ -66,8 +66,10 @@ impl Session {
     pub(crate) fn save(&mut self, tenant: usize, part: usize) -> Result<bool, AllocError>
         ensures saved { IfOk result (λ found. saved_part self.old.host tenant part
             ≡ (if found then Some self.new.saved.items else None)) }
+        ensures restored { AreRestored self.old.host }
         ensures host { self.new.host ≡ self.old.host }
     {
+        self.host.tenants_are_restored();
         // Those that were saved before are freed first.
         self.saved = Vec::new(self.alloc);
         match self.host.save(tenant, part)? {

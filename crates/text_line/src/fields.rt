@@ -3,12 +3,13 @@
 ghost use Rattle.std.specs.Prelude.{◌≡◌, IfSome, IfNone, Some, true, false};
 ghost use Rattle.text_line.specs.declared.form.JumpTarget.TheVariants as target;
 ghost use Rattle.text_line.specs.declared.form.Form.TheVariants as form;
-ghost use Rattle.text_line.specs.Form.{IsForm};
+ghost use Rattle.insn_set.specs.Sizes.{is_short};
+ghost use Rattle.text_line.specs.Form.{IsForm, IsSource};
 ghost use Rattle.text_line.specs.Ranges.{imm_fits, offset_fits, next_imm_fits, source_fits, target_fits, form_fits, normal, normal_source, normal_form, placed, resolved};
 ghost use Rattle.text_line.specs.Written.{number_of, source_of, written};
 
 use crate::form::{Access, Address, Form, JumpTarget, Number, Operation, SourceOperand, WideValue};
-use insn_set::{Insn, Load, Movsx, Operand, Reg};
+use insn_set::{ExtendedBits, Insn, Load, Movsx, Operand, Reg};
 
 impl Number {
     /// The number as a signed 32-bit field; `None` if it is out of range.
@@ -62,6 +63,14 @@ fn next_imm(magnitude: Option<u64>) -> Option<u32>
 }
 
 impl SourceOperand {
+    fn in_range(self)
+        ensures { IsSource self }
+    {
+        if let SourceOperand::Reg(reg) = self {
+            let _ = reg.number();
+        }
+    }
+
     /// The operand; `None` if its number is out of range.
     fn operand(self) -> Option<Operand>
         ensures found { IfSome result (λ src. source_of src ≡ normal_source self) }
@@ -201,11 +210,86 @@ impl WideValue {
     }
 }
 
+/// Whether a sign extension is from fewer than 32 bits.
+fn is_short(bits: ExtendedBits) -> bool
+    ensures { result ≡ is_short bits }
+{
+    match bits {
+        ExtendedBits::Bits8 | ExtendedBits::Bits16 => true,
+        ExtendedBits::Bits32 => false,
+    }
+}
+
 impl Form {
+    /// Whether a line can have this form: a sign extension is from fewer bits than the register has, a byte-order conversion is of 64
+    /// bits, and no double word is loaded with sign extension.
+    fn is_listed(&self) -> bool
+        ensures yes { result ≡ true → IsForm self.now }
+        ensures no { result ≡ false → IsForm self.now → ⊥ }
+    {
+        match *self {
+            Form::Operation { wide, dst, op } => {
+                let _ = dst.number();
+                match op {
+                    Operation::Binary { src, .. } => {
+                        src.in_range();
+                        true
+                    }
+                    Operation::SignExtend { from, src } => {
+                        let _ = src.number();
+                        wide || is_short(from)
+                    }
+                    Operation::Neg => true,
+                    Operation::End { .. } => wide,
+                }
+            }
+            Form::Branch { dst, src, .. } => {
+                let _ = dst.number();
+                src.in_range();
+                true
+            }
+            Form::Access { access, address } => {
+                let _ = address.base.number();
+                match access {
+                    Access::Load { size, signed, dst } => {
+                        let _ = dst.number();
+                        !(signed && size.is_double())
+                    }
+                    Access::Store { src, .. } => {
+                        src.in_range();
+                        true
+                    }
+                    Access::Atomic { src, .. } => {
+                        let _ = src.number();
+                        true
+                    }
+                }
+            }
+            Form::WideLoad { dst, .. } => {
+                let _ = dst.number();
+                true
+            }
+            Form::Jump { .. } | Form::Call { .. } | Form::Exit => true,
+        }
+    }
+
     /// The instruction of this form. A label that its jump names is taken to be `distance` slots from the next slot.
     ///
-    /// `None` if a number is out of its field's range.
+    /// `None` if a number is out of its field's range, or if no line can have this form.
     pub fn insn(self, distance: i16) -> Option<Insn>
+        ensures found { IfSome result (λ insn. written insn ≡ resolved distance self) }
+        ensures fits { IfSome result (λ _. form_fits self ≡ true) }
+        ensures none { IfNone result (IsForm self → form_fits self ≡ false) }
+    {
+        if self.is_listed() {
+            self.listed_insn(distance)
+        } else {
+            None
+        }
+    }
+
+    /// The instruction of a form that a line can have.
+    fn listed_insn(self, distance: i16) -> Option<Insn>
         requires { IsForm self }
         ensures found { IfSome result (λ insn. written insn ≡ resolved distance self) }
         ensures fits { IfSome result (λ _. form_fits self ≡ true) }

@@ -11,7 +11,7 @@ ghost use Rattle.bpf_helpers.specs.inside.Flat.{site_of, flat_look_up};
 use crate::arrays::Arrays;
 use crate::caller::Caller;
 use arena::{Arena, Trace};
-use bpf_maps::{Elements, MapKey, Maps, PART, laws};
+use bpf_maps::{Elements, INDEX_SIZE, MapKey, Maps, PART, laws};
 
 /// The handle of the bound map that a word names; `None` if it names none.
 #[inline(always)]
@@ -121,14 +121,15 @@ pub(crate) fn look_up_among(
         return 0;
     };
     let index = map.wrapping_sub(1) as usize;
-    let array = Elements::of_word(maps, handle, arrays.elements[index]);
+    let array = Elements::of_word(arrays.elements[index]);
     if array.count == 0 {
         return look_up(map, key, caller, arena, maps, trace);
     }
-    let size = array.key_size(maps, handle);
-    let Some(at) = traced_place(arena, caller.tenant, size, key, trace) else {
+    let Some(at) = traced_place(arena, caller.tenant, INDEX_SIZE, key, trace) else {
         return 0;
     };
     let part = arena.part(caller.tenant);
-    array.address_of(maps, handle, &part[at..at + size], arrays.values[index])
+    let mut spelled = [0; INDEX_SIZE];
+    spelled.copy_from_slice(&part[at..at + INDEX_SIZE]);
+    array.address_of(maps, handle, &spelled, arrays.values[index])
 }

@@ -1,5 +1,5 @@
 -- A new array is the list of its indices, and no call changes it.
-use Rattle.std.proofs.Common.{◌≡◌, ℕ, ◌+◌, ◌*◌, ◌<◌, ◌^◌, ◌/◌, ◌%◌, ◌==◌, Bool, true, List, [], ◌∷◌, length, Some, None, refl, sym, ap, subst, ◌∙◌, nat_lt, if◌then◌else◌, arith, get_or, eqb-true}
+use Rattle.std.proofs.Common.{◌≡◌, ℕ, ◌+◌, ◌*◌, ◌<◌, ◌^◌, ◌/◌, ◌%◌, Bool, List, [], ◌∷◌, length, Some, None, refl, sym, ap, subst, ◌∙◌, nat_lt, if◌then◌else◌, arith, get_or}
 use Rattle.std.specs.Map.{values_of}
 use Rattle.words.specs.Bytes.{low_bytes}
 use Rattle.tagged_model.specs.declared.shape.MapKind.{MapKind}
@@ -8,7 +8,7 @@ use Rattle.tagged_model.specs.declared.shape.MapShape.{MapShape}
 use Rattle.tagged_model.specs.Table.{found, key_after, look_up, next_of, index_key, indexed, new_entries}
 use Rattle.bpf_maps.specs.Places.{PlaceTable, table_of, new_places, after_run, occurrences, IsSound, IsSized}
 use Rattle.bpf_maps.proofs.Shapes.{few_entries, array_key, hash_no_array}
-use Rattle.bpf_maps.proofs.Indices.{found_index, none_empty, after_index, after_other, length_indexed, once_indexed, sized_indexed}
+use Rattle.bpf_maps.proofs.Indices.{found_index, after_index, after_other, length_indexed, once_indexed, sized_indexed}
 
 -- ---- the table of an array
 
@@ -48,9 +48,6 @@ module _ (s : MapShape) (array : s.kind ≡ Array) where
   next_other : (key : List ℕ) → look_up (table_of (new_places s)) key ≡ None → next_of (table_of (new_places s)) key ≡ (if nat_lt 0 s.max_entries then Some (index_key 0) else None)
   next_other key none = ap (key_after key) entries_are ∙ after_other s.max_entries key (ap (found key) (sym entries_are) ∙ none)
 
-  none_new : look_up (table_of (new_places s)) [] ≡ None
-  none_new = ap (found []) entries_are ∙ none_empty 0 s.max_entries
-
 -- ---- the same of a table that is that of an array
 
 module _ {t : PlaceTable} (array : t.shape.kind ≡ Array) (whole : t ≡ new_places t.shape) where
@@ -65,9 +62,6 @@ module _ {t : PlaceTable} (array : t.shape.kind ≡ Array) (whole : t ≡ new_pl
   after_absent key none =
       ap (λ (u : PlaceTable). next_of (table_of u) key) whole
       ∙ next_other t.shape array key (ap (λ (u : PlaceTable). look_up (table_of u) key) (sym whole) ∙ none)
-
-  pub none_empty_array : (key : List ℕ) → key ≡ [] → look_up (table_of t) key ≡ None
-  none_empty_array key e = ap (look_up (table_of t)) e ∙ ap (λ (u : PlaceTable). look_up (table_of u) []) whole ∙ none_new t.shape array
 
   -- no place is kept apart
   pub run_ends : t ≡ after_run t
@@ -97,10 +91,6 @@ spelled (a ∷ b ∷ c ∷ d ∷ []) n size small is =
     let z : n / 256 / 256 / 256 % 256 ≡ d = omega arith in
     λ k. w k ∷ x k ∷ y k ∷ z k ∷ []
 spelled (a ∷ b ∷ c ∷ d ∷ e ∷ rest) n size small is = absurd (omega arith)
-
-pub no_bytes : (key : List ℕ) → (length key == 0) ≡ true → key ≡ []
-no_bytes [] h = refl
-no_bytes (b ∷ key) h = let e : length (b ∷ key) ≡ 0 = eqb-true _ 0 h in absurd (omega arith)
 
 -- ---- a new map
 

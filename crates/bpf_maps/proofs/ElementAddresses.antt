@@ -1,16 +1,17 @@
 -- The addresses of the elements of an array.
-use Rattle.std.proofs.Common.{◌≡◌, ◌≢◌, ℕ, ◌+◌, ◌*◌, ◌/◌, ◌%◌, ◌^◌, ◌<◌, ◌≤◌, Bool, true, false, List, Some, None, nat_lt, if◌then◌else◌, refl, ap, ◌∙◌, arith}
+use Rattle.std.proofs.Common.{◌≡◌, ◌≢◌, ℕ, ◌+◌, ◌*◌, ◌/◌, ◌%◌, ◌^◌, ◌<◌, ◌≤◌, Bool, true, false, List, Option, Some, None, nat_lt, if◌then◌else◌, refl, sym, ap, ◌∙◌, arith}
 use Rattle.std.specs.Option.{IsSome}
-use Rattle.std.proofs.lemmas.Bool.{lt-ltb, le-ltb}
+use Rattle.std.proofs.lemmas.Bool.{false≢true, lt-ltb, le-ltb}
 use Rattle.tagged_model.specs.declared.shape.MapKind.{MapKind}
 use Rattle.tagged_model.specs.declared.shape.MapKind.TheVariants.{Array, Hash}
+use Rattle.tagged_model.specs.declared.shape.MapShape.{MapShape}
 use Rattle.tagged_model.specs.Table.{look_up, index_key}
 use Rattle.bpf_maps.specs.declared.elements.Elements.{Elements}
 use Rattle.bpf_maps.specs.declared.part.TheConstants.{PART}
 use Rattle.bpf_maps.specs.Places.{table_of}
-use Rattle.bpf_maps.specs.Live.{LiveMaps, live_at, live_or, places_at, shape_at, offset, offset_at, value_address, LiesInPart, IsLaid, AreSound}
+use Rattle.bpf_maps.specs.Live.{LiveMap, LiveMaps, live_at, live_or, places_at, shape_at, offset, offset_at, value_address, LiesInPart, IsLaid, IsPacked, AreSound}
 use Rattle.bpf_maps.specs.LiveLaws.{laid_inside}
-use Rattle.bpf_maps.specs.Elements.{element_count, elements_at, word_of}
+use Rattle.bpf_maps.specs.Elements.{element_count, elements_of, elements_at, word_of}
 use Rattle.bpf_maps.proofs.Shapes.{array_key, few_entries}
 use Rattle.bpf_maps.proofs.Arrays.{found_array}
 
@@ -28,10 +29,14 @@ few_elements : (d : MapKind) (n : ℕ) → n < 2 ^ 32 → element_count d n < 2 
 few_elements Array n small = small
 few_elements Hash n small = omega arith
 
-pub elements_from : (t : LiveMaps) (k w : ℕ) → w ≡ word_of (elements_at t k) → (w % 2 ^ 32 ≡ (elements_at t k).count) × (w / 2 ^ 32 ≡ (elements_at t k).stride)
-elements_from t k w is =
-    let few = few_entries (shape_at t k) in
-    from_word (elements_at t k).count (elements_at t k).stride w (few_elements (shape_at t k).kind (shape_at t k).max_entries (omega arith)) is
+pub elements_from : (s : MapShape) (w : ℕ) → w ≡ word_of (elements_of s) → (w % 2 ^ 32 ≡ (elements_of s).count) × (w / 2 ^ 32 ≡ (elements_of s).stride)
+elements_from s w is =
+    let few = few_entries s in
+    from_word (elements_of s).count (elements_of s).stride w (few_elements s.kind s.max_entries (omega arith)) is
+
+-- a shape with elements is that of an array, whose keys have four bytes
+pub shape_key_size : (s : MapShape) → element_count s.kind s.max_entries ≢ 0 → s.key_size ≡ 4
+shape_key_size s some = array_key s (array_only s.kind s.max_entries some).0
 
 along : (p s x f : ℕ) → f ≡ p + s → (f + x) % 2 ^ 64 ≡ (p + (s + x)) % 2 ^ 64
 along p s x f e = omega (arith, e)
@@ -45,18 +50,19 @@ module _ (t : LiveMaps) (k : ℕ) (e : Elements) (is : e ≡ elements_at t k) (s
       let only = array_only (shape_at t k).kind (shape_at t k).max_entries (λ none. some (count_is ∙ none)) in
       (only.0, count_is ∙ only.1)
 
-  pub index_key_size : (shape_at t k).key_size ≡ 4
-  index_key_size = array_key (shape_at t k) is_array.0
+  module _ (live : IsSome (live_at t k)) (laid : IsLaid t) (packed : IsPacked t) (sound : AreSound t) (key : List ℕ) (i : ℕ) (spells : index_key i ≡ key) (small : i < 2 ^ 32) where
+    stride_of : (o : Option LiveMap) → live_at t k ≡ o → IsSome o → (live_or o).stride ≡ ((live_or o).places.shape.value_size + 7) / 8 * 8
+    stride_of None at some = absurd (false≢true some)
+    stride_of (Some l) at some = packed.stride k l at
 
-  -- the offset of an element
-  offset_along : (i : ℕ) → offset_at t k 0 + i * e.stride ≡ offset_at t k i
-  unfolding offset
-  offset_along i =
-      let stride : e.stride ≡ (live_or (live_at t k)).stride = ap (λ (x : Elements). x.stride) is in
-      let start : (live_or (live_at t k)).start + 0 * (live_or (live_at t k)).stride ≡ (live_or (live_at t k)).start = omega arith in
-      ap (λ (n : ℕ). n + i * e.stride) start ∙ ap (λ (n : ℕ). (live_or (live_at t k)).start + i * n) stride
+    -- the offset of an element
+    offset_along : (j : ℕ) → offset_at t k 0 + j * e.stride ≡ offset_at t k j
+    unfolding offset
+    offset_along j =
+        let stride : e.stride ≡ (live_or (live_at t k)).stride = ap (λ (x : Elements). x.stride) is ∙ sym (stride_of (live_at t k) refl live) in
+        let start : (live_or (live_at t k)).start + 0 * (live_or (live_at t k)).stride ≡ (live_or (live_at t k)).start = omega arith in
+        ap (λ (n : ℕ). n + j * e.stride) start ∙ ap (λ (n : ℕ). (live_or (live_at t k)).start + j * n) stride
 
-  module _ (live : IsSome (live_at t k)) (laid : IsLaid t) (sound : AreSound t) (key : List ℕ) (i : ℕ) (spells : index_key i ≡ key) (small : i < 2 ^ 32) where
     found_at : (b : Bool) → nat_lt i (shape_at t k).max_entries ≡ b → (if b then Some i else None) ≡ look_up (table_of (places_at t k)) key
     found_at b b_is = found_array is_array.0 ((sound k live).array is_array.0) key i b spells small b_is
 

@@ -1,5 +1,6 @@
 -- The key that follows has the size of all keys.
-use Rattle.std.proofs.Common.{◌≡◌, ◌≤◌, ℕ, Bool, true, false, List, [], ◌∷◌, length, Option, Some, None, is_some, option_map, IfSome, subst, sym, if◌then◌else◌, arith}
+use Rattle.std.proofs.Common.{◌≡◌, ◌≤◌, ℕ, Bool, true, false, List, [], ◌∷◌, length, Option, Some, None, is_some, option_map, IfSome, cond, refl, subst, sym, ap, ◌∙◌, if◌then◌else◌, arith}
+use Rattle.std.specs.Cmp.Lexicographic.{bytes_decides}
 use Rattle.tagged_model.specs.Table.{found, is_key, first_key, key_behind, key_after}
 use Rattle.bpf_maps.specs.declared.key_ref.KeyRef.{KeyRef}
 use Rattle.bpf_maps.specs.KeyRef.{key_bytes}
@@ -38,3 +39,12 @@ given_sized n key es given sized e = given_of n given (subst (HasSize n) (sym e)
 pub given_short : (n room : ℕ) (given : Option KeyRef) → n ≤ room → IfSome given (λ key. length (key_bytes key) ≡ n) → IfSome given (λ key. length (key_bytes key) ≤ room)
 given_short n room None fits sized = tt
 given_short n room (Some key) fits sized = omega arith
+
+-- no key has another size
+pub absent_by_size : (n : ℕ) (key : List ℕ) → (length key ≡ n → ⊥) → (es : List (List ℕ × ℕ)) → IsSized n es → found key es ≡ None
+absent_by_size n key differ [] sized = refl
+absent_by_size n key differ (e ∷ es) sized = by (is_key key e.0) refl (absent_by_size n key differ es sized.1)
+  where
+    by : (b : Bool) → is_key key e.0 ≡ b → found key es ≡ None → cond b (Some e.1) (found key es) ≡ None
+    by true is rest = absurd (differ (ap length ((bytes_decides key e.0).0 is) ∙ sized.0))
+    by false is rest = rest

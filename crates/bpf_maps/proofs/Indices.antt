@@ -1,5 +1,5 @@
 -- The entries of an array: all indices, each with itself for a place.
-use Rattle.std.proofs.Common.{◌≡◌, ℕ, zero, suc, ◌+◌, ◌^◌, ◌<◌, ◌≤◌, Bool, true, false, cond, List, [], length, Option, Some, None, is_some, refl, sym, ap, ◌∙◌, nat_eq, nat_lt, if◌then◌else◌, arith, eqb-true, eq-eqb}
+use Rattle.std.proofs.Common.{◌≡◌, ℕ, zero, suc, ◌+◌, ◌^◌, ◌<◌, ◌≤◌, Bool, true, false, cond, List, length, Option, Some, None, is_some, refl, sym, ap, ◌∙◌, nat_eq, nat_lt, if◌then◌else◌, arith, eqb-true, eq-eqb}
 use Rattle.std.proofs.lemmas.Bool.{lt-ltb, le-ltb}
 use Rattle.std.proofs.lemmas.Bool.Decides.{nat_tests}
 use Rattle.std.specs.Cmp.Lexicographic.{bytes_decides}
@@ -55,12 +55,6 @@ found_index first (suc n) k h s l =
     by false e r =
         let m : first + 1 + n ≡ first + suc n = omega arith in
         r (behind_first k first l e) ∙ ap (λ (x : ℕ). if nat_lt k x then Some k else None) m
-
--- an empty key is found nowhere
-pub none_empty : (first n : ℕ) → found [] (indexed itself first n) ≡ None
-unfolding indexed index_key
-none_empty first zero = refl
-none_empty first (suc n) = none_empty (first + 1) n
 
 -- ---- the key that follows
 

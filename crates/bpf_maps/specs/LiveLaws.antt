@@ -6,9 +6,8 @@ use Rattle.std.specs.List.{position_or_len}
 use Rattle.std.proofs.lemmas.Bool.{false≢true, lt-ltb, cases_lt}
 use Rattle.std.proofs.lemmas.List.Quantifiers.{position-Some}
 use Rattle.std.proofs.lemmas.Option.{none-some}
-use Rattle.tagged_model.specs.declared.shape.MapShape.{MapShape}
 use Rattle.bpf_maps.specs.declared.elements.Elements.{Elements}
-use Rattle.bpf_maps.specs.Elements.{element_count, elements_at}
+use Rattle.bpf_maps.specs.Elements.{elements_of, elements_at}
 use Rattle.bpf_maps.specs.Sum.{weight, total}
 use Rattle.bpf_maps.specs.Live.{LiveMap, LiveMaps, live_at, live_or, shape_at, free_handle, offset, offset_at, LiesInPart, IsLaid, SameAreas, OnlyKeysChange}
 
@@ -127,17 +126,12 @@ same_areas tenant k l e = (l, e, refl, refl, refl)
 pub same_elements : (old new : LiveMaps) (k : ℕ) → SameAreas old new → IsSome (live_at new k) → elements_at new k ≡ elements_at old k
 same_elements old new k areas live = by (live_at new k) refl live
   where
-    elements_of : Option LiveMap → Elements
-    elements_of o = record { count = element_count (live_or o).places.shape.kind (live_or o).places.shape.max_entries; stride = (live_or o).stride }
+    shown : Option LiveMap → Elements
+    shown o = elements_of (live_or o).places.shape
 
-    by : (o : Option LiveMap) → live_at new k ≡ o → IsSome o → elements_of (live_at new k) ≡ elements_of (live_at old k)
+    by : (o : Option LiveMap) → live_at new k ≡ o → IsSome o → shown (live_at new k) ≡ shown (live_at old k)
     by None e some = absurd (false≢true some)
-    by (Some l) e some =
-        let was = areas k l e in
-        ap elements_of e
-        ∙ ap (λ (s : MapShape). let x : Elements = record { count = element_count s.kind s.max_entries; stride = l.stride } in x) was.2
-        ∙ ap (λ (n : ℕ). let x : Elements = record { count = element_count was.0.places.shape.kind was.0.places.shape.max_entries; stride = n } in x) was.4
-        ∙ sym (ap elements_of was.1)
+    by (Some l) e some = let was = areas k l e in ap shown e ∙ ap elements_of was.2 ∙ sym (ap shown was.1)
 
 -- and after two changes that each keep the areas
 pub areas_along : (old mid new : LiveMaps) → SameAreas old mid → SameAreas mid new → SameAreas old new

@@ -1,6 +1,6 @@
 //! An array map.
 
-ghost use Rattle.std.specs.Prelude.{◌≡◌, ◌<◌, ◌⊎◌, ◌+◌, false, [], IfOk, IfSome, Some, None, nat_lt, if◌then◌else◌, length, option_map};
+ghost use Rattle.std.specs.Prelude.{◌≡◌, ◌<◌, ◌+◌, false, IfOk, IfSome, Some, None, nat_lt, if◌then◌else◌, length, option_map};
 ghost use Rattle.std.specs.Option.{option_map_or};
 ghost use Rattle.ordered_keys.specs.Orders.{next_entry};
 ghost use Rattle.tagged_model.specs.declared.shape.MapKind.TheVariants.{Array};
@@ -14,7 +14,7 @@ use std::marker::Model;
 use tagged_model::{MapFault, MapShape};
 
 /// The size of an index in bytes.
-pub(crate) const INDEX_SIZE: usize = 4;
+pub const INDEX_SIZE: usize = 4;
 
 /// An array, which has all its indices from the start. The place of an index is the index.
 #[derive(Drop)]
@@ -39,7 +39,7 @@ impl Model for ArrayMap {
 impl ArrayMap {
     /// Makes an array of this shape.
     #[inline(always)]
-    pub fn new(shape: MapShape) -> ArrayMap
+    pub(crate) fn new(shape: MapShape) -> ArrayMap
         requires { shape.kind ≡ Array }
         ensures { result ≡ new_places shape }
     {
@@ -121,14 +121,13 @@ impl ArrayMap {
         }
     }
 
-    /// The index that follows a key, which may be one past the last. After an empty or absent key it is the first.
+    /// The index that follows a key, which may be one past the last. After an absent key, also one of another size, it is the first.
     fn index_after(&self, key: &[u8]) -> u32
-        requires size { (key.now ≡ []) ⊎ (length key.now ≡ self.now.shape.key_size) }
         ensures next { next_of (table_of self.now) key.now
             ≡ (if nat_lt result self.now.shape.max_entries then Some (index_key result) else None) }
     {
         self.keys_are_its_indices();
-        if key.is_empty() {
+        if key.len() != INDEX_SIZE {
             return 0;
         }
         match self.place_of(key) {

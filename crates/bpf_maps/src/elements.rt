@@ -1,14 +1,15 @@
 //! The elements of an array, by which a run finds their values without the map.
 
-ghost use Rattle.std.specs.Prelude.{◌≡◌, ◌≢◌, ℕ, ◌+◌, length, IsSome, IfSome};
+ghost use Rattle.std.specs.Prelude.{◌≡◌, ◌≢◌, ℕ, ◌+◌, IfSome};
+ghost use Rattle.tagged_model.specs.declared.shape.MapShape.{MapShape as AnyShape};
 ghost use Rattle.tagged_model.specs.Table.{look_up};
 ghost use Rattle.bpf_maps.specs.Places.{table_of};
-ghost use Rattle.bpf_maps.specs.Live.{live_at, places_at, shape_at, offset_at, value_address, LiesInPart};
-ghost use Rattle.bpf_maps.specs.Elements.{elements_at, word_of};
+ghost use Rattle.bpf_maps.specs.Live.{places_at, shape_at, offset_at, value_address, LiesInPart};
+ghost use Rattle.bpf_maps.specs.Elements.{elements_of, AreOfArray, word_of};
 
 use crate::array_map::{INDEX_SIZE, index_of};
 use crate::maps::{MapKey, Maps};
-use tagged_model::MapKind;
+use tagged_model::{MapKind, MapShape};
 
 /// The elements of a map: how many there are, none if it is a hash map, and the distance from the start of one value to the start of
 /// the next, in bytes. They stay the same as long as the map is live.
@@ -19,14 +20,11 @@ pub struct Elements {
 }
 
 impl Elements {
-    /// The elements of a live map.
+    /// The elements of a map of this shape.
     #[inline(always)]
-    pub fn of(maps: &Maps, map: MapKey) -> Elements
-        requires { IsSome (live_at maps.now map) }
-        ensures { result ≡ elements_at maps.now map }
+    pub fn of(shape: MapShape) -> Elements
+        ensures { result ≡ elements_of shape }
     {
-        maps.maps_are_laid();
-        let shape = maps.shape(map);
         let count = match shape.kind {
             MapKind::Array => shape.max_entries,
             MapKind::Hash => 0,
@@ -45,45 +43,30 @@ impl Elements {
         u64::from(self.count) + 0x1_0000_0000 * u64::from(self.stride)
     }
 
-    /// The elements of a map from their number.
+    /// The elements from their number. If they are those of a shape and there are some, its keys have `INDEX_SIZE` bytes.
     #[inline(always)]
-    pub fn of_word(maps: &Maps, map: MapKey, word: u64) -> Elements
-        requires live { IsSome (live_at maps.now map) }
-        requires word { word ≡ word_of (elements_at maps.now map) }
-        ensures { result ≡ elements_at maps.now map }
+    pub fn of_word(word: u64) -> Elements
+        ensures word { word_of result ≡ word }
+        ensures elements { (shape : AnyShape) → word ≡ word_of (elements_of shape)
+            → result ≡ elements_of shape }
+        ensures size { (shape : AnyShape) → word ≡ word_of (elements_of shape) → result.count ≢ 0
+            → shape.key_size ≡ 4 }
     {
-        let _ = map;
-        maps.maps_are_laid();
         Elements {
             count: (word % 0x1_0000_0000) as u32,
             stride: (word / 0x1_0000_0000) as u32,
         }
     }
 
-    /// The size of a key of this array, in bytes.
+    /// The address of the value of a key, modulo 2^64, like `Maps::address_of`, if these are the elements of a live array whose first
+    /// value has address `first`. It doesn't read the map.
     #[inline(always)]
-    pub fn key_size(self, maps: &Maps, map: MapKey) -> usize
-        requires elements { self ≡ elements_at maps.now map }
-        requires array { self.count ≢ 0 }
-        ensures { result ≡ (shape_at maps.now map).key_size }
-    {
-        let _ = maps;
-        let _ = map;
-        INDEX_SIZE
-    }
-
-    /// The address of the value of a key, modulo 2^64, like `Maps::address_of`, for an array with these elements whose first value
-    /// has address `first`. It doesn't read the map.
-    #[inline(always)]
-    pub fn address_of(self, maps: &Maps, map: MapKey, key: &[u8], first: u64) -> u64
-        requires live { IsSome (live_at maps.now map) }
-        requires elements { self ≡ elements_at maps.now map }
-        requires array { self.count ≢ 0 }
-        requires size { length key.now ≡ (shape_at maps.now map).key_size }
-        ensures address { (part : ℕ) → first ≡ part + offset_at maps.now map 0
-            → result ≡ value_address part maps.now map
+    pub fn address_of(self, maps: &Maps, map: MapKey, key: &[u8; INDEX_SIZE], first: u64) -> u64
+        ensures address { AreOfArray self maps.now map → (part : ℕ)
+            → first ≡ part + offset_at maps.now map 0 → result ≡ value_address part maps.now map
             (look_up (table_of (places_at maps.now map)) key.now) }
-        ensures inside { IfSome (look_up (table_of (places_at maps.now map)) key.now) (λ place.
+        ensures inside { AreOfArray self maps.now map
+            → IfSome (look_up (table_of (places_at maps.now map)) key.now) (λ place.
             LiesInPart (offset_at maps.now map place) (shape_at maps.now map).value_size) }
     {
         let _ = map;

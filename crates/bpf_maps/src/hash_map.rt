@@ -41,7 +41,7 @@ impl Model for HashMap {
 impl HashMap {
     /// Makes a map of this shape without keys, whose keys are hashed with this seed. Allocates all the memory that the map can ever
     /// take. `AllocError`: out of memory.
-    pub fn new(alloc: Global, shape: MapShape, seed: HashSeed) -> Result<HashMap, AllocError>
+    pub(crate) fn new(alloc: Global, shape: MapShape, seed: HashSeed) -> Result<HashMap, AllocError>
         requires { shape.kind ≡ Hash }
         ensures { IfOk result (λ map. map ≡ new_places shape) }
     {

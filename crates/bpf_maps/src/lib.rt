@@ -127,7 +127,7 @@ mod stored_map;
 mod value_map;
 mod word_index;
 
-pub use array_map::ArrayMap;
+pub use array_map::{ArrayMap, INDEX_SIZE};
 pub use bpf_map::BpfMap;
 pub use elements::Elements;
 pub use hash_map::HashMap;

@@ -349,26 +349,30 @@ impl Maps {
         stored.map.remove(key)
     }
 
-    /// Returns the key that follows a key, if there is one. After an empty or absent key it is the first.
+    /// Returns the key that follows a key of a map, if there is one; a map that isn't live has none. After an absent key, also one
+    /// of another size, it is the first.
     pub fn key_after(&self, map: MapKey, key: &[u8]) -> Option<KeyRef<'_>>
-        requires live { IsSome (live_at self.now map) }
-        requires size { (key.now ≡ []) ⊎ (length key.now ≡ (shape_at self.now map).key_size) }
         ensures given { option_map key_bytes result
             ≡ next_of (table_of (places_at self.now map)) key.now }
         ensures size { IfSome result (λ given.
             length (key_bytes given) ≡ (shape_at self.now map).key_size) }
     {
+        if !self.is_live(map) {
+            return None;
+        }
         self.stored(map).map.key_after(key)
     }
 
     /// The key that follows the one of a place, or the first key if no place is given, with its place. `None` if there is none,
-    /// and if no key has the place.
+    /// if no key has the place, and if the map isn't live.
     pub fn entry_after(&self, map: MapKey, place: Option<u32>) -> Option<(KeyRef<'_>, u32)>
-        requires { IsSome (live_at self.now map) }
         ensures entry { option_map shown_entry result
             ≡ next_entry place (places_at self.now map).entries }
         ensures within { IfSome result (λ e. e.1 < (shape_at self.now map).max_entries) }
     {
+        if !self.is_live(map) {
+            return None;
+        }
         self.maps_are_laid();
         self.stored(map).map.entry_after(place)
     }

@@ -62,9 +62,8 @@ pub trait ValueMap {
         ensures shape { (places self.new).shape ≡ (places self.old).shape }
         ensures sound { IsSound (places self.new) };
 
-    /// Returns the key that follows a key, if there is one. After an empty or absent key it is the first.
+    /// Returns the key that follows a key, if there is one. After an absent key, also one of another size, it is the first.
     fn key_after(&self, key: &[u8]) -> Option<KeyRef<'_>>
-        requires size { (key.now ≡ []) ⊎ (length key.now ≡ (places self.now).shape.key_size) }
         ensures given { option_map key_bytes result
             ≡ next_of (table_of (places self.now)) key.now }
         ensures size { IfSome result (λ given.

@@ -1,12 +1,12 @@
-use Rattle.std.proofs.Common.{◌≡◌, ℕ, zero, suc, ◌+◌, ◌-◌, ◌%◌, ◌^◌, ◌<◌, ◌≤◌, List, Some, option_map, slice_range, get_or, refl, sym, ap, ◌∙◌, arith}
+use Rattle.std.proofs.Common.{◌≡◌, ℕ, zero, suc, ◌+◌, ◌-◌, ◌%◌, ◌^◌, ◌<◌, ◌≤◌, List, Some, IfSome, IsSome, option_map, slice_range, get_or, refl, sym, ap, subst, ◌∙◌, arith}
 use Rattle.std.specs.Prelude.{slice_index, unwrap_or}
 use Rattle.std.proofs.lemmas.Option.{none-some}
 use Rattle.tagged_model.specs.Table.{look_up}
 use Rattle.arena.specs.Memory.{base, part_start}
 use Rattle.arena.specs.PartLaws.{part_within}
 use Rattle.bpf_maps.specs.Places.{table_of}
-use Rattle.bpf_maps.specs.Live.{places_at, offset_at}
-use Rattle.bpf_maps.specs.Elements.{elements_at, word_of}
+use Rattle.bpf_maps.specs.Live.{live_at, places_at, shape_at, offset_at, value_address, LiesInPart}
+use Rattle.bpf_maps.specs.Elements.{elements_at, AreOfArray, word_of}
 use Rattle.bpf_helpers.specs.Named.{bound_map}
 use Rattle.bpf_helpers.specs.inside.Flat.{site_of, key_word}
 use Rattle.bpf_helpers.proofs.Words.{key_there}
@@ -25,24 +25,29 @@ listed_at list bind w k of small some is there =
     let place : (w + 18446744073709551615) % 18446744073709551616 ≡ w - 1 = omega arith in
     ap (λ (i : ℕ). get_or list i 0) place ∙ there ∙ ap of (sym is)
 
-pub of_word-array-requires-clause-word : goal.of_word-array-requires-clause-word
-of_word-array-requires-clause-word c =
-    let (within, handle_is) = c.in-Some.ensures.listed in
-    listed_at c.args.arrays.elements.now c.args.caller.bind.now c.args.map c.in-Some.handle (λ key. word_of (elements_at c.args.maps.now key)) c.ranges.map.fits (some_word c.args.caller.bind.now c.args.map c.in-Some.handle c.in-Some.ensures.value) handle_is (c.requires.arrays.elements (c.args.map - 1) within)
-
 pub returns-clause-value : goal.returns-clause-value
 returns-clause-value c =
     let site = site_of c.args.caller c.args.arena.now c.args.maps.now in
+    let bind = c.args.caller.bind.now in
     let k = c.in-Some.handle in
     let at = c.in-Some-traced_place.at in
-    let n = c.key_size-size.result in
     let part = c.part-part.result.now in
     let start = base + part_start site.memory site.tenant in
-    let o = look_up (table_of (places_at site.maps k)) (slice_range part at (at + n)) in
-    let there = key_there site c.args.map c.args.key (sym c.in-Some.ensures.value) c.key_size-size.ensures at c.in-Some-traced_place.ensures.value c.part-part.ensures.bytes c.in-Some-traced_place.ensures.within in
     let whole = part_within site.memory site.tenant (c.memory_is_its_parts.ensures.parts, c.requires.part.0) in
     let bound = c.memory_is_its_parts.ensures.bound in
     let (within, handle_is) = c.in-Some.ensures.listed in
-    c.address_of.ensures.address start (listed_at c.args.arrays.values.now c.args.caller.bind.now c.args.map k (λ key. start + offset_at site.maps key 0) c.ranges.map.fits (some_word c.args.caller.bind.now c.args.map k c.in-Some.ensures.value) handle_is (c.requires.arrays.values (c.args.map - 1) within ∙ omega arith))
-    ∙ address_word site k start o refl (omega arith) c.address_of.ensures.inside
+    let some = some_word bind c.args.map k c.in-Some.ensures.value in
+    let live : IsSome (live_at site.maps k) = subst (λ (key : ℕ). IsSome (live_at site.maps key)) (sym handle_is) (c.requires.live (c.args.map - 1) within) in
+    let word = listed_at c.args.arrays.elements.now bind c.args.map k (λ key. word_of (elements_at site.maps key)) c.ranges.map.fits some handle_is (c.requires.arrays.elements (c.args.map - 1) within) in
+    let first = listed_at c.args.arrays.values.now bind c.args.map k (λ key. start + offset_at site.maps key 0) c.ranges.map.fits some handle_is (c.requires.arrays.values (c.args.map - 1) within ∙ omega arith) in
+    let any = c.if-array-eq0.false in
+    let array : AreOfArray c.of_word-array.result site.maps k = (live, c.of_word-array.ensures.elements (shape_at site.maps k) word, any) in
+    let size = sym (c.of_word-array.ensures.size (shape_at site.maps k) word any) in
+    let o = look_up (table_of (places_at site.maps k)) (slice_range part at (at + 4)) in
+    let there = key_there site c.args.map c.args.key (sym c.in-Some.ensures.value) size at c.in-Some-traced_place.ensures.value c.part-part.ensures.bytes c.in-Some-traced_place.ensures.within in
+    let same = c.copy_from_slice.ensures.after in
+    let inside = subst (λ (key : List ℕ). IfSome (look_up (table_of (places_at site.maps k)) key) (λ place. LiesInPart (offset_at site.maps k place) (shape_at site.maps k).value_size)) same (c.address_of.ensures.inside array) in
+    c.address_of.ensures.address array start first
+    ∙ ap (λ (key : List ℕ). value_address start site.maps k (look_up (table_of (places_at site.maps k)) key)) same
+    ∙ address_word site k start o refl (omega arith) inside
     ∙ sym (ap (λ o. unwrap_or (option_map (key_word site) o) 0) there)

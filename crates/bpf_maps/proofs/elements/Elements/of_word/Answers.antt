@@ -1,9 +1,14 @@
-use Rattle.std.proofs.Common.{ℕ, ap₂}
+use Rattle.std.proofs.Common.{ℕ, ap₂, ◌∙◌}
 use Rattle.bpf_maps.specs.declared.elements.Elements.{Elements}
-use Rattle.bpf_maps.proofs.ElementAddresses.{elements_from}
+use Rattle.bpf_maps.proofs.ElementAddresses.{elements_from, shape_key_size}
 use Rattle.bpf_maps.proofs.elements.Elements.of_word.Goals as goal
 
-pub returns : goal.returns
-returns c =
-    let (count, stride) = elements_from c.args.maps.now c.args.map c.args.word c.requires.word in
+pub returns-clause-elements : goal.returns-clause-elements
+returns-clause-elements c shape is =
+    let (count, stride) = elements_from shape c.args.word is in
     ap₂ (λ (n s : ℕ). let e : Elements = record { count = n; stride = s } in e) count stride
+
+pub returns-clause-size : goal.returns-clause-size
+returns-clause-size c shape is some =
+    let (count, stride) = elements_from shape c.args.word is in
+    shape_key_size shape (λ none. some (count ∙ none))

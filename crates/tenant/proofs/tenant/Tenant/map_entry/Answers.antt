@@ -23,9 +23,6 @@ with_value part k map e = ((e.0, value_in part k.live map e.1), e.1)
 is_there : (k l : KeptTenant) (map : ℕ) → k ≡ l → IsSome (live_at l.live map) → IsSome (live_at k.live map)
 is_there k l map same some = subst (λ (k : KeptTenant). IsSome (live_at k.live map)) (sym same) some
 
-pub entry_after-requires : goal.entry_after-requires
-entry_after-requires c = is_there (kept_in c.self.inside) c.args.self.now c.args.map c.self.view_is c.requires.live
-
 once_in : (part : List ℕ) (k l : KeptTenant) (map : ℕ) → k ≡ l → ((p : ℕ) → occurrences p (values_of (placed_entries part k.live map)) ≤ 1) → (p : ℕ) → occurrences p (values_of (placed_entries part l.live map)) ≤ 1
 once_in part k l map same once p = subst (λ (k : KeptTenant). occurrences p (values_of (placed_entries part k.live map)) ≤ 1) same (once p)
 

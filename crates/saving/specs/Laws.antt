@@ -69,7 +69,7 @@ TestRunsHaveFrames =
     (tenant fd : ℕ) (inputs : List BatchInput) → fd < 2 ^ 32 → AllByRecursion FitsFrame inputs
     → AreTestRuns fd (map (test_run_frame tenant fd) inputs) inputs
 
--- the same for the commands as frames
+-- a new tenant that gets the commands of a save as frames succeeds at each, and is then alike to the saved state
 abbrev pub RestoredByFrames : Type 0
 RestoredByFrames =
     (tenant : ℕ) (s : TenantState) (births : List Birth) → IsRestorable s → AreBirths s births

@@ -5,7 +5,8 @@ if the crate re-exports it from another one.
 
 It is called if a file of a third crate has the text of a call: this is a search by text, which knows no types. The file has to import the
 function, or the type or trait of a method, from a crate that exports it, and to have `function(`, or `.method(` or `Type::method(`. So a method
-of the same name on another type in such a file counts, too. Comments do not count.
+of the same name on another type in such a file counts, too, but not `self.method(`, since `self` has a type of the file's crate. Comments do not
+count.
 """
 
 from __future__ import annotations
@@ -51,7 +52,7 @@ class Function:
     def is_called(self, text: str) -> bool:
         if self.owner is None:
             return re.search(rf"(?<![\w.:])(?<!fn ){self.name}\(", text) is not None
-        return re.search(rf"\.{self.name}\(|\b{self.owner}::{self.name}\(", text) is not None
+        return re.search(rf"(?<!\bself)\.{self.name}\(|\b{self.owner}::{self.name}\(", text) is not None
 
 
 def sources() -> dict[str, dict[str, str]]:

@@ -84,6 +84,8 @@ class PublicFunctions(unittest.TestCase):
         self.assert_called("use low::House;\nhouse.open()\n", opens)
         self.assert_called("use middle::House;\nhouse.open()\n", opens)
         self.assert_called("use low::House;\nHouse::open(&mut house)\n", opens)
+        self.assert_called("use low::House;\nself.house.open()\n", opens)
+        self.assert_called("use low::House;\nself.open()\n", opens, False)
         self.assert_called("use low::House;\nhouse.opened()\n", opens, False)
         self.assert_called("use low::visit;\ndoor.open()\n", opens, False)
 

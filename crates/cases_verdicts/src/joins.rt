@@ -17,7 +17,7 @@ fn range_of(text: &str) -> Result<Range, CaseError> {
     if lo > hi {
         return Err(CaseError::OutOfRange);
     }
-    Ok(Range::new(lo, hi))
+    Ok(Range { lo, hi })
 }
 
 /// A pointer into a value: `FD LO HI`.
@@ -61,13 +61,13 @@ fn facts_of(text: &str) -> Result<Facts, CaseError> {
     let mut facts = Facts::at_entry();
     let (word, rest) = first_word(text);
     if word == "bytes" {
-        facts.set_slot(SLOT, Slot::Bytes(rest.parse()?));
+        facts.slots[SLOT] = Slot::Bytes(rest.parse()?);
         return Ok(facts);
     }
     let kind = kind_of(text)?;
-    facts.set_kind(REGISTER, kind);
+    facts.registers[REGISTER] = kind;
     if kind.is_pointer() {
-        facts.set_slot(SLOT, Slot::Spill(kind));
+        facts.slots[SLOT] = Slot::Spill(kind);
     }
     Ok(facts)
 }
@@ -81,6 +81,6 @@ pub fn joined(alloc: Global, text: &str) -> Result<String, CaseError> {
     if both != join(&one, &other) {
         return Ok("join and join_into differ".to_string(alloc)?);
     }
-    let (kind, slot) = (both.kind(REGISTER), both.slot(SLOT));
+    let (kind, slot) = (both.registers[REGISTER], both.slots[SLOT]);
     Ok(format!(in alloc; "{kind:?} {slot:?}")?)
 }

@@ -125,11 +125,10 @@ pub(crate) fn look_up_among(
     if array.count == 0 {
         return look_up(map, key, caller, arena, maps, trace);
     }
-    let Some(at) = traced_place(arena, caller.tenant, INDEX_SIZE, key, trace) else {
+    let size = INDEX_SIZE;
+    let Some(at) = traced_place(arena, caller.tenant, size, key, trace) else {
         return 0;
     };
     let part = arena.part(caller.tenant);
-    let mut spelled = [0; INDEX_SIZE];
-    spelled.copy_from_slice(&part[at..at + INDEX_SIZE]);
-    array.address_of(maps, handle, &spelled, arrays.values[index])
+    array.address_of(maps, handle, &part[at..at + size], arrays.values[index])
 }

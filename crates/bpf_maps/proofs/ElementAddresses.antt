@@ -1,5 +1,5 @@
 -- The addresses of the elements of an array.
-use Rattle.std.proofs.Common.{◌≡◌, ◌≢◌, ℕ, ◌+◌, ◌*◌, ◌/◌, ◌%◌, ◌^◌, ◌<◌, ◌≤◌, Bool, true, false, List, Option, Some, None, nat_lt, if◌then◌else◌, refl, sym, ap, ◌∙◌, arith}
+use Rattle.std.proofs.Common.{◌≡◌, ◌≢◌, ℕ, ◌+◌, ◌*◌, ◌/◌, ◌%◌, ◌^◌, ◌<◌, ◌≤◌, Bool, true, false, List, length, Option, Some, None, nat_lt, if◌then◌else◌, refl, sym, ap, ◌∙◌, arith}
 use Rattle.std.specs.Option.{IsSome}
 use Rattle.std.proofs.lemmas.Bool.{false≢true, lt-ltb, le-ltb}
 use Rattle.tagged_model.specs.declared.shape.MapKind.{MapKind}
@@ -14,6 +14,7 @@ use Rattle.bpf_maps.specs.LiveLaws.{laid_inside}
 use Rattle.bpf_maps.specs.Elements.{element_count, elements_of, elements_at, word_of}
 use Rattle.bpf_maps.proofs.Shapes.{array_key, few_entries}
 use Rattle.bpf_maps.proofs.Arrays.{found_array}
+use Rattle.bpf_maps.proofs.Following.{absent_by_size}
 
 -- a map with elements is an array, and has as many as entries
 array_only : (d : MapKind) (n : ℕ) → element_count d n ≢ 0 → (d ≡ Array) × (element_count d n ≡ n)
@@ -49,6 +50,11 @@ module _ (t : LiveMaps) (k : ℕ) (e : Elements) (is : e ≡ elements_at t k) (s
   is_array =
       let only = array_only (shape_at t k).kind (shape_at t k).max_entries (λ none. some (count_is ∙ none)) in
       (only.0, count_is ∙ only.1)
+
+  -- a key of another size
+  pub no_key : IsSome (live_at t k) → AreSound t → (key : List ℕ) → (length key ≡ 4 → ⊥) → None ≡ look_up (table_of (places_at t k)) key
+  no_key live sound key differ =
+      sym (absent_by_size (shape_at t k).key_size key (λ same. differ (same ∙ array_key (shape_at t k) is_array.0)) (places_at t k).entries (sound k live).sized)
 
   module _ (live : IsSome (live_at t k)) (laid : IsLaid t) (packed : IsPacked t) (sound : AreSound t) (key : List ℕ) (i : ℕ) (spells : index_key i ≡ key) (small : i < 2 ^ 32) where
     stride_of : (o : Option LiveMap) → live_at t k ≡ o → IsSome o → (live_or o).stride ≡ ((live_or o).places.shape.value_size + 7) / 8 * 8

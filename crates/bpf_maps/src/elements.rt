@@ -61,7 +61,7 @@ impl Elements {
     /// The address of the value of a key, modulo 2^64, like `Maps::address_of`, if these are the elements of a live array whose first
     /// value has address `first`. It doesn't read the map.
     #[inline(always)]
-    pub fn address_of(self, maps: &Maps, map: MapKey, key: &[u8; INDEX_SIZE], first: u64) -> u64
+    pub fn address_of(self, maps: &Maps, map: MapKey, key: &[u8], first: u64) -> u64
         ensures address { AreOfArray self maps.now map → (part : ℕ)
             → first ≡ part + offset_at maps.now map 0 → result ≡ value_address part maps.now map
             (look_up (table_of (places_at maps.now map)) key.now) }
@@ -71,6 +71,9 @@ impl Elements {
     {
         let _ = map;
         maps.maps_are_laid();
+        if key.len() != INDEX_SIZE {
+            return 0;
+        }
         let index = index_of(key);
         if index >= self.count {
             return 0;

@@ -1,11 +1,11 @@
-use Rattle.std.proofs.Common.{◌≡◌, ℕ, zero, suc, ◌+◌, ◌-◌, ◌%◌, ◌^◌, ◌<◌, ◌≤◌, List, Some, IfSome, IsSome, option_map, slice_range, get_or, refl, sym, ap, subst, ◌∙◌, arith}
+use Rattle.std.proofs.Common.{◌≡◌, ℕ, zero, suc, ◌+◌, ◌-◌, ◌%◌, ◌^◌, ◌<◌, ◌≤◌, List, Some, IsSome, option_map, slice_range, get_or, refl, sym, ap, subst, ◌∙◌, arith}
 use Rattle.std.specs.Prelude.{slice_index, unwrap_or}
 use Rattle.std.proofs.lemmas.Option.{none-some}
 use Rattle.tagged_model.specs.Table.{look_up}
 use Rattle.arena.specs.Memory.{base, part_start}
 use Rattle.arena.specs.PartLaws.{part_within}
 use Rattle.bpf_maps.specs.Places.{table_of}
-use Rattle.bpf_maps.specs.Live.{live_at, places_at, shape_at, offset_at, value_address, LiesInPart}
+use Rattle.bpf_maps.specs.Live.{live_at, places_at, shape_at, offset_at}
 use Rattle.bpf_maps.specs.Elements.{elements_at, AreOfArray, word_of}
 use Rattle.bpf_helpers.specs.Named.{bound_map}
 use Rattle.bpf_helpers.specs.inside.Flat.{site_of, key_word}
@@ -45,9 +45,6 @@ returns-clause-value c =
     let size = sym (c.of_word-array.ensures.size (shape_at site.maps k) word any) in
     let o = look_up (table_of (places_at site.maps k)) (slice_range part at (at + 4)) in
     let there = key_there site c.args.map c.args.key (sym c.in-Some.ensures.value) size at c.in-Some-traced_place.ensures.value c.part-part.ensures.bytes c.in-Some-traced_place.ensures.within in
-    let same = c.copy_from_slice.ensures.after in
-    let inside = subst (λ (key : List ℕ). IfSome (look_up (table_of (places_at site.maps k)) key) (λ place. LiesInPart (offset_at site.maps k place) (shape_at site.maps k).value_size)) same (c.address_of.ensures.inside array) in
     c.address_of.ensures.address array start first
-    ∙ ap (λ (key : List ℕ). value_address start site.maps k (look_up (table_of (places_at site.maps k)) key)) same
-    ∙ address_word site k start o refl (omega arith) inside
+    ∙ address_word site k start o refl (omega arith) (c.address_of.ensures.inside array)
     ∙ sym (ap (λ o. unwrap_or (option_map (key_word site) o) 0) there)

@@ -1,7 +1,19 @@
 use Rattle.std.proofs.Common.{ℕ, ap₂, ◌+◌, ◌*◌, ◌%◌, ◌^◌, ◌<◌, ◌∙◌, IfSome, ap, subst, arith}
 use Rattle.bpf_maps.specs.Live.{offset_at, shape_at, value_address, LiesInPart}
-use Rattle.bpf_maps.proofs.ElementAddresses.{no_element, element, element_lies, element_address}
+use Rattle.bpf_maps.proofs.ElementAddresses.{no_key, no_element, element, element_lies, element_address}
 use Rattle.bpf_maps.proofs.elements.Elements.address_of.Goals as goal
+
+pub returns-then-key-ne-INDEX_SIZE-clause-address : goal.returns-then-key-ne-INDEX_SIZE-clause-address
+returns-then-key-ne-INDEX_SIZE-clause-address c array part first =
+    let t = c.args.maps.now in
+    let k = c.args.map in
+    ap (value_address part t k) (no_key t k c.args.self array.1 array.2 array.0 c.maps_are_laid.ensures.sound c.args.key.now c.if-key-ne-INDEX_SIZE.true)
+
+pub returns-then-key-ne-INDEX_SIZE-clause-inside : goal.returns-then-key-ne-INDEX_SIZE-clause-inside
+returns-then-key-ne-INDEX_SIZE-clause-inside c array =
+    let t = c.args.maps.now in
+    let k = c.args.map in
+    subst (λ o. IfSome o (λ place. LiesInPart (offset_at t k place) (shape_at t k).value_size)) (no_key t k c.args.self array.1 array.2 array.0 c.maps_are_laid.ensures.sound c.args.key.now c.if-key-ne-INDEX_SIZE.true) tt
 
 pub returns-then-index-self-clause-address : goal.returns-then-index-self-clause-address
 returns-then-index-self-clause-address c array part first =

@@ -118,7 +118,9 @@ class Asked:
 
 
 def streams(bpfhost: str, tenants: int) -> Iterator[Asked]:
-    """For each size of keys, on each tenant in turn; the tenants have an array of one element all the time."""
+    """For each size of keys, on each tenant in turn, and once more when these maps are closed; the tenants have an array of one element all
+    the time.
+    """
     models = [Tenant() for _ in range(tenants)]
 
     def asked(frame: bytes) -> Asked:
@@ -126,7 +128,7 @@ def streams(bpfhost: str, tenants: int) -> Iterator[Asked]:
 
     for tenant in range(tenants):
         yield asked(frames.map_create(tenant, MapType.ARRAY, 4, VALUE_SIZE, 1))
-    for at, size in enumerate(KEY_SIZES):
+    for at, size in enumerate(KEY_SIZES * 2):
         tenant = at % tenants
         for frame in Drawn(bpfhost, tenant, models[tenant], size).run():
             yield asked(frame)

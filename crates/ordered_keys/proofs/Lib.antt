@@ -4,3 +4,4 @@ pub mod Links
 pub mod Ordered
 pub mod Tables
 pub mod Behind
+pub mod Halves

@@ -310,3 +310,19 @@ module _ (o : Inside) (h : IsRing o) (t : Order) (view : order_of o ≡ t) (p : 
 
       pub remove_places : places_in after_remove ≡ taken_out p t.places
       remove_places = places_left h after_remove p refl refl less member_here known_out ∙ ap (λ (t : Order). taken_out p t.places) view
+
+-- all places are taken out: the bound is linked to itself
+module _ (o : Inside) (h : IsRing o) where
+  abbrev pub after_clear : Inside
+  after_clear = record { links = with_item o.links o.bound (lone_link o.bound); bound = o.bound; count = 0 }
+
+  alone : link_at after_clear.links.items o.bound ≡ lone_link o.bound
+  alone = written o.links.items o.bound (lone_link o.bound) (let long = h.long in let ok = o.links.ok.0 in omega arith)
+
+  pub clear_ring : IsRing after_clear
+  clear_ring = record {
+    long = h.long;
+    linked = (ap (λ (l : Link). l.after) alone, ap (λ (l : Link). l.before) alone);
+    within = tt;
+    once = λ p. omega arith;
+  }

@@ -308,3 +308,20 @@ has_entry (x ∷ xs) (suc i) l h = has_entry xs i (omega arith) h
 
 pub below_length : (q m l n : ℕ) → q ≡ m → m < l → n ≡ l → q < n
 below_length q m l n e b s = omega arith
+
+-- ---- all entries are taken out
+
+nothing : {X : Type 0} (i : ℕ) → slice_get (let none : List X = [] in none) i ≡ None
+nothing zero = refl
+nothing (suc i) = refl
+
+pub indexed_cleared : {K : Type 0} (es : List (K × ℕ)) (is : List ℕ) (order : Order) → es ≡ [] → order.places ≡ [] → length is ≡ order.bound → order.bound < 2 ^ 32 → IsIndexed es is order
+indexed_cleared es is order cleared none long small = record {
+  long = long;
+  small = small;
+  many = ap length cleared ∙ sym (ap length none);
+  few = let n = ap length none in omega arith;
+  within = subst (AreWithin order.bound) (sym none) tt;
+  placed = subst (HaveEntries es is) (sym none) tt;
+  listed = λ i e at. absurd (none-some e (sym (nothing i) ∙ ap (λ xs. slice_get xs i) (sym cleared) ∙ at));
+}

@@ -33,13 +33,13 @@
 //! - The table is made with room for four times the bound, and keeps room for the bound from then on, so a new key is never refused memory
 //!   and the table never grows. The index map promises room for the next key while it has a slot to spare; but a removal from a group
 //!   of slots that was once full gives up a slot. So a removal first looks at the table's capacity. While that is more than the bound,
-//!   one slot can be given up. Else all other entries are copied out and put into the empty table again, which then has at least the
-//!   capacity of before by the contract of `clear`, and in fact all of it. The rows for that copy are allocated and not written until
-//!   then. With random keys in a full map of 4,096 this came once in some 150,000 deletes with inserts, and took 1.95 million machine
-//!   instructions; a table of four times the bound had none in 400,000, and takes 64 KiB more.
+//!   one slot can be given up. Else the second half of the entries is copied out, taken out and put back: if at least half of the entries
+//!   go, the index map keeps its capacity by contract, and in fact has its full room again. The rows for that copy are allocated and not
+//!   written until then. With random keys in a full map of 4,096, a table of twice the bound was filled anew once in some 150,000 deletes
+//!   with inserts, one of four times the bound not once in 300,000; it takes 64 KiB more (bench/FIGURES.md).
 //! - A table that grows was used before. The longest step in a fill with 4,096 keys took 353,239 machine instructions, and the longest
 //!   of 24,000 deletes and updates after it 622,103; they now take some 2,000 and 1,700.
-//! - A map of 4,096 places without a key has 64 KiB of slots. Keys and rows are written only as keys come.
+//! - A map of 4,096 places without a key has 128 KiB of slots. Keys and rows are written only as keys come.
 #![tactic(auto)]
 
 mod ordered_map;

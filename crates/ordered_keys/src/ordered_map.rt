@@ -1,6 +1,6 @@
 //! A map from keys to places that keeps its keys in the order in which they were added. A removal costs as much as an insertion.
 
-ghost use Rattle.std.specs.Prelude.{◌≡◌, ℕ, ◌+◌, ◌<◌, ◌≤◌, true, [], ◌∷◌, ◌++◌, length, option_map, slice_get, None, Some, IfSome, IfOk, vec_len, vec_capacity, swap_remove};
+ghost use Rattle.std.specs.Prelude.{◌≡◌, ℕ, ◌+◌, ◌*◌, ◌<◌, ◌≤◌, true, [], ◌∷◌, ◌++◌, length, drop, option_map, slice_get, None, Some, IfSome, IfOk, vec_len, vec_capacity, swap_remove};
 ghost use Rattle.std.specs.Option.{option_map_or};
 ghost use Rattle.std.specs.Map.{lookup, remove_entry, values_of};
 ghost use Rattle.ordered_keys.specs.Orders.{occurrences, first_key_of, key_following, lent_entry, next_entry};
@@ -23,7 +23,7 @@ pub struct OrderedMap<K: Eq + Hash + Copy, S: BuildHasher> {
     // The index in the table of the key of each place.
     indices: Vec<u32>,
     order: PlaceOrder,
-    // Empty; room for all entries, which `rebuild_without` moves through it.
+    // Empty; room for half of the entries, which `rebuild_without` moves through it.
     rows: Vec<(K, u32)>,
 }
 
@@ -54,7 +54,7 @@ impl<K: Eq + Hash + Copy, S: BuildHasher> OrderedMap<K, S> {
     {
         let indices = vec![in alloc; 0; bound as usize]?;
         let order = PlaceOrder::new(alloc, bound)?;
-        let rows = Vec::with_capacity(alloc, bound as usize)?;
+        let rows = Vec::with_capacity(alloc, bound as usize / 2 + 1)?;
         let room = 4 * bound as usize;
         let table = IndexMap::with_capacity_and_hasher(alloc, room, hash_builder)?;
         Ok(OrderedMap {
@@ -122,6 +122,15 @@ impl<K: Eq + Hash + Copy, S: BuildHasher> OrderedMap<K, S> {
         put_last(&mut self.table, key, place);
         self.indices[place as usize] = index;
         self.order.push(place);
+    }
+
+    /// Removes all keys, and keeps the memory.
+    pub fn clear(&mut self)
+        ensures entries { self.new.entries ≡ [] }
+        ensures bound { self.new.bound ≡ self.old.bound }
+    {
+        self.table.clear();
+        self.order.clear();
     }
 
     /// Removes a key and returns its place; `None` if the key is absent. The others keep their order.
@@ -205,6 +214,7 @@ fn place_at<K: Eq + Hash, S: BuildHasher>(
 }
 
 /// Adds a new entry at the end, for which there is room.
+#[inline(always)]
 fn put_last<K: Eq + Hash + Copy, S: BuildHasher>(
     table: &mut IndexMap<K, u32, S>,
     key: K,
@@ -231,12 +241,12 @@ fn take_out<K: Eq + Hash + Copy, S: BuildHasher>(
     requires few { index_map_len table.old ≤ bound }
     requires room { HasRoom bound table.old }
     requires empty { vec_len rows.old ≡ 0 }
-    requires buffer { bound ≤ vec_capacity rows.old }
+    requires buffer { bound ≤ 2 * vec_capacity rows.old }
     ensures entry { slice_get table.old.entries index ≡ Some result }
     ensures entries { table.new.entries ≡ swap_remove table.old.entries index result }
     ensures room { HasRoom bound table.new }
     ensures empty { vec_len rows.new ≡ 0 }
-    ensures buffer { bound ≤ vec_capacity rows.new }
+    ensures buffer { bound ≤ 2 * vec_capacity rows.new }
 {
     if table.capacity() > bound {
         take_at(table, index)
@@ -262,7 +272,8 @@ fn take_at<K: Eq + Hash + Copy, S: BuildHasher>(
     entry
 }
 
-/// The same, in as many steps as there are entries: all others are put into the empty table, which has its full room.
+/// The same, in as many steps as there are entries: of these, the second half is taken out, which gives the table its full room again, and
+/// put back without the entry.
 #[cold]
 #[inline(never)]
 fn rebuild_without<K: Eq + Hash + Copy, S: BuildHasher>(
@@ -272,7 +283,7 @@ fn rebuild_without<K: Eq + Hash + Copy, S: BuildHasher>(
 ) -> (K, u32)
     requires within { index < index_map_len table.old }
     requires empty { vec_len rows.old ≡ 0 }
-    requires buffer { index_map_len table.old ≤ vec_capacity rows.old }
+    requires buffer { index_map_len table.old ≤ 2 * vec_capacity rows.old }
     ensures entry { slice_get table.old.entries index ≡ Some result }
     ensures entries { table.new.entries ≡ swap_remove table.old.entries index result }
     ensures room { index_map_len table.old + spare table.old
@@ -281,37 +292,43 @@ fn rebuild_without<K: Eq + Hash + Copy, S: BuildHasher>(
     ensures buffer { vec_capacity rows.new ≡ vec_capacity rows.old }
 {
     // The keys of the table are distinct: this is in the contract of `len`.
-    let _len = table.len();
-    copy_entries(table, rows);
-    let taken = rows.swap_remove(index);
-    table.clear();
+    let len = table.len();
+    table.swap_indices(index, len - 1);
+    copy_entries(table, len / 2, rows);
+    table.truncate(len / 2);
+    let Some(taken) = rows.pop() else {
+        unreachable!()
+    };
     put_all(table, rows.as_slice());
     rows.clear();
     taken
 }
 
+/// Copies the entries from an index on.
 fn copy_entries<K: Eq + Hash + Copy, S: BuildHasher>(
     table: &IndexMap<K, u32, S>,
+    start: usize,
     rows: &mut Vec<(K, u32)>,
 )
     requires empty { vec_len rows.old ≡ 0 }
-    requires buffer { index_map_len table.now ≤ vec_capacity rows.old }
-    ensures items { rows.new.items ≡ table.now.entries }
+    requires within { start ≤ index_map_len table.now }
+    requires buffer { index_map_len table.now ≤ start + vec_capacity rows.old }
+    ensures items { rows.new.items ≡ drop start table.now.entries }
     ensures buffer { vec_capacity rows.new ≡ vec_capacity rows.old }
 {
-    for index in 0..table.len() {
-        let Some((key, place)) = table.get_index(index) else {
+    for at in 0..table.len() - start {
+        let Some((key, place)) = table.get_index(start + at) else {
             unreachable!()
         };
         rows.push_reserved((*key, *place));
     }
 }
 
+/// Adds these entries at the end, for which there is room.
 fn put_all<K: Eq + Hash + Copy, S: BuildHasher>(table: &mut IndexMap<K, u32, S>, rows: &[(K, u32)])
-    requires empty { table.old.entries ≡ [] }
     requires room { length rows.now ≤ spare table.old }
-    requires apart { AreApart K.eq rows.now }
-    ensures entries { table.new.entries ≡ rows.now }
+    requires apart { AreApart K.eq (table.old.entries ++ rows.now) }
+    ensures entries { table.new.entries ≡ table.old.entries ++ rows.now }
     ensures room { spare table.old ≤ length rows.now + spare table.new }
 {
     for index in 0..rows.len() {

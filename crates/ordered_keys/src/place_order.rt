@@ -99,6 +99,19 @@ impl PlaceOrder {
         self.count += 1;
     }
 
+    /// Takes all places out.
+    pub fn clear(&mut self)
+        ensures bound { self.new.bound ≡ self.old.bound }
+        ensures places { self.new.places ≡ [] }
+    {
+        let end = self.bound;
+        self.links[end as usize] = Link {
+            before: end,
+            after: end,
+        };
+        self.count = 0;
+    }
+
     /// Takes a place out. The others keep their order.
     pub(crate) fn remove(&mut self, place: u32)
         requires { 0 < occurrences place self.old.places }

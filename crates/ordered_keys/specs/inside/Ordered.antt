@@ -1,5 +1,5 @@
 -- A table of keys in any order, and the order of their places. This project's own.
-use Rattle.std.specs.Prelude.{◌≡◌, ℕ, ◌+◌, ◌<◌, ◌≤◌, ◌^◌, Bool, true, false, nat_eq, List, [], ◌∷◌, ◌++◌, length, Option, Some, None, option_map, slice_get, slice_index_or, option_to_list}
+use Rattle.std.specs.Prelude.{◌≡◌, ℕ, ◌+◌, ◌*◌, ◌<◌, ◌≤◌, ◌^◌, Bool, true, false, nat_eq, List, [], ◌∷◌, ◌++◌, length, Option, Some, None, option_map, slice_get, slice_index_or, option_to_list}
 use Rattle.indexmap.specs.IndexMap.{IndexMap, index_map_len, spare}
 use Rattle.ordered_keys.specs.Orders.{Order, occurrences, first_place, following}
 use Rattle.ordered_keys.specs.inside.Links.{AreWithin}
@@ -52,9 +52,9 @@ AreApart {K} eq es = (i j : ℕ) (a b : K × ℕ) → slice_get es i ≡ Some a 
 abbrev pub HasRoom : {K S : Type 0} → ℕ → IndexMap K ℕ S → Type 0
 HasRoom bound table = bound ≤ index_map_len table + spare table
 
--- the table has room for the entries of all places, and so have the rows, of which there are none
+-- the table has room for the entries of all places, and the rows, of which there are none, for half of them
 pub record IsWhole {K S : Type 0} (table : IndexMap K ℕ S) (indices : List ℕ) (order : Order) (rows capacity : ℕ) : Type 0 where
   pub indexed : IsIndexed table.entries indices order
   pub room : HasRoom order.bound table
   pub empty : rows ≡ 0
-  pub buffer : order.bound ≤ capacity
+  pub buffer : order.bound ≤ 2 * capacity

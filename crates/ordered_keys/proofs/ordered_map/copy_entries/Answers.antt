@@ -1,16 +1,24 @@
-use Rattle.std.proofs.Common.{◌∙◌, ℕ, List, [], ◌∷◌, ◌++◌, sym, ap, arith}
+use Rattle.std.proofs.Common.{◌∙◌, ◌+◌, ℕ, List, [], ◌∷◌, ◌++◌, drop, sym, ap, arith}
+use Rattle.std.proofs.lemmas.List.{take_all, length-drop}
 use Rattle.ordered_keys.proofs.Apart.{take_next}
+use Rattle.ordered_keys.proofs.Halves.{dropped}
 use Rattle.ordered_keys.proofs.ordered_map.copy_entries.Goals as goal
 
-pub loop-index-preserved : goal.loop-index-preserved
-loop-index-preserved g c =
-    let h = c.loop-index.invariant in
+pub loop-at-preserved : goal.loop-at-preserved
+loop-at-preserved g c =
+    let h = c.loop-at.invariant in
+    let es = c.args.table.now.entries in
     record {
       items =
           c.push_reserved.ensures.items
-          ∙ ap (λ (es : List (g.row.K.Denot × ℕ)). es ++ (c.in-Some.key.now, c.in-Some.place.now) ∷ []) h.items
-          ∙ take_next c.args.table.now.entries c.loop-index.index (c.in-Some.key.now, c.in-Some.place.now) (sym c.in-Some.ensures.entry);
+          ∙ ap (λ (xs : List (g.row.K.Denot × ℕ)). xs ++ (c.in-Some.key.now, c.in-Some.place.now) ∷ []) h.items
+          ∙ take_next (drop c.args.start es) c.loop-at.at (c.in-Some.key.now, c.in-Some.place.now) (dropped c.args.start es c.loop-at.at ∙ sym c.in-Some.ensures.entry);
       length = let a = h.length in let b = c.push_reserved.ensures.len in omega arith;
       capacity = c.push_reserved.ensures.capacity ∙ h.capacity;
       buffer = let a = h.buffer in let b = c.push_reserved.ensures.capacity in omega arith;
     }
+
+pub returns-clause-items : goal.returns-clause-items
+returns-clause-items g c =
+    c.loop-at.invariant.items
+    ∙ take_all c.loop-at.at (drop c.args.start c.args.table.now.entries) (let d = length-drop c.args.start c.args.table.now.entries in omega arith)

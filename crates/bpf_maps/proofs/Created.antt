@@ -11,6 +11,7 @@ use Rattle.tagged_model.specs.declared.fault.MapFault.TheVariants.{NoEntry, TooB
 use Rattle.slab.specs.Slab.{Slab, get, slab_len}
 use Rattle.bpf_maps.specs.declared.part.TheConstants.{STACK_AND_CONTEXT, LARGEST_SUM, MAPS, PART}
 use Rattle.bpf_maps.specs.declared.stored_map.StoredMap.{StoredMap}
+use Rattle.bpf_maps.specs.declared.spare_maps.SpareMaps.{SpareMaps}
 use Rattle.bpf_maps.specs.declared.maps.Maps.TheInside.{Inside}
 use Rattle.bpf_maps.specs.Places.{PlaceTable, IsSound, new_places}
 use Rattle.bpf_maps.specs.BpfMap.{places_of}
@@ -66,7 +67,7 @@ pub record IsRoom (a : Inside) (t : LiveMaps) (shape : MapShape) (size handle : 
   pub room : a.bytes + size ≤ LARGEST_SUM
 
 -- the map is in the slab, and its key is that of the handle
-pub record IsAdded (a : Inside) (shape : MapShape) (keys : List (Option ℕ)) (maps : Slab StoredMap) (handle key : ℕ) (e : StoredMap) : Type 0 where
+pub record IsAdded (a : Inside) (shape : MapShape) (spares : SpareMaps) (keys : List (Option ℕ)) (maps : Slab StoredMap) (handle key : ℕ) (e : StoredMap) : Type 0 where
   pub keys_are : keys ≡ set a.keys handle (Some key)
   pub was : get a.maps key ≡ None
   pub there : get maps key ≡ Some e
@@ -79,8 +80,8 @@ pub record IsAdded (a : Inside) (shape : MapShape) (keys : List (Option ℕ)) (m
   pub holds : e.holds ≡ 1
 
 -- the fields with it
-abbrev pub with_new : Inside → ℕ → List (Option ℕ) → Slab StoredMap → Inside
-with_new a size keys maps = record a { keys = keys; maps = maps; bytes = a.bytes + size }
+abbrev pub with_new : Inside → SpareMaps → ℕ → List (Option ℕ) → Slab StoredMap → Inside
+with_new a spares size keys maps = record a { keys = keys; maps = maps; bytes = a.bytes + size; spares = spares }
 
 module _ {a : Inside} {t : LiveMaps} {shape : MapShape} {size handle : ℕ} (r : IsRoom a t shape size handle) where
   view : as_live_maps a ≡ t
@@ -125,9 +126,9 @@ module _ {a : Inside} {t : LiveMaps} {shape : MapShape} {size handle : ℕ} (r :
   pub has_room : slab_len a.maps + 1 ≤ a.maps.capacity
   has_room = let few = fewer_keys a.keys handle front.0 free in let all = h.keys.all in let long = h.keys.long in let room = h.room in omega arith
 
-  module _ {keys : List (Option ℕ)} {maps : Slab StoredMap} {key : ℕ} {e : StoredMap} (d : IsAdded a shape keys maps handle key e) where
+  module _ {spares : SpareMaps} {keys : List (Option ℕ)} {maps : Slab StoredMap} {key : ℕ} {e : StoredMap} (d : IsAdded a shape spares keys maps handle key e) where
     abbrev after : Inside
-    after = with_new a size keys maps
+    after = with_new a spares size keys maps
 
     stride : e.stride ≡ (shape.value_size + 7) / 8 * 8
     stride = d.stride

@@ -5,6 +5,7 @@ use Rattle.std.proofs.Math.Seq.{length-take-le, take-take}
 use Rattle.slab.specs.Slab.{Slab, get, slab_len, with_value}
 use Rattle.bpf_maps.specs.declared.part.TheConstants.{STACK_AND_CONTEXT, PART}
 use Rattle.bpf_maps.specs.declared.stored_map.StoredMap.{StoredMap}
+use Rattle.bpf_maps.specs.declared.spare_maps.SpareMaps.{SpareMaps}
 use Rattle.bpf_maps.specs.declared.maps.Maps.TheInside.{Inside}
 use Rattle.bpf_maps.specs.BpfMap.{places_of}
 use Rattle.bpf_maps.specs.Live.{LiveMap, LiveMaps, live_at, live_or, shape_at, offset, area_by, areas, without_area, held_at, one_less, area_of, IsLaid, AreSound, SameValues, KeepsOthers, map_without, ClosesUp}
@@ -39,15 +40,15 @@ pub record IsClosed (keys : List (Option ℕ)) (end size : ℕ) (left maps : Sla
   pub capacity : maps.capacity ≡ left.capacity
 
 -- the map is removed: it is taken out, and the later ones move down by the size of its area
-pub record Goes (a : Inside) (t : LiveMaps) (handle map key size : ℕ) (old gone : StoredMap) (keys : List (Option ℕ)) (left maps : Slab StoredMap) : Type 0 where
+pub record Goes (a : Inside) (t : LiveMaps) (handle map key size : ℕ) (old gone : StoredMap) (keys : List (Option ℕ)) (left maps : Slab StoredMap) (spares : SpareMaps) : Type 0 where
   pub taken : IsTaken a t handle map key old gone
   pub size_is : size ≡ area_of (live_of gone)
   pub rest : IsLeft a handle key old keys left
   pub closed : IsClosed keys (gone.start + size) size left maps
 
 -- the fields without it
-abbrev pub without_stored : Inside → ℕ → List (Option ℕ) → Slab StoredMap → Inside
-without_stored a size keys maps = record a { keys = keys; maps = maps; bytes = a.bytes - size }
+abbrev pub without_stored : Inside → SpareMaps → ℕ → List (Option ℕ) → Slab StoredMap → Inside
+without_stored a spares size keys maps = record a { keys = keys; maps = maps; bytes = a.bytes - size; spares = spares }
 
 -- a map without its area is the same at another address
 held_still : (gone : LiveMap) (o : Option LiveMap) → option_map without_area (option_map (map_without gone) o) ≡ option_map without_area o
@@ -98,9 +99,9 @@ module _ {a : Inside} {t : LiveMaps} {handle map key : ℕ} {old gone : StoredMa
         ∙ removed_others a.keys (with_value a.maps key old) left keys_before handle key c.under.keyed l.gap l.others p ne
         ∙ changed_others a.keys a.maps whole.keys handle key c.under.keyed old old c.under.here p ne
 
-module _ {a : Inside} {t : LiveMaps} {handle map key size : ℕ} {old gone : StoredMap} {keys : List (Option ℕ)} {left maps : Slab StoredMap} (g : Goes a t handle map key size old gone keys left maps) where
+module _ {a : Inside} {t : LiveMaps} {handle map key size : ℕ} {old gone : StoredMap} {keys : List (Option ℕ)} {left maps : Slab StoredMap} {spares : SpareMaps} (g : Goes a t handle map key size old gone keys left maps spares) where
   abbrev new : Inside
-  new = without_stored a size keys maps
+  new = without_stored a spares size keys maps
 
   abbrev was_whole : IsWellFormedMaps a
   was_whole = g.taken.under.whole

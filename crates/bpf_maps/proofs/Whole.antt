@@ -5,6 +5,7 @@ use Rattle.tagged_model.specs.declared.shape.MapShape.{MapShape}
 use Rattle.tagged_model.specs.Shape.{area}
 use Rattle.bpf_maps.specs.declared.part.TheConstants.{STACK_AND_CONTEXT, LARGEST_SUM, MAPS}
 use Rattle.bpf_maps.specs.declared.stored_map.StoredMap.{StoredMap}
+use Rattle.bpf_maps.specs.declared.spare_maps.SpareMaps.{SpareMaps}
 use Rattle.bpf_maps.specs.declared.maps.Maps.TheInside.{Inside}
 use Rattle.bpf_maps.specs.BpfMap.{places_of}
 use Rattle.bpf_maps.specs.Places.{IsSound}
@@ -100,8 +101,8 @@ sound_at {a} h k live =
     let e = some_stored (stored_in a) k live in
     subst (λ (o : Option LiveMap). IsSound (live_or o).places) (sym (live_by (stored_in a) (stored_in a) k e.0 e.1)) (h.placed k e.0 e.1).sound
 
--- no field but `refused` is changed
-pub whole_refused : {a : Inside} {refused : Bool} → IsWellFormedMaps a → IsWellFormedMaps (record a { refused = refused })
+-- no field but `refused` and the spare maps is changed
+pub whole_refused : {a : Inside} {refused : Bool} {spares : SpareMaps} → IsWellFormedMaps a → IsWellFormedMaps (record a { refused = refused; spares = spares })
 whole_refused h = record { keys = h.keys; room = h.room; placed = h.placed; apart = h.apart; sum = h.sum; few = h.few; aligned = h.aligned }
 
 -- ---- the map of one handle is changed

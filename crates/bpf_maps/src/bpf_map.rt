@@ -10,6 +10,7 @@ ghost use Rattle.bpf_maps.specs.BpfMap.{places_of};
 use crate::array_map::ArrayMap;
 use crate::hash_map::HashMap;
 use crate::key_ref::KeyRef;
+use crate::spare_maps::SpareMaps;
 use crate::value_map::ValueMap;
 use seeded_hash::HashSeed;
 use std::alloc::{AllocError, Global};
@@ -23,13 +24,20 @@ pub enum BpfMap {
 }
 
 impl BpfMap {
-    /// Makes a map of this shape. Only a hash map takes memory and the seed. `AllocError`: out of memory.
-    pub fn new(alloc: Global, shape: MapShape, seed: HashSeed) -> Result<BpfMap, AllocError>
+    /// Makes a map of this shape. Only a hash map takes the seed and memory: that of a spare map, if one fits. `AllocError`: out of
+    /// memory.
+    pub fn new(
+        alloc: Global,
+        shape: MapShape,
+        seed: HashSeed,
+        spares: &mut SpareMaps,
+        entries: usize,
+    ) -> Result<BpfMap, AllocError>
         ensures { IfOk result (λ map. places_of map ≡ new_places shape) }
     {
         match shape.kind {
             MapKind::Array => Ok(BpfMap::Array(ArrayMap::new(shape))),
-            MapKind::Hash => Ok(BpfMap::Hash(HashMap::new(alloc, shape, seed)?)),
+            MapKind::Hash => Ok(BpfMap::Hash(spares.hash_map(alloc, shape, seed, entries)?)),
         }
     }
 

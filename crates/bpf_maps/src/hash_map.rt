@@ -1,10 +1,11 @@
 //! A hash map.
 
-ghost use Rattle.std.specs.Prelude.{◌≡◌, ℕ, ◌<◌, ◌≤◌, None, IfOk, IfSome, nat_lt, if◌then◌else◌, vec_len, vec_capacity, length, option_map};
+ghost use Rattle.std.specs.Prelude.{◌≡◌, ℕ, ◌<◌, ◌≤◌, None, Some, IsTrue, IfOk, IfSome, nat_lt, if◌then◌else◌, vec_len, vec_capacity, length, option_map};
 ghost use Rattle.ordered_keys.specs.Orders.{next_entry};
 ghost use Rattle.tagged_model.specs.declared.shape.MapKind.TheVariants.{Hash};
 ghost use Rattle.tagged_model.specs.Table.{look_up, of_absent, is_full, verdict, removal, next_of};
 ghost use Rattle.bpf_maps.specs.KeyRef.{shown_entry};
+ghost use Rattle.bpf_maps.specs.inside.Spares.{IsLike};
 ghost use Rattle.bpf_maps.specs.Places.{PlaceTable, table_of, IsSound, Claims, Removes, new_places, after_run, occurrences};
 
 use crate::key_index::KeyIndex;
@@ -53,6 +54,26 @@ impl HashMap {
             spare,
             kept: 0,
         })
+    }
+
+    /// Whether keys have this shape's size, and the map as many entries.
+    pub(crate) fn is_like(&self, shape: MapShape) -> bool
+        ensures { IsTrue result → IsLike shape (Some self.now) }
+    {
+        self.shape.key_size == shape.key_size && self.shape.max_entries == shape.max_entries
+    }
+
+    /// Makes this a new map of another shape, of the same size of keys and as many entries. It takes no memory.
+    pub(crate) fn renew(&mut self, shape: MapShape)
+        requires kind { shape.kind ≡ Hash }
+        requires key_size { shape.key_size ≡ self.old.shape.key_size }
+        requires max_entries { shape.max_entries ≡ self.old.shape.max_entries }
+        ensures { self.new ≡ new_places shape }
+    {
+        self.index.clear();
+        put_places(&mut self.spare, shape.max_entries);
+        self.kept = 0;
+        self.shape = shape;
     }
 
     /// The map's shape.
@@ -172,8 +193,19 @@ fn all_places(alloc: Global, count: u32) -> Result<Vec<u32>, AllocError>
     ensures room { IfOk result (λ all. count ≤ vec_capacity all) }
 {
     let mut all = Vec::with_capacity(alloc, count as usize)?;
+    put_places(&mut all, count);
+    Ok(all)
+}
+
+/// Puts all places less than `count`, each once, in place of those that are in the list, which has room for them.
+fn put_places(all: &mut Vec<u32>, count: u32)
+    requires { count ≤ vec_capacity all.old }
+    ensures once { (p : ℕ) → occurrences p all.new.items ≡ (if nat_lt p count then 1 else 0) }
+    ensures length { vec_len all.new ≡ count }
+    ensures room { vec_capacity all.new ≡ vec_capacity all.old }
+{
+    all.clear();
     for place in 0..count {
         all.push_reserved(place);
     }
-    Ok(all)
 }

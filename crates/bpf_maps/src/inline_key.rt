@@ -1,6 +1,6 @@
 //! Keys of more than eight bytes, as an index keeps them and as they are looked up.
 
-ghost use Rattle.std.specs.Prelude.{◌≡◌, ◌+◌, ◌<◌, ◌≤◌, ◌^◌, nat_eq, [], ◌∷◌, length};
+ghost use Rattle.std.specs.Prelude.{◌≡◌, ◌+◌, ◌≤◌, nat_eq, [], ◌∷◌, length};
 ghost use Rattle.std.specs.Cmp.{on_equiv, on_per, partial_equiv_from_equiv};
 ghost use Rattle.std.specs.Cmp.Lexicographic.{pointwise, nat_list_eq_equiv, bytes_decides};
 ghost use Rattle.std.proofs.Common.{ap};
@@ -14,7 +14,7 @@ use std::marker::Model;
 pub struct InlineKey<const N: usize> {
     // The first `size` are those of the key, and the others are 0.
     bytes: [u8; N],
-    size: u16,
+    size: usize,
 }
 
 impl<const N: usize> Model for InlineKey<N> {
@@ -37,14 +37,13 @@ impl<const N: usize> InlineKey<N> {
     #[inline(always)]
     pub(crate) fn copy_of(bytes: &[u8]) -> InlineKey<N>
         requires short { length bytes.now ≤ N }
-        requires small { N < 2 ^ 16 }
         ensures { result ≡ bytes.now }
     {
         let mut own = [0; N];
         own[..bytes.len()].copy_from_slice(bytes);
         InlineKey {
             bytes: own,
-            size: bytes.len() as u16,
+            size: bytes.len(),
         }
     }
 
@@ -52,7 +51,7 @@ impl<const N: usize> InlineKey<N> {
     pub(crate) fn bytes(&self) -> &[u8]
         ensures { result.now ≡ self.now }
     {
-        &self.bytes[..self.size as usize]
+        &self.bytes[..self.size]
     }
 }
 

@@ -1,6 +1,6 @@
 //! The index of a hash map: the places of keys of one size.
 
-ghost use Rattle.std.specs.Prelude.{◌≡◌, ◌<◌, ◌≤◌, None, IfOk, [], length, option_map};
+ghost use Rattle.std.specs.Prelude.{◌≡◌, ℕ, ◌<◌, ◌≤◌, None, IfOk, [], length, option_map};
 ghost use Rattle.std.specs.Map.{values_of};
 ghost use Rattle.ordered_keys.specs.Orders.{next_entry};
 ghost use Rattle.tagged_model.specs.Table.{found, with_key, without, key_after};
@@ -107,6 +107,19 @@ impl KeyIndex {
             KeyIndex::Words(words) => words.insert(key, place),
             KeyIndex::Middle(bytes) => bytes.insert(key, place),
             KeyIndex::Long(bytes) => bytes.insert(key, place),
+        }
+    }
+
+    /// Removes all keys, and keeps the memory.
+    pub(crate) fn clear(&mut self)
+        ensures entries { entries_of self.new ≡ [] }
+        ensures takes { (size : ℕ) → TakesKeys self.old size → TakesKeys self.new size }
+        ensures bound { bound_of self.new ≡ bound_of self.old }
+    {
+        match self {
+            KeyIndex::Words(words) => words.clear(),
+            KeyIndex::Middle(bytes) => bytes.clear(),
+            KeyIndex::Long(bytes) => bytes.clear(),
         }
     }
 

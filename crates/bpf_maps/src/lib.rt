@@ -87,6 +87,10 @@
 //!   longer one is borrowed from the map. So no request clears and fills room for the longest key, 512 bytes.
 //! - Memory is allocated in advance: a hash map allocates its list of places, their order and its table of keys when it is created, and
 //!   `Maps` room for sixteen maps, so an update, a delete and the end of a run allocate nothing.
+//! - A hash map that is freed keeps its memory for a later one of this tenant, of the same size of keys and as many entries
+//!   (`SpareMaps`): so the last release gives no memory back, and such a new map takes none. Whenever a map takes memory, the spare maps
+//!   and the live ones have at most 32,768 entries, as many as only live ones can have. If there would be more, spare ones are freed,
+//!   those that were kept first before the others. No contract mentions the spare maps.
 //! - The places that no key has are one list: first those of keys that were deleted in this run, then the free ones. A place of
 //!   the first part counts as an entry until the run ends. The end of a run only sets the length of that part to 0, so it takes
 //!   the same time however many keys were deleted.
@@ -123,6 +127,7 @@ mod maps;
 mod middle_index;
 mod part;
 mod slab_keys;
+mod spare_maps;
 mod stored_map;
 mod value_map;
 mod word_index;

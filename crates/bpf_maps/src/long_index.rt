@@ -83,6 +83,14 @@ impl LongIndex {
         self.map.insert(InlineKey::copy_of(key), place);
     }
 
+    /// Removes all keys, and keeps the memory.
+    pub(crate) fn clear(&mut self)
+        ensures entries { self.new.entries ≡ [] }
+        ensures bound { self.new.bound ≡ self.old.bound }
+    {
+        self.map.clear();
+    }
+
     /// Removes a key and returns its place; `None` if the key is absent. The others keep their order.
     pub(crate) fn remove(&mut self, key: &[u8]) -> Option<u32>
         ensures place { result ≡ found key.now self.old.entries }

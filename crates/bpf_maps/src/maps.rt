@@ -15,6 +15,7 @@ use crate::bpf_map::BpfMap;
 use crate::key_ref::KeyRef;
 use crate::part::{KEY_ROOM, LARGEST_SUM, MAPS, PART, STACK_AND_CONTEXT, clear};
 use crate::slab_keys::SlabKeys;
+use crate::spare_maps::SpareMaps;
 use crate::stored_map::{StoredMap, close_gap};
 use crate::value_map::ValueMap;
 use seeded_hash::HashSeed;
@@ -48,6 +49,8 @@ pub struct Maps {
     maps: Slab<StoredMap>,
     // The slab's key of the map of each handle.
     keys: SlabKeys,
+    // Hash maps that are no longer live: their memory is for new ones.
+    spares: SpareMaps,
     // The number of bytes that the areas of all maps take. The areas lie one after another, in order of creation, after the stack
     // and the context.
     bytes: usize,
@@ -76,11 +79,13 @@ impl Maps {
         ensures refused { IfOk result (λ maps. maps.refused ≡ false) }
     {
         let maps = Slab::with_capacity(alloc, MAPS)?;
+        let spares = SpareMaps::with_room(alloc)?;
         Ok(Maps {
             alloc,
             seed,
             maps,
             keys: SlabKeys::new(),
+            spares,
             bytes: 0,
             refused: false,
         })
@@ -156,7 +161,13 @@ impl Maps {
         if self.bytes + size > LARGEST_SUM {
             return Err(MapFault::NoSpace);
         }
-        let Ok(map) = BpfMap::new(self.alloc, shape, self.seed) else {
+        let Ok(map) = BpfMap::new(
+            self.alloc,
+            shape,
+            self.seed,
+            &mut self.spares,
+            self.bytes / 8,
+        ) else {
             self.refused = true;
             return Err(MapFault::Memory);
         };
@@ -235,6 +246,7 @@ impl Maps {
         part.copy_within(end..STACK_AND_CONTEXT + self.bytes, gone.start);
         close_gap(&self.keys, &mut self.maps, end, size);
         self.bytes -= size;
+        self.spares.keep(gone.map);
     }
 
     /// Whether memory was ever refused to a new map.

@@ -97,6 +97,15 @@ impl WordIndex {
         self.map.insert(word_of(key), place);
     }
 
+    /// Removes all keys, and keeps the memory.
+    pub(crate) fn clear(&mut self)
+        ensures entries { self.new.entries ≡ [] }
+        ensures size { self.new.size ≡ self.old.size }
+        ensures bound { self.new.bound ≡ self.old.bound }
+    {
+        self.map.clear();
+    }
+
     /// Removes a key and returns its place; `None` if the key is absent. The others keep their order.
     pub(crate) fn remove(&mut self, key: &[u8]) -> Option<u32>
         requires { length key.now ≡ self.old.size }

@@ -120,11 +120,11 @@ overflow_sub-self c = let at = (goal.at.overflow_sub-self c).After-area-size in 
 pub close_gap-requires-clause-keys : goal.close_gap-requires-clause-keys
 close_gap-requires-clause-keys c = let at = (goal.at.close_gap-requires-clause-keys c).After-area-size in left_keys (taken at) (left at)
 
-module _ (c : goal.Joined-gone) where
+module _ (c : goal.After-keep) where
   abbrev at : After-area-size
   at = (goal.at.invariant_of-self-2 c).After-area-size
 
-  goes : Goes c.self.inside c.args.self.now c.map.inside.handle c.args.map c.key-key.result c.area-size.result c.index_mut-stored.result.now c.remove-gone.result c.clear.new.self c.remove-gone.new.self c.close_gap.new.maps
+  goes : Goes c.self.inside c.args.self.now c.map.inside.handle c.args.map c.key-key.result c.area-size.result c.index_mut-stored.result.now c.remove-gone.result c.clear.new.self c.remove-gone.new.self c.close_gap.new.maps c.keep.new.self
   goes = record {
     taken = taken at;
     size_is = size at;

@@ -30,6 +30,8 @@ impl SpareMaps {
     }
 
     /// Keeps a hash map, if there is room for it. It takes no memory.
+    #[cold]
+    #[inline(never)]
     pub(crate) fn keep(&mut self, map: BpfMap) {
         if let BpfMap::Hash(map) = map {
             if self.maps.len() < self.maps.capacity() {
@@ -40,6 +42,8 @@ impl SpareMaps {
 
     /// Makes a hash map of this shape: a spare one with the same size of keys and as many entries, if there is one, or a new one.
     /// The live maps have `entries`. `AllocError`: out of memory.
+    #[cold]
+    #[inline(never)]
     pub(crate) fn hash_map(
         &mut self,
         alloc: Global,

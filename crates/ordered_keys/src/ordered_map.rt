@@ -214,7 +214,6 @@ fn place_at<K: Eq + Hash, S: BuildHasher>(
 }
 
 /// Adds a new entry at the end, for which there is room.
-#[inline(always)]
 fn put_last<K: Eq + Hash + Copy, S: BuildHasher>(
     table: &mut IndexMap<K, u32, S>,
     key: K,

@@ -9,32 +9,48 @@ import shutil
 import subprocess
 import sys
 from collections.abc import Iterator
+from concurrent.futures import ThreadPoolExecutor
+from dataclasses import replace
 from pathlib import Path
 from types import ModuleType
 
 from programs import WORDS, Program
+from streams import before_runs, run
 
 _TOP = Path(__file__).resolve().parent.parent
 _SOURCES = _TOP / "examples" / "filters"
 _KINDS = {"hash": 1, "array": 2}
-# The context of a frame: `protocol` of __sk_buff is its fourth word; the packets are IPv4.
-_PROTOCOL, _IPV4 = 3, 0x0008
+# `protocol` of __sk_buff is the fourth word of a frame's context: the type of the Ethernet header, in network byte order.
+_PROTOCOL, _TYPE = 3, slice(12, 14)
 _FIRST = 3
+# Runs by whose mean the instructions of a run are counted: what some filters execute depends on what the runs before have left.
+_COUNTED = 1000
 
 
-def compiled(bpfhost: str, folder: Path) -> dict[str, Program]:
-    """The filters by their names, built in this folder; none if there is no clang for BPF, and then a notice is printed."""
-    clang = shutil.which(os.environ.get("CLANG", "clang"))
-    if clang is None or not _compiles(clang, folder):
+def compiled(bpfhost: str, counting: str, folder: Path, only: str = "") -> dict[str, Program]:
+    """The filters with this word in their names, built in this folder, each with a packet and the number of instructions that a run
+    executes. None if there is no clang for BPF, and then a notice is printed.
+
+    `counting` is plain.c built with -DCOUNT.
+    """
+    clang = shutil.which(os.environ.get("CLANG", "clang")) or ""
+    if not clang or not _compiles(clang, folder):
         print("no clang with the target bpf: the filters that it compiles are left out")
         return {}
+    names = [path.stem for path in sorted(_SOURCES.glob("*.c")) if only in path.name]
+    with ThreadPoolExecutor(os.cpu_count()) as pool:
+        built = dict(zip(names, pool.map(lambda name: _built(clang, bpfhost, name, folder), names)))
     traffic = _module(_SOURCES / "make_traffic.py")
-    packets = _packets(traffic)
-    return {f"{name}.c": _program(_built(clang, bpfhost, name, folder), packet) for name, packet in packets.items()}
+    chosen, made = _packets(traffic), list(traffic.packets())
+    programs = {}
+    for name, path in built.items():
+        packets = [chosen[name]] if name in chosen else made
+        programs[f"{name}.c"] = _on_longest(counting, _program(path), packets)
+    return programs
 
 
 def _packets(traffic: ModuleType) -> dict[str, bytes]:
-    """A packet for each filter that it has to read as a whole."""
+    """Packets for some filters that these read as a whole."""
     hello, question = traffic.hello("www.example.com"), traffic.question("www.example.com", 28)
     return {
         "flow_count": traffic.ipv4(6, traffic.tcp(40_001, 443, bytes(100))),
@@ -43,6 +59,22 @@ def _packets(traffic: ModuleType) -> dict[str, bytes]:
         "dns_types": traffic.ipv4(17, traffic.udp(53_000, 53, question)),
         "tls_sni": traffic.ipv4(6, traffic.tcp(44_000, 443, hello)),
     }
+
+
+def _on_longest(counting: str, program: Program, packets: list[bytes]) -> Program:
+    """The program on that of the packets for which it executes the most instructions, when it runs on it again; of several the shortest."""
+    cases = [replace(program, packet=packet, context=list(_context(packet))) for packet in packets]
+    counts = _counts(counting, program, [case for case in cases for _ in range(2)])[1::2]
+    longest = min((case for case, count in zip(cases, counts) if count == max(counts)), key=lambda case: len(case.packet))
+    again = _counts(counting, longest, [longest] * (_COUNTED + 1))[1:]
+    return replace(longest, executed=round(sum(again) / _COUNTED))
+
+
+def _counts(counting: str, program: Program, cases: list[Program]) -> list[int]:
+    """How many instructions each of these runs executes, on the maps that the one before leaves."""
+    stream = before_runs(program) + b"".join(map(run, cases))
+    done = subprocess.run([counting], input=stream, stdout=subprocess.PIPE, check=True)
+    return [int(line) for line in done.stdout.split()]
 
 
 def _compiles(clang: str, folder: Path) -> bool:
@@ -72,23 +104,24 @@ def _built(clang: str, bpfhost: str, name: str, folder: Path) -> Path:
 
 def _python() -> str:
     """The Python that has the client's packages."""
-    found = subprocess.run([_TOP / "clients" / "python" / "find-python", "elftools"], stdout=subprocess.PIPE, text=True, check=True)
+    found = subprocess.run([_TOP / "clients" / "python" / "find-python", "elftools"], stdout=subprocess.PIPE, text=True, check=False)
+    if found.returncode:
+        sys.exit("no Python 3.11 with pyelftools (Debian: python3-pyelftools), by which the client reads what clang compiles")
     return found.stdout.strip()
 
 
-def _program(built: Path, packet: bytes) -> Program:
-    """The program with its maps at the first descriptors. Their initial values have to be zeros, which a new map has."""
+def _program(built: Path) -> Program:
+    """The program with its maps at the first descriptors, and the values that variables have at first."""
     found = json.loads(built.read_text())
     slots = [bytes.fromhex(text) for text in found["slots"]]
     for number, each in enumerate(found["maps"]):
-        if any(bytes.fromhex(each["initial"] or "")):
-            raise ValueError(f"{built}: the map {each['name']} has initial values other than zeros")
         for at in each["slots"]:
-            slots[at] = slots[at][:4] + (_FIRST + number).to_bytes(4, "little")
+            slots[at] = slots[at][:4] + (_FIRST + number).to_bytes(4, "little") + slots[at][8:]
     maps = [(_KINDS[each["type"]], each["key_size"], each["value_size"], each["max_entries"]) for each in found["maps"]]
-    return Program(slots, maps=maps, packet=packet, context=list(_context()))
+    values = {number: bytes.fromhex(each["initial"]) for number, each in enumerate(found["maps"]) if each["initial"]}
+    return Program(slots, maps=maps, values={number: value for number, value in values.items() if any(value)})
 
 
-def _context() -> Iterator[int]:
+def _context(packet: bytes) -> Iterator[int]:
     for number, word in enumerate(WORDS):
-        yield _IPV4 if number == _PROTOCOL else word
+        yield int.from_bytes(packet[_TYPE], "little") if number == _PROTOCOL else word

@@ -1,8 +1,9 @@
 #!/usr/bin/env python3
 """Measures a built bpfhost, and other interpreters for comparison. bench/README.md explains the output.
 
-usage: measure.py [--rounds N] [--only WORD] [--counting PROGRAM] BPFHOST [PLAIN [DPDK]]
-PROGRAM counts the instructions that its runs execute; without it, the filters that clang compiles are left out.
+usage: measure.py [--rounds N] [--only WORD] [--no-counts] [--no-loads] [--before BPFHOST] [--counting PROGRAM] BPFHOST [PLAIN [DPDK]]
+--before is another build of the program, measured in the same rounds. PROGRAM counts the instructions that its runs execute; without it,
+the filters that clang compiles are left out.
 """
 
 from __future__ import annotations
@@ -15,12 +16,12 @@ import subprocess
 import sys
 import tempfile
 from collections.abc import Callable, Mapping
-from dataclasses import replace
 from pathlib import Path
 from typing import IO, Protocol
 
 from compiled import compiled
-from programs import LOADED, RUN, SLOTS, Program
+from means import lines
+from programs import LOADED, LONG, RUN, SLOTS, Program
 from streams import loads_of, runs_of
 
 SERVE = ["serve", "--tenants", "1"]
@@ -132,15 +133,6 @@ def with_more(tasks: list[tuple[Host, str]], more: list[tuple[Host, str]]) -> li
     return [task for at in range(0, len(tasks), 10) for task in (*more, *tasks[at : at + 10])]
 
 
-def compiled_filters(streams: Streams, bpfhost: str, counting: str) -> Programs:
-    """The filters that clang compiles, with the number of instructions that a run executes after the first one."""
-    found = {}
-    for name, program in compiled(bpfhost, Path(streams.folder)).items():
-        once, twice = (int(Host(counting, [counting]).replies(streams.of(runs_of, program, runs))) for runs in (1, 2))
-        found[name] = replace(program, executed=twice - once)
-    return found
-
-
 def runs_for(program: Program) -> int:
     return min(MOST_RUNS, EXECUTED // program.executed)
 
@@ -193,10 +185,28 @@ def print_runs(streams: Streams, programs: Programs, hosts: list[Host], rounds: 
         executed = program.executed - programs["empty"].executed
         alone = [told_of(seconds, name, host, 1e9 / executed) for host in hosts]
         line = f"{name:18}{program.executed:>9}" + "".join(f"{shown(it, 3):>14}" for it in alone)
-        line += "".join(f"{shown(it and alone[0] and alone[0] / it, 2):>9}" for it in alone[1:])
+        line += "".join(f"{shown(ratio(seconds, name, hosts[0], host), 2):>9}" for host in hosts[1:])
         if counts:
             line += "".join(f"{shown(told_of(counts, name, host, 1 / executed), 2):>15}" for host in hosts)
         print(line)
+    print_means(programs, seconds, hosts)
+
+
+def print_means(programs: Programs, seconds: Found, hosts: list[Host]) -> None:
+    """The means of the ratios of times, of the programs of this folder and of the filters in C."""
+    groups = {"programs of bench": LONG, "filters in C": tuple(name for name in programs if name.endswith(".c"))}
+    for group, names in groups.items():
+        found = {name: {host.name: ratio(seconds, name, hosts[0], host) for host in hosts[1:]} for name in names if name in programs}
+        by_host = {host.name: {name: it for name in found if (it := found[name][host.name]) is not None} for host in hosts[1:]}
+        for line in lines(group, by_host):
+            print(line)
+
+
+def ratio(seconds: Found, name: str, host: Host, other: Host) -> float | None:
+    """The time of a program on a host divided by that on another one. None if it does not run on both, or a difference of two times is
+    not above 0."""
+    alone, compared = told_of(seconds, name, host, 1), told_of(seconds, name, other, 1)
+    return alone / compared if alone and compared and min(alone, compared) > 0 else None
 
 
 def told_of(found: Found, name: str, host: Host, scale: float) -> float | None:
@@ -235,29 +245,35 @@ def main() -> None:
     parser = argparse.ArgumentParser(description=__doc__.split("\n")[0])
     parser.add_argument("--rounds", type=int, default=9)
     parser.add_argument("--only", default="", help="a word of the programs' names")
+    parser.add_argument("--no-counts", action="store_true", help="counts no machine instructions")
+    parser.add_argument("--no-loads", action="store_true", help="measures no loads")
+    parser.add_argument("--before", help="another build of bpfhost")
     parser.add_argument("--counting", help="plain.c built with -DCOUNT")
     parser.add_argument("bpfhost")
     parser.add_argument("plain", nargs="?")
     parser.add_argument("dpdk", nargs="?")
     given = parser.parse_args()
     hosts = [Host("bpfhost", [given.bpfhost, *SERVE])]
+    if given.before:
+        hosts.append(Host("before", [given.before, *SERVE]))
     if given.plain:
         hosts.append(Host("C", [given.plain]))
     if given.dpdk:
         hosts.append(Host("DPDK", [given.dpdk], calls=False))
-    tool, count = counter()
-    print(f"machine instructions are counted by {tool}" if tool else "machine instructions are not counted: no perf, no valgrind")
+    tool, count = (None, None) if given.no_counts else counter()
+    if not given.no_counts:
+        print(f"machine instructions are counted by {tool}" if tool else "machine instructions are not counted: no perf, no valgrind")
     with tempfile.TemporaryDirectory() as folder:
         streams = Streams(folder)
         programs = {name: make() for name, make in RUN.items()}
         if given.counting:
-            programs |= compiled_filters(streams, given.bpfhost, given.counting)
+            programs |= compiled(given.bpfhost, given.counting, Path(folder), given.only)
         programs = {name: program for name, program in programs.items() if name == "empty" or given.only in name}
         same_replies(streams, programs, hosts)
         if len(programs) > 1:
             print_runs(streams, programs, hosts, given.rounds, count)
         loaded = {name: make() for name, make in LOADED.items() if given.only in name}
-        if loaded:
+        if loaded and not given.no_loads:
             print_loads(streams, loaded, hosts[0], given.rounds, count)
 
 

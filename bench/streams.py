@@ -12,7 +12,7 @@ import sys
 
 from programs import LOADED, RUN, Program
 
-MAP_CREATE, PROG_LOAD, PROG_TEST_RUN, CLOSE = 0, 5, 10, 256
+MAP_CREATE, MAP_UPDATE_ELEM, PROG_LOAD, PROG_TEST_RUN, CLOSE = 0, 2, 5, 10, 256
 SOCKET_FILTER, FIRST = 1, 3
 
 
@@ -29,11 +29,23 @@ def creates(program: Program) -> list[bytes]:
     return [frame(MAP_CREATE, struct.pack("<5I", *shape, 0)) for shape in program.maps]
 
 
+def updates(program: Program) -> list[bytes]:
+    """Puts the program's values under key 0 of their maps."""
+    keys = {number: bytes(program.maps[number][1]) for number in program.values}
+    return [frame(MAP_UPDATE_ELEM, struct.pack("<IQ", FIRST + at, 0) + keys[at] + value) for at, value in program.values.items()]
+
+
+def run(program: Program) -> bytes:
+    descriptor = FIRST + len(program.maps)
+    return frame(PROG_TEST_RUN, struct.pack("<11I", descriptor, *program.context) + program.packet)
+
+
+def before_runs(program: Program) -> bytes:
+    return b"".join([*creates(program), *updates(program), load(program)])
+
+
 def runs_of(program: Program, runs: int) -> bytes:
-    maps = creates(program)
-    descriptor = FIRST + len(maps)
-    run = frame(PROG_TEST_RUN, struct.pack("<11I", descriptor, *program.context) + program.packet)
-    return b"".join(maps) + load(program) + run * runs
+    return before_runs(program) + run(program) * runs
 
 
 def loads_of(program: Program, loads: int) -> bytes:

@@ -2,6 +2,7 @@
 
 from __future__ import annotations
 
+import functools
 import importlib.util
 import json
 import os
@@ -18,7 +19,7 @@ from programs import WORDS, Program
 from streams import before_runs, run
 
 _TOP = Path(__file__).resolve().parent.parent
-_SOURCES = _TOP / "examples" / "filters"
+SOURCES = _TOP / "examples" / "filters"
 _KINDS = {"hash": 1, "array": 2}
 # `protocol` of __sk_buff is the fourth word of a frame's context: the type of the Ethernet header, in network byte order.
 _PROTOCOL, _TYPE = 3, slice(12, 14)
@@ -34,19 +35,49 @@ def compiled(bpfhost: str, counting: str, folder: Path, only: str = "") -> dict[
     `counting` is plain.c built with -DCOUNT.
     """
     clang = shutil.which(os.environ.get("CLANG", "clang")) or ""
-    if not clang or not _compiles(clang, folder):
+    if not has_bpf(clang, folder):
         print("no clang with the target bpf: the filters that it compiles are left out")
         return {}
-    names = [path.stem for path in sorted(_SOURCES.glob("*.c")) if only in path.name]
+    names = [path.stem for path in sorted(SOURCES.glob("*.c")) if only in path.name]
     with ThreadPoolExecutor(os.cpu_count()) as pool:
-        built = dict(zip(names, pool.map(lambda name: _built(clang, bpfhost, name, folder), names)))
-    traffic = _module(_SOURCES / "make_traffic.py")
+        built_files = dict(zip(names, pool.map(lambda name: built(clang, bpfhost, SOURCES / f"{name}.c", folder), names)))
+    traffic = _module(SOURCES / "make_traffic.py")
     chosen, made = _packets(traffic), list(traffic.packets())
     programs = {}
-    for name, path in built.items():
+    for name, path in built_files.items():
         packets = [chosen[name]] if name in chosen else made
-        programs[f"{name}.c"] = _on_longest(counting, _program(path), packets)
+        programs[f"{name}.c"] = _on_longest(counting, program_of(path), packets)
     return programs
+
+
+def has_bpf(clang: str, folder: Path, *words: str) -> bool:
+    """Whether this compiler makes code for BPF, with these words."""
+    command = [clang, "-target", "bpf", *words, "-x", "c", "-c", "-", "-o", str(folder / "none.o")]
+    return bool(clang) and subprocess.run(command, input=b"", capture_output=True, check=False).returncode == 0
+
+
+def built(clang: str, bpfhost: str, source: Path, folder: Path, *words: str) -> Path:
+    """The file of a built program (clients/python, "Built programs") in this folder, compiled with these words."""
+    compiled_file, made = folder / f"{source.stem}.o", folder / f"{source.stem}.json"
+    subprocess.run([clang, "-O2", "-g", "-target", "bpf", *words, "-c", str(source), "-o", str(compiled_file)], check=True)
+    build = [_python(), "-m", "bpfhost", "build", str(compiled_file), "-o", str(made)]
+    environment = {**os.environ, "PYTHONPATH": str(_TOP / "clients" / "python"), "BPFHOST": os.path.abspath(bpfhost)}
+    done = subprocess.run(build, env=environment, stderr=subprocess.PIPE, text=True, check=False)
+    if done.returncode:
+        sys.exit(f"{source.name}: {done.stderr.strip()}")
+    return made
+
+
+def program_of(built_file: Path) -> Program:
+    """The program with its maps at the first descriptors, and the values that variables have at first."""
+    found = json.loads(built_file.read_text())
+    slots = [bytes.fromhex(text) for text in found["slots"]]
+    for number, each in enumerate(found["maps"]):
+        for at in each["slots"]:
+            slots[at] = slots[at][:4] + (_FIRST + number).to_bytes(4, "little") + slots[at][8:]
+    maps = [(_KINDS[each["type"]], each["key_size"], each["value_size"], each["max_entries"]) for each in found["maps"]]
+    values = {number: bytes.fromhex(each["initial"]) for number, each in enumerate(found["maps"]) if each["initial"]}
+    return Program(slots, maps=maps, values={number: value for number, value in values.items() if any(value)})
 
 
 def _packets(traffic: ModuleType) -> dict[str, bytes]:
@@ -77,11 +108,6 @@ def _counts(counting: str, program: Program, cases: list[Program]) -> list[int]:
     return [int(line) for line in done.stdout.split()]
 
 
-def _compiles(clang: str, folder: Path) -> bool:
-    command = [clang, "-target", "bpf", "-x", "c", "-c", "-", "-o", str(folder / "none.o")]
-    return subprocess.run(command, input=b"", capture_output=True, check=False).returncode == 0
-
-
 def _module(path: Path) -> ModuleType:
     spec = importlib.util.spec_from_file_location(path.stem, path)
     assert spec is not None and spec.loader is not None
@@ -90,36 +116,13 @@ def _module(path: Path) -> ModuleType:
     return module
 
 
-def _built(clang: str, bpfhost: str, name: str, folder: Path) -> Path:
-    """The file of a built program (clients/python, "Built programs")."""
-    source, compiled_file, built = _SOURCES / f"{name}.c", folder / f"{name}.o", folder / f"{name}.json"
-    subprocess.run([clang, "-O2", "-g", "-target", "bpf", "-c", str(source), "-o", str(compiled_file)], check=True)
-    build = [_python(), "-m", "bpfhost", "build", str(compiled_file), "-o", str(built)]
-    environment = {**os.environ, "PYTHONPATH": str(_TOP / "clients" / "python"), "BPFHOST": os.path.abspath(bpfhost)}
-    done = subprocess.run(build, env=environment, stderr=subprocess.PIPE, text=True, check=False)
-    if done.returncode:
-        sys.exit(f"{name}.c: {done.stderr.strip()}")
-    return built
-
-
+@functools.cache
 def _python() -> str:
     """The Python that has the client's packages."""
     found = subprocess.run([_TOP / "clients" / "python" / "find-python", "elftools"], stdout=subprocess.PIPE, text=True, check=False)
     if found.returncode:
         sys.exit("no Python 3.11 with pyelftools (Debian: python3-pyelftools), by which the client reads what clang compiles")
     return found.stdout.strip()
-
-
-def _program(built: Path) -> Program:
-    """The program with its maps at the first descriptors, and the values that variables have at first."""
-    found = json.loads(built.read_text())
-    slots = [bytes.fromhex(text) for text in found["slots"]]
-    for number, each in enumerate(found["maps"]):
-        for at in each["slots"]:
-            slots[at] = slots[at][:4] + (_FIRST + number).to_bytes(4, "little") + slots[at][8:]
-    maps = [(_KINDS[each["type"]], each["key_size"], each["value_size"], each["max_entries"]) for each in found["maps"]]
-    values = {number: bytes.fromhex(each["initial"]) for number, each in enumerate(found["maps"]) if each["initial"]}
-    return Program(slots, maps=maps, values={number: value for number, value in values.items() if any(value)})
 
 
 def _context(packet: bytes) -> Iterator[int]:

@@ -36,7 +36,7 @@ EachIsToldAloneUntilRefused =
     (before after : List TenantState) (turns : List Turn) (n : ℕ)
     → HandlesInOrder before turns after
     → Noninterference before (frames_in (take n turns)) (replies_in (take n turns))
-        (states_after before (take n turns))
+    (states_after before (take n turns))
 
 -- The same by a tenant's own replies: if none of the replies to it is that memory was refused, it gets exactly the replies of its
 -- own machine without refusals of memory. Whether its flag is set before does not matter, nor what is refused to others.

@@ -25,7 +25,7 @@ abbrev pub Noninterference :
     List TenantState → List (List ℕ) → List (List ℕ) → List TenantState → Type 0
 Noninterference before frames replies after =
     (t : ℕ) → IsUnrefused (slice_get after t) → IsToldAlone (slice_get before t)
-        (frames_of t frames) (replies_of t frames replies) (slice_get after t)
+    (frames_of t frames) (replies_of t frames replies) (slice_get after t)
 
 -- no test run faulted
 abbrev pub NoneFaults : List (List ℕ) → Type 0

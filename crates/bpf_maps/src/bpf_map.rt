@@ -24,9 +24,19 @@ pub enum BpfMap {
 }
 
 impl BpfMap {
-    /// Makes a map of this shape. Only a hash map takes the seed and memory: that of a spare map, if one fits. `AllocError`: out of
-    /// memory.
-    pub fn new(
+    /// Makes a map of this shape. Only a hash map takes the seed and memory. `AllocError`: out of memory.
+    pub fn new(alloc: Global, shape: MapShape, seed: HashSeed) -> Result<BpfMap, AllocError>
+        ensures { IfOk result (λ map. places_of map ≡ new_places shape) }
+    {
+        match shape.kind {
+            MapKind::Array => Ok(BpfMap::Array(ArrayMap::new(shape))),
+            MapKind::Hash => Ok(BpfMap::Hash(HashMap::new(alloc, shape, seed)?)),
+        }
+    }
+
+    /// Makes a map of this shape, a hash map in the memory of a spare one, if one fits. The live maps have `entries`. `AllocError`: out
+    /// of memory.
+    pub(crate) fn with_spares(
         alloc: Global,
         shape: MapShape,
         seed: HashSeed,

@@ -161,7 +161,7 @@ impl Maps {
         if self.bytes + size > LARGEST_SUM {
             return Err(MapFault::NoSpace);
         }
-        let Ok(map) = BpfMap::new(
+        let Ok(map) = BpfMap::with_spares(
             self.alloc,
             shape,
             self.seed,

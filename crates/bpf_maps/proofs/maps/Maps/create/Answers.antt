@@ -38,11 +38,11 @@ room c = record {
 
 -- memory was refused
 
-pub returns-in_default-new-clause-created : goal.returns-in_default-new-clause-created
-returns-in_default-new-clause-created c = creates_none (room (goal.at.returns-in_default-new-clause-created c).Else-self-size-gt-LARGEST_SUM)
+pub returns-in_default-with_spares-clause-created : goal.returns-in_default-with_spares-clause-created
+returns-in_default-with_spares-clause-created c = creates_none (room (goal.at.returns-in_default-with_spares-clause-created c).Else-self-size-gt-LARGEST_SUM)
 
-pub returns-in_default-new-clause-laid : goal.returns-in_default-new-clause-laid
-returns-in_default-new-clause-laid c = laid (whole_refused {spares = c.new.new.spares} c.self.invariant)
+pub returns-in_default-with_spares-clause-laid : goal.returns-in_default-with_spares-clause-laid
+returns-in_default-with_spares-clause-laid c = laid (whole_refused {spares = c.with_spares.new.spares} c.self.invariant)
 
 -- the map is made
 
@@ -63,7 +63,7 @@ module _ (c : goal.After-self-2-1) where
       let m = c.next_multiple_of.ensures.multiple in
       omega arith
 
-  added : IsAdded c.self.inside c.args.shape c.new.new.spares c.put.new.self c.insert_reserved-key.new.self c.in-Some.handle c.insert_reserved-key.result stored
+  added : IsAdded c.self.inside c.args.shape c.with_spares.new.spares c.put.new.self c.insert_reserved-key.new.self c.in-Some.handle c.insert_reserved-key.result stored
   added = record {
     keys_are = c.put.ensures;
     was = c.insert_reserved-key.ensures.was_vacant;

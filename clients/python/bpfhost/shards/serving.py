@@ -30,7 +30,7 @@ from bpfhost.tenancy import Tenancy, command_of, status_of
 # A host is sent at most so many frames, of which a snapshot may take some four million (docs/PROTOCOL.md: 16,777,216).
 MOST_ASKED = 12_000_000
 _ASKED_AT_ONCE, _MADE_IN_A_STEP, _READ_AT_ONCE = 1024, 400, 1 << 16
-# Commands that may be refused memory; no other error has -12.
+# Commands that may be refused memory (an update only by a host of version 0.1.0); no other error has -12.
 _WANTS_MEMORY = (Command.MAP_CREATE, Command.MAP_UPDATE_ELEM, Command.PROG_LOAD)
 
 # The frames of a tenant with their replies, since its last snapshot.

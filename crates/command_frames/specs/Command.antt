@@ -5,6 +5,7 @@ use Rattle.byteorder.specs.Endian.{little_number}
 use Rattle.command_frames.specs.declared.command.BadFrame.{BadFrame}
 use Rattle.command_frames.specs.declared.command.BadFrame.TheVariants.{TooLong, Unknown, Body}
 use Rattle.command_frames.specs.Frame.{head_length}
+use Rattle.words.specs.Context.{given_words}
 
 -- key, value, slots and packet are lists of bytes
 pub data Command : Type 0 where
@@ -31,10 +32,7 @@ create_body = 20
 abbrev pub before_key_and_value : ℕ
 before_key_and_value = 12
 
--- the number of context words in a test run's body: all but the first, which is the packet's length
-abbrev pub given_words : ℕ
-given_words = 10
-
+-- the context words in a test run's body
 abbrev pub context_length : ℕ
 context_length = given_words * word_length
 

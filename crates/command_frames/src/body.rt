@@ -2,11 +2,13 @@
 
 ghost use Rattle.std.specs.Prelude.{◌≡◌, ◌≤◌, ◌+◌, length, drop};
 ghost use Rattle.byteorder.specs.Endian.{little_number};
-ghost use Rattle.command_frames.specs.Command.{command_in, context_length, given_words, word_length, words};
+ghost use Rattle.command_frames.specs.Command.{command_in, context_length, word_length, words};
 ghost use Rattle.command_frames.specs.Shown.{shown_result};
+ghost use Rattle.words.specs.Context.{given_words};
 
 use crate::command::{BadFrame, Command};
 use byteorder::{ByteOrder, LittleEndian};
+use words::GIVEN_WORDS;
 
 /// The length of a word (a descriptor, a type or a size) in bytes.
 const WORD_LENGTH: usize = 4;
@@ -17,10 +19,7 @@ const CREATE_BODY: usize = 20;
 /// The bytes before the key and the value of MAP_UPDATE: a descriptor and eight bytes of flags.
 const BEFORE_KEY_AND_VALUE: usize = 12;
 
-/// The number of context words in the body of PROG_TEST_RUN.
-pub const GIVEN_WORDS: usize = 10;
-
-/// The length of these words in bytes.
+/// The length in bytes of the context words in the body of PROG_TEST_RUN.
 const CONTEXT_LENGTH: usize = GIVEN_WORDS * WORD_LENGTH;
 
 /// The bytes before the packet of PROG_TEST_RUN: a descriptor and the context.

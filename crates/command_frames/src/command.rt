@@ -1,6 +1,6 @@
 //! Heads and commands, and why a frame carries no command.
 
-use crate::body::GIVEN_WORDS;
+use words::GIVEN_WORDS;
 
 /// The tenant of a frame, and the number of its command. The reply has the same.
 #[derive(Clone, Copy, Debug, PartialEq, Eq)]

@@ -79,5 +79,6 @@ mod running;
 
 pub use batch::{context_words, run_packets};
 pub use map_words::TableRoom;
-pub use packets::{GIVEN_WORDS, LONGEST_PACKET, PacketFault, Packets};
+pub use packets::{LONGEST_PACKET, PacketFault, Packets};
 pub use running::{run, run_with};
+pub use words::GIVEN_WORDS;

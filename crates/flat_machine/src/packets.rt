@@ -12,15 +12,13 @@ ghost use Rattle.std.specs.Result.{result_err};
 ghost use Rattle.flat_machine.specs.Packets.{longest_packet, packets_in, inputs_of, packets_fault, are_contexts, batch_fault};
 
 use std::marker::Model;
+use words::GIVEN_WORDS;
 
 /// The length of the longest packet of a run, in bytes.
 pub const LONGEST_PACKET: usize = 65_536;
 
 /// The highest bit of a length or an end. No slice has so many bytes.
 const HIGHEST_BIT: usize = 0x8000_0000_0000_0000;
-
-/// The number of the words of a context that a caller gives: all but the packet's length.
-pub const GIVEN_WORDS: usize = 10;
 
 /// Why packets are refused.
 #[derive(Clone, Copy, Debug, PartialEq, Eq)]

@@ -1,12 +1,12 @@
 -- Laws of near offsets, of the objects of a map's keys, and of the value that is loaded directly, of the definitions of `Values`,
 -- `StateInvariant` and `Table`, proved here for the proofs of the crates above. This project's own. No contract cites them, so
 -- they are not part of what has to be trusted.
-use Rattle.std.proofs.Common.{◌≡◌, ℕ, ◌^◌, ◌<◌, ◌≤◌, ◌==◌, ◌&&◌, nat_lt, ℤ, pos, neg_ℤ, ◌≤ℤ◌, int_le, Bool, true, false, cond, List, [], ◌∷◌, Some, None, refl, arith}
+use Rattle.std.proofs.Common.{◌≡◌, ℕ, ◌<◌, ◌≤◌, ◌==◌, ◌&&◌, nat_lt, ℤ, pos, neg_ℤ, ◌≤ℤ◌, int_le, Bool, true, false, cond, List, [], ◌∷◌, Some, None, refl, arith}
 use Rattle.std.specs.Prelude.{nat_le}
 use Rattle.std.proofs.lemmas.Bool.{and_parts, eqb-true, ltb-true, leb-true, le-leb}
 use Rattle.std.proofs.lemmas.Int.{ints}
 use Rattle.std.proofs.lemmas.Option.{none-some, same_Some}
-use Rattle.tagged_model.specs.Values.{is_near}
+use Rattle.tagged_model.specs.Values.{farthest_offset, is_near}
 use Rattle.tagged_model.specs.declared.shape.MapShape.{MapShape}
 use Rattle.tagged_model.specs.Shape.{has_key, is_from_to, is_valid, fits, longest_value, most_entries}
 use Rattle.tagged_model.specs.Table.{Table, is_key, found, without, with_key, index_key, is_array, has_direct_value, direct_object}
@@ -14,15 +14,15 @@ use Rattle.tagged_model.specs.StateInvariant.{KeysHaveObjects}
 
 -- ---- offsets
 
--- a near offset is at most 2 ^ 29 away
-pub near_parts : (x : ℤ) → is_near x ≡ true → (neg_ℤ (pos (2 ^ 29)) ≤ℤ x) × (x ≤ℤ pos (2 ^ 29))
+-- a near offset is at most the farthest away
+pub near_parts : (x : ℤ) → is_near x ≡ true → (neg_ℤ (pos farthest_offset) ≤ℤ x) × (x ≤ℤ pos farthest_offset)
 near_parts x e =
-    let h = and_parts (int_le (neg_ℤ (pos (2 ^ 29))) x) (int_le x (pos (2 ^ 29))) e in
+    let h = and_parts (int_le (neg_ℤ (pos farthest_offset)) x) (int_le x (pos farthest_offset)) e in
     let p = h.0 in let q = h.1 in (grind (arith, ints), grind (arith, ints))
 
 -- an offset in a value is near
 pub near_from : (offset : ℕ) → offset < 4096 → is_near (pos offset) ≡ true
-near_from offset lt = le-leb offset (2 ^ 29) (omega arith)
+near_from offset lt = le-leb offset farthest_offset (omega arith)
 
 -- ---- keys with objects numbered below a count
 

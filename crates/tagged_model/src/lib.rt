@@ -69,4 +69,4 @@ pub use shape::{
     LARGEST_AREA, LONGEST_KEY, LONGEST_VALUE, MOST_ENTRIES, MapKind, MapShape, Named, ShapeFault,
     Target,
 };
-pub use value::{CONTEXT_WORDS, Object, Outcome, Tagged};
+pub use value::{CONTEXT_WORDS, FARTHEST_OFFSET, Object, Outcome, Tagged};

@@ -1,7 +1,13 @@
 //! Tagged values, and the outcomes of a run on them.
 
-/// The number of words in the context of a run, the first ones of `__sk_buff` (linux/bpf.h).
-pub const CONTEXT_WORDS: usize = 11;
+use words::GIVEN_WORDS;
+
+/// The number of words in the context of a run, the first ones of `__sk_buff` (linux/bpf.h): the packet's length, and those that the
+/// caller gives.
+pub const CONTEXT_WORDS: usize = 1 + GIVEN_WORDS;
+
+/// The farthest that a pointer may be moved from the start of its object's offsets, in bytes, in either direction: 2^29.
+pub const FARTHEST_OFFSET: i64 = 0x2000_0000;
 
 /// The object that a pointer points into.
 #[derive(Clone, Copy, Debug, PartialEq, Eq)]

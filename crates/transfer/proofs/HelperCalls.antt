@@ -36,7 +36,7 @@ use Rattle.tagged_model.specs.Laws.{StackInputAdmits, StackOutputAdmits, ObjectR
 use Rattle.transfer.specs.Arithmetic.{check_readable}
 use Rattle.tagged_model.specs.Named.{Shapes}
 use Rattle.transfer.specs.declared.calls.ShapedMap.{ShapedMap}
-use Rattle.transfer.specs.Calls.{shaped, map_kind, room_of, input_kind, output_facts, number_kind, length_kind, context_kind, readable_two, readable_four, any_number, call_facts}
+use Rattle.transfer.specs.Calls.{shaped, map_kind, room_of, input_kind, output_facts, number_kind, lengths_end, length_kind, context_kind, readable_two, readable_four, any_number, call_facts}
 use Rattle.transfer.specs.Sound.{CallIsAdmitted, CallsAreSound}
 use Rattle.transfer.proofs.Rooms.{owned, room_here}
 use Rattle.transfer.proofs.Parts.{Agree, by_law, refused, same_ok, IsReadable}
@@ -168,9 +168,9 @@ module _ (laws : Laws) {witness : Witness} {shapes : Shapes} {f : Facts} {s : Ru
   length_agrees : (r : ℕ) (k : Kind) → IsReadable k → HasKind witness k (s.registers r) → Agree InRange (length_kind k) (argument s r length_given)
   length_agrees r (kind.Scalar range) _ h =
       at_argument InRange (length_kind (kind.Scalar range)) s r length_given h.0 (Scalar h.2.0) h.1 h.2.1
-      (cond_both (range.lo == 0 || leb (2 ^ 29) range.hi) (Err LengthUnbounded) (Ok range) (λ a. Agree InRange a (length_given (Scalar h.2.0)))
+      (cond_both (range.lo == 0 || leb lengths_end range.hi) (Err LengthUnbounded) (Ok range) (λ a. Agree InRange a (length_given (Scalar h.2.0)))
       (λ _. tt)
-      (λ e. let from = h.2.2.from in let some = first (range.lo == 0) (leb (2 ^ 29) range.hi) e in let not_zero = eqb-false range.lo 0 some in
+      (λ e. let from = h.2.2.from in let some = first (range.lo == 0) (leb lengths_end range.hi) e in let not_zero = eqb-false range.lo 0 some in
       subst (Agree InRange (Ok range)) (sym (cond-false (h.2.0 == 0) None (Some h.2.0) (ne_eqb h.2.0 0 (λ z. not_zero (omega arith))))) h.2.2))
     where
       first : (a b : Bool) → (a || b) ≡ false → a ≡ false

@@ -17,7 +17,7 @@ use Rattle.reg_kinds.specs.Reason.{and_then_ok}
 use Rattle.reg_kinds.specs.Pointers.{value_span}
 use Rattle.tagged_model.specs.declared.value.Object.TheVariants as object
 use Rattle.tagged_model.specs.declared.value.Tagged.TheVariants.{Pointer}
-use Rattle.tagged_model.specs.Values.{is_near, moved}
+use Rattle.tagged_model.specs.Values.{farthest_offset, is_near, moved}
 use Rattle.tagged_model.specs.StateLaws.{near_parts}
 use Rattle.tagged_model.specs.Cells.{and_then}
 use Rattle.transfer.specs.declared.arithmetic.Direction.{Direction}
@@ -62,9 +62,9 @@ distance_holds r n m =
 near_between : (x z y : ℤ) → is_near x ≡ true → is_near y ≡ true → x ≤ℤ z → z ≤ℤ y → is_near z ≡ true
 near_between x z y e f h g =
     let a = near_parts x e in let b = near_parts y f in
-    let low : neg_ℤ (pos (2 ^ 29)) ≤ℤ z = omega (arith, ints) in
-    let high : z ≤ℤ pos (2 ^ 29) = omega (arith, ints) in
-    and_from (int_le (neg_ℤ (pos (2 ^ 29))) z) (int_le z (pos (2 ^ 29))) (grind (arith, ints)) (grind (arith, ints))
+    let low : neg_ℤ (pos farthest_offset) ≤ℤ z = omega (arith, ints) in
+    let high : z ≤ℤ pos farthest_offset = omega (arith, ints) in
+    and_from (int_le (neg_ℤ (pos farthest_offset)) z) (int_le z (pos farthest_offset)) (grind (arith, ints)) (grind (arith, ints))
 
 at_most_max : (a b z : ℤ) → z ≤ℤ b → z ≤ℤ int_max a b
 at_most_max a b z h = omega (arith, ints, clamps)

@@ -1,6 +1,6 @@
 -- The reasons for which an instruction may be rejected.
 use Rattle.std.proofs.Common.{◌≡◌, ◌≢◌, ℕ, ◌==◌, ℤ, ◌+ℤ◌, Bool, true, false, not, Option, Some, None, Result, Ok, Err, refl, subst}
-use Rattle.std.specs.Prelude.{◌||◌, ◌&&◌, ◌^◌, pos, int_le, nat_le, bit_and}
+use Rattle.std.specs.Prelude.{◌||◌, ◌&&◌, pos, int_le, nat_le, bit_and}
 use Rattle.std.proofs.lemmas.Bool.{cond_both}
 use Rattle.interval.specs.declared.range.Range.{Range}
 use Rattle.words.specs.declared.operator.Operator.{Operator}
@@ -34,7 +34,7 @@ use Rattle.transfer.specs.Arithmetic.{check_readable, near, stack_moved, value_b
 use Rattle.transfer.specs.Branches.{Edges, falls, pointer_edges, branch_edges}
 use Rattle.transfer.specs.Effects.{source_kind, first_kind, assigns, is_word, context_read, load_kind, store_facts, number_or, is_known_multiple, changed_facts, map_of, value_of, known, exits_with, access_edges, wide_kind, effect_of, effect}
 use Rattle.transfer.specs.Reasons.{IsSafetyReason, IsReasonFor, IsReasonOf, TransferReasons}
-use Rattle.transfer.specs.Calls.{shaped, map_kind, room_of, input_kind, output_facts, number_kind, length_kind, context_kind, readable_two, readable_four, any_number, call_facts}
+use Rattle.transfer.specs.Calls.{shaped, map_kind, room_of, input_kind, output_facts, number_kind, lengths_end, length_kind, context_kind, readable_two, readable_four, any_number, call_facts}
 use Rattle.words.specs.Stack.{bytes_of, is_double, is_in_stack, place, is_aligned, touches}
 use Rattle.reg_kinds.specs.declared.kind.ValuePointer.{ValuePointer}
 use Rattle.reg_kinds.specs.Many.{bits_in, any_below, is_touched_spill, lacks, stack_input, filled}
@@ -202,7 +202,7 @@ number_rule (kind.Scalar r) = tt
 number_rule k = tt
 
 length_rule : (k : Kind) → ByRule (length_kind k)
-length_rule (kind.Scalar r) = cond_both (r.lo == 0 || nat_le (2 ^ 29) r.hi) (Err LengthUnbounded) (Ok r) ByRule (λ _. tt) (λ _. tt)
+length_rule (kind.Scalar r) = cond_both (r.lo == 0 || nat_le lengths_end r.hi) (Err LengthUnbounded) (Ok r) ByRule (λ _. tt) (λ _. tt)
 length_rule k = tt
 
 context_kind_rule : (k : Kind) → ByRule (context_kind k)

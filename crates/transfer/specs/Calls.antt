@@ -49,8 +49,12 @@ abbrev pub number_kind : Kind → Result Range Reason
 number_kind (kind.Scalar r) = Ok r
 number_kind k = Err HelperArgument
 
+-- a length that is passed to a helper is below this, in bytes
+abbrev pub lengths_end : ℕ
+lengths_end = 2 ^ 29
+
 abbrev pub length_kind : Kind → Result Range Reason
-length_kind (kind.Scalar r) = if r.lo == 0 || nat_le (2 ^ 29) r.hi then Err LengthUnbounded else Ok r
+length_kind (kind.Scalar r) = if r.lo == 0 || nat_le lengths_end r.hi then Err LengthUnbounded else Ok r
 length_kind k = Err HelperArgument
 
 abbrev pub context_kind : Kind → Result (Unit {0}) Reason

@@ -8,10 +8,8 @@ ghost use Rattle.transfer.specs.Arithmetic.{check_readable, distance, moved_offs
 
 use interval::{Range, alu32, alu64};
 use reg_kinds::{Kind, Reason, ValuePointer};
+use tagged_model::FARTHEST_OFFSET;
 use words::{AluOp, Operator};
-
-/// The farthest that an offset may be, in bytes: 2^29.
-const FARTHEST: i64 = 0x2000_0000;
 
 /// The direction in which a number moves a pointer.
 #[derive(Clone, Copy, Debug, PartialEq, Eq)]
@@ -43,26 +41,26 @@ fn distance(range: Range) -> Option<(i64, i64)>
     }
 }
 
-/// The offset moved forwards by `by` bytes; `None` if it is then farther than `FARTHEST`.
+/// The offset moved forwards by `by` bytes; `None` if it is then farther than `FARTHEST_OFFSET`.
 fn moved_forwards(offset: i32, by: i64) -> Option<i32>
     ensures value { result ≡ moved_offset Forwards offset by }
     ensures moved { IfSome result (λ to. to ≡ offset +ℤ by) }
 {
     let to = i64::from(offset).checked_add(by)?;
-    if to < -FARTHEST || to > FARTHEST {
+    if to < -FARTHEST_OFFSET || to > FARTHEST_OFFSET {
         None
     } else {
         Some(to as i32)
     }
 }
 
-/// The offset moved backwards by `by` bytes; `None` if it is then farther than `FARTHEST`.
+/// The offset moved backwards by `by` bytes; `None` if it is then farther than `FARTHEST_OFFSET`.
 fn moved_backwards(offset: i32, by: i64) -> Option<i32>
     ensures value { result ≡ moved_offset Backwards offset by }
     ensures moved { IfSome result (λ to. to ≡ offset -ℤ by) }
 {
     let to = i64::from(offset).checked_sub(by)?;
-    if to < -FARTHEST || to > FARTHEST {
+    if to < -FARTHEST_OFFSET || to > FARTHEST_OFFSET {
         None
     } else {
         Some(to as i32)

@@ -1,17 +1,17 @@
 //! Accesses to the values of maps, and calls.
 
-ghost use Rattle.std.specs.Prelude.{◌≡◌, ◌<◌, ◌^◌, ◌+ℤ◌, pos, int_le, ◌&&◌, if◌then◌else◌, IfOk, IfErr, OnErr, OnOk, Ok, Err};
+ghost use Rattle.std.specs.Prelude.{◌≡◌, ◌<◌, ◌+ℤ◌, pos, int_le, ◌&&◌, if◌then◌else◌, IfOk, IfErr, OnErr, OnOk, Ok, Err};
 ghost use Rattle.tagged_model.specs.Named.{shapes_named};
 ghost use Rattle.reg_kinds.specs.declared.reason.Reason.TheVariants.{OutsideValue};
-ghost use Rattle.transfer.specs.Calls.{map_kind, room_of, input_kind, output_facts, number_kind, length_kind, context_kind, any_number, call_facts};
+ghost use Rattle.transfer.specs.Calls.{map_kind, room_of, input_kind, output_facts, number_kind, lengths_end, length_kind, context_kind, any_number, call_facts};
 
 use crate::arithmetic::check_readable;
 use interval::Range;
 use reg_kinds::{Facts, Kind, Reason, ValuePointer, facts_after_call, fill_stack, read_many};
 use tagged_model::{Helper, MapShape, Named, shape_of};
 
-/// A length argument of a helper is below this: 2^29 bytes.
-const LENGTHS_END: u64 = 0x2000_0000;
+/// A length that is passed to a helper is below this, in bytes: 2^29.
+pub const LENGTHS_END: u64 = 0x2000_0000;
 
 /// The shape of a map, and its descriptor.
 #[derive(Clone, Copy, Debug, PartialEq, Eq)]
@@ -85,7 +85,7 @@ fn input(named: &[Named], facts: &Facts, count: u32, kind: Kind) -> Result<(), R
 
 /// Updates the facts for a write, at an argument's address, of a number of bytes in the range `length`.
 fn output(facts: &mut Facts, named: &[Named], length: Range, kind: Kind) -> Result<(), Reason>
-    requires { length.hi < 2 ^ 29 }
+    requires { length.hi < lengths_end }
     ensures ok { OnOk result (output_facts (shapes_named named.now) facts.old length kind
         ≡ Ok facts.new) }
     ensures refused { IfErr result (λ reason. output_facts (shapes_named named.now) facts.old length
@@ -110,10 +110,10 @@ fn check_number(kind: Kind) -> Result<Range, Reason>
     }
 }
 
-/// The range of a length argument. `LengthUnbounded` unless it is above 0 and below 2^29; `HelperArgument` if it is no number.
+/// The range of a length argument. `LengthUnbounded` unless it is above 0 and below `LENGTHS_END`; `HelperArgument` if it is no number.
 fn check_length(kind: Kind) -> Result<Range, Reason>
     ensures value { result ≡ length_kind kind }
-    ensures bound { IfOk result (λ r. r.hi < 2 ^ 29) }
+    ensures bound { IfOk result (λ r. r.hi < lengths_end) }
 {
     let Kind::Scalar(range) = kind else {
         return Err(Reason::HelperArgument);

@@ -23,4 +23,5 @@ mod effects;
 pub mod laws;
 
 pub use branches::{Flow, set_ranges};
+pub use calls::LENGTHS_END;
 pub use effects::apply;

@@ -5,5 +5,6 @@ pub mod Operate
 pub mod Compare
 pub mod SignLaws
 pub mod Stack
+pub mod Context
 pub mod StackLaws
 pub mod Widths

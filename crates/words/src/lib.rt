@@ -15,6 +15,7 @@
 //! divisions have the tests for zero that the equations require.
 #![tactic(auto)]
 
+mod context;
 mod known_answers;
 mod operator;
 mod parts;
@@ -22,5 +23,6 @@ mod stack;
 pub mod words32;
 pub mod words64;
 
+pub use context::GIVEN_WORDS;
 pub use operator::{AluOp, ByteOrder, Condition, ExtendedBits, KeptBits, Operator};
 pub use stack::{AccessSize, REGISTERS, STACK_SIZE, STACK_SLOTS};

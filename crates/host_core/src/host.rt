@@ -20,7 +20,7 @@ use saving::SavableTenant;
 use seeded_hash::HashSeed;
 use std::alloc::{AllocError, Global};
 use std::marker::Model;
-use tenant::{Errno, laws};
+use tenant::{Errno, WorkingMemory, laws};
 
 /// The head of a reply to a frame that has none.
 const NO_HEAD: Head = Head {
@@ -38,6 +38,8 @@ pub struct Host {
     tenants: Vec<SavableTenant>,
     /// A part for each tenant: the values of its maps, and the stack and the context of its runs.
     arena: Arena,
+    /// The memory in which a load is verified, whichever tenant's it is.
+    working: WorkingMemory,
     alloc: Global,
 }
 
@@ -89,6 +91,7 @@ impl Host {
         Ok(Host {
             tenants: new_tenants(alloc, tenants, seed)?,
             arena: Arena::new(alloc, tenants, PART)?,
+            working: WorkingMemory::new(alloc),
             alloc,
         })
     }
@@ -129,8 +132,8 @@ impl Host {
             write_reply(head, Errno::NotPermitted.status(), &[], reply);
             return;
         }
-        let arena = &mut self.arena;
-        self.tenants[tenant].handle(self.alloc, head, frame, tenant, arena, reply);
+        let (arena, working) = (&mut self.arena, &mut self.working);
+        self.tenants[tenant].handle(self.alloc, head, frame, tenant, arena, working, reply);
     }
 
     /// The frames of one part of a save of `tenant`, each with its length before it; `None` after the last part, and for a tenant

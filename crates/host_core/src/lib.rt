@@ -98,8 +98,10 @@
 //! - Input is buffered; a reply is one write if the writer accepts it whole, and it is flushed before the next frame is read.
 //!   This is part of the contract: a `Sink` reports whether everything is flushed. The reader can fail in any call, so the
 //!   clause holds before each read.
-//! - `serve` allocates its buffers once. After that only these commands allocate: a load (the program, copied once, and space
-//!   for the verdict), and the creation of a hash map (room for its keys and places).
+//! - `serve` allocates its buffers once. After that only these commands allocate: a load (the program, copied once, and what is
+//!   missing in the host's memory for verdicts), and the creation of a hash map (room for its keys and places).
+//! - The loads of all tenants are verified in one memory of the host's, at most 5.1 MB, which stays from one load to the next. No
+//!   contract names what is in it, so no reply depends on it, unless memory is refused.
 //! - All parts of the arena are zeroed when the host starts, since the library has no zeroed allocation with pages on demand.
 //!   An idle host has 2.0 MB of resident memory for 1 tenant, 5.9 for 16 and 18.8 for 64, and starts in 1.4, 4.6 and 19
 //!   milliseconds. After that an idle tenant costs no time. The cost of a frame depends on its own key and value, not on the

@@ -1,7 +1,8 @@
 -- Laws of alike states. This project's own.
 use Rattle.std.specs.Prelude.{◌≡◌, ℕ, ◌+◌, ◌^◌, ◌≤◌, ◌<◌, Bool, List, [], ◌∷◌, length, map, Option, Some}
 use Rattle.std.specs.List.{AllByRecursion}
-use Rattle.command_frames.specs.Command.{Command, prog_test_run, given_words}
+use Rattle.command_frames.specs.Command.{Command, prog_test_run}
+use Rattle.words.specs.Context.{given_words}
 use Rattle.command_frames.specs.Frame.{owner}
 use Rattle.fd_table.specs.Table.{most}
 use Rattle.bpf_maps.specs.Limits.{most_maps}

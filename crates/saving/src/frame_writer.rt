@@ -1,8 +1,7 @@
 //! The frames that create the objects of births.
 
-ghost use Rattle.std.specs.Prelude.{◌≡◌, ◌++◌, [], length, IsSome, OnOk};
+ghost use Rattle.std.specs.Prelude.{◌≡◌, ◌++◌, [], length, OnOk};
 ghost use Rattle.bpf_maps.specs.declared.part.TheConstants.{PART};
-ghost use Rattle.bpf_maps.specs.Live.{live_at};
 ghost use Rattle.command_frames.specs.Command.{close, prog_load};
 ghost use Rattle.command_frames.specs.Frame.{framed};
 ghost use Rattle.fd_table.specs.Table.{first_descriptor, most, named};
@@ -134,7 +133,7 @@ impl FrameWriter {
         Ok(())
     }
 
-    /// Puts the keys of a live map in their order. The part has `PART` bytes.
+    /// Puts the keys of a map in their order. The part has `PART` bytes.
     fn put_all(
         &mut self,
         tenant: &Tenant,
@@ -142,7 +141,6 @@ impl FrameWriter {
         fd: u32,
         part: &[u8],
     ) -> Result<(), AllocError>
-        requires live { IsSome (live_at tenant.now.live map) }
         requires whole { length part.now ≡ PART }
         ensures written { OnOk result (self.new.frames.items
             ≡ self.old.frames.items ++ frames_of self.old.number

@@ -19,7 +19,7 @@ use crate::savable::SavableTenant;
 use arena::{Arena, laws};
 use command_frames::{BadFrame, Command, Head, ReplyBuf, parse};
 use std::alloc::Global;
-use tenant::{Errno, Tenant, write_answer};
+use tenant::{Errno, Tenant, WorkingMemory, write_answer};
 
 /// The error for a frame that carries no command.
 fn frame_error(fault: BadFrame) -> Errno
@@ -42,6 +42,7 @@ fn reply_to_command(
     command: Command<'_>,
     number: usize,
     arena: &mut Arena,
+    working: &mut WorkingMemory,
     reply: &mut ReplyBuf,
 )
     requires short { tail_length (shown_command command) ≤ longest_frame }
@@ -90,7 +91,7 @@ fn reply_to_command(
             write_answer(head, answer, reply);
         }
         Command::ProgLoad { kind, slots } => {
-            let loaded = tenant.load(alloc, kind, slots);
+            let loaded = tenant.load(alloc, kind, slots, working);
             births.note(tenant, &loaded);
             write_answer(head, loaded, reply);
         }
@@ -108,7 +109,7 @@ fn reply_to_command(
 
 impl SavableTenant {
     /// Executes a frame of this tenant, which is what follows the length field and has this head, and writes the reply to
-    /// `reply`.
+    /// `reply`. A load works in `working`, the memory for the loads of all tenants; its contents mean nothing.
     pub fn handle(
         &mut self,
         alloc: Global,
@@ -116,6 +117,7 @@ impl SavableTenant {
         frame: &[u8],
         tenant: usize,
         arena: &mut Arena,
+        working: &mut WorkingMemory,
         reply: &mut ReplyBuf,
     )
         requires head { head_of frame.now ≡ Some head }
@@ -138,7 +140,9 @@ impl SavableTenant {
         match parse(frame) {
             Ok(command) => {
                 let (kept, births) = (&mut self.tenant, &mut self.births);
-                reply_to_command(kept, births, alloc, head, command, tenant, arena, reply);
+                reply_to_command(
+                    kept, births, alloc, head, command, tenant, arena, working, reply,
+                );
             }
             Err(fault) => write_answer(head, Err(frame_error(fault)), reply),
         }

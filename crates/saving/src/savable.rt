@@ -15,6 +15,7 @@ use crate::birth::Births;
 use crate::frame_writer::FrameWriter;
 use crate::laws::{births_are_kept, maps_are_held};
 use arena::Arena;
+use bpf_maps::PART;
 use flat_machine::GIVEN_WORDS;
 use seeded_hash::HashSeed;
 use std::alloc::{AllocError, Global};
@@ -62,7 +63,7 @@ impl SavableTenant {
     }
 
     /// The frames of one part of a save, which are frames of tenant `number`, each with its length before it; `None` after the
-    /// last part. The tenant's part of the memory has `PART` bytes.
+    /// last part, and if the tenant's part of the memory does not have `PART` bytes.
     ///
     /// A new tenant that is given the frames of all parts in their order then replies as this one does. Between two parts nothing may
     /// change in this tenant, but other tenants may be served. Part 0 opens a program at each descriptor, the parts after it create one map
@@ -78,11 +79,13 @@ impl SavableTenant {
         index: usize,
         part: &[u8],
     ) -> Result<Option<Vec<u8>>, AllocError>
-        requires { length part.now ≡ PART }
-        ensures { IfOk result (λ saved. option_map (λ frames. frames.items) saved
+        ensures { length part.now ≡ PART → IfOk result (λ saved. option_map (λ frames. frames.items) saved
             ≡ option_map (frames_of number)
             (slice_get (parts (tenant_state part.now self.now) self.now.births) index)) }
     {
+        if part.len() != PART {
+            return Ok(None);
+        }
         let mut writer = FrameWriter::new(alloc, number);
         if index == 0 {
             writer.fill()?;

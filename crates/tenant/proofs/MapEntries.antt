@@ -2,7 +2,7 @@
 use Rattle.std.proofs.Common.{◌≡◌, ℕ, ◌+◌, ◌≤◌, Bool, true, false, List, [], ◌∷◌, map, length, Option, Some, None, IsSome, is_some, option_map, refl, sym, ap, subst, ◌∙◌, nat_eq, nat_lt, if◌then◌else◌, true≢false, arith}
 use Rattle.std.specs.Map.{values_of}
 use Rattle.bpf_maps.specs.Limits.{most_maps}
-use Rattle.bpf_maps.specs.Live.{LiveMaps, live_at, places_at, value_in, map_in}
+use Rattle.bpf_maps.specs.Live.{LiveMap, LiveMaps, AreSound, live_at, live_or, places_at, value_in, map_in}
 use Rattle.bpf_maps.specs.Places.{IsSound, occurrences}
 use Rattle.ordered_keys.specs.Orders.{first_entry, entry_behind, next_entry}
 use Rattle.tenant.specs.Entry.{placed_entries}
@@ -63,7 +63,32 @@ at_most_one : (b : Bool) (n m : ℕ) → n + m ≤ (if b then 1 else 0) → n �
 at_most_one true n m le = omega (arith, le)
 at_most_one false n m le = omega (arith, le)
 
-pub placed_once : (part : List ℕ) (t : LiveMaps) (k : ℕ) → IsSound (places_at t k) → (p : ℕ) → occurrences p (values_of (placed_entries part t k)) ≤ 1
-placed_once part t k sound p =
+placed_once_live : (part : List ℕ) (t : LiveMaps) (k : ℕ) → IsSound (places_at t k) → (p : ℕ) → occurrences p (values_of (placed_entries part t k)) ≤ 1
+placed_once_live part t k sound p =
     subst (λ (ps : List ℕ). occurrences p ps ≤ 1) (sym (places_moved (with_value part t k) (places_at t k).entries))
     (at_most_one (nat_lt p (places_at t k).shape.max_entries) (occurrences p (values_of (places_at t k).entries)) (occurrences p (places_at t k).kept) (sound.once p))
+
+-- a map that is not live has no entries
+no_entries : (l : Option LiveMap) → is_some l ≡ false → (live_or l).places.entries ≡ []
+no_entries None none = refl
+no_entries (Some l) none = absurd (true≢false none)
+
+none_follows : (place : Option ℕ) → next_entry {K = List ℕ} place [] ≡ None
+none_follows None = refl
+none_follows (Some p) = refl
+
+pub none_placed : (part : List ℕ) (t : LiveMaps) (k : ℕ) (place : Option ℕ) → is_some (live_at t k) ≡ false → None ≡ next_entry place (placed_entries part t k)
+none_placed part t k place none =
+    sym (next_placed part t k place
+    ∙ ap (λ (es : List (List ℕ × ℕ)). option_map (λ (e : List ℕ × ℕ). (with_value part t k e, e.1)) (next_entry place es)) (no_entries (live_at t k) none)
+    ∙ ap (option_map (λ (e : List ℕ × ℕ). (with_value part t k e, e.1))) (none_follows place))
+
+pub placed_once : (part : List ℕ) (t : LiveMaps) (k : ℕ) → AreSound t → (p : ℕ) → occurrences p (values_of (placed_entries part t k)) ≤ 1
+placed_once part t k sound p = by (live_at t k) refl
+  where
+    by : (o : Option LiveMap) → live_at t k ≡ o → occurrences p (values_of (placed_entries part t k)) ≤ 1
+    by None none =
+        subst (λ (ps : List ℕ). occurrences p ps ≤ 1)
+        (sym (places_moved (with_value part t k) (places_at t k).entries ∙ ap values_of (no_entries (live_at t k) (ap is_some none))))
+        (omega arith)
+    by (Some l) some = placed_once_live part t k (sound k (ap is_some some)) p

@@ -66,3 +66,4 @@ pub use object::{LoadedProgram, OpenObject};
 pub use readers::MapEntry;
 pub use reply::{Reply, write_answer};
 pub use tenant::Tenant;
+pub use verifier::WorkingMemory;

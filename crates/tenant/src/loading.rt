@@ -17,7 +17,7 @@ use crate::tenant::{Tenant, open};
 use bpf_maps::{MapKey, Maps};
 use fd_table::FdTable;
 use std::alloc::{AllocError, Global};
-use verifier::{Refusal, laws, verify_slots};
+use verifier::{Refusal, WorkingMemory, laws, verify_slots};
 
 /// The type of socket filters, the only one that can be loaded (BPF_PROG_TYPE_SOCKET_FILTER).
 const SOCKET_FILTER: u32 = 1;
@@ -70,6 +70,7 @@ impl Tenant {
         &self,
         alloc: Global,
         slots: &[u8],
+        working: &mut WorkingMemory,
     ) -> Result<Result<LoadedProgram, Refusal>, AllocError>
         ensures judges { IfOk result (λ verdict. IfOk verdict (λ l. (part : List ℕ) →
             Judges (targets (state_in part self.now)) slots.now (Ok l.insns))) }
@@ -86,7 +87,7 @@ impl Tenant {
         laws::loaded_maps_have_shapes();
         laws::maps_are_listed();
         let descriptors = self.targets(alloc)?;
-        match verify_slots(alloc, slots, &descriptors)? {
+        match verify_slots(alloc, slots, &descriptors, working)? {
             Ok(program) => {
                 let maps = maps_named(alloc, &self.objects, program.maps())?;
                 Ok(Ok(LoadedProgram::new(program, maps)))
@@ -113,18 +114,24 @@ impl Tenant {
     /// PROG_LOAD: opens the program that the slots spell, if it is accepted with the open descriptors. It keeps its maps
     /// when their descriptors are closed.
     ///
-    /// Slots that are no program, or whose program is not accepted, are rejected with the slot and the number of the cause.
+    /// Slots that are no program, or whose program is not accepted, are rejected with the slot and the number of the cause. `working` is
+    /// memory to work in, which the next load of any tenant can use again; its contents mean nothing.
     ///
     /// # Errors
     ///
     /// The first that applies: `Invalid` if `kind` is not the type of socket filters; `TooManyOpen` if no descriptor is free;
     /// `NoMemory` if out of memory, which sets the tenant's flag.
-    pub fn load(&mut self, alloc: Global, kind: u32, slots: &[u8]) -> Result<Reply<'static>, Errno>
-        requires { length slots.now < 2 ^ 32 }
+    pub fn load(
+        &mut self,
+        alloc: Global,
+        kind: u32,
+        slots: &[u8],
+        working: &mut WorkingMemory,
+    ) -> Result<Reply<'static>, Errno>
         ensures answer { (part : List ℕ) → (refused : Bool)
             × Loads refused (state_in part self.old) kind slots.now
             (shown_answer result (state_in part self.new)) }
-        ensures writable { IsWritable result }
+        ensures writable { length slots.now < 2 ^ 32 → IsWritable result }
     {
         if kind != SOCKET_FILTER {
             return Err(Errno::Invalid);
@@ -132,7 +139,7 @@ impl Tenant {
         if self.objects.is_full() {
             return Err(Errno::TooManyOpen);
         }
-        match self.program_of(alloc, slots) {
+        match self.program_of(alloc, slots, working) {
             Ok(Ok(program)) => Ok(Reply::Opened(self.open_program(program))),
             Ok(Err(refusal)) => Ok(Reply::Refused(refusal)),
             Err(AllocError) => {

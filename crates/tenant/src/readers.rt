@@ -14,7 +14,7 @@ ghost use Rattle.tenant.specs.State.{live};
 
 use crate::object::OpenObject;
 use crate::tenant::Tenant;
-use bpf_maps::{KeyRef, MapKey};
+use bpf_maps::{KeyRef, MapKey, PART};
 use tagged_model::MapShape;
 
 /// A key of a map, its value, and the place of the value in the map.
@@ -56,22 +56,27 @@ impl Tenant {
         }
     }
 
-    /// The key of a live map that follows the one of a place, or the first key if no place is given, with its value, which is
-    /// borrowed from the tenant's part of `PART` bytes. `None` if there is none, and if no key has the place.
+    /// The key of a map that follows the one of a place, or the first key if no place is given, with its value, which is borrowed
+    /// from the tenant's part of `PART` bytes. `None` if there is none, if no key has the place, if the map is not live, and for a
+    /// part of another size.
     pub fn map_entry<'a>(
         &'a self,
         map: MapKey,
         after: Option<u32>,
         part: &'a [u8],
     ) -> Option<MapEntry<'a>>
-        requires live { IsSome (live_at self.now.live map) }
-        requires whole { length part.now ≡ PART }
-        ensures entry { option_map lent_entry result
+        ensures entry { length part.now ≡ PART → option_map lent_entry result
             ≡ next_entry after (placed_entries part.now self.now.live map) }
         ensures once { (p : ℕ) →
             occurrences p (values_of (placed_entries part.now self.now.live map)) ≤ 1 }
     {
         self.maps.maps_are_laid();
+        if part.len() != PART {
+            return None;
+        }
+        if !self.maps.is_live(map) {
+            return None;
+        }
         let Some(entry) = self.maps.entry_after(map, after) else {
             return None;
         };

@@ -10,6 +10,7 @@ use crate::maps::{entries_of, loaded_maps};
 use crate::pass::check_safety;
 use crate::shape::check_shape;
 use crate::watcher::Watcher;
+use crate::working_memory::WorkingMemory;
 use insn_codec::Program;
 use std::alloc::Global;
 use tagged_model::Named;
@@ -29,6 +30,7 @@ pub(crate) fn judge<W: Watcher>(
     program: &Program,
     named: &[Named],
     watcher: &mut W,
+    working: &mut WorkingMemory,
 ) -> Result<LoadedMaps, VerifyFault>
     ensures accepted { OnOk result (IsAccepted program.now named.now) }
     ensures maps { IfOk result (λ loaded. loaded.maps.items ≡ maps_of program.now) }
@@ -40,9 +42,11 @@ pub(crate) fn judge<W: Watcher>(
     ensures told_refused { IfErr result
         (IsToldRefused program.now named.now (W.told watcher.old) (W.told watcher.new)) }
 {
-    check_shape(alloc, program, named)?;
+    check_shape(program, named, &mut working.reached)?;
     let maps = loaded_maps(alloc, program, named)?;
     let entries = entries_of(alloc, named, &maps)?;
-    check_safety(alloc, program, &entries, watcher)?;
+    let verdict = check_safety(program, &entries, watcher, &mut working.pass);
+    working.pass.end();
+    verdict?;
     Ok(LoadedMaps { maps, entries })
 }

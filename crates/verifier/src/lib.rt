@@ -61,6 +61,10 @@
 //!   all slots (1,075 machine instructions a slot, now 700). Not used: copying and joining the stack only from its lowest written
 //!   slot on (half the cost with few slots written, 3 to 15% more with all 64).
 //! - The list of entries ends with the last target so far, so a program without jumps has none.
+//! - A caller that verifies many programs, as a host does, lends the memory for it (`WorkingMemory`), which it keeps from one program to
+//!   the next. Without it a program with 1,900 targets that wait had 1,060 page faults, and took five times as long. What a rejected program
+//!   leaves in it is removed at the end (`judge`), so that the next program, which may be another tenant's, does not take longer. The next
+//!   pass begins without entries all the same: `begin` of `Pass`. An entry for whose box the list of spare ones cannot grow is freed.
 //! - Edges are joined in the order of the pass, which is not that of the definition; joins commute and associate.
 //! - The verdict uses the shapes of the descriptors that the program loads, and keeps only these with a `Verified`. `verify`
 //!   accepts any list of names: the first entry of a descriptor counts.
@@ -91,6 +95,7 @@ mod shape;
 mod target_facts;
 mod verified;
 mod watcher;
+mod working_memory;
 
 pub use fault::VerifyFault;
 pub use refusal::{Cause, Refusal};
@@ -98,3 +103,4 @@ pub use reg_kinds::Reason;
 pub use tagged_model::Named;
 pub use verified::{Verified, verify, verify_slots, verify_watched};
 pub use watcher::Watcher;
+pub use working_memory::WorkingMemory;

@@ -1,13 +1,13 @@
 //! Whether each instruction may be run with the facts before it.
 
-ghost use Rattle.std.specs.Prelude.{◌≡◌, ◌⊎◌, ◌+◌, ◌*◌, ◌<◌, ℕ, option_map, if◌then◌else◌, Some, None, IfSome, IfOk, IfErr, OnOk};
+ghost use Rattle.std.specs.Prelude.{◌≡◌, ◌⊎◌, ◌+◌, ◌*◌, ◌<◌, ℕ, [], option_map, if◌then◌else◌, Some, None, IfSome, IfOk, IfErr, OnOk};
 ghost use Rattle.tagged_model.specs.Named.{shapes_named};
 ghost use Rattle.interval.specs.Refine.{RangePair};
 ghost use Rattle.reg_kinds.specs.Laws.{SlotsAbsorb};
 ghost use Rattle.verifier.specs.inside.Edges.{falling_from, jumping_from, MayRun};
 ghost use Rattle.verifier.specs.inside.Arriving.{Brings, arriving_at};
 ghost use Rattle.verifier.specs.inside.Jumps.{JumpsLand};
-ghost use Rattle.verifier.specs.inside.Numbers.{facts_on, with_ranges, falls_settled, jumps_settled, on_falling_edge, on_jumping_edge, IsSent, IsSentIf, IsPast, IsPastIf, AreNumbered};
+ghost use Rattle.verifier.specs.inside.Numbers.{facts_on, with_ranges, at_entry, falls_settled, jumps_settled, on_falling_edge, on_jumping_edge, IsSent, IsSentIf, IsPast, IsPastIf, AreNumbered};
 ghost use Rattle.verifier.specs.inside.Telling.{IsFaultTold, IsFirstTold, StopsTelling};
 ghost use Rattle.insn_set.specs.Flow.{jump_target};
 ghost use Rattle.insn_set.specs.Program.{slot_count};
@@ -26,9 +26,9 @@ use std::alloc::{AllocError, Global};
 use tagged_model::Named;
 use transfer::{Flow, apply, set_ranges};
 
-/// The facts during the pass over a program.
+/// The facts during the pass over a program. Their memory is reused by the pass over the next one.
 #[derive(Drop)]
-struct Pass {
+pub(crate) struct Pass {
     /// On the falling edge into the next instruction.
     falling: EdgeFacts,
     /// On the jumps to later slots.
@@ -227,6 +227,35 @@ fn run_past<W: Watcher>(
 }
 
 impl Pass {
+    /// Memory for the facts of a pass. Allocates nothing.
+    pub(crate) fn new(alloc: Global) -> Pass {
+        Pass {
+            falling: EdgeFacts {
+                is_known: false,
+                known: NumberedFacts::at_entry(),
+            },
+            entries: TargetFacts::new(alloc),
+            taken: NumberedFacts::at_entry(),
+        }
+    }
+
+    /// Begins a pass with the facts at program entry.
+    fn begin(&mut self)
+        ensures falling { self.new.falling ≡ Some at_entry }
+        ensures entries { self.new.entries ≡ [] }
+    {
+        self.end();
+        self.falling.known = NumberedFacts::at_entry();
+        self.falling.is_known = true;
+    }
+
+    /// Removes the facts on jumps that a rejected program has left. Their memory is kept.
+    pub(crate) fn end(&mut self)
+        ensures { self.new.entries ≡ [] }
+    {
+        self.entries.clear();
+    }
+
     /// Moves past the instruction at `slot`, if it may be run with the current facts. If there are none, no run reaches it.
     #[inline(always)]
     fn go_past<W: Watcher>(
@@ -299,10 +328,10 @@ impl Pass {
 /// Finds the first instruction that may not be run with the facts before it, in one pass over the slots, which holds the facts on
 /// the falling edge and those on jumps to later slots. The watcher receives the facts before each instruction.
 pub(crate) fn check_safety<W: Watcher>(
-    alloc: Global,
     program: &Program,
     named: &[Named],
     watcher: &mut W,
+    pass: &mut Pass,
 ) -> Result<(), VerifyFault>
     requires { JumpsLand program.now }
     ensures sound { OnOk result (HasNoFault (safety_fault (shapes_named named.now) program.now)) }
@@ -315,14 +344,7 @@ pub(crate) fn check_safety<W: Watcher>(
     laws::joins_associate();
     laws::slots_absorb();
     let slots = program.slots();
-    let mut pass = Pass {
-        falling: EdgeFacts {
-            is_known: true,
-            known: NumberedFacts::at_entry(),
-        },
-        entries: TargetFacts::new(alloc),
-        taken: NumberedFacts::at_entry(),
-    };
+    pass.begin();
     for slot in 0..slots {
         if let Some(insn) = program.get(slot) {
             pass.step(named, insn, slot, watcher)?;

@@ -11,7 +11,6 @@ ghost use Rattle.verifier.specs.Verdict.{IsFirstFault, HasNoFault, memory_fault}
 use crate::fault::VerifyFault;
 use insn_codec::{Insn, MAX_SLOTS, Profile, Program, Reference, Reg, Successors};
 use reg_kinds::Reason;
-use std::alloc::Global;
 use tagged_model::{Named, Target, known_helper, shape_of, target_of};
 
 /// The frame pointer's number.
@@ -177,11 +176,12 @@ fn mark_edges(reached: &mut [bool], insn: &Insn, row: &Profile, slot: usize)
     }
 }
 
-/// Finds the first fault of a program's shape, in one pass, with a flag for each slot to which an earlier instruction's edge leads.
+/// Finds the first fault of a program's shape, in one pass. `reached` is space for a flag for each slot to which an earlier
+/// instruction's edge leads.
 pub(crate) fn check_shape(
-    alloc: Global,
     program: &Program,
     named: &[Named],
+    reached: &mut Vec<bool>,
 ) -> Result<(), VerifyFault>
     ensures sound { OnOk result (HasNoFault (structure_fault program.now named.now)) }
     ensures lands { OnOk result (JumpsLand program.now) }
@@ -189,7 +189,8 @@ pub(crate) fn check_shape(
         ⊎ IsFirstFault (structure_fault program.now named.now) e.slot e.reason) }
 {
     let slots = program.slots();
-    let mut reached = vec![in alloc; false; slots]?;
+    reached.clear();
+    reached.resize(slots, false)?;
     reached[0] = true;
     let code = program.code();
     let mut slot = 0;
@@ -199,7 +200,7 @@ pub(crate) fn check_shape(
         if let Some(reason) = shape_reason(program, named, insn, &row, slot, reached[slot]) {
             return Err(VerifyFault { slot, reason });
         }
-        mark_edges(&mut reached, insn, &row, slot);
+        mark_edges(reached, insn, &row, slot);
         slot += row.slots;
     }
     Ok(())

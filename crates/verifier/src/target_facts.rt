@@ -83,6 +83,15 @@ fn append_empty(facts: &mut Vec<Option<Box<NumberedFacts>>>, slots: usize) -> Re
     Ok(())
 }
 
+/// Takes out all entries, and keeps their boxes for reuse. A box for which the list cannot grow is freed.
+fn keep_all(facts: &mut [Option<Box<NumberedFacts>>], spare: &mut Vec<Box<NumberedFacts>>) {
+    for entry in facts {
+        if let Some(entry) = entry.take() {
+            let _kept = keep(spare, entry);
+        }
+    }
+}
+
 impl TargetFacts {
     /// No entries.
     pub(crate) fn new(alloc: Global) -> TargetFacts
@@ -92,6 +101,14 @@ impl TargetFacts {
             facts: Vec::new(alloc),
             spare: Vec::new(alloc),
         }
+    }
+
+    /// Removes all entries. Their memory is kept for later ones.
+    pub(crate) fn clear(&mut self)
+        ensures { self.new ≡ [] }
+    {
+        keep_all(&mut self.facts, &mut self.spare);
+        self.facts.clear();
     }
 
     /// Joins the facts of the jumps to `slot` into those that are known there otherwise, and empties the entry.

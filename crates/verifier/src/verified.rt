@@ -16,6 +16,7 @@ use crate::judging::{LoadedMaps, judge};
 use crate::laws;
 use crate::refusal::Refusal;
 use crate::watcher::{Unwatched, Watcher};
+use crate::working_memory::WorkingMemory;
 use insn_codec::{FaultKind, Program, read_program};
 use reg_kinds::Reason;
 use std::alloc::{AllocError, Global};
@@ -91,13 +92,14 @@ pub fn verify(alloc: Global, program: &Program, named: &[Named]) -> Result<Verif
     ensures accepted { IfOk result (IsAcceptedAs program.now named.now) }
     ensures refused { IfErr result (IsFaultOf program.now named.now) }
 {
-    let loaded = judge(alloc, program, named, &mut Unwatched)?;
+    let mut working = WorkingMemory::new(alloc);
+    let loaded = judge(alloc, program, named, &mut Unwatched, &mut working)?;
     let program = program.clone()?;
     Ok(Verified { program, loaded })
 }
 
 /// Verifies the program that the bytes of slots spell. It is kept without a copy, or the slots are rejected: out of memory is the
-/// only other error.
+/// only other error. `working` is memory to work in, which the next call can use again; its contents mean nothing.
 ///
 /// # Errors
 ///
@@ -106,6 +108,7 @@ pub fn verify_slots(
     alloc: Global,
     slots: &[u8],
     named: &[Named],
+    working: &mut WorkingMemory,
 ) -> Result<Result<Verified, Refusal>, AllocError>
     ensures accepted { IfOk result (λ verdict. IfOk verdict (λ program.
         Judges named.now slots.now (Ok program.code))) }
@@ -125,7 +128,7 @@ pub fn verify_slots(
         Err(fault) if fault.kind == FaultKind::Memory => return Err(AllocError),
         Err(fault) => return Ok(Err(Refusal::from(fault))),
     };
-    match judge(alloc, &program, named, &mut Unwatched) {
+    match judge(alloc, &program, named, &mut Unwatched, working) {
         Ok(loaded) => Ok(Ok(Verified { program, loaded })),
         Err(fault) if fault.reason == Reason::Memory => Err(AllocError),
         Err(fault) => Ok(Err(Refusal::from(fault))),
@@ -152,6 +155,7 @@ pub fn verify_watched<W: Watcher>(
     ensures told_refused { IfErr result
         (IsToldRefused program.now named.now (W.told watcher.old) (W.told watcher.new)) }
 {
-    judge(alloc, program, named, watcher)?;
+    let mut working = WorkingMemory::new(alloc);
+    judge(alloc, program, named, watcher, &mut working)?;
     Ok(())
 }

@@ -13,7 +13,7 @@ use crate::program::texts::{read_input, slots_on};
 use host_core::{Sink, Source, write_whole};
 use std::alloc::{AllocError, Global};
 use tagged_model::Named;
-use verifier::{Refusal, laws, verify_slots};
+use verifier::{Refusal, WorkingMemory, laws, verify_slots};
 
 /// Why the slots on the input's hex lines are rejected, if these maps are open; `None` if their program is accepted.
 fn refusal_of_input(alloc: Global, maps: &[Named], input: &[u8]) -> Result<Option<Refusal>, Failure>
@@ -27,7 +27,7 @@ fn refusal_of_input(alloc: Global, maps: &[Named], input: &[u8]) -> Result<Optio
     // By this law there is one judgement.
     laws::one_judgement();
     let slots = slots_on(alloc, input)?;
-    match verify_slots(alloc, &slots, maps)? {
+    match verify_slots(alloc, &slots, maps, &mut WorkingMemory::new(alloc))? {
         Ok(_) => Ok(None),
         Err(refusal) => Ok(Some(refusal)),
     }

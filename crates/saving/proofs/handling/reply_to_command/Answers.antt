@@ -79,16 +79,17 @@ returns-in-MapNextKey-clause-told c =
     let e = c.next_key-answer.ensures in
     told false c.next_key-answer.result c.in-MapNextKey.is (e.answer (part_bytes c.args.arena.now c.args.number)) e.writable c.write_answer-in-MapNextKey.ensures refl
 
-pub load-loaded-requires : goal.load-loaded-requires
-load-loaded-requires c =
+pub write_answer-requires-in-ProgLoad : goal.write_answer-requires-in-ProgLoad
+write_answer-requires-in-ProgLoad c =
     let short = subst (λ (x : CodeCommand). tail_length (shown_command x) ≤ longest_frame) c.in-ProgLoad.is c.requires.short in
-    omega (arith, short)
+    c.load-loaded.ensures.writable (omega (arith, short))
 
 pub returns-in-ProgLoad-clause-told : goal.returns-in-ProgLoad-clause-told
 returns-in-ProgLoad-clause-told c =
     let e = c.load-loaded.ensures in
+    let short = subst (λ (x : CodeCommand). tail_length (shown_command x) ≤ longest_frame) c.in-ProgLoad.is c.requires.short in
     let (refused, loads) = e.answer (part_bytes c.args.arena.now c.args.number) in
-    told refused c.load-loaded.result c.in-ProgLoad.is loads e.writable c.write_answer-in-ProgLoad.ensures
+    told refused c.load-loaded.result c.in-ProgLoad.is loads (e.writable (omega (arith, short))) c.write_answer-in-ProgLoad.ensures
     (c.note-in-ProgLoad.ensures ∙ told_is_opened c.load-loaded.result (state_in (part_bytes c.args.arena.now c.args.number) c.load-loaded.new.self) c.args.births.now)
 
 pub returns-in-ProgTestRun-clause-told : goal.returns-in-ProgTestRun-clause-told

@@ -27,7 +27,7 @@ pub returns-clause-told : goal.returns-clause-told
 returns-clause-told g c =
     let code = c.args.program.now in
     let old = g.W.Watcher.told c.args.watcher.now in
-    let new = g.W.Watcher.told c.check_safety.new.watcher in
+    let new = g.W.Watcher.told c.check_safety-verdict.new.watcher in
     let is = c.in_ok-entries.ensures ∙ ap (λ (fds : List ℕ). entries_of fds c.args.named.now) (c.deref.ensures.value ∙ c.in_ok-maps.ensures) in
     let entries = c.deref-2.ensures.value ∙ is in
-    subst (λ (es : List Named). IsToldBelow (slot_count code) (shapes_named es) code old new) entries c.in_ok-check_safety.ensures.told
+    subst (λ (es : List Named). IsToldBelow (slot_count code) (shapes_named es) code old new) entries c.in_ok-verdict.ensures.told

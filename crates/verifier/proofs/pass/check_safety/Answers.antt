@@ -21,7 +21,7 @@ loop-slot-init g c =
     let count = c.slots-slots.ensures.count in
     let some : 1 ≤ slot_count code = subst (λ (n : ℕ). 1 ≤ n) count c.slots-slots.ensures.some in
     record {
-      known = at_start (shapes_named c.args.named.now) code _ some (ap Some c.at_entry.ensures) c.new.ensures;
+      known = at_start (shapes_named c.args.named.now) code _ some c.begin.ensures.falling c.begin.ensures.entries;
       none_below = λ n lt. absurd (omega arith);
       told = told_first (shapes_named c.args.named.now) code _;
     }

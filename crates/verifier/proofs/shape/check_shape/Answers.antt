@@ -14,10 +14,10 @@ use Rattle.verifier.proofs.shape.check_shape.Goals as goal
 
 pub loop-slot-init : goal.loop-slot-init
 loop-slot-init c =
-    let items : c.in_ok-reached.reached.items ≡ replicate (slot_count c.args.program.now) false = search rules in
+    let items : c.resize.new.self.items ≡ replicate (slot_count c.args.program.now) false = search rules in
     record {
       begins = begins_first c.args.program.now (omega (arith, c.slots-slots.ensures.count, c.slots-slots.ensures.some));
-      long = length-set c.in_ok-reached.reached.items 0 true ∙ ap length items ∙ length-replicate (slot_count c.args.program.now) false;
+      long = length-set c.resize.new.self.items 0 true ∙ ap length items ∙ length-replicate (slot_count c.args.program.now) false;
       marked = λ i above lt. marked_first c.args.program.now _ i (ap (λ (bs : List Bool). set bs 0 true) items) lt;
       none_below = λ n lt. absurd (omega arith);
     }
@@ -74,7 +74,7 @@ loop-slot-preserved c =
           ];
     }
 
-sound : (c : goal.After-drop-reached-2) (n : ℕ) → structure_fault c.args.program.now c.args.named.now n ≡ None
+sound : (c : goal.After-loop-slot) (n : ℕ) → structure_fault c.args.program.now c.args.named.now n ≡ None
 sound c n =
     elim (cases_lt n (slot_count c.args.program.now)) [
       | inl lt ↦ c.loop-slot.invariant.none_below n (omega (arith, c.loop-slot-test.false, c.slots-slots.ensures.count))

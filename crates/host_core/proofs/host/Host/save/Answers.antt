@@ -21,10 +21,11 @@ returns c =
     let found : slice_get ks t ≡ Some k =
     subst (λ (xs : List RecordedTenant). slice_get xs t ≡ Some k) c.deref.ensures.value
     (slice_get_in c.deref.result.now t k (ltb-true t (length c.deref.result.now) (sym at.0)) at.1) in
+    let whole = c.part.ensures.length ∙ c.self.invariant.2 in
     let is =
     ap (λ (bytes : List ℕ). option_map (frames_of t) (slice_get (parts (tenant_state bytes k) k.births) c.args.part)) c.part.ensures.bytes
     ∙ saved_there c.self.inside.arena ks c.args.self.now t c.args.part k c.self.view_is found in
-    subst (λ (x : Option (List ℕ)). IfOk c.save_part.result (λ saved. option_map (λ frames. frames.items) saved ≡ x)) is c.save_part.ensures
+    subst (λ (x : Option (List ℕ)). IfOk c.save_part.result (λ saved. option_map (λ frames. frames.items) saved ≡ x)) is (c.save_part.ensures whole)
 
 pub returns-in_default : goal.returns-in_default
 returns-in_default c =

@@ -24,7 +24,7 @@ returns-in-Some c =
     let s = state_in c.args.part.now c.self.inside.tenant in
     let bs = c.self.inside.births in
     let other : c.args.index ≢ 0 = λ e. absurd (omega (arith, e, c.if-index-eq0.false)) in
-    subst (as_saved c.args.number c.args.part.now c.args.index (Some c.make.new.self.frames.items)) c.self.view_is
+    λ _. subst (as_saved c.args.number c.args.part.now c.args.index (Some c.make.new.self.frames.items)) c.self.view_is
     (is_written c.args.number c.new-writer.result.number c.new-writer.result.frames.items c.make.new.self.frames.items (slice_get (parts s bs) c.args.index) (birth_commands s c.in-Some.birth)
     (part_of_birth s bs c.args.index c.in-Some.birth other (sym c.get.ensures ∙ c.in-Some.is)) c.new-writer.ensures.frames c.new-writer.ensures.number c.in_ok-make.ensures.written)
 
@@ -34,7 +34,7 @@ returns-then-index-len c =
     let bs = c.self.inside.births in
     let other : c.args.index ≢ 0 = λ e. absurd (omega (arith, e, c.if-index-eq0.false)) in
     let far : c.args.index - 1 ≢ length bs = λ e. absurd (omega (arith, e, c.if-index-len.true, c.len.ensures)) in
-    subst (as_saved c.args.number c.args.part.now c.args.index None) c.self.view_is
+    λ _. subst (as_saved c.args.number c.args.part.now c.args.index None) c.self.view_is
     (sym (ap (option_map (frames_of c.args.number)) (no_part s bs c.args.index other (sym c.get.ensures ∙ c.in_default.is) far)))
 
 pub returns : goal.returns
@@ -43,6 +43,6 @@ returns c =
     let bs = c.self.inside.births in
     let other : c.args.index ≢ 0 = λ e. absurd (omega (arith, e, c.if-index-eq0.false)) in
     let last : c.args.index - 1 ≡ length bs = omega (arith, c.if-index-len.false, c.len.ensures) in
-    subst (as_saved c.args.number c.args.part.now c.args.index (Some c.close_rest.new.self.frames.items)) c.self.view_is
+    λ _. subst (as_saved c.args.number c.args.part.now c.args.index (Some c.close_rest.new.self.frames.items)) c.self.view_is
     (is_written c.args.number c.new-writer.result.number c.new-writer.result.frames.items c.close_rest.new.self.frames.items (slice_get (parts s bs) c.args.index) (closings s.objects first_descriptor most)
     (part_of_rest s bs c.args.index other last) c.new-writer.ensures.frames c.new-writer.ensures.number c.in_ok-close_rest.ensures.written)

@@ -1,3 +1,3 @@
-pub mod Known
-pub mod Said
-pub mod inside
+-- what public contracts cite of crates below
+pub use Rattle.log_facts.specs.Known
+pub use Rattle.log_facts.specs.Said

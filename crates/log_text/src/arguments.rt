@@ -1,7 +1,7 @@
 //! The program's arguments.
 
-use crate::log::LogStyle;
 use clap::{Arg, ArgAction, ArgMatches, Command};
+use log_facts::LogStyle;
 use std::alloc::{AllocError, Global};
 
 /// The form of the input's program.

@@ -1,5 +1,5 @@
-//! The facts of the verifier as text: the log of a program, line by line, and its control flow as a graph. The program
-//! `verifier_log` writes what `log_of` returns.
+//! The log of a program: its lines or its graph, with the verdict and why. The program `verifier_log` writes what `log_of`
+//! returns.
 //!
 //! # What is proved
 //!
@@ -14,33 +14,17 @@
 //!
 //! # Decisions
 //!
-//! - The log is a program of its own, so the subcommands and statuses of `bpfhost` stay. The facts are stored as the pass
-//!   reports them, and the log is written after the pass: if memory is refused, there is no partial log, and the contract can
-//!   say which facts it is written from. For 4,092 instructions the facts take 9.5 MB while a log is made, and the system some
-//!   5 ms to provide them, next to 7 ms for the log; machine instructions are within 2% of those before this form.
-//! - A line shows what differs from the line above, also after a jump: so a line needs only the facts of the line before it,
-//!   and all that is known at a line follows from those above it. What a comparison refines on its edges is computed again from
-//!   the facts before it (`Edges`, by `apply`), as the pass only reports facts before instructions.
-//! - The time of a log grows with its slots: the jumps are sorted once by target.
-//! - The path on which something is missing is found by a second pass over the stored facts, only if a register or stack bytes
-//!   may not be read: it carries along each edge whether the thing is present, and if not, why.
+//! - The log is a program of its own, so the subcommands and statuses of `bpfhost` stay.
+//! - Four crates make a log. `log_facts` has the verdict, the facts, and the definitions that the clauses of `log_of` cite; `log_listing`
+//!   writes lines and graphs, and `log_reasons` why a program is rejected, side by side. This crate has `log_of`, which puts the three
+//!   together, and the command line. Only it uses `host`, so a change of the host proves no wording again, and a change
+//!   of a sentence no other.
 #![tactic(auto)]
 
 mod arguments;
-mod control;
-mod edges;
-mod graph;
-mod kinds;
-mod known;
-mod lines;
 mod log;
-mod needs;
-mod reasons;
-mod recorder;
 mod running;
-mod steps;
-mod ways;
 
-pub use log::{Log, LogStyle, log_of};
-pub use recorder::KnownFacts;
+pub use log::log_of;
+pub use log_facts::{KnownFacts, Log, LogStyle};
 pub use running::run_log_words;

@@ -1,10 +1,11 @@
 //! The command-line program: it reads a program and writes its log.
 
 use crate::arguments::{ProgramForm, form_of, parse_arguments, style_of};
-use crate::log::{Log, LogStyle, log_of};
+use crate::log::log_of;
 use clap::ArgMatches;
 use host::{Failure, hex_slots, maps_named, text_program, whole_input};
 use insn_codec::{FaultKind, Program, read_program};
+use log_facts::{Log, LogStyle};
 use std::alloc::{AllocError, Global};
 use std::io::{Read, Write};
 use tagged_model::Named;

@@ -1,0 +1,85 @@
+//! The facts on the edges out of an instruction.
+
+use insn_codec::{Insn, Operand, Reg};
+use interval::Range;
+use reg_kinds::{Facts, settle};
+use tagged_model::Named;
+use transfer::{Flow, apply, set_ranges};
+
+/// The facts on the edges out of an instruction. Facts are large, so they are stored in place, and flags say whether they are valid.
+#[derive(Drop)]
+pub struct Edges {
+    /// Whether a run may take the falling edge.
+    pub falls: bool,
+    /// The facts on it.
+    pub falling: Facts,
+    /// Whether a run may take the jumping edge.
+    pub jumps: bool,
+    /// The facts on it.
+    pub jumping: Facts,
+}
+
+/// Sets the ranges of both operands on an edge of a comparison. Returns whether a run may take it.
+fn refine(facts: &mut Facts, dst: Reg, src: &Operand, ranges: Option<(Range, Range)>) -> bool {
+    match ranges {
+        Some(ranges) => {
+            set_ranges(facts, dst, src, ranges);
+            true
+        }
+        None => false,
+    }
+}
+
+impl Edges {
+    /// No edge; the facts are a filler.
+    pub fn none(filler: &Facts) -> Edges {
+        Edges {
+            falls: false,
+            falling: *filler,
+            jumps: false,
+            jumping: *filler,
+        }
+    }
+
+    /// Refines the facts after an instruction, which are in both buffers, by the flow out of it.
+    fn take(&mut self, flow: &Flow) {
+        (self.falls, self.jumps) = match *flow {
+            Flow::Ends => (false, false),
+            Flow::Falls | Flow::WritesSlot(_) | Flow::Writes => (true, false),
+            Flow::Jumps => (false, true),
+            Flow::Either => (true, true),
+            Flow::Compares {
+                dst,
+                src,
+                falls,
+                jumps,
+            } => (
+                refine(&mut self.falling, dst, &src, falls),
+                refine(&mut self.jumping, dst, &src, jumps),
+            ),
+            Flow::Settles {
+                site,
+                jumps_on_null,
+            } => {
+                settle(&mut self.falling, site, !jumps_on_null);
+                settle(&mut self.jumping, site, jumps_on_null);
+                (true, true)
+            }
+        };
+    }
+
+    /// Computes the edges out of the instruction at `slot` from the facts before it: none if it is rejected.
+    pub fn leave(&mut self, facts: &Facts, named: &[Named], slot: usize, insn: &Insn) {
+        self.falling = *facts;
+        match apply(&mut self.falling, named, slot, insn) {
+            Ok(flow) => {
+                self.jumping = self.falling;
+                self.take(&flow);
+            }
+            Err(_) => {
+                self.falls = false;
+                self.jumps = false;
+            }
+        }
+    }
+}

@@ -1,0 +1,90 @@
+//! Kinds as text.
+
+use interval::Range;
+use reg_kinds::{Kind, ValuePointer};
+use std::alloc::AllocError;
+use std::fmt::Write;
+
+/// Writes a number, and after one of 2^63 or more its value as a signed number.
+fn write_number(text: &mut String, number: u64) -> Result<(), AllocError> {
+    let signed = number.cast_signed();
+    if signed < 0 {
+        write!(text, "{number} ({signed})")
+    } else {
+        write!(text, "{number}")
+    }
+}
+
+/// Writes a range: its one number, or the least and the greatest.
+///
+/// # Errors
+///
+/// `AllocError`: out of memory for the text.
+pub fn write_range(text: &mut String, range: Range) -> Result<(), AllocError> {
+    let (lo, hi) = (range.lo, range.hi);
+    if lo == hi {
+        write_number(text, lo)
+    } else if lo == 0 && hi == u64::MAX {
+        text.push_str("any number")
+    } else {
+        write!(text, "{lo} to {hi}")
+    }
+}
+
+/// Writes an offset from a named place.
+fn write_place(text: &mut String, name: &str, offset: i32) -> Result<(), AllocError> {
+    let distance = offset.unsigned_abs();
+    if offset == 0 {
+        text.push_str(name)
+    } else if offset < 0 {
+        write!(text, "{name} - {distance}")
+    } else {
+        write!(text, "{name} + {distance}")
+    }
+}
+
+/// Writes a pointer into a map's value.
+fn write_value_pointer(text: &mut String, pointer: ValuePointer) -> Result<(), AllocError> {
+    let (map, lo, hi) = (pointer.map, pointer.lo, pointer.hi);
+    write!(text, "value of map {map}, offset {lo}")?;
+    if lo == hi {
+        Ok(())
+    } else {
+        write!(text, " to {hi}")
+    }
+}
+
+/// Writes a kind: what a value is that has it.
+///
+/// # Errors
+///
+/// `AllocError`: out of memory for the text.
+pub fn write_kind(text: &mut String, kind: Kind) -> Result<(), AllocError> {
+    match kind {
+        Kind::Unreadable => text.push_str("not readable"),
+        Kind::Scalar(range) => write_range(text, range),
+        Kind::MapRef(map) => write!(text, "map {map}"),
+        Kind::Stack(offset) => write_place(text, "stack", offset),
+        Kind::Ctx => text.push_str("context"),
+        Kind::Value(pointer) => write_value_pointer(text, pointer),
+        Kind::MaybeValue { map, site } => {
+            write!(
+                text,
+                "value of map {map}, offset 0, or null (look-up at slot {site})"
+            )
+        }
+    }
+}
+
+/// Writes a range of bytes by its first and its last, both included.
+///
+/// # Errors
+///
+/// `AllocError`: out of memory for the text.
+pub fn write_bytes(text: &mut String, first: i64, last: i64) -> Result<(), AllocError> {
+    if first == last {
+        write!(text, "byte {first}")
+    } else {
+        write!(text, "bytes {first} to {last}")
+    }
+}

@@ -1,0 +1,60 @@
+//! A log, and what its verdict and its facts are.
+
+ghost use Rattle.std.specs.Prelude.{◌≡◌, ◌↔◌, IsTrue, List, string_bytes};
+ghost use Rattle.insn_set.specs.declared.insn.Insn.{Insn};
+ghost use Rattle.log_facts.specs.Known.{IsJudged, IsLogged};
+ghost use Rattle.log_facts.specs.Said.{EndsInVerdict, SaysVerdict};
+ghost use Rattle.tagged_model.specs.declared.shape.Named.{Named};
+ghost use Rattle.verifier.specs.Verdict.{IsAccepted};
+
+use crate::recorder::{Judged, KnownFacts};
+use verifier::laws;
+
+/// What a log shows.
+#[derive(Clone, Copy, Debug, PartialEq, Eq)]
+pub enum LogStyle {
+    /// A line for each instruction, with what is new before it.
+    New,
+    /// A line for each instruction, with all that is known before it.
+    Whole,
+    /// The control-flow graph, in the language of Graphviz.
+    Graph,
+}
+
+/// The log of a program.
+#[derive(Debug, Drop)]
+pub struct Log {
+    /// Its lines, or the graph.
+    pub text: String,
+    /// The verdict.
+    pub is_accepted: bool,
+    /// The facts from which its lines are written: those before each instruction that a run may reach, in order. Of a program that
+    /// is rejected for its safety, those up to the rejected instruction; of one that is rejected for its shape, none.
+    pub facts: Vec<KnownFacts>,
+}
+
+impl Judged {
+    /// The log with this text. For each program of which this is the verdict, the log has its facts and says whether it is
+    /// accepted; and so does the text, if the verdict is at its end.
+    pub fn into_log(self, text: String) -> Log
+        ensures text { result.text ≡ text }
+        ensures verdict { (code : List Insn) (named : List Named)
+            → IsJudged code named self.known.items self.fault
+            → IsTrue result.is_accepted ↔ IsAccepted code named }
+        ensures facts { (code : List Insn) (named : List Named)
+            → IsJudged code named self.known.items self.fault
+            → IsLogged code named result.is_accepted result.facts.items }
+        ensures said { (code : List Insn) (named : List Named)
+            → IsJudged code named self.known.items self.fault
+            → EndsInVerdict self.fault (string_bytes text)
+            → SaysVerdict code named result.is_accepted (string_bytes result.text) }
+    {
+        laws::accepted_is_not_refused();
+        let Judged { known, fault } = self;
+        Log {
+            text,
+            is_accepted: fault.is_none(),
+            facts: known,
+        }
+    }
+}

@@ -1,0 +1,79 @@
+//! The facts of the pass over a program, kept as they are received.
+
+ghost use Rattle.std.specs.Prelude.{IfOk};
+ghost use Rattle.log_facts.specs.Known.{IsJudged};
+
+use insn_codec::Program;
+use reg_kinds::{Facts, Kind, Reason, Slot};
+use std::alloc::{AllocError, Global};
+use tagged_model::Named;
+use verifier::{VerifyFault, Watcher, verify_watched};
+use words::{REGISTERS, STACK_SLOTS};
+
+/// What the verifier knows before an instruction that a run may reach.
+#[derive(Clone, Copy, Debug, PartialEq, Eq)]
+pub struct KnownFacts {
+    /// The slot at which the instruction begins.
+    pub slot: usize,
+    /// The facts before it.
+    pub facts: Facts,
+}
+
+/// Facts that say nothing.
+pub fn nothing_known() -> Facts {
+    Facts {
+        registers: [Kind::Unreadable; REGISTERS],
+        slots: [Slot::Bytes(0); STACK_SLOTS],
+    }
+}
+
+/// Keeps what the pass knows before each instruction that it reaches, in order.
+#[derive(Drop)]
+struct Recorder {
+    known: Vec<KnownFacts>,
+}
+
+impl Watcher for Recorder {
+    ghost use Rattle.std.specs.Prelude.{Some};
+    ghost use Rattle.log_facts.specs.Known.{facts_by_slot};
+
+    ghost told = { λ r. Some (facts_by_slot r.known.items) };
+
+    fn before(&mut self, slot: usize, facts: &Facts) -> Result<(), AllocError> {
+        let facts = *facts;
+        self.known.push(KnownFacts { slot, facts })?;
+        Ok(())
+    }
+}
+
+/// A program's verdict, with the facts that it depends on.
+#[derive(Debug, Drop)]
+pub struct Judged {
+    /// What is known before each instruction that the pass reached, in order.
+    pub known: Vec<KnownFacts>,
+    /// Why the program is rejected; `None` if it is accepted.
+    pub fault: Option<VerifyFault>,
+}
+
+/// Verifies a program, if descriptors name these objects, and keeps what is known before each instruction that the pass reaches.
+///
+/// # Errors
+///
+/// `AllocError`: out of memory for the verdict or for the facts.
+pub fn judge(alloc: Global, program: &Program, named: &[Named]) -> Result<Judged, AllocError>
+    ensures { IfOk result (λ told. IsJudged program.now named.now told.known.items told.fault) }
+{
+    let mut recorder = Recorder {
+        known: Vec::new(alloc),
+    };
+    let verdict = verify_watched(alloc, program, named, &mut recorder);
+    let Recorder { known } = recorder;
+    match verdict {
+        Ok(()) => Ok(Judged { known, fault: None }),
+        Err(fault) if fault.reason == Reason::Memory => Err(AllocError),
+        Err(fault) => Ok(Judged {
+            known,
+            fault: Some(fault),
+        }),
+    }
+}

@@ -1,0 +1,2 @@
+-- what public contracts cite of crates below
+pub use Rattle.log_facts.specs.Said

@@ -1,0 +1,252 @@
+//! The control-flow graph, in the language of Graphviz.
+
+use crate::control::{block_starts, target_at};
+use crate::lines::Story;
+use crate::steps::Step;
+use bpf_text::write_insn;
+use insn_codec::{Insn, Successors};
+use log_facts::write_verdict;
+use std::alloc::{AllocError, Global};
+use std::fmt::Write;
+use verifier::VerifyFault;
+
+/// The style of an edge that no run takes, and of a block that no run reaches.
+const UNREACHED: &str = "style=dashed, color=gray50, fontcolor=gray50";
+
+/// The first lines of a graph.
+const HEAD: &str =
+    "digraph program {\n    node [shape=box, fontname=\"monospace\"];\n    edge [fontname=\"monospace\"];\n";
+
+/// What is known of an edge.
+#[derive(Clone, Copy)]
+enum Edge<'a> {
+    /// Nothing: there was no pass.
+    Untold,
+    /// A run may take it; the text is what is new on it.
+    Taken(&'a str),
+    /// No run takes it.
+    Dead,
+}
+
+/// What is known of an edge from the pass.
+fn edge_of<'a>(story: &Story<'_>, told: Option<&'a String>) -> Edge<'a> {
+    match told {
+        Some(text) => Edge::Taken(text.as_str()),
+        None if story.is_told => Edge::Dead,
+        None => Edge::Untold,
+    }
+}
+
+/// The block that is being written.
+#[derive(Drop)]
+struct Block {
+    /// Its first slot.
+    first: usize,
+    /// Whether a run may reach it.
+    is_reached: bool,
+    /// Whether its last instruction is rejected.
+    is_refused: bool,
+}
+
+/// Writes the style of an edge, and its label.
+fn write_style(text: &mut String, name: &str, edge: Edge<'_>) -> Result<(), AllocError> {
+    match edge {
+        Edge::Dead => write!(text, " [{UNREACHED}]"),
+        Edge::Taken(told) if !told.is_empty() => write!(text, " [label=\"{name}:\\n{told}\"]"),
+        _ if name.is_empty() => Ok(()),
+        _ => write!(text, " [label=\"{name}\"]"),
+    }
+}
+
+/// Writes an edge.
+fn write_edge(
+    text: &mut String,
+    from: usize,
+    to: usize,
+    name: &str,
+    edge: Edge<'_>,
+) -> Result<(), AllocError> {
+    write!(text, "    block_{from} -> block_{to}")?;
+    write_style(text, name, edge)?;
+    text.push_str(";\n")
+}
+
+/// Writes the edges out of a block, those of its last instruction.
+fn write_edges(
+    text: &mut String,
+    story: &Story<'_>,
+    first: usize,
+    slot: usize,
+    insn: &Insn,
+    step: Option<&Step>,
+) -> Result<(), AllocError> {
+    let program = story.program;
+    let successors = insn.profile().successors;
+    let (not_taken, taken) = match successors {
+        Successors::NextOrJump(_) => ("not taken", "taken"),
+        Successors::Next | Successors::Jump(_) | Successors::Nothing => ("", ""),
+    };
+    let next = slot.saturating_add(insn.slots());
+    if successors.falls() && program.is_first(next) {
+        let told = step.and_then(|step| step.falling.as_ref());
+        write_edge(text, first, next, not_taken, edge_of(story, told))?;
+    }
+    match target_at(program, slot) {
+        Some(to) if program.is_first(to) => {
+            let told = step.and_then(|step| step.jumping.as_ref());
+            write_edge(text, first, to, taken, edge_of(story, told))
+        }
+        _ => Ok(()),
+    }
+}
+
+/// Writes the lines of a text into a label, aligned to the left.
+fn write_label(text: &mut String, lines: &str) -> Result<(), AllocError> {
+    for line in lines.lines() {
+        write!(text, "{line}\\l")?;
+    }
+    Ok(())
+}
+
+/// The graph that is being written.
+#[derive(Drop)]
+struct Graph<'a> {
+    alloc: Global,
+    story: &'a Story<'a>,
+    /// Why the program is rejected, if it is, and that in words.
+    fault: Option<VerifyFault>,
+    why: &'a str,
+    /// For each slot whether a block begins there.
+    starts: &'a [bool],
+    /// The index of the next step.
+    next: usize,
+    block: Block,
+}
+
+impl<'a> Graph<'a> {
+    /// Whether a block begins at a slot. True past the last slot.
+    fn is_start(&self, slot: usize) -> bool {
+        self.starts.get(slot).copied().unwrap_or(true)
+    }
+
+    /// The step of the instruction at a slot, if the pass reached it; advances to the step after it.
+    fn step_at(&mut self, slot: usize) -> Option<&'a Step> {
+        let step = self.story.steps.get(self.next)?;
+        if step.slot != slot {
+            return None;
+        }
+        self.next = self.next.saturating_add(1);
+        Some(step)
+    }
+
+    /// Writes the beginning of a block.
+    fn begin(
+        &mut self,
+        text: &mut String,
+        slot: usize,
+        is_reached: bool,
+    ) -> Result<(), AllocError> {
+        self.block = Block {
+            first: slot,
+            is_reached,
+            is_refused: false,
+        };
+        write!(text, "    block_{slot} [label=\"")
+    }
+
+    /// Writes the verdict into the label, if this is the instruction that is rejected.
+    fn write_fault(&mut self, text: &mut String, slot: usize) -> Result<(), AllocError> {
+        match self.fault {
+            Some(fault) if fault.slot == slot => {
+                let mut lines = String::new(self.alloc);
+                write_verdict(&mut lines, self.fault, self.why)?;
+                self.block.is_refused = true;
+                write_label(text, lines.as_str())
+            }
+            _ => Ok(()),
+        }
+    }
+
+    /// Writes the end of a block.
+    fn end(&self, text: &mut String) -> Result<(), AllocError> {
+        text.push_str("\"")?;
+        if self.block.is_refused {
+            text.push_str(", color=red, penwidth=2")?;
+        } else if self.story.is_told && !self.block.is_reached {
+            write!(text, ", {UNREACHED}")?;
+        }
+        text.push_str("];\n")
+    }
+
+    /// Writes the instruction at a slot into the label.
+    fn write_line(
+        &mut self,
+        text: &mut String,
+        slot: usize,
+        insn: &Insn,
+    ) -> Result<(), AllocError> {
+        write!(text, "{slot}: ")?;
+        write_insn(text, insn)?;
+        text.push_str("\\l")?;
+        self.write_fault(text, slot)
+    }
+
+    /// Writes the instruction at a slot, and the beginning and the end of a block there.
+    fn write_slot(
+        &mut self,
+        text: &mut String,
+        slot: usize,
+        insn: &Insn,
+    ) -> Result<(), AllocError> {
+        let step = self.step_at(slot);
+        if self.is_start(slot) {
+            self.begin(text, slot, step.is_some())?;
+        }
+        self.write_line(text, slot, insn)?;
+        if self.is_start(slot.saturating_add(insn.slots())) {
+            self.end(text)?;
+            let step = step.filter(|_| !self.block.is_refused);
+            write_edges(text, self.story, self.block.first, slot, insn, step)?;
+        }
+        Ok(())
+    }
+}
+
+/// Writes the blocks of a program and their edges.
+fn write_blocks(text: &mut String, mut graph: Graph<'_>) -> Result<(), AllocError> {
+    let program = graph.story.program;
+    for slot in 0..program.slots() {
+        if let Some(insn) = program.get(slot) {
+            graph.write_slot(text, slot, insn)?;
+        }
+    }
+    Ok(())
+}
+
+/// The graph of a program: its basic blocks with their instructions, and the edges between them with what is new on each.
+/// Those that no run reaches, as far as the pass went, are dashed; the block with the rejected instruction is red, with `why` in it.
+pub(crate) fn graph_of(
+    alloc: Global,
+    story: &Story<'_>,
+    fault: Option<VerifyFault>,
+    why: &str,
+) -> Result<String, AllocError> {
+    let starts = block_starts(alloc, story.program)?;
+    let graph = Graph {
+        alloc,
+        story,
+        fault,
+        why,
+        starts: &starts,
+        next: 0,
+        block: Block {
+            first: 0,
+            is_reached: false,
+            is_refused: false,
+        },
+    };
+    let mut text = String::from_str(alloc, HEAD)?;
+    write_blocks(&mut text, graph)?;
+    text.push_str("}\n")?;
+    Ok(text)
+}

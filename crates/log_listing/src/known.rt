@@ -1,0 +1,210 @@
+//! Facts as text: what is known of registers and of the stack, as far as it differs from earlier facts.
+
+ghost use Rattle.std.specs.Prelude.{◌<◌};
+
+use log_facts::write_kind;
+use reg_kinds::{Facts, Kind, Slot};
+use std::alloc::AllocError;
+use std::fmt::Write;
+use words::{REGISTERS, STACK_SLOTS};
+
+/// Writes a semicolon before a note, if there is text from `start` on.
+pub(crate) fn part(text: &mut String, start: usize) -> Result<(), AllocError> {
+    if text.len() > start {
+        text.push_str("; ")
+    } else {
+        Ok(())
+    }
+}
+
+/// Writes the registers whose kind is new, and readable.
+fn write_registers(
+    text: &mut String,
+    start: usize,
+    old: &Facts,
+    new: &Facts,
+) -> Result<(), AllocError> {
+    for number in 0..REGISTERS {
+        let kind = new.kind(number);
+        if kind != Kind::Unreadable && kind != old.kind(number) {
+            part(text, start)?;
+            write!(text, "r{number} = ")?;
+            write_kind(text, kind)?;
+        }
+    }
+    Ok(())
+}
+
+/// Writes the registers that are not readable any more.
+fn write_lost_registers(
+    text: &mut String,
+    start: usize,
+    old: &Facts,
+    new: &Facts,
+) -> Result<(), AllocError> {
+    let mut are_more = false;
+    for number in 0..REGISTERS {
+        if new.kind(number) == Kind::Unreadable && old.kind(number) != Kind::Unreadable {
+            if are_more {
+                text.push_str(", ")?;
+            } else {
+                part(text, start)?;
+            }
+            write!(text, "r{number}")?;
+            are_more = true;
+        }
+    }
+    if are_more {
+        text.push_str(" lost")
+    } else {
+        Ok(())
+    }
+}
+
+/// The mask of the bytes of a slot that are newly written.
+fn written(old: Slot, new: Slot) -> u8 {
+    match (old, new) {
+        (Slot::Bytes(before), Slot::Bytes(after)) => after & !before,
+        (Slot::Spill(_), Slot::Bytes(after)) => after,
+        (_, Slot::Spill(_)) => 0,
+    }
+}
+
+/// The mask of the bytes of a slot that are not readable any more.
+fn lost(old: Slot, new: Slot) -> u8 {
+    match (old, new) {
+        (Slot::Bytes(before), Slot::Bytes(after)) => before & !after,
+        (Slot::Spill(_), Slot::Bytes(after)) => !after,
+        (_, Slot::Spill(_)) => 0,
+    }
+}
+
+/// The offset of a slot's lowest byte from the stack's upper end.
+fn lowest_byte(index: usize) -> i64
+    requires { index < STACK_SLOTS }
+{
+    8 * index as i64 - 8 * STACK_SLOTS as i64
+}
+
+/// Consecutive bytes of the stack that are still to be written into the text.
+#[derive(Drop)]
+struct Row {
+    /// The offset in the text at which notes begin.
+    start: usize,
+    /// The first byte.
+    first: i64,
+    /// The byte after the last; equal to the first if there is no byte.
+    end: i64,
+}
+
+impl Row {
+    /// Writes the bytes, and that they are written or lost.
+    fn write(&self, text: &mut String, what: &str) -> Result<(), AllocError> {
+        if self.first == self.end {
+            return Ok(());
+        }
+        let (first, last) = (self.first, self.end.saturating_sub(1));
+        part(text, self.start)?;
+        if first == last {
+            write!(text, "stack {first} {what}")
+        } else {
+            write!(text, "stack {first} to {last} {what}")
+        }
+    }
+
+    /// Adds one more byte. If it does not follow the others, they are written first.
+    fn take(&mut self, text: &mut String, what: &str, byte: i64) -> Result<(), AllocError> {
+        if byte != self.end {
+            self.write(text, what)?;
+            self.first = byte;
+        }
+        self.end = byte.saturating_add(1);
+        Ok(())
+    }
+
+    /// Adds the bytes of a slot that are in a mask.
+    fn take_slot(
+        &mut self,
+        text: &mut String,
+        what: &str,
+        index: usize,
+        mask: u8,
+    ) -> Result<(), AllocError>
+        requires { index < STACK_SLOTS }
+    {
+        let lowest = lowest_byte(index);
+        for bit in 0..8_u8 {
+            if mask & (1 << bit) != 0 {
+                self.take(text, what, lowest.saturating_add(i64::from(bit)))?;
+            }
+        }
+        Ok(())
+    }
+}
+
+/// Writes the stack bytes that are newly written, or if `are_lost`, not readable any more.
+fn write_stack_bytes(
+    text: &mut String,
+    start: usize,
+    old: &Facts,
+    new: &Facts,
+    are_lost: bool,
+) -> Result<(), AllocError> {
+    let what = if are_lost { "lost" } else { "written" };
+    let mut row = Row {
+        start,
+        first: 0,
+        end: 0,
+    };
+    for index in 0..STACK_SLOTS {
+        let (before, after) = (old.slots[index], new.slots[index]);
+        let mask = if are_lost {
+            lost(before, after)
+        } else {
+            written(before, after)
+        };
+        if mask != 0 {
+            row.take_slot(text, what, index, mask)?;
+        }
+    }
+    row.write(text, what)
+}
+
+/// Writes the spills that are new.
+fn write_spills(
+    text: &mut String,
+    start: usize,
+    old: &Facts,
+    new: &Facts,
+) -> Result<(), AllocError> {
+    for index in 0..STACK_SLOTS {
+        let slot = new.slots[index];
+        if let Slot::Spill(kind) = slot
+            && slot != old.slots[index]
+        {
+            let first = lowest_byte(index);
+            let last = first.saturating_add(7);
+            part(text, start)?;
+            write!(text, "stack {first} to {last} = ")?;
+            write_kind(text, kind)?;
+        }
+    }
+    Ok(())
+}
+
+/// Writes what is known in `new` and was not in `old`, and what is not known any more, after the notes from `start` on.
+pub(crate) fn write_known(
+    text: &mut String,
+    start: usize,
+    old: &Facts,
+    new: &Facts,
+) -> Result<(), AllocError> {
+    write_registers(text, start, old, new)?;
+    write_lost_registers(text, start, old, new)?;
+    if old.slots == new.slots {
+        return Ok(());
+    }
+    write_spills(text, start, old, new)?;
+    write_stack_bytes(text, start, old, new, false)?;
+    write_stack_bytes(text, start, old, new, true)
+}

@@ -1,0 +1,201 @@
+//! The log: a line for each instruction.
+
+ghost use Rattle.std.specs.Prelude.{OnOk, string_bytes};
+ghost use Rattle.log_facts.specs.Said.{AreLines};
+
+use crate::control::{JumpEdge, target_at};
+use crate::steps::Step;
+use bpf_text::write_insn;
+use insn_codec::{Insn, Program, Successors};
+use std::alloc::AllocError;
+use std::fmt::Write;
+
+/// The column at which notes begin, unless the instruction is longer.
+const COLUMN: usize = 40;
+
+/// What is to be written of a program.
+#[derive(Clone, Copy)]
+pub(crate) struct Story<'a> {
+    pub program: &'a Program,
+    /// The steps of the pass, by slot.
+    pub steps: &'a [Step],
+    /// The jumps that a run may take, by their targets.
+    pub jumps: &'a [JumpEdge],
+    /// Whether there was a pass over the program: not if its shape has a fault.
+    pub is_told: bool,
+}
+
+/// How far the lines have been written.
+#[derive(Drop)]
+struct Place {
+    /// The indexes of the next step and of the next jump.
+    step: usize,
+    jump: usize,
+    /// The instruction before, if a run may fall through from it.
+    falls_from: Option<usize>,
+}
+
+/// A line: the offsets in the text of its beginning and of the end of its instruction.
+#[derive(Clone, Copy)]
+struct Line {
+    begin: usize,
+    end: usize,
+}
+
+/// Begins a note: the first one in its column after the instruction, others after a semicolon.
+fn begin_note(text: &mut String, line: Line) -> Result<(), AllocError> {
+    if text.len() > line.end {
+        return text.push_str("; ");
+    }
+    for _ in line.end.saturating_sub(line.begin)..COLUMN {
+        text.push_str(" ")?;
+    }
+    text.push_str(" // ")
+}
+
+/// Writes a note after the instruction, unless it is empty.
+fn write_note(text: &mut String, line: Line, note: &str) -> Result<(), AllocError> {
+    if note.is_empty() {
+        return Ok(());
+    }
+    begin_note(text, line)?;
+    text.push_str(note)
+}
+
+/// Writes the instructions from which control comes, if one of them is a jump.
+fn write_sources(
+    text: &mut String,
+    line: Line,
+    story: &Story<'_>,
+    place: &mut Place,
+    slot: usize,
+) -> Result<(), AllocError> {
+    let mut are_more = false;
+    for index in place.jump..story.jumps.len() {
+        let JumpEdge { to, from } = story.jumps[index];
+        if to != slot {
+            break;
+        }
+        if are_more {
+            write!(text, ", {from}")?;
+        } else {
+            begin_note(text, line)?;
+            write!(text, "from {from}")?;
+        }
+        are_more = true;
+        place.jump = index + 1;
+    }
+    match place.falls_from {
+        Some(before) if are_more => write!(text, ", {before}"),
+        _ => Ok(()),
+    }
+}
+
+/// Writes which edges of a conditional jump can be taken, and what is new on the jumping one. A rejected one has no edges.
+fn write_edges(
+    text: &mut String,
+    line: Line,
+    program: &Program,
+    step: &Step,
+) -> Result<(), AllocError> {
+    match (&step.falling, &step.jumping) {
+        (None, None) => Ok(()),
+        (None, Some(_)) => write_note(text, line, "always jumps"),
+        (Some(_), None) => write_note(text, line, "never jumps"),
+        (Some(_), Some(told)) => {
+            match target_at(program, step.slot) {
+                Some(to) if !told.is_empty() => {
+                    begin_note(text, line)?;
+                    write!(text, "to {to}: {told}")
+                }
+                _ => Ok(()),
+            }
+        }
+    }
+}
+
+/// Writes the notes on an instruction that a run may reach.
+fn write_step(
+    text: &mut String,
+    line: Line,
+    story: &Story<'_>,
+    place: &mut Place,
+    insn: &Insn,
+    step: &Step,
+) -> Result<(), AllocError> {
+    write_sources(text, line, story, place, step.slot)?;
+    write_note(text, line, &step.known)?;
+    place.falls_from = step.falling.as_ref().map(|_| step.slot);
+    match insn.profile().successors {
+        Successors::NextOrJump(_) => write_edges(text, line, story.program, step),
+        Successors::Next | Successors::Jump(_) | Successors::Nothing => Ok(()),
+    }
+}
+
+/// Writes the notes on an instruction.
+fn write_notes(
+    text: &mut String,
+    story: &Story<'_>,
+    place: &mut Place,
+    insn: &Insn,
+    slot: usize,
+    line: Line,
+) -> Result<(), AllocError> {
+    match story.steps.get(place.step) {
+        Some(step) if step.slot == slot => {
+            write_step(text, line, story, place, insn, step)?;
+            place.step = place.step.saturating_add(1);
+            Ok(())
+        }
+        _ => {
+            place.falls_from = None;
+            if story.is_told {
+                write_note(text, line, "not reached")
+            } else {
+                Ok(())
+            }
+        }
+    }
+}
+
+/// Writes the line of an instruction.
+fn write_line(
+    text: &mut String,
+    story: &Story<'_>,
+    place: &mut Place,
+    insn: &Insn,
+    slot: usize,
+) -> Result<(), AllocError>
+    ensures { OnOk result (AreLines (string_bytes text.new)) }
+{
+    let begin = text.len();
+    write!(text, "{slot}: ")?;
+    write_insn(text, insn)?;
+    let end = text.len();
+    write_notes(text, story, place, insn, slot, Line { begin, end })?;
+    text.push_str("\n")
+}
+
+/// Writes the lines of the instructions from slot 0 to slot `last`.
+pub(crate) fn write_lines(
+    text: &mut String,
+    story: &Story<'_>,
+    last: usize,
+) -> Result<(), AllocError>
+    requires { AreLines (string_bytes text.old) }
+    ensures { OnOk result (AreLines (string_bytes text.new)) }
+{
+    let mut place = Place {
+        step: 0,
+        jump: 0,
+        falls_from: None,
+    };
+    for slot in 0..story.program.slots() {
+        if slot <= last
+            && let Some(insn) = story.program.get(slot)
+        {
+            write_line(text, story, &mut place, insn, slot)?;
+        }
+    }
+    Ok(())
+}

@@ -1,0 +1,115 @@
+//! What is new before each instruction and on its edges, as text.
+
+use crate::known::write_known;
+use insn_codec::{Insn, Program, Successors};
+use log_facts::{Edges, KnownFacts, nothing_known};
+use reg_kinds::Facts;
+use std::alloc::{AllocError, Global};
+use tagged_model::Named;
+
+/// An instruction that a run may reach.
+#[derive(Drop)]
+pub(crate) struct Step {
+    pub slot: usize,
+    /// What is known before it.
+    pub known: String,
+    /// What is new on the edge to the next instruction, if a run may take it.
+    pub falling: Option<String>,
+    /// What is new on the edge of its jump, if a run may take it.
+    pub jumping: Option<String>,
+}
+
+/// Makes the steps of a program from the facts before its instructions.
+#[derive(Drop)]
+struct StepMaker<'a> {
+    alloc: Global,
+    program: &'a Program,
+    named: &'a [Named],
+    /// A buffer for the facts on the edges of an instruction.
+    edges: Edges,
+}
+
+impl StepMaker<'_> {
+    /// What is new in facts.
+    fn news(&self, old: &Facts, new: &Facts) -> Result<String, AllocError> {
+        let mut text = String::new(self.alloc);
+        write_known(&mut text, 0, old, new)?;
+        Ok(text)
+    }
+
+    /// What is new in the facts on an edge, if a run may take it.
+    fn edge(&self, old: &Facts, taken: bool, new: &Facts) -> Result<Option<String>, AllocError> {
+        if taken {
+            Ok(Some(self.news(old, new)?))
+        } else {
+            Ok(None)
+        }
+    }
+
+    /// Adds the edges of a conditional jump.
+    fn branch(&mut self, step: &mut Step, insn: &Insn, facts: &Facts) -> Result<(), AllocError> {
+        self.edges.leave(facts, self.named, step.slot, insn);
+        let Edges {
+            falls,
+            ref falling,
+            jumps,
+            ref jumping,
+        } = self.edges;
+        step.falling = self.edge(facts, falls, falling)?;
+        step.jumping = self.edge(facts, jumps, jumping)?;
+        Ok(())
+    }
+
+    /// Adds the edges of an instruction.
+    fn leave(&mut self, step: &mut Step, insn: &Insn, facts: &Facts) -> Result<(), AllocError> {
+        match insn.profile().successors {
+            Successors::Next => step.falling = Some(String::new(self.alloc)),
+            Successors::Jump(_) => step.jumping = Some(String::new(self.alloc)),
+            Successors::NextOrJump(_) => self.branch(step, insn, facts)?,
+            Successors::Nothing => {}
+        }
+        Ok(())
+    }
+
+    /// The step of an instruction, with what is new against `shown` before it.
+    fn step(&mut self, shown: &Facts, known: &KnownFacts) -> Result<Step, AllocError> {
+        let KnownFacts { slot, facts } = known;
+        let mut step = Step {
+            slot: *slot,
+            known: self.news(shown, facts)?,
+            falling: None,
+            jumping: None,
+        };
+        if let Some(insn) = self.program.get(*slot) {
+            self.leave(&mut step, insn, facts)?;
+        }
+        Ok(step)
+    }
+}
+
+/// The steps of a program, from what is known before its instructions. Each has what is new since the step before it, or if `is_whole`,
+/// all that is known.
+pub(crate) fn steps_of(
+    alloc: Global,
+    program: &Program,
+    named: &[Named],
+    known: &[KnownFacts],
+    is_whole: bool,
+) -> Result<Vec<Step>, AllocError> {
+    let nothing = nothing_known();
+    let mut maker = StepMaker {
+        alloc,
+        program,
+        named,
+        edges: Edges::none(&nothing),
+    };
+    let mut steps = Vec::new(alloc);
+    let mut shown = &nothing;
+    for here in known {
+        steps.push(maker.step(shown, here)?)?;
+        if !is_whole {
+            shown = &here.facts;
+        }
+    }
+    Ok(steps)
+}

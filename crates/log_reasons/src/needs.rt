@@ -1,0 +1,104 @@
+//! Why a program is rejected: what is known, and what is required.
+
+pub(crate) mod access;
+pub(crate) mod arithmetic;
+pub(crate) mod calls;
+pub(crate) mod registers;
+pub(crate) mod shape;
+
+use crate::reasons::reason_words;
+use insn_codec::{Insn, Program};
+use log_facts::{Judged, KnownFacts, is_of_shape, nothing_known};
+use reg_kinds::{Facts, Reason};
+use std::alloc::{AllocError, Global};
+use tagged_model::Named;
+use verifier::VerifyFault;
+
+/// A rejected program, with what is known before each instruction that the pass reached, and the facts before the last of them.
+#[derive(Clone, Copy)]
+pub(crate) struct RefusedProgram<'a> {
+    pub alloc: Global,
+    pub program: &'a Program,
+    pub named: &'a [Named],
+    pub fault: VerifyFault,
+    pub known: &'a [KnownFacts],
+    pub facts: &'a Facts,
+}
+
+/// Writes what was known at an instruction, against what it needs.
+fn write_need(
+    text: &mut String,
+    refusal: &RefusedProgram<'_>,
+    insn: &Insn,
+) -> Result<(), AllocError> {
+    if is_of_shape(refusal.fault.reason) {
+        return shape::write_need(text, refusal, insn);
+    }
+    if refusal.fault.reason == Reason::UnreadableRegister {
+        return registers::write_unreadable(text, refusal, insn);
+    }
+    match *insn {
+        Insn::Alu { wide, op, dst, src } => {
+            arithmetic::write_need(text, refusal, wide, op, dst, src)
+        }
+        Insn::Movsx(ref moved) => {
+            arithmetic::write_number_needed(text, refusal, moved.src.number())
+        }
+        Insn::Neg { dst, .. } | Insn::End { dst, .. } => {
+            arithmetic::write_number_needed(text, refusal, dst.number())
+        }
+        Insn::Jump { dst, src, .. } => registers::write_comparison(text, refusal, dst, src),
+        Insn::Exit => registers::write_result(text, refusal),
+        Insn::Call { id } => calls::write_need(text, refusal, id),
+        _ => access::write_need(text, refusal, insn),
+    }
+}
+
+/// The line that says why a program is rejected: the text of the reason, and what is known and what is required, with `between`
+/// between the two.
+fn reason_line(refusal: &RefusedProgram<'_>, between: &str) -> Result<String, AllocError> {
+    let mut line = String::from_str(refusal.alloc, reason_words(refusal.fault.reason))?;
+    if let Some(insn) = refusal.program.get(refusal.fault.slot) {
+        line.push_str(between)?;
+        write_need(&mut line, refusal, insn)?;
+    }
+    line.push_str("\n")?;
+    Ok(line)
+}
+
+/// The facts before the last instruction that the pass reached. They say nothing if it reached none.
+fn last_facts(known: &[KnownFacts]) -> Facts {
+    match known.last() {
+        Some(last) => last.facts,
+        None => nothing_known(),
+    }
+}
+
+/// Why a program with this verdict is rejected, if descriptors name these objects: a line with the reason in words, and then what was
+/// known and what is required, with `between` between the two. Empty if the program is accepted.
+///
+/// # Errors
+///
+/// `AllocError`: out of memory for the text.
+pub fn rejection_text(
+    alloc: Global,
+    program: &Program,
+    named: &[Named],
+    judged: &Judged,
+    between: &str,
+) -> Result<String, AllocError> {
+    let Judged { known, fault } = judged;
+    let Some(fault) = *fault else {
+        return Ok(String::new(alloc));
+    };
+    let facts = last_facts(known);
+    let refusal = RefusedProgram {
+        alloc,
+        program,
+        named,
+        fault,
+        known,
+        facts: &facts,
+    };
+    reason_line(&refusal, between)
+}

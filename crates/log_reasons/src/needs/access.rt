@@ -1,0 +1,367 @@
+//! Accesses to the stack, to the context and to maps' values.
+
+use crate::needs::RefusedProgram;
+use crate::needs::arithmetic::write_maybe_null;
+use crate::needs::registers::{kind_of, register_of, write_register};
+use crate::ways::{Wanted, is_written, write_way};
+use insn_codec::{AccessSize, Insn, Reg};
+use log_facts::{write_bytes, write_kind};
+use reg_kinds::{Facts, Kind, Reason, Slot, ValuePointer};
+use std::alloc::AllocError;
+use std::fmt::Write;
+use tagged_model::{CONTEXT_WORDS, Named, shape_of};
+use words::{STACK_SIZE, STACK_SLOTS};
+
+/// What an access does.
+#[derive(Clone, Copy, PartialEq, Eq)]
+enum Deed {
+    Load,
+    /// A load that extends the sign.
+    SignedLoad,
+    Store,
+    Change,
+}
+
+impl Deed {
+    /// The verb for it.
+    fn verb(self) -> &'static str {
+        match self {
+            Deed::Load | Deed::SignedLoad => "reads",
+            Deed::Store => "writes",
+            Deed::Change => "changes",
+        }
+    }
+}
+
+/// The memory access of an instruction.
+#[derive(Clone, Copy)]
+struct Access {
+    /// The base register, and the offset of the bytes from it.
+    base: u8,
+    offset: i64,
+    bytes: i64,
+    /// The source register of a store or of an atomic operation, if there is one.
+    given: Option<u8>,
+    deed: Deed,
+}
+
+/// The access to this many bytes at an offset from a base register.
+fn access_at(base: Reg, off: i16, size: AccessSize, given: Option<u8>, deed: Deed) -> Access {
+    Access {
+        base: base.number(),
+        offset: i64::from(off),
+        bytes: i64::from(size.bytes()),
+        given,
+        deed,
+    }
+}
+
+/// What a load does.
+fn load_deed(is_signed: bool) -> Deed {
+    if is_signed {
+        Deed::SignedLoad
+    } else {
+        Deed::Load
+    }
+}
+
+/// The access of an instruction; `None` if it accesses no memory.
+fn access_of(insn: &Insn) -> Option<Access> {
+    match *insn {
+        Insn::Load(ref load) => Some(access_at(
+            load.src,
+            load.off,
+            load.size,
+            None,
+            load_deed(load.signed),
+        )),
+        Insn::Store {
+            size,
+            dst,
+            src,
+            off,
+        } => Some(access_at(dst, off, size, register_of(src), Deed::Store)),
+        Insn::Atomic {
+            size,
+            dst,
+            src,
+            off,
+            ..
+        } => Some(access_at(dst, off, size.access(), Some(src.number()), Deed::Change)),
+        _ => None,
+    }
+}
+
+/// The first and the last byte that an access of so many bytes at an offset from a pointer may touch, from the start of the
+/// pointer's object, or from the stack's upper end.
+pub(crate) fn touched(kind: Kind, offset: i64, bytes: i64) -> (i64, i64) {
+    let (low, high) = match kind {
+        Kind::Stack(offset) => (offset, offset),
+        Kind::Value(pointer) => (pointer.lo, pointer.hi),
+        _ => (0, 0),
+    };
+    let first = i64::from(low).saturating_add(offset);
+    let last = i64::from(high)
+        .saturating_add(offset)
+        .saturating_add(bytes)
+        .saturating_sub(1);
+    (first, last)
+}
+
+/// Writes which bytes are touched.
+fn write_touched(text: &mut String, verb: &str, first: i64, last: i64) -> Result<(), AllocError> {
+    write!(text, "it {verb} ")?;
+    write_bytes(text, first, last)
+}
+
+/// Writes that bytes lie outside the stack.
+pub(crate) fn write_outside_stack(
+    text: &mut String,
+    verb: &str,
+    first: i64,
+    last: i64,
+) -> Result<(), AllocError> {
+    write_touched(text, verb, first, last)?;
+    write!(text, " of the stack, whose bytes are -{STACK_SIZE} to -1")
+}
+
+/// The first and the last of the stack bytes in a range that may be unwritten.
+fn unwritten(facts: &Facts, first: i64, last: i64) -> (i64, i64) {
+    let mut lowest = None;
+    let mut highest = last;
+    for byte in first..=last {
+        if !is_written(facts, byte) {
+            highest = byte;
+            if lowest.is_none() {
+                lowest = Some(byte);
+            }
+        }
+    }
+    (lowest.unwrap_or(first), highest)
+}
+
+/// Writes the stack bytes in a range that may be unwritten, and why.
+pub(crate) fn write_unwritten(
+    text: &mut String,
+    refusal: &RefusedProgram<'_>,
+    first: i64,
+    last: i64,
+) -> Result<(), AllocError> {
+    let (first, last) = unwritten(refusal.facts, first, last);
+    write_bytes(text, first, last)?;
+    text.push_str(" of the stack ")?;
+    write_way(text, refusal, Wanted::Stack { first, last })
+}
+
+/// The first spill that overlaps a range of stack bytes, with its lowest byte.
+fn spill_among(facts: &Facts, first: i64, last: i64) -> Option<(i64, Kind)> {
+    for index in 0..STACK_SLOTS {
+        let lowest = 8 * index as i64 - 8 * STACK_SLOTS as i64;
+        if let Slot::Spill(kind) = facts.slots[index]
+            && lowest <= last
+            && first <= lowest + 7
+        {
+            return Some((lowest, kind));
+        }
+    }
+    None
+}
+
+/// Writes which bytes a spill has, and the kind of its pointer.
+fn write_spill(text: &mut String, lowest: i64, kind: Kind) -> Result<(), AllocError> {
+    let highest = lowest.saturating_add(7);
+    write!(
+        text,
+        ", and bytes {lowest} to {highest} are a spilled pointer ("
+    )?;
+    write_kind(text, kind)?;
+    text.push_str("), which a load of these 8 bytes alone reads")
+}
+
+/// Writes which spill a range of stack bytes overlaps.
+pub(crate) fn write_part_of_spill(
+    text: &mut String,
+    facts: &Facts,
+    verb: &str,
+    first: i64,
+    last: i64,
+) -> Result<(), AllocError> {
+    write_touched(text, verb, first, last)?;
+    text.push_str(" of the stack")?;
+    match spill_among(facts, first, last) {
+        Some((lowest, kind)) => write_spill(text, lowest, kind),
+        None => Ok(()),
+    }
+}
+
+/// Writes that a pointer is stored with fewer than eight bytes.
+fn write_part_stored(
+    text: &mut String,
+    facts: &Facts,
+    register: u8,
+    bytes: i64,
+) -> Result<(), AllocError> {
+    write_register(text, facts, register)?;
+    write!(text, ", and is stored by 8 bytes, not by {bytes}")
+}
+
+/// The size of the values of a map; 0 if the descriptor names no map.
+pub(crate) fn value_size_of(named: &[Named], fd: u32) -> u32 {
+    match shape_of(named, fd) {
+        Some(shape) => shape.value_size,
+        None => 0,
+    }
+}
+
+/// Writes that bytes lie outside a map's value.
+pub(crate) fn write_outside_value(
+    text: &mut String,
+    named: &[Named],
+    verb: &str,
+    map: u32,
+    first: i64,
+    last: i64,
+) -> Result<(), AllocError> {
+    write_touched(text, verb, first, last)?;
+    let size = value_size_of(named, map);
+    write!(text, " of a value of {size} bytes (map {map})")
+}
+
+/// Writes an access to the context that is no load of one of its words.
+fn write_context(text: &mut String, access: Access) -> Result<(), AllocError> {
+    let (verb, bytes, offset) = (access.deed.verb(), access.bytes, access.offset);
+    let sign = match access.deed {
+        Deed::Load => "",
+        Deed::SignedLoad => " with their sign",
+        _ => return write!(text, "it {verb} the context, which may be read only"),
+    };
+    let many = if bytes == 1 { "byte" } else { "bytes" };
+    write!(
+        text,
+        "it {verb} {bytes} {many}{sign} at offset {offset} of the context, "
+    )?;
+    let last = 4 * (CONTEXT_WORDS - 1);
+    write!(text, "where words of 4 bytes are read at 0, 4, .. {last}")
+}
+
+/// Writes what is known of the source register, which has to be a number.
+fn write_given(
+    text: &mut String,
+    facts: &Facts,
+    given: Option<u8>,
+    needed: &str,
+) -> Result<(), AllocError> {
+    match given {
+        Some(register) => {
+            write_register(text, facts, register)?;
+            text.push_str(needed)
+        }
+        None => Ok(()),
+    }
+}
+
+/// Writes the offset in a value of an unaligned atomic operation.
+fn write_unaligned_atomic(
+    text: &mut String,
+    access: Access,
+    pointer: ValuePointer,
+) -> Result<(), AllocError> {
+    let (map, bytes) = (pointer.map, access.bytes);
+    let low = i64::from(pointer.lo).saturating_add(access.offset);
+    let high = i64::from(pointer.hi).saturating_add(access.offset);
+    write!(text, "it changes {bytes} bytes at offset {low}")?;
+    if low == high {
+        write!(text, " of a value (map {map}), no multiple of {bytes}")
+    } else {
+        write!(
+            text,
+            " to {high} of a value (map {map}), and one offset has to be known"
+        )
+    }
+}
+
+/// Writes what is known of an access to the stack, against what it needs.
+fn write_stack_need(
+    text: &mut String,
+    refusal: &RefusedProgram<'_>,
+    access: Access,
+    first: i64,
+    last: i64,
+) -> Result<(), AllocError> {
+    let (verb, bytes) = (access.deed.verb(), access.bytes);
+    match (refusal.fault.reason, access.given) {
+        (Reason::OutsideStack, _) => write_outside_stack(text, verb, first, last),
+        (Reason::UnalignedStack, _) => {
+            write!(
+                text,
+                "it {verb} {bytes} bytes at {first} of the stack, no multiple of {bytes}"
+            )
+        }
+        (Reason::UnwrittenStack, _) => write_unwritten(text, refusal, first, last),
+        (_, Some(register)) if access.deed == Deed::Store => {
+            write_part_stored(text, refusal.facts, register, bytes)
+        }
+        _ => write_part_of_spill(text, refusal.facts, verb, first, last),
+    }
+}
+
+/// Writes what is known of an access, against what it needs.
+fn write_access_need(
+    text: &mut String,
+    refusal: &RefusedProgram<'_>,
+    access: Access,
+) -> Result<(), AllocError> {
+    let facts = refusal.facts;
+    let kind = kind_of(facts, access.base);
+    let (first, last) = touched(kind, access.offset, access.bytes);
+    match (refusal.fault.reason, kind) {
+        (Reason::MaybeNull, _) => write_maybe_null(text, access.base),
+        (Reason::ContextAccess, _) => write_context(text, access),
+        (Reason::PointerStored, _) => {
+            write_given(
+                text,
+                facts,
+                access.given,
+                ", and numbers alone are stored in a value",
+            )
+        }
+        (Reason::PointerArithmetic, _) => {
+            write_given(
+                text,
+                facts,
+                access.given,
+                ", and an atomic operation takes a number",
+            )
+        }
+        (Reason::UnalignedAtomic, Kind::Value(pointer)) => {
+            write_unaligned_atomic(text, access, pointer)
+        }
+        (Reason::OutsideValue, Kind::Value(pointer)) => {
+            write_outside_value(
+                text,
+                refusal.named,
+                access.deed.verb(),
+                pointer.map,
+                first,
+                last,
+            )
+        }
+        (Reason::NotPointer, _) => {
+            write_register(text, facts, access.base)?;
+            text.push_str(", and a pointer to the stack, to the context or into a value is needed")
+        }
+        _ => write_stack_need(text, refusal, access, first, last),
+    }
+}
+
+/// Writes what is known of the access of an instruction, against what it needs.
+pub(crate) fn write_need(
+    text: &mut String,
+    refusal: &RefusedProgram<'_>,
+    insn: &Insn,
+) -> Result<(), AllocError> {
+    match access_of(insn) {
+        Some(access) => write_access_need(text, refusal, access),
+        None => Ok(()),
+    }
+}

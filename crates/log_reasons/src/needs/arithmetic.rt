@@ -1,0 +1,90 @@
+//! Arithmetic on pointers.
+
+use crate::needs::RefusedProgram;
+use crate::needs::registers::{kind_of, write_register};
+use insn_codec::{AluOp, Operand, Reg};
+use reg_kinds::{Kind, Reason};
+use std::alloc::AllocError;
+use std::fmt::Write;
+use tagged_model::FARTHEST_OFFSET;
+
+/// Writes the operands; a move reads only the second one.
+fn write_operands(
+    text: &mut String,
+    refusal: &RefusedProgram<'_>,
+    op: AluOp,
+    dst: Reg,
+    src: Operand,
+) -> Result<(), AllocError> {
+    if op != AluOp::Mov {
+        write_register(text, refusal.facts, dst.number())?;
+        text.push_str(" and ")?;
+    }
+    match src {
+        Operand::Reg(reg) => write_register(text, refusal.facts, reg.number()),
+        Operand::Imm(imm) => write!(text, "the constant is {imm}"),
+    }
+}
+
+/// The register among the operands that may be null.
+fn maybe_null(refusal: &RefusedProgram<'_>, dst: Reg, src: Operand) -> u8 {
+    match (kind_of(refusal.facts, dst.number()), src) {
+        (Kind::MaybeValue { .. }, _) => dst.number(),
+        (_, Operand::Reg(reg)) => reg.number(),
+        _ => dst.number(),
+    }
+}
+
+/// Writes that a register may be null.
+pub(crate) fn write_maybe_null(text: &mut String, register: u8) -> Result<(), AllocError> {
+    write!(text, "r{register} may be null: test it first")
+}
+
+/// The rule for arithmetic on a pointer.
+fn rule(wide: bool, op: AluOp) -> &'static str {
+    match op {
+        AluOp::Add if wide => {
+            ", and a pointer is moved by a number: one into the stack by a constant, one into a value by any"
+        }
+        AluOp::Sub if wide => {
+            ", and a number is taken from a pointer: a constant from one into the stack, any from one into a value"
+        }
+        _ if wide => ", and this operator takes numbers alone",
+        _ => ", and 32-bit operators take numbers alone",
+    }
+}
+
+/// Writes what is known of the operands of an operator, against what it needs.
+pub(crate) fn write_need(
+    text: &mut String,
+    refusal: &RefusedProgram<'_>,
+    wide: bool,
+    op: AluOp,
+    dst: Reg,
+    src: Operand,
+) -> Result<(), AllocError> {
+    match refusal.fault.reason {
+        Reason::MaybeNull => write_maybe_null(text, maybe_null(refusal, dst, src)),
+        Reason::OffsetTooLarge => {
+            write_operands(text, refusal, op, dst, src)?;
+            write!(
+                text,
+                ", and offsets stay from -{FARTHEST_OFFSET} to {FARTHEST_OFFSET}"
+            )
+        }
+        _ => {
+            write_operands(text, refusal, op, dst, src)?;
+            text.push_str(rule(wide, op))
+        }
+    }
+}
+
+/// Writes what is known of the one operand, which has to be a number.
+pub(crate) fn write_number_needed(
+    text: &mut String,
+    refusal: &RefusedProgram<'_>,
+    register: u8,
+) -> Result<(), AllocError> {
+    write_register(text, refusal.facts, register)?;
+    text.push_str(", and this operator takes numbers alone")
+}

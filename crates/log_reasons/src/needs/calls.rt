@@ -1,0 +1,228 @@
+//! Arguments of helpers.
+
+use crate::needs::RefusedProgram;
+use crate::needs::access::{
+    touched, value_size_of, write_outside_stack, write_outside_value, write_part_of_spill,
+    write_unwritten,
+};
+use crate::needs::arithmetic::write_maybe_null;
+use crate::needs::registers::{kind_of, write_register};
+use log_facts::write_range;
+use reg_kinds::{Facts, Kind, Reason, read_many};
+use std::alloc::AllocError;
+use std::fmt::Write;
+use tagged_model::{Helper, Named, known_helper, shape_of};
+use transfer::LENGTHS_END;
+use words::STACK_SIZE;
+
+/// What an argument is for.
+#[derive(Clone, Copy, PartialEq, Eq)]
+enum Role {
+    Map,
+    Context,
+    Number,
+    Length,
+    /// Bytes that are read: a key, or a value.
+    Key,
+    Value,
+    /// Bytes that are written; the length argument says how many.
+    Room,
+}
+
+/// An argument: its register and its role.
+#[derive(Clone, Copy)]
+struct Argument {
+    register: u8,
+    role: Role,
+}
+
+const MAP: Argument = Argument {
+    register: 1,
+    role: Role::Map,
+};
+
+const KEY: Argument = Argument {
+    register: 2,
+    role: Role::Key,
+};
+
+const VALUE: Argument = Argument {
+    register: 3,
+    role: Role::Value,
+};
+
+const FLAGS: Argument = Argument {
+    register: 4,
+    role: Role::Number,
+};
+
+const CONTEXT: Argument = Argument {
+    register: 1,
+    role: Role::Context,
+};
+
+const OFFSET: Argument = Argument {
+    register: 2,
+    role: Role::Number,
+};
+
+const ROOM: Argument = Argument {
+    register: 3,
+    role: Role::Room,
+};
+
+const LENGTH: Argument = Argument {
+    register: 4,
+    role: Role::Length,
+};
+
+/// The arguments of a helper, in the order of its checks.
+fn arguments_of(helper: Helper) -> &'static [Argument] {
+    match helper {
+        Helper::LookUp | Helper::Delete => &[MAP, KEY],
+        Helper::Update => &[MAP, KEY, VALUE, FLAGS],
+        Helper::LoadBytes => &[CONTEXT, OFFSET, LENGTH, ROOM],
+    }
+}
+
+/// Whether the helper with this number has an argument in a register.
+pub(crate) fn has_argument(id: i32, register: u8) -> bool {
+    match known_helper(id) {
+        Some(helper) => arguments_of(helper)
+            .iter()
+            .any(|argument| argument.register == register),
+        None => false,
+    }
+}
+
+/// How many bytes an argument points to: the size of a key or a value of the map in register 1, or the length in register 4.
+fn count_of(named: &[Named], facts: &Facts, role: Role) -> u32 {
+    let (map, length) = (kind_of(facts, 1), kind_of(facts, 4));
+    match (role, map, length) {
+        (Role::Key, Kind::MapRef(fd), _) => shape_of(named, fd).map_or(0, |shape| shape.key_size),
+        (Role::Value, Kind::MapRef(fd), _) => value_size_of(named, fd),
+        (Role::Room, _, Kind::Scalar(range)) => u32::try_from(range.hi).unwrap_or(0),
+        _ => 0,
+    }
+}
+
+/// Whether some of the bytes lie outside the stack.
+fn is_outside_stack(first: i64, last: i64) -> bool {
+    first < -(STACK_SIZE as i64) || last > -1
+}
+
+/// Why the bytes that an argument points to may not be read or written, if they may not.
+fn bytes_reason(named: &[Named], facts: &Facts, role: Role, kind: Kind) -> Option<Reason> {
+    let count = count_of(named, facts, role);
+    let (first, last) = touched(kind, 0, i64::from(count));
+    match kind {
+        Kind::Stack(_) if role == Role::Room && is_outside_stack(first, last) => {
+            Some(Reason::OutsideStack)
+        }
+        Kind::Stack(_) if role == Role::Room => None,
+        Kind::Stack(offset) => read_many(facts, offset, count).err(),
+        Kind::Value(pointer) => {
+            if first < 0 || last >= i64::from(value_size_of(named, pointer.map)) {
+                Some(Reason::OutsideValue)
+            } else {
+                None
+            }
+        }
+        Kind::MaybeValue { .. } => Some(Reason::MaybeNull),
+        _ => Some(Reason::HelperArgument),
+    }
+}
+
+/// Why an argument is rejected, if it is.
+fn argument_reason(named: &[Named], facts: &Facts, argument: Argument) -> Option<Reason> {
+    let kind = kind_of(facts, argument.register);
+    match (argument.role, kind) {
+        (Role::Map, Kind::MapRef(_)) => None,
+        (Role::Context, Kind::Ctx) => None,
+        (Role::Number, Kind::Scalar(_)) => None,
+        (Role::Length, Kind::Scalar(range)) if range.lo == 0 || range.hi >= LENGTHS_END => {
+            Some(Reason::LengthUnbounded)
+        }
+        (Role::Length, Kind::Scalar(_)) => None,
+        (Role::Map | Role::Context | Role::Number | Role::Length, _) => {
+            Some(Reason::HelperArgument)
+        }
+        (role, kind) => bytes_reason(named, facts, role, kind),
+    }
+}
+
+/// The first argument that is rejected.
+fn refused_argument(refusal: &RefusedProgram<'_>, helper: Helper) -> Option<Argument> {
+    for argument in arguments_of(helper) {
+        if argument_reason(refusal.named, refusal.facts, *argument).is_some() {
+            return Some(*argument);
+        }
+    }
+    None
+}
+
+/// What an argument has to be.
+fn needed(role: Role) -> &'static str {
+    match role {
+        Role::Map => ", and a map is needed",
+        Role::Context => ", and the context is needed",
+        Role::Number | Role::Length => ", and a number is needed",
+        Role::Key => ", and a pointer to a key in the stack or in a value is needed",
+        Role::Value => ", and a pointer to a value in the stack or in a value is needed",
+        Role::Room => ", and a pointer to room in the stack or in a value is needed",
+    }
+}
+
+/// Writes what is known of the length, against what is needed.
+fn write_length(text: &mut String, kind: Kind) -> Result<(), AllocError> {
+    let Kind::Scalar(range) = kind else {
+        return Ok(());
+    };
+    let greatest = LENGTHS_END - 1;
+    text.push_str("r4 is ")?;
+    write_range(text, range)?;
+    write!(text, ", and a length is from 1 to {greatest}")
+}
+
+/// Writes what is known of an argument, against what is needed.
+fn write_argument(
+    text: &mut String,
+    refusal: &RefusedProgram<'_>,
+    argument: Argument,
+) -> Result<(), AllocError> {
+    let (register, role, facts) = (argument.register, argument.role, refusal.facts);
+    let kind = kind_of(facts, register);
+    let count = count_of(refusal.named, facts, role);
+    let (first, last) = touched(kind, 0, i64::from(count));
+    let verb = if role == Role::Room {
+        "writes"
+    } else {
+        "reads"
+    };
+    match (refusal.fault.reason, kind) {
+        (Reason::LengthUnbounded, _) => write_length(text, kind),
+        (Reason::MaybeNull, _) => write_maybe_null(text, register),
+        (Reason::OutsideStack, _) => write_outside_stack(text, verb, first, last),
+        (Reason::UnwrittenStack, _) => write_unwritten(text, refusal, first, last),
+        (Reason::PartOfSpill, _) => write_part_of_spill(text, facts, verb, first, last),
+        (Reason::OutsideValue, Kind::Value(pointer)) => {
+            write_outside_value(text, refusal.named, verb, pointer.map, first, last)
+        }
+        _ => {
+            write_register(text, facts, register)?;
+            text.push_str(needed(role))
+        }
+    }
+}
+
+/// Writes what is known of the rejected argument of a helper, and what is required.
+pub(crate) fn write_need(
+    text: &mut String,
+    refusal: &RefusedProgram<'_>,
+    id: i32,
+) -> Result<(), AllocError> {
+    match known_helper(id).and_then(|helper| refused_argument(refusal, helper)) {
+        Some(argument) => write_argument(text, refusal, argument),
+        None => Ok(()),
+    }
+}

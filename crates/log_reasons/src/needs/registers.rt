@@ -1,0 +1,109 @@
+//! Unreadable registers, results and comparisons.
+
+use crate::needs::RefusedProgram;
+use crate::needs::calls::has_argument;
+use crate::ways::{Wanted, write_way};
+use insn_codec::{Insn, Operand, Reference, Reg};
+use log_facts::write_kind;
+use reg_kinds::{Facts, Kind};
+use std::alloc::AllocError;
+use std::fmt::Write;
+use words::REGISTERS;
+
+/// The kind of a register, by its number.
+pub(crate) fn kind_of(facts: &Facts, register: u8) -> Kind {
+    let number = usize::from(register);
+    if number < REGISTERS {
+        facts.kind(number)
+    } else {
+        Kind::Unreadable
+    }
+}
+
+/// Writes a register, and what is known of it.
+pub(crate) fn write_register(
+    text: &mut String,
+    facts: &Facts,
+    register: u8,
+) -> Result<(), AllocError> {
+    write!(text, "r{register} is ")?;
+    write_kind(text, kind_of(facts, register))
+}
+
+/// The register of an operand, if it is one.
+pub(crate) fn register_of(src: Operand) -> Option<u8> {
+    match src {
+        Operand::Reg(reg) => Some(reg.number()),
+        Operand::Imm(_) => None,
+    }
+}
+
+/// The first register if it is unreadable, else the second.
+fn unreadable_of(facts: &Facts, first: Option<u8>, second: Option<u8>) -> Option<u8> {
+    match first {
+        Some(register) if kind_of(facts, register) == Kind::Unreadable => first,
+        _ => second,
+    }
+}
+
+/// The first unreadable argument of a helper.
+fn unreadable_argument(facts: &Facts, id: i32) -> Option<u8> {
+    for register in 1..=5 {
+        if has_argument(id, register) && kind_of(facts, register) == Kind::Unreadable {
+            return Some(register);
+        }
+    }
+    None
+}
+
+/// The unreadable register that an instruction reads.
+fn unreadable_in(facts: &Facts, insn: &Insn) -> Option<u8> {
+    let row = insn.profile();
+    match row.reference {
+        Reference::Helper(id) => unreadable_argument(facts, id),
+        Reference::Nothing | Reference::Map(_) | Reference::Value(_, _) => unreadable_of(
+            facts,
+            row.first_read.map(|register| register.number()),
+            row.second_read.map(|register| register.number()),
+        ),
+    }
+}
+
+/// Writes which unreadable register is read, and why nothing is known of it.
+pub(crate) fn write_unreadable(
+    text: &mut String,
+    refusal: &RefusedProgram<'_>,
+    insn: &Insn,
+) -> Result<(), AllocError> {
+    match unreadable_in(refusal.facts, insn) {
+        Some(register) => {
+            write!(text, "r{register} ")?;
+            write_way(text, refusal, Wanted::Register(register))
+        }
+        None => Ok(()),
+    }
+}
+
+/// Writes what is known of register 0 at the exit.
+pub(crate) fn write_result(
+    text: &mut String,
+    refusal: &RefusedProgram<'_>,
+) -> Result<(), AllocError> {
+    write_register(text, refusal.facts, 0)?;
+    text.push_str(", and a number is needed")
+}
+
+/// Writes what is known of the operands of a comparison.
+pub(crate) fn write_comparison(
+    text: &mut String,
+    refusal: &RefusedProgram<'_>,
+    dst: Reg,
+    src: Operand,
+) -> Result<(), AllocError> {
+    write_register(text, refusal.facts, dst.number())?;
+    if let Some(register) = register_of(src) {
+        text.push_str(" and ")?;
+        write_register(text, refusal.facts, register)?;
+    }
+    text.push_str(", and a pointer is compared by == or != with the constant 0 alone, by 64 bits")
+}

@@ -1,0 +1,217 @@
+//! The path on which something is missing that an instruction needs.
+
+use crate::needs::RefusedProgram;
+use crate::needs::registers::kind_of;
+use insn_codec::{Insn, MAX_SLOTS, Program};
+use log_facts::Edges;
+use reg_kinds::{Facts, Kind, Slot};
+use std::alloc::{AllocError, Global};
+use std::fmt::Write;
+use tagged_model::Named;
+use words::STACK_SLOTS;
+
+/// What an instruction needs: a readable value.
+#[derive(Clone, Copy)]
+pub(crate) enum Wanted {
+    /// In the register of this number.
+    Register(u8),
+    /// In these bytes of the stack, both included, by their offsets from its upper end.
+    Stack { first: i64, last: i64 },
+}
+
+/// Whether a byte of the stack is written, by its offset from the upper end.
+pub(crate) fn is_written(facts: &Facts, byte: i64) -> bool {
+    let Ok(place) = usize::try_from(byte.saturating_add(8 * STACK_SLOTS as i64)) else {
+        return false;
+    };
+    if place >= 8 * STACK_SLOTS {
+        return false;
+    }
+    match facts.slots[place / 8] {
+        Slot::Bytes(mask) => mask & (1 << (place % 8)) != 0,
+        Slot::Spill(_) => true,
+    }
+}
+
+impl Wanted {
+    /// Whether the facts have it.
+    fn is_in(self, facts: &Facts) -> bool {
+        match self {
+            Wanted::Register(register) => kind_of(facts, register) != Kind::Unreadable,
+            Wanted::Stack { first, last } => {
+                for byte in first..=last {
+                    if !is_written(facts, byte) {
+                        return false;
+                    }
+                }
+                true
+            }
+        }
+    }
+}
+
+/// Why something is missing before an instruction.
+#[derive(Clone, Copy)]
+enum Cause {
+    /// It was never written.
+    Never,
+    /// It is missing on the edge from this slot, and present on another.
+    Way(usize),
+    /// The instruction at this slot destroys it.
+    Taken(usize),
+    /// It is present on each edge to this slot, and the join of the edges loses it.
+    Joined(usize),
+}
+
+/// Whether it is present on the edges to a slot.
+#[derive(Clone, Copy)]
+struct Arrival {
+    /// Whether it is present on some edge.
+    is_there: bool,
+    /// The source of the first edge on which it is missing, and why.
+    lack: Option<(usize, Cause)>,
+}
+
+/// Follows what an instruction needs through a program.
+#[derive(Drop)]
+struct Finder<'a> {
+    program: &'a Program,
+    named: &'a [Named],
+    wanted: Wanted,
+    arrivals: Vec<Arrival>,
+    /// Why it is missing before the last instruction.
+    cause: Option<Cause>,
+}
+
+impl Finder<'_> {
+    /// Why it is missing before an instruction, if it is.
+    fn cause_at(&self, slot: usize, facts: &Facts) -> Option<Cause> {
+        if self.wanted.is_in(facts) {
+            return None;
+        }
+        match self.arrivals.get(slot) {
+            Some(
+                Arrival {
+                    is_there: true,
+                    lack: Some((from, _)),
+                },
+            ) => Some(Cause::Way(*from)),
+            Some(
+                Arrival {
+                    is_there: false,
+                    lack: Some((_, cause)),
+                },
+            ) => Some(*cause),
+            _ => Some(Cause::Joined(slot)),
+        }
+    }
+
+    /// Notes whether it is present on an edge.
+    fn arrive(&mut self, from: usize, to: usize, facts: &Facts) {
+        let is_there = self.wanted.is_in(facts);
+        let cause = self.cause.unwrap_or(Cause::Taken(from));
+        if let Some(arrival) = self.arrivals.get_mut(to) {
+            if is_there {
+                arrival.is_there = true;
+            } else if arrival.lack.is_none() {
+                arrival.lack = Some((from, cause));
+            }
+        }
+    }
+
+    /// Notes whether it is present on the edges out of an instruction.
+    fn leave(&mut self, slot: usize, insn: &Insn, facts: &Facts) {
+        let mut edges = Edges::none(facts);
+        edges.leave(facts, self.named, slot, insn);
+        if edges.falls {
+            self.arrive(slot, slot.saturating_add(insn.slots()), &edges.falling);
+        }
+        if slot <= MAX_SLOTS
+            && edges.jumps
+            && let Some(to) = insn.profile().successors.target(slot)
+        {
+            self.arrive(slot, to, &edges.jumping);
+        }
+    }
+
+    /// Follows it through an instruction, before which these are the facts.
+    fn follow(&mut self, slot: usize, facts: &Facts) {
+        self.cause = self.cause_at(slot, facts);
+        if let Some(insn) = self.program.get(slot) {
+            self.leave(slot, insn, facts);
+        }
+    }
+}
+
+/// The arrivals before the pass: it is missing at program entry, and no edge is known yet.
+fn first_arrivals(alloc: Global, slots: usize) -> Result<Vec<Arrival>, AllocError> {
+    let nothing = Arrival {
+        is_there: false,
+        lack: None,
+    };
+    let mut arrivals = vec![in alloc; nothing; slots]?;
+    if let Some(arrival) = arrivals.get_mut(0) {
+        arrival.lack = Some((0, Cause::Never));
+    }
+    Ok(arrivals)
+}
+
+/// Why something is missing before the rejected instruction.
+fn cause_of(refusal: &RefusedProgram<'_>, wanted: Wanted) -> Result<Option<Cause>, AllocError> {
+    let (alloc, program, named) = (refusal.alloc, refusal.program, refusal.named);
+    let mut finder = Finder {
+        program,
+        named,
+        wanted,
+        arrivals: first_arrivals(alloc, program.slots())?,
+        cause: None,
+    };
+    for here in refusal.known {
+        finder.follow(here.slot, &here.facts);
+    }
+    Ok(finder.cause)
+}
+
+/// The verbs of what is missing: of one thing or of several.
+#[derive(Clone, Copy)]
+struct Verbs {
+    was: &'static str,
+    is: &'static str,
+    holds: &'static str,
+}
+
+/// The verbs of what an instruction needs.
+fn verbs_of(wanted: Wanted) -> Verbs {
+    match wanted {
+        Wanted::Register(_) => Verbs {
+            was: "was",
+            is: "is",
+            holds: "holds",
+        },
+        Wanted::Stack { .. } => Verbs {
+            was: "were",
+            is: "are",
+            holds: "hold",
+        },
+    }
+}
+
+/// Writes why something is missing before the rejected instruction.
+pub(crate) fn write_way(
+    text: &mut String,
+    refusal: &RefusedProgram<'_>,
+    wanted: Wanted,
+) -> Result<(), AllocError> {
+    let Verbs { was, is, holds } = verbs_of(wanted);
+    match cause_of(refusal, wanted)?.unwrap_or(Cause::Never) {
+        Cause::Never => write!(text, "{was} never written"),
+        Cause::Way(slot) => write!(text, "may not be written yet on the way from slot {slot}"),
+        Cause::Taken(slot) => write!(text, "{is} lost at slot {slot}"),
+        Cause::Joined(slot) => {
+            write!(
+                text,
+                "{holds} values of different kinds on the ways to slot {slot}"
+            )
+        }
+    }
+}

@@ -1,8 +1,0 @@
-use Rattle.std.proofs.Common.{◌≡◌, ap, rules}
-use Rattle.verifier.specs.Judgement.{refusal_of_program, refusal_text}
-use Rattle.log_text.proofs.needs.write_fault.Goals as goal
-
-pub returns : goal.returns
-returns c =
-    let same : refusal_text c.from-refusal.result ≡ refusal_text (refusal_of_program c.args.fault) = ap refusal_text c.from-refusal.ensures in
-    search rules

@@ -1,2 +1,0 @@
--- Definitions for private contracts and proofs. No public contract names them.
-pub mod Refusals

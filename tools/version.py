@@ -2,7 +2,7 @@
 
 The version of this repository is in the file VERSION: three numbers with points between them. Each other place that has it, or some of its
 numbers, is compared, and the status is 1 if one has another version or none. --set writes the number to all of them except those that are
-written by hand: the entries of changes, and the library's soname. CONTRIBUTING.md says what may change in which version.
+written by hand: the entries of changes, and the library's soname. docs/RELEASING.md says what may change in which version.
 """
 
 from __future__ import annotations
@@ -49,7 +49,7 @@ PLACES = [
     Place("CHANGELOG.md", r"^## (\d\S*)", is_by_hand=True),
     Place("debian/changelog", r"^bpfhost \((\S+)\)", is_by_hand=True),
     Place("debian/control", r"^Package: libbpfhost(\d\S*)$", "{0}.{1}", is_by_hand=True),
-    Place("CONTRIBUTING.md", r"^- \*soname\.\* `libbpfhost\.so\.(\S+)`", "{0}.{1}", is_by_hand=True),
+    Place("docs/RELEASING.md", r"^- \*soname\.\* `libbpfhost\.so\.(\S+)`", "{0}.{1}", is_by_hand=True),
 ]
 
 

@@ -43,11 +43,11 @@ def command(scratch: Path, *words: str) -> subprocess.CompletedProcess[str]:
 
 
 def show(scratch: Path, *words: str) -> None:
-    """Prints the command and its output, without the time, which differs in each run, and without a verifier's log."""
+    """Prints the command and its output, without the time, which differs in each run, a verifier's log, and a notice on the program."""
     ended = command(scratch, *words)
     print(f"$ python3 -m bpfhost {' '.join(words)}")
     print("".join(line for line in ended.stdout.splitlines(True) if not line.startswith("time a packet")), end="")
-    print(ended.stderr.partition("\n")[0])
+    print(next((line for line in ended.stderr.splitlines() if not line.endswith(" is built without proofs")), ""))
     if ended.returncode:
         print(f"(status {ended.returncode})")
 

@@ -2,7 +2,7 @@
 
 from __future__ import annotations
 
-from collections import Counter
+from collections import Counter, defaultdict
 
 from conformance.cases import SHOWS, counts, lines, slots_of, vectors
 from conformance.instructions import INSTRUCTIONS, Instruction, Key, key_of
@@ -27,10 +27,10 @@ def groups() -> str:
 
 
 def by_opcode() -> str:
-    rows = [f"| Opcode | Instruction | Group | {' | '.join(SHOWS)} |", "|---|---|---|" + "---|" * len(SHOWS)]
+    rows = [f"| Opcode | Instruction | {' | '.join(SHOWS)} |", "|---|---|" + "---|" * len(SHOWS)]
     for each in sorted((each for each in INSTRUCTIONS if each.is_here), key=lambda each: each.key):
         shown = [str(found[each.key]) for found in counts().values()]
-        rows.append(f"| {each.key} | `{cell(each)}` | {GROUPS[each.group]} | {' | '.join(shown)} |")
+        rows.append(f"| {each.key} | `{cell(each)}` | {' | '.join(shown)} |")
     return "\n".join(rows) + "\n"
 
 
@@ -51,9 +51,13 @@ def left_out() -> str:
 
 
 def known_answers() -> str:
+    """The operators and comparisons by their numbers of equations."""
     found = vectors()
-    rows = ["| Operator or comparison | 64 bits | 32 bits |", "|---|---|---|"]
-    rows += [f"| `{name}` | {found[name, '64'] or ''} | {found[name, '32'] or ''} |" for name in sorted({name for name, _ in found})]
+    named = defaultdict[tuple[int, int], list[str]](list)
+    for name in sorted({name for name, _ in found}):
+        named[found[name, "64"], found[name, "32"]].append(f"`{name}`")
+    rows = ["| 64 bits | 32 bits | Operators and comparisons |", "|---|---|---|"]
+    rows += [f"| {wide} | {narrow or ''} | {', '.join(names)} |" for (wide, narrow), names in sorted(named.items())]
     return "\n".join(rows) + "\n"
 
 

@@ -71,7 +71,7 @@ class Crates:
     def reasons(self) -> dict[int, str]:
         """The reasons of the verifier by their numbers, in words."""
         numbers = self.arms("reg_kinds/src/reason.rt", "Reason")
-        words = self.arms("log_text/src/reasons.rt", "Reason")
+        words = self.arms("log_reasons/src/reasons.rt", "Reason")
         return {int(number): words[variant].strip('"') for variant, number in numbers.items()}
 
     def errors(self) -> dict[str, int]:

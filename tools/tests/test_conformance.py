@@ -56,7 +56,7 @@ class Instructions(unittest.TestCase):
         self.assertEqual(list(HELPERS), helpers)
         declared = re.findall(r"= \(void \*\)(\d+);", (TOP / "examples/c_filter/bpfhost.h").read_text())
         self.assertEqual([int(number) for number in declared], helpers)
-        listed = re.search(r"there is no helper \{id\}, and those are (.*) and (\d+)", (TOP / "crates/log_text/src/needs/shape.rt").read_text())
+        listed = re.search(r"there is no helper \{id\}, and those are (.*) and (\d+)", (TOP / "crates/log_reasons/src/needs/shape.rt").read_text())
         self.assertIsNotNone(listed)
         self.assertEqual([int(number) for number in listed[1].split(", ") + [listed[2]]] if listed else [], helpers)
 

@@ -116,6 +116,20 @@ class Pages(unittest.TestCase):
         self.have("STILL_REPEATED", set())
         self.assertEqual(self.pages.repeated_tables([first, again, less]), ["a.md:1: 3 rows of the table stand at b.md:1 too"])
 
+    def test_order_of_crates(self) -> None:
+        crates = "# floors\ntop: low\nmiddle staticlib: low kit\nlow:\n"
+        table = "## The crates\n\n| Floor | Crate | Does |\n|---|---|---|\n| a | `top`, `middle` | `x` |\n| | `low` | |\n"
+        self.assertEqual(self.pages.wrong_order(crates, table), [])
+        self.assertEqual(self.pages.wrong_order("low:\nmiddle:\ntop: low\n", table),
+                         ["crates.txt: top uses low, which is before it", "docs/GUIDE.md: the table of crates has top in place of low"])
+
+    def test_long_pages(self) -> None:
+        self.have("MOST_LINES", {"a.md": 2})
+        self.assertEqual(self.pages.too_long("a.md", "1\n2\n") + self.pages.too_long("b.md", "1\n2\n3\n"), [])
+        self.assertEqual(self.pages.too_long("a.md", "1\n2\n3\n"), ["a.md has 3 lines, and 2 are the most"])
+        self.have("MOST_BYTES", {"b.md": 5})
+        self.assertEqual(self.pages.too_long("b.md", "1\n2\n3\n"), ["b.md has 6 bytes, and 5 are the most"])
+
     def test_allowed_table_that_is_gone(self) -> None:
         self.have("STILL_REPEATED", {("a.md", "b.md")})
         self.assertEqual(len(self.pages.repeated_tables([self.page("a.md", ""), self.page("b.md", "")])), 1)

@@ -22,6 +22,7 @@ ended = subprocess.run([kit / "toolchain/bin/clang", *words])
 Path("module.bc").unlink()
 sys.exit(ended.returncode)
 """
+# Writes what is compiled, or, for a module as text, one that has what quick_ir.py looks for.
 CLANG = '#!/usr/bin/env bash\necho "clang $*" >> "$CALLS"\nwhile [ "$1" != -o ]; do shift; done\necho compiled > "$2"\n'
 LINK = '#!/usr/bin/env bash\necho "link $*" >> "$CALLS"\nwhile [ "$1" != -o ]; do shift; done\necho linked > "$2"\nchmod +x "$2"\n'
 
@@ -57,11 +58,12 @@ class QuickBuild(unittest.TestCase):
         self.assertEqual(ended.stdout.count("is built WITHOUT proofs"), 3)
 
     def test_what_it_compiles(self) -> None:
-        """The words of the kit's own call, with the whole kit's toolchain, and no sanitizer."""
+        """The words of the kit's own call, with the whole kit's toolchain, without the sanitizer, and a proved program's level."""
         self.assertEqual(self.build("out", "bpfhost").returncode, 0)
-        compiled, linked = (self.scratch / "calls").read_text().splitlines()
-        self.assertIn(f"--sysroot={self.scratch}/kit/toolchain -x ir -fPIE -O1 -c", compiled)
-        self.assertNotIn("sanitize", compiled)
+        shown, compiled, linked = (self.scratch / "calls").read_text().splitlines()
+        self.assertIn(f"--sysroot={self.scratch}/kit/toolchain -x ir -fPIE -O3 -c", compiled)
+        self.assertIn("-S -emit-llvm -O0", shown)
+        self.assertNotIn("sanitize", shown + compiled)
         self.assertIn(f"-o {self.scratch}/out/bpfhost", linked)
 
     def test_the_library(self) -> None:
@@ -69,7 +71,7 @@ class QuickBuild(unittest.TestCase):
         self.assertEqual(self.build("out", "library").returncode, 0)
         shown, compiled = (self.scratch / "calls").read_text().splitlines()
         self.assertIn("-S -emit-llvm", shown)
-        self.assertIn("-O1 -fPIC -c", compiled)
+        self.assertIn("-O3 -fPIC -c", compiled)
         listed = subprocess.run(["ar", "t", self.scratch / "out/libbpfhost.a"], check=True, capture_output=True, text=True)
         self.assertEqual(listed.stdout.split(), ["bpfhost.o", "heap.pic.o"])
 

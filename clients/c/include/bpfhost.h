@@ -38,7 +38,7 @@
 extern "C" {
 #endif
 
-/* ---- version: that of this header, and of the library that it came with. CONTRIBUTING.md says what may change in which version. */
+/* ---- version: that of this header, and of the library that it came with. docs/RELEASING.md says what may change in which version. */
 
 #define BPFHOST_VERSION_MAJOR 0
 #define BPFHOST_VERSION_MINOR 1

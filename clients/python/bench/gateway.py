@@ -31,7 +31,7 @@ from bpfhost.shards.gateway.protocol import hello  # noqa: E402
 from bpfhost.shards.remote import CustomerTls, GatewayCustomer  # noqa: E402
 from shards import begins, call, children, processor_time  # noqa: E402
 from tests.shards.certificates import OPENSSL, authority, signed  # noqa: E402
-from tests.shards.gateways import WHY_NOT, customers_file  # noqa: E402
+from tests.shards.gateways import customers_file  # noqa: E402
 from tests.shards.redis_server import RedisServer, missing  # noqa: E402
 
 _context = multiprocessing.get_context("fork")
@@ -140,7 +140,7 @@ def main() -> int:
     parser.add_argument("--seconds", type=float, default=15)
     parser.add_argument("--folder", type=Path, default=Path(tempfile.gettempdir()), help="for the files of Redis")
     said = parser.parse_args()
-    why = missing() or WHY_NOT or (None if OPENSSL else "openssl is missing")
+    why = missing() or (None if OPENSSL else "openssl is missing")
     if why:
         print(f"gateway: skipped, as {why}")
         return 0

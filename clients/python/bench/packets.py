@@ -1,19 +1,25 @@
 #!/usr/bin/env python3
 """Measures the cost of a filter's run on a capture for the client, compared with the cost for the host.
 
-usage: packets.py [BPFHOST] [--packets N] [--rounds N]
+usage: packets.py [BPFHOST] [--packets N] [--rounds N] [--filter EXPRESSION]
 
 It makes captures of packets of 64 to 1,500 bytes in a temporary folder, one in each format, and runs a filter of two instructions on
 them in turn, as `python3 -m bpfhost run` does. It prints the processor time for each packet, of this process and of the host. A busy
 machine makes both longer: so it prints all rounds, and the one that cost the client least.
+
+With --filter it runs the command `run --filter EXPRESSION` instead, client and host together, in turn with `tcpdump -w`: on a capture
+without packets, and on one in the format pcap, without and with `--accepted`. It prints the processor time of each, and compares the files.
 """
 
 from __future__ import annotations
 
 import argparse
+import os
 import random
 import resource
+import shutil
 import struct
+import subprocess
 import sys
 import tempfile
 from pathlib import Path
@@ -74,6 +80,38 @@ def measure(program: str, capture: Path, lengths: list[int]) -> tuple[float, flo
     return client, host
 
 
+def command_time(call: list[str], folder: str) -> float:
+    """The processor time of a command and of all that it starts, in seconds."""
+    package = str(Path(__file__).resolve().parents[1])
+    before = processor_time(resource.RUSAGE_CHILDREN)
+    ended = subprocess.run(call, cwd=folder, env={**os.environ, "PYTHONPATH": package}, capture_output=True, check=False)
+    if ended.returncode:
+        sys.exit(f"packets: {' '.join(call)} has status {ended.returncode}: {ended.stderr.decode(errors='replace').strip()}")
+    return processor_time(resource.RUSAGE_CHILDREN) - before
+
+
+def measure_filter(said: argparse.Namespace, lengths: list[int], scratch: str) -> None:
+    """Prints the processor time of a filter's run and of tcpdump's, and compares what they write."""
+    for name, some in (("empty", lengths[:0]), ("full", lengths)):
+        with open(Path(scratch, name), "wb") as file:
+            write_pcap(file, some)
+    run = [sys.executable, "-m", "bpfhost", "run", "--bpfhost", find_program(said.bpfhost), "--filter", said.filter]
+    calls = {"no packets": [*run, "empty"], "run": [*run, "full"], "run --accepted": [*run, "full", "--accepted", "ours"]}
+    if shutil.which("tcpdump"):
+        as_root = ["-Z", "root"] if os.geteuid() == 0 else []
+        calls["tcpdump -w"] = ["tcpdump", *as_root, "-r", "full", "-w", "theirs", said.filter]
+    measured: dict[str, list[float]] = {name: [] for name in calls}
+    for _ in range(said.rounds):
+        for name, call in calls.items():
+            measured[name].append(command_time(call, scratch))
+            print(f"{name}: {measured[name][-1]:.2f} s")
+    if "tcpdump -w" in calls and Path(scratch, "ours").read_bytes() != Path(scratch, "theirs").read_bytes():
+        sys.exit("packets: the files of run --accepted and of tcpdump -w differ")
+    least = {name: min(rounds) for name, rounds in measured.items()}
+    for name in ("run", "run --accepted"):
+        print(f"{name}: {least[name] - least['no packets']:.2f} s more than without packets, for {said.packets:,} packets")
+
+
 WRITERS = {"pcap": write_pcap, "pcapng": write_pcapng}
 
 
@@ -83,11 +121,15 @@ def main() -> None:
     parser.add_argument("bpfhost", nargs="?")
     parser.add_argument("--packets", type=int, default=1_000_000)
     parser.add_argument("--rounds", type=int, default=3)
+    parser.add_argument("--filter", metavar="EXPRESSION", help="run a filter as for tcpdump, next to tcpdump")
     said = parser.parse_args()
     draw = random.Random(37)
     lengths = [draw.randint(SHORTEST, LONGEST) for _ in range(said.packets)]
     measured: dict[str, list[tuple[float, float]]] = {name: [] for name in WRITERS}
     with tempfile.TemporaryDirectory() as scratch:
+        if said.filter is not None:
+            measure_filter(said, lengths, scratch)
+            return
         for name, write in WRITERS.items():
             with open(Path(scratch, name), "wb") as file:
                 write(file, lengths)

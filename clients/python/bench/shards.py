@@ -35,11 +35,9 @@ _TREE = "BPFHOST_BENCH_TREE"
 sys.path.insert(0, os.environ.get(_TREE) or str(Path(__file__).resolve().parents[1]))
 
 from bpfhost import Host, MapType, find_program, frames  # noqa: E402
-from bpfhost.shards import Client, Settings, ShardKeys, Worker  # noqa: E402
+from bpfhost.shards import Client  # noqa: E402
 from bpfhost.shards.command import main as command  # noqa: E402
-from bpfhost.shards.connection import connect  # noqa: E402
-from bpfhost.shards.registering import register  # noqa: E402
-from bpfhost.shards.settings import MOST_BYTES, MOST_ENTRIES  # noqa: E402
+from bpfhost.shards.settings import MOST_ENTRIES  # noqa: E402
 from tests.shards.redis_server import RedisServer, missing  # noqa: E402
 from tests.shards.streams import slots_of  # noqa: E402
 
@@ -51,7 +49,6 @@ TOGETHER = "1, sent together"
 # A customer sends so many calls before it waits for the reply to the first one.
 CUSTOMERS, AHEAD = 8, 8
 REPLAYED = 100_000
-SETTINGS = Settings(snapshot_entries=MOST_ENTRIES, snapshot_frames=10**9, snapshot_bytes=MOST_BYTES, demand_durable=False)
 _context = multiprocessing.get_context("fork")
 _TICKS = os.sysconf("SC_CLK_TCK")
 
@@ -108,6 +105,12 @@ def ask(url: str, program: str, name: str, calls: int, size: int, barrier: Any, 
         barrier.wait()
 
 
+def until_served(client: Client, shards: int) -> None:
+    """Waits until so many shards are served."""
+    while len(client.directory.beats()) < shards:
+        time.sleep(0.005)
+
+
 def processor_time(processes: Iterable[int]) -> float:
     """The seconds of processor time that processes have taken."""
     fields = [Path(f"/proc/{process}/stat").read_text().rpartition(")")[2].split() for process in processes]
@@ -143,7 +146,6 @@ class Shards:
         with contextlib.ExitStack() as stack:
             servers = [_server(stack, self._folder) for _ in range(self._many)]
             urls = [servers[shard % self._many].url for shard in range(self._shards)]
-            self._place(urls)
             barrier = _context.Barrier(CUSTOMERS + 1)
             calls = max(1, many // CUSTOMERS // size)
             workers = [_context.Process(target=work, args=(url, self._program, shard, urls[0], self._words)) for shard, url in enumerate(urls)]
@@ -152,7 +154,10 @@ class Shards:
                 for number in range(CUSTOMERS)
             ]
             try:
-                for process in (*workers, *customers):
+                for process in workers:
+                    process.start()
+                self._place(urls)
+                for process in customers:
                     process.start()
                 measured = self._measured(servers, workers, customers, barrier, calls * size * CUSTOMERS)
             finally:
@@ -162,12 +167,9 @@ class Shards:
         return measured
 
     def _place(self, urls: list[str]) -> None:
-        """Gives each shard as many customers as the others."""
+        """Gives each shard as many customers as the others, when all are served."""
         with Client(urls[0]) as client:
-            for shard, url in enumerate(urls):
-                server, keys = connect(url), ShardKeys(shard)
-                client.directory.beat(shard, register(server, keys, client.directory, url if url != urls[0] else ""))
-                server.close()
+            until_served(client, len(urls))
             for number in range(CUSTOMERS):
                 client.directory.place(f"customer-{number}")
 
@@ -194,25 +196,30 @@ def _size(server: RedisServer) -> int:
 
 
 def replay(folder: Path, program: str, size: int) -> float:
-    """The seconds from the start of a worker to its first turn, if frames in calls of so many have replies already.
+    """The seconds from the start of a worker's process until it serves, if frames in calls of so many have replies already.
 
     Redis does not wait for its disk here, since nothing is written in this time, and much before it.
     """
     with tempfile.TemporaryDirectory(dir=folder) as room, RedisServer(Path(room), "no") as server, Client(server.url) as client:
         redis, keys = client.shard(0)
-        client.directory.beat(0, register(redis, keys, client.directory, ""))
-        first = _context.Process(target=work, args=(server.url, program, 0, server.url, []), daemon=True)
-        first.start()
+        workers = [_context.Process(target=work, args=(server.url, program, 0, server.url, []), daemon=True) for _ in range(2)]
+        workers[0].start()
+        until_served(client, 1)
         customer = client.customer("one", 600)
         customer.wait(customer.post(b"".join(begins(program))))
         for ticket in [customer.post(call(size), 600) for _ in range(REPLAYED // size)][-1:]:
             customer.wait(ticket)
-        first.kill()
-        first.join()
+        workers[0].kill()
+        workers[0].join()
         redis.hdel(keys.lease, "token")
+        client.directory.withdraw(0)
         began = time.monotonic()
-        Worker(connect(server.url), keys, program, SETTINGS, lambda _sentence: None).run(lambda: True)
-        return time.monotonic() - began
+        workers[1].start()
+        until_served(client, 1)
+        took = time.monotonic() - began
+        workers[1].kill()
+        workers[1].join()
+        return took
 
 
 def tell(program: str, folder: Path, many: int, size: int, words: list[str]) -> None:
@@ -260,25 +267,21 @@ def measure_one(said: argparse.Namespace, program: str) -> None:
 def compare(said: argparse.Namespace, program: str, library: list[str]) -> None:
     """Compares this clone with another one, and prints the medians of the rounds."""
     here = Path(__file__).resolve().parents[3]
-    forms = [
-        Form("before", said.before, False),
-        Form("a call each", here, False, tuple(library)),
-        Form("together", here, True, tuple(library)),
-        Form("together, by the pipe", here, True, ("--library=none",)),
-    ]
+    kinds = (("a call each", False, tuple(library)), ("together", True, tuple(library)), ("together, by the pipe", True, ("--library=none",)))
+    forms = [Form(name, tree, together, words) for name, together, words in kinds for tree in (said.before, here)]
     for size in CALLS:
         found: dict[Form, list[Measured]] = {form: [] for form in forms}
         for _ in range(said.rounds):
             for form in forms:
                 many = said.frames * size // (5 * CALLS[-1] // CALLS[1] + size)
                 found[form].append(form.measure(said, program, many * 4 if form.together else many, size))
-        before = _median(found[forms[0]])
         print(f"{size} frames a send:")
-        for form, measured in found.items():
-            one = _median(measured)
-            costs, was = sum(one.costs.values()), sum(before.costs.values())
-            ratios = f"{one.speed / before.speed:.2f} times as fast, {was / costs:.2f} times less processor time"
-            print(f"  {form.name}: {one.speed:,.0f} frames a second; us a frame: {_costs(one.costs)}; {one.logged:.0f} bytes; {ratios}", flush=True)
+        for old, new in zip(forms[::2], forms[1::2]):
+            before, after = _median(found[old]), _median(found[new])
+            ratios = [one.speed / was.speed for one, was in zip(found[new], found[old])]
+            costs = sum(after.costs.values()) / sum(before.costs.values())
+            print(f"  {new.name}: {before.speed:,.0f} and {after.speed:,.0f} frames a second, {statistics.median(ratios):.2f} times the speed")
+            print(f"    us a frame: {_costs(before.costs)}; and {_costs(after.costs)}; {costs:.2f} times the processor time", flush=True)
 
 
 def _median(measured: list[Measured]) -> Measured:

@@ -28,7 +28,7 @@ sys.path.insert(0, str(Path(__file__).resolve().parents[1]))
 from bpfhost import MapType, find_program, frames  # noqa: E402
 from bpfhost.shards import Client, Customer  # noqa: E402
 from bpfhost.shards.command import main as command  # noqa: E402
-from bpfhost.shards.registering import register  # noqa: E402
+from shards import until_served  # noqa: E402
 from tests.shards.redis_server import RedisServer, missing  # noqa: E402
 from tests.shards.streams import slots_of  # noqa: E402
 
@@ -99,14 +99,13 @@ def busy(url: str, program: str, work: Work, first: int, many: int, begun: Calla
 def waits(folder: Path, program: str, words: list[str], work: Work, many: int, seconds: float) -> list[float]:
     """The waits of another customer for its look-ups, in so many seconds."""
     with tempfile.TemporaryDirectory(dir=folder) as room, RedisServer(Path(room)) as server, Client(server.url) as client:
-        redis, keys = client.shard(0)
-        client.directory.beat(0, register(redis, keys, client.directory, ""))
         has_begun = _context.Event()
         processes = [_context.Process(target=serve, args=(server.url, program, words), daemon=True)]
         processes.append(_context.Process(target=busy, args=(server.url, program, work, 0, many, has_begun.set), daemon=True))
         try:
-            for process in processes:
-                process.start()
+            processes[0].start()
+            until_served(client, 1)
+            processes[1].start()
             other = client.customer("other", SECONDS_TO_BEGIN)
             made = [frames.map_create(0, MapType.HASH, 4, 8, 16), frames.map_update_elem(0, 3, b"key1", bytes(8))]
             for reply in other.ask_all(made):

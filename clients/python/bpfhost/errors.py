@@ -5,7 +5,6 @@ from __future__ import annotations
 import os
 import signal
 import sys
-from pathlib import Path
 from typing import TYPE_CHECKING
 
 from bpfhost.numbers import Errno
@@ -104,15 +103,14 @@ class CaptureError(InputError):
 # Packages that parts of this package need: the names of their modules, and of Debian's packages.
 PACKAGES = {
     "elftools": "python3-pyelftools",
-    "dpkt": "python3-dpkt",
     "rich": "python3-rich",
     "redis": "python3-redis",
-    "greenlet": "python3-greenlet",
+    "prometheus_client": "python3-prometheus-client",
 }
 
 
 # Only Debian's own Python sees Debian's packages, and another Python may come first in PATH.
-_DEBIANS_PYTHON, _DEBIANS_PACKAGES = Path("/usr/bin/python3"), Path("/usr/lib/python3/dist-packages")
+_DEBIANS_PYTHON, _DEBIANS_PACKAGES = "/usr/bin/python3", "/usr/lib/python3/dist-packages"
 
 
 class MissingPackage(BpfhostError):
@@ -121,9 +119,9 @@ class MissingPackage(BpfhostError):
     def __init__(self, module: str, debian: str) -> None:
         self.module = module
         found = f"the Python package {module} is missing"
-        if not _is_debians_python() and (_DEBIANS_PACKAGES / module).is_dir():
+        if not _is_debians_python() and os.path.isdir(os.path.join(_DEBIANS_PACKAGES, module)):
             super().__init__(f"{found} for {sys.executable}, and {_DEBIANS_PYTHON} has it: use that one")
-        elif not _is_debians_python() and _DEBIANS_PYTHON.exists():
+        elif not _is_debians_python() and os.path.exists(_DEBIANS_PYTHON):
             own = f"which {_DEBIANS_PYTHON} sees, and {sys.executable} does not"
             super().__init__(f"{found}: apt-get install {debian}, {own}")
         else:

@@ -62,6 +62,7 @@ class Host:
         self._ledger = Ledger(tenants)
         self._sent = 0
         self._wide = 0
+        self._seconds = 0.0
         self._has_room(self._stream.room())
 
     def _has_room(self, room: int) -> None:
@@ -117,6 +118,10 @@ class Host:
     def frames_left(self) -> int:
         """How many frames this run of the program still takes; no limit applies while the tenants can move to a new run."""
         return max(0, self.most_frames - self._sent)
+
+    def processor_time(self) -> float:
+        """The seconds of processor time that the program has used for all frames so far, or 0 if the system does not have that number."""
+        return self._seconds + self._stream.processor_time()
 
     def pipelined(
         self, send: Callable[[Batch], None], receive: Callable[[Batch], Answer], batches: Iterable[Batch]
@@ -204,6 +209,7 @@ class Host:
     def _move(self) -> None:
         """Moves all tenants to a new run of the program, with all that they had."""
         old, read = self._stream, self._ledger.read(self._ask_uncounted)
+        self._seconds += old.processor_time()
         self._stream = Stream(self.program, self.tenants)
         old.close()
         if self._wide:

@@ -28,7 +28,7 @@ from bpfhost.packets import Packets
 from bpfhost.replies import Reply, read_replies
 from bpfhost.state import split
 
-# The versions that have the functions below, as in the name of an installed library (CONTRIBUTING.md, "The library's binary interface").
+# The versions that have the functions below, as in the name of an installed library (docs/RELEASING.md, "The library's binary interface").
 VERSION = "0.1"
 _NAME = re.compile(r"libbpfhost\.so\.(\d+\.\d+)")
 _LENGTH_FIELD = 4

@@ -2,7 +2,8 @@
 
 from __future__ import annotations
 
-from collections.abc import Iterable, Iterator
+import struct
+from collections.abc import Iterable, Iterator, Sequence
 from dataclasses import dataclass, replace
 from itertools import accumulate
 from typing import TypeVar
@@ -12,6 +13,7 @@ ETHERNET = 1
 
 # The fewest bytes of a packet with an Ethernet header, which ends with the type.
 LEAST_WITH_TYPE = 14
+_TYPE = struct.Struct("<H")
 
 Some = TypeVar("Some", bound="Packets")
 
@@ -36,6 +38,19 @@ class Packets:
         listed = list(packets)
         lengths = [len(packet) for packet in listed]
         return Packets(b"".join(listed), list(accumulate(lengths, initial=0))[: len(listed)], lengths, link_type)
+
+    def ethernet_types(self) -> Sequence[int | None]:
+        """The type in each packet's Ethernet header, as the number that `types` has; None for a packet without such a header."""
+        if self.link_type != ETHERNET:
+            return [None] * len(self)
+        is_long = min(self.lengths, default=0) >= LEAST_WITH_TYPE
+        if self.types is not None and is_long:
+            return self.types
+        if is_long:
+            read = _TYPE.unpack_from
+            return [read(self.data, start + 12)[0] for start in self.starts]
+        data, places = self.data, zip(self.starts, self.lengths)
+        return [int.from_bytes(data[start + 12 : start + 14], "little") if length >= LEAST_WITH_TYPE else None for start, length in places]
 
     def __len__(self) -> int:
         return len(self.starts)

@@ -8,7 +8,6 @@ import shutil
 import subprocess
 from collections.abc import Mapping, Sequence
 from dataclasses import dataclass
-from pathlib import Path
 
 from bpfhost.errors import BpfhostError, HostError, InputError
 from bpfhost.numbers import SLOT_SIZE, MapType
@@ -17,12 +16,14 @@ from bpfhost.words import TEXT_FAULTS, reason_words
 Program = str | os.PathLike[str]
 
 # The folder in which a build leaves the programs, if this package is in a clone of the repository.
-_CRATES = Path(__file__).resolve().parents[3] / "crates"
-_BUILT = _CRATES / "bpfhost/out/bpfhost"
-_BUILT_LOG = _CRATES / "verifier_log/out/verifier_log"
+_CRATES = os.path.realpath(os.path.join(os.path.dirname(__file__), "../../../crates"))
+_BUILT = os.path.join(_CRATES, "bpfhost/out/bpfhost")
+_BUILT_LOG = os.path.join(_CRATES, "verifier_log/out/verifier_log")
 # The status of `asm` and `dis` for wrong input (docs/CLI.md).
 _INPUT_REFUSED = 1
-_SLOT = re.compile(r"[0-9A-Fa-f]{16}")
+# The note that tools/quick-build leaves in what it builds, and the file that it leaves next to it.
+_MARK, UNPROVED = b"built without proofs\0", "UNPROVED"
+_SLOT = r"[0-9A-Fa-f]{16}"
 _KINDS = {MapType.HASH: "hash", MapType.ARRAY: "array"}
 
 
@@ -34,9 +35,21 @@ def find_program(named: Program | None = None) -> str:
     found = named or os.environ.get("BPFHOST") or shutil.which("bpfhost")
     if found:
         return os.fspath(found)
-    if _BUILT.is_file():
-        return str(_BUILT)
+    if os.path.isfile(_BUILT):
+        return os.fspath(_BUILT)
     raise HostError("there is no program bpfhost: name it by --bpfhost or by the variable BPFHOST")
+
+
+def is_unproved(path: Program) -> bool:
+    """Whether a program, or a library, says that it was built without proofs: by the mark in it, or by the file `UNPROVED` next to it."""
+    found = os.path.abspath(shutil.which(path) or path)
+    if os.path.isfile(os.path.join(os.path.dirname(found), UNPROVED)):
+        return True
+    try:
+        with open(found, "rb") as file:
+            return _MARK in file.read()
+    except OSError:
+        return False
 
 
 def _called(program: Program, words: Sequence[str], given: bytes) -> subprocess.CompletedProcess[bytes]:
@@ -108,7 +121,7 @@ def slots_of(text: str, name: str = "standard input") -> bytes:
     slots: list[bytes] = []
     for number, line in enumerate(text.split("\n"), 1):
         digits = line.strip(" \t\r")
-        if digits and not _SLOT.fullmatch(digits):
+        if digits and not re.fullmatch(_SLOT, digits):
             raise InputError(f"{name}:{number}: a slot is sixteen hexadecimal digits on a line, and nothing else")
         slots.append(bytes.fromhex(digits))
     return b"".join(slots)
@@ -160,18 +173,17 @@ def find_verifier_log(program: Program) -> str | None:
     named = os.environ.get("VERIFIER_LOG")
     if named is not None:
         return named or None
-    folder = Path(shutil.which(program) or program).absolute().parent
-    beside = [folder / "verifier_log"]
-    if folder.name == "out":
+    folder = os.path.dirname(os.path.abspath(shutil.which(program) or program))
+    beside = [os.path.join(folder, "verifier_log")]
+    if os.path.basename(folder) == "out":
         # A build leaves each program in the folder of its crate.
-        beside.append(folder.parent.parent / "verifier_log/out/verifier_log")
+        beside.append(os.path.join(os.path.dirname(os.path.dirname(folder)), "verifier_log/out/verifier_log"))
     of_path = shutil.which("verifier_log")
-    found = next((path for path in (*beside, *([Path(of_path)] if of_path else []), _BUILT_LOG) if _is_program(path)), None)
-    return str(found) if found else None
+    return next((os.fspath(path) for path in (*beside, *([of_path] if of_path else []), _BUILT_LOG) if _is_program(path)), None)
 
 
-def _is_program(path: Path) -> bool:
-    return path.is_file() and os.access(path, os.X_OK)
+def _is_program(path: str) -> bool:
+    return os.path.isfile(path) and os.access(path, os.X_OK)
 
 
 def verifier_log(program: Program, slots: bytes, maps: Mapping[int, MapShape], *words: str) -> str | None:

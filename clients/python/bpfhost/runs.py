@@ -15,7 +15,7 @@ from typing import TYPE_CHECKING
 from bpfhost.errors import ReplyError
 from bpfhost.frames import NO_CONTEXT, Context, place_of, prog_test_run
 from bpfhost.numbers import LONGEST_PACKET, REPLY_HEAD, Command
-from bpfhost.packets import ETHERNET, LEAST_WITH_TYPE, Packets
+from bpfhost.packets import Packets
 from bpfhost.prog import Prog
 from bpfhost.replies import Reply
 
@@ -38,36 +38,26 @@ def _words(replies: bytes) -> array[int]:
     return words
 
 
-def _types(packets: Packets) -> Sequence[int | None]:
-    """The type in each packet's Ethernet header, as `Packets` has it; None for a packet without such a header."""
-    if packets.link_type != ETHERNET:
-        return [None] * len(packets)
-    if packets.types is not None and min(packets.lengths, default=0) >= LEAST_WITH_TYPE:
-        return packets.types
-    data, places = packets.data, zip(packets.starts, packets.lengths)
-    return [int.from_bytes(data[start + 12 : start + 14], "little") if length >= LEAST_WITH_TYPE else None for start, length in places]
-
-
 class _Heads:
     """What comes before the packets in the frames of test runs of a program.
 
-    `lengths` has a frame's first field for each length of a packet, and `contexts` has all that follows it up to the packet, for each type
-    in an Ethernet header, and for None. Both have only what `learn` was given.
+    `of_type` has it for each type in an Ethernet header, and for None, in a list by the length of the packet. It has only what `learn` was
+    given.
     """
 
     def __init__(self, tenant: int, program: int, context: Context) -> None:
-        self.lengths: list[bytes] = []
-        self.contexts: dict[int | None, bytes] = {}
+        self.of_type: dict[int | None, list[bytes]] = {}
         self._head = prog_test_run(tenant, program, b"", context)[_LENGTH:]
 
-    def learn(self, lengths: Sequence[int], types: Sequence[int | None]) -> None:
+    def learn(self, lengths: Sequence[int], types: Iterable[int | None]) -> None:
         """Takes lengths of packets and types in their headers. Raises ValueError if no test run takes such a packet."""
         longest = max(lengths)
         if longest > LONGEST_PACKET:
             raise ValueError(f"a packet has {longest:,} bytes, and that of a test run has {LONGEST_PACKET:,} at most")
-        self.lengths += [struct.pack("<I", len(self._head) + length) for length in range(len(self.lengths), longest + 1)]
-        for ethernet_type in set(types) - self.contexts.keys():
-            self.contexts[ethernet_type] = self._context(ethernet_type)
+        for ethernet_type in set(types):
+            heads = self.of_type.setdefault(ethernet_type, [])
+            context = self._context(ethernet_type)
+            heads += [struct.pack("<I", len(self._head) + length) + context for length in range(len(heads), longest + 1)]
 
     def _context(self, ethernet_type: int | None) -> bytes:
         head = bytearray(self._head)
@@ -82,19 +72,31 @@ class TestRuns:
     """Test runs of one program of one tenant.
 
     For an Ethernet packet, the context's word `protocol` is the type in its header, in network byte order, as in the kernel (and
-    ETH_P_802_2 if the header has a length instead). All other words are those of `context`.
+    ETH_P_802_2 if the header has a length instead), unless the program does not read it. All other words are those of `context`.
     """
 
     # Not a class of tests, whatever pytest infers from its name.
     __test__ = False
 
-    def __init__(self, host: Host, tenant: int, program: int, context: Context = NO_CONTEXT, timed: str | None = None) -> None:
-        """Prepares runs of a program; `timed` names the word of the context that has a separate number for each packet."""
+    def __init__(
+        self,
+        host: Host,
+        tenant: int,
+        program: int,
+        context: Context = NO_CONTEXT,
+        timed: str | None = None,
+        reads_protocol: bool = True,
+    ) -> None:
+        """Prepares runs of a program; `timed` names the word of the context that has a separate number for each packet.
+
+        `reads_protocol` is for programs that are known not to read the word `protocol`.
+        """
         self.host = host
+        self._reads_protocol = reads_protocol
         self._prog = program if isinstance(program, Prog) else None
         self._heads = _Heads(tenant, program, context)
         self.timed = timed
-        self._word = place_of(timed) - _LENGTH if timed else 0
+        self._word = place_of(timed) if timed else 0
         self._whose = tenant | Command.PROG_TEST_RUN << 16
         # The first two words of the reply to a successful run.
         self._head = struct.pack("<II", _REPLY_SIZE - 4, self._whose)
@@ -121,33 +123,28 @@ class TestRuns:
         """
         if not len(packets):
             return b""
-        types = _types(packets)
+        types = packets.ethernet_types() if self._reads_protocol else None
         try:
             return self._joined(packets, types, numbers)
         except (IndexError, KeyError):
-            self._heads.learn(packets.lengths, types)
+            self._heads.learn(packets.lengths, (None,) if types is None else types)
             return self._joined(packets, types, numbers)
 
-    def _joined(self, packets: Packets, types: Sequence[int | None], numbers: Sequence[int] | None) -> bytes:
+    def _joined(self, packets: Packets, types: Sequence[int | None] | None, numbers: Sequence[int] | None) -> bytes:
         """The frames, in as few steps as possible. Raises IndexError or KeyError if `learn` was not given a length or a type."""
+        data, starts, lengths, heads = packets.data, packets.starts, packets.lengths, self._heads.of_type
+        parts = [b""] * (2 * len(lengths))
+        if types is None:
+            parts[::2] = map(heads[None].__getitem__, lengths)
+        else:
+            parts[::2] = [heads[ethernet_type][length] for ethernet_type, length in zip(types, lengths)]
         if numbers is not None:
-            return self._joined_with(packets, types, numbers)
-        data, lengths, contexts = memoryview(packets.data), self._heads.lengths, self._heads.contexts
-        pieces: list[bytes | memoryview] = []
-        for start, length, ethernet_type in zip(packets.starts, packets.lengths, types):
-            pieces.append(lengths[length])
-            pieces.append(contexts[ethernet_type])
-            pieces.append(data[start : start + length])
-        return b"".join(pieces)
-
-    def _joined_with(self, packets: Packets, types: Sequence[int | None], numbers: Sequence[int]) -> bytes:
-        """The same, with a number in a word of each context."""
-        lengths, contexts, word = self._heads.lengths, self._heads.contexts, self._word
-        pieces: list[bytes] = []
-        for packet, length, ethernet_type, number in zip(packets, packets.lengths, types, numbers, strict=True):
-            context = contexts[ethernet_type]
-            pieces += (lengths[length], context[:word], number.to_bytes(4, "little"), context[word + 4 :], packet)
-        return b"".join(pieces)
+            word = self._word
+            parts[::2] = [
+                head[:word] + number.to_bytes(4, "little") + head[word + 4 :] for head, number in zip(parts[::2], numbers, strict=True)
+            ]
+        parts[1::2] = [data[start : start + length] for start, length in zip(starts, lengths)]
+        return b"".join(parts)
 
     def receive(self, packets: Packets) -> tuple[int, ...]:
         """The results of runs whose frames were sent. Raises Refused, after all replies are read, if a run was refused."""

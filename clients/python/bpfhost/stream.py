@@ -5,6 +5,7 @@ from __future__ import annotations
 import contextlib
 import subprocess
 import tempfile
+import time
 from io import FileIO
 from typing import cast
 
@@ -18,6 +19,8 @@ _LEAST_PIPE = 4096
 # A batch of frames has about this many bytes at most.
 SENT_AT_ONCE = READ_AT_ONCE = 1 << 16
 _SECONDS_TO_END = 5
+# The clock of a process's processor time on Linux, next to the process's number (clock_getcpuclockid(3)).
+_CPUCLOCK_SCHED = 2
 
 
 class Stream:
@@ -44,6 +47,7 @@ class Stream:
         # If the pipe holds several batches of frames, the host rarely waits for the next one.
         _widen(self._frames, 4 * SENT_AT_ONCE)
         self._unread = b""
+        self._seconds = 0.0
         # Whether a frame or a reply was transferred only in part.
         self._is_torn = False
 
@@ -51,6 +55,12 @@ class Stream:
     def is_closed(self) -> bool:
         """Whether it takes no more frames."""
         return self._frames.closed
+
+    def processor_time(self) -> float:
+        """The seconds of processor time that the program has used, or 0 if the system does not have that number."""
+        with contextlib.suppress(AttributeError, OSError):
+            self._seconds = time.clock_gettime(~self._process.pid << 3 | _CPUCLOCK_SCHED)
+        return self._seconds
 
     def room(self) -> int:
         """The most bytes of replies that may wait unread: the host can write them all, and so continues to read frames.

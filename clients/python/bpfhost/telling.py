@@ -27,6 +27,16 @@ class Parser(argparse.ArgumentParser):
         self.exit(WRONG_WORDS, f"{self.prog.removeprefix(_AS_MODULE).split()[0]}: {message}\n")
 
 
+class Version(argparse.Action):
+    """`--version`: writes the client's version, and which program it uses, and ends the process."""
+
+    def __call__(self, parser: argparse.ArgumentParser, _space: object, _values: object, _option: str | None = None) -> None:
+        from bpfhost.command.version import version
+
+        print(version())
+        parser.exit()
+
+
 def called(script: str, module: str) -> str:
     """How this process was called: by the name of the installed script, or else as a module."""
     return script if os.path.basename(sys.argv[0]) == script else f"{_AS_MODULE}{module}"

@@ -7,7 +7,7 @@ from collections.abc import Iterable, Iterator
 from typing import TYPE_CHECKING
 
 from bpfhost import frames
-from bpfhost.classic import ClassicProgram, Length, Semantics
+from bpfhost.classic.semantics import Length, Semantics
 from bpfhost.errors import Refused, ReplyError
 from bpfhost.frames import NO_CONTEXT, Context
 from bpfhost.maps import Map
@@ -75,6 +75,8 @@ class Tenant:
         Raises ClassicError or ExpressionError if it is rejected, and MissingLibrary without libpcap. clients/python/FILTERS.md explains
         `semantics` and `length`. To load a classic program from elsewhere, use `prog_load(program.translated().slots)`.
         """
+        from bpfhost.classic.program import ClassicProgram
+
         return self.prog_load(ClassicProgram.of_expression(expression, link_type).translated(semantics, length).slots, expression)
 
     def prog_test_run(self, descriptor: int, packet: bytes = b"", context: Context = NO_CONTEXT) -> int:

@@ -31,9 +31,14 @@ def block(kind: int, body: bytes, order: str) -> bytes:
     return struct.pack(f"{order}I", kind) + length + body + length
 
 
-def section(order: str) -> bytes:
+def comment(order: str, text: bytes) -> bytes:
+    """A comment as an option."""
+    return struct.pack(f"{order}HH", 1, len(text)) + text + bytes(-len(text) % 4)
+
+
+def section(order: str, options: bytes = b"") -> bytes:
     """A section header."""
-    return block(0x0A0D0D0A, struct.pack(f"{order}IHHq", 0x1A2B3C4D, 1, 0, -1), order)
+    return block(0x0A0D0D0A, struct.pack(f"{order}IHHq", 0x1A2B3C4D, 1, 0, -1) + options, order)
 
 
 def interface(order: str, link_type: int = 1, options: bytes = b"", longest: int = 0) -> bytes:
@@ -41,11 +46,11 @@ def interface(order: str, link_type: int = 1, options: bytes = b"", longest: int
     return block(1, struct.pack(f"{order}HHI", link_type, 0, longest) + options, order)
 
 
-def enhanced(order: str, packet: bytes, ticks: int, length: int, of: int = 0, kept: int | None = None) -> bytes:
+def enhanced(order: str, packet: bytes, ticks: int, length: int, of: int = 0, kept: int | None = None, options: bytes = b"") -> bytes:
     """An enhanced packet block; `kept` is the packet's length that it states."""
     kept = len(packet) if kept is None else kept
     body = struct.pack(f"{order}5I", of, ticks >> 32, ticks & 0xFFFFFFFF, kept, length)
-    return block(6, body + packet, order)
+    return block(6, body + packet + (bytes(-len(packet) % 4) + options if options else b""), order)
 
 
 def pcapng(records: list[Record] = RECORDS, order: str = "<") -> bytes:
@@ -60,6 +65,7 @@ def simple(order: str, packet: bytes, length: int) -> bytes:
     return block(3, struct.pack(f"{order}I", length) + packet, order)
 
 
-def old(order: str, packet: bytes, ticks: int, length: int) -> bytes:
+def old(order: str, packet: bytes, ticks: int, length: int, options: bytes = b"") -> bytes:
     """An obsolete packet block, of the first interface."""
-    return block(2, struct.pack(f"{order}HHIIII", 0, 7, ticks >> 32, ticks & 0xFFFFFFFF, len(packet), length) + packet, order)
+    head = struct.pack(f"{order}HHIIII", 0, 7, ticks >> 32, ticks & 0xFFFFFFFF, len(packet), length)
+    return block(2, head + packet + (bytes(-len(packet) % 4) + options if options else b""), order)

@@ -3,6 +3,7 @@
 from __future__ import annotations
 
 import os
+import re
 import signal
 import stat
 import sys
@@ -19,6 +20,11 @@ ONE = bytes.fromhex("b700000001000000 9500000000000000")
 LENGTH = bytes.fromhex("6110000000000000 9500000000000000")
 
 
+def without_notice(told: bytes) -> bytes:
+    """What a command has written, without the notice that its program was built without proofs: tests run with any program."""
+    return re.sub(rb"(?m)^bpfhost: .* is built without proofs\n", b"", told)
+
+
 def _hangs(_number: int, _frame: object) -> None:
     raise TimeoutError(f"a test takes longer than {SECONDS} seconds")
 
@@ -28,11 +34,16 @@ class TimedTest(unittest.TestCase):
 
     def setUp(self) -> None:
         signal.signal(signal.SIGALRM, _hangs)
-        signal.alarm(SECONDS)
+        self.begin_limit()
         self.addCleanup(signal.alarm, 0)
         scratch = tempfile.TemporaryDirectory()
         self.addCleanup(scratch.cleanup)
         self.scratch = Path(scratch.name)
+
+    @staticmethod
+    def begin_limit() -> None:
+        """Begins the time limit, or begins it again."""
+        signal.alarm(SECONDS)
 
     def pretender(self, script: str) -> str:
         """A Python program that takes the place of bpfhost."""

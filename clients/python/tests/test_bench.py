@@ -2,18 +2,28 @@
 
 from __future__ import annotations
 
+import shutil
 import subprocess
 import sys
 from pathlib import Path
 
+from tests.classic.common import needs_libpcap
 from tests.common import PROGRAM, HostTest
-from tests.test_captures import needs_dpkt
 
 BENCH = Path(__file__).resolve().parents[1] / "bench/packets.py"
 
 
-@needs_dpkt
 class Bench(HostTest):
+    @needs_libpcap
+    def test_a_filter_next_to_tcpdump(self) -> None:
+        """Also a comparison of the files that both write."""
+        call = [sys.executable, str(BENCH), PROGRAM, "--packets", "2000", "--rounds", "1", "--filter", "len > 700"]
+        ended = subprocess.run(call, capture_output=True, check=False, text=True)
+        self.assertEqual((ended.stderr, ended.returncode), ("", 0))
+        names = [line.partition(": ")[0] for line in ended.stdout.splitlines()]
+        beside = ["tcpdump -w"] if shutil.which("tcpdump") else []
+        self.assertEqual(names, ["no packets", "run", "run --accepted", *beside, "run", "run --accepted"])
+
     def test_both_formats(self) -> None:
         call = [sys.executable, str(BENCH), PROGRAM, "--packets", "2000", "--rounds", "2"]
         ended = subprocess.run(call, capture_output=True, check=False, text=True)

@@ -10,11 +10,12 @@ import subprocess
 import sys
 import unittest
 from pathlib import Path
+from typing import Any
 
 from bpfhost import CaptureError, MissingPackage
 from bpfhost.captures import Piece, link_type_name, open_capture
 from bpfhost.captures.piece import Stamp
-from tests.capture_bytes import MICRO, NANO, RAW_IP, RECORDS, Record, block, enhanced, interface, old, pcap, pcapng, section, simple
+from tests.capture_bytes import MICRO, NANO, RAW_IP, RECORDS, Record, block, comment, enhanced, interface, old, pcap, pcapng, section, simple
 from tests.common import TimedTest
 
 HAS_DPKT = importlib.util.find_spec("dpkt") is not None
@@ -46,7 +47,6 @@ class CaptureTest(TimedTest):
         return packets, ""
 
 
-@needs_dpkt
 class Pcap(CaptureTest):
     def test_both_orders_and_both_precisions(self) -> None:
         for order in "<>":
@@ -104,7 +104,6 @@ class Pcap(CaptureTest):
         self.assertEqual(self.read_to_fault(content), ([], "capture: it has version 3 of pcap, and only 2 is supported"))
 
 
-@needs_dpkt
 class Pcapng(CaptureTest):
     def test_both_orders(self) -> None:
         for order in "<>":
@@ -191,7 +190,6 @@ class Pcapng(CaptureTest):
 
 
 class Wrong(CaptureTest):
-    @needs_dpkt
     def test_files_that_are_none(self) -> None:
         for content in (b"", b"\x7fELF" + bytes(100), bytes(100)):
             self.assertEqual(self.read_to_fault(content), ([], "capture: it is neither a pcap nor a pcapng file"))
@@ -201,21 +199,10 @@ class Wrong(CaptureTest):
             with self.assertRaisesRegex(CaptureError, fault), open_capture(path):
                 pass
 
-    def test_without_dpkt(self) -> None:
-        script = (
-            "import sys; sys.modules['dpkt'] = None\n"
-            "from bpfhost import MissingPackage\nfrom bpfhost.captures import open_capture\n"
-            "try:\n    open_capture(sys.argv[1]).__enter__()\nexcept MissingPackage as error: print(error)"
-        )
-        path = self.written(pcap())
-        told = subprocess.run([sys.executable, "-c", script, str(path)], capture_output=True, text=True, check=True)
-        self.assertEqual(told.stdout, f"{MissingPackage('dpkt', 'python3-dpkt')}\n")
-
     def test_names_of_link_types(self) -> None:
         self.assertEqual((link_type_name(113), link_type_name(9999)), ("113 (LINUX_SLL)", "9999"))
 
 
-@needs_dpkt
 class ShortAndLong(CaptureTest):
     """Packets of which the capture has fewer bytes than there were on the wire, and packets that no test run takes."""
 
@@ -248,7 +235,6 @@ class ShortAndLong(CaptureTest):
         self.assertEqual([(piece.lengths, piece.wires) for piece in self.pieces(content)], [([3], [9])])
 
 
-@needs_dpkt
 class Compressed(CaptureTest):
     def test_both_formats(self) -> None:
         for content in (pcap(RECORDS), pcapng(RECORDS), pcap(RECORDS * 5000)):
@@ -271,7 +257,6 @@ class Compressed(CaptureTest):
             pass
 
 
-@needs_dpkt
 class Writer(CaptureTest):
     def copied(self, content: bytes, longest: int = 100_000, has_nanoseconds: bool | None = None, name: str = "written") -> bytes:
         """A capture that the packets of another one are written to."""
@@ -280,7 +265,7 @@ class Writer(CaptureTest):
         path = self.scratch / name
         with open_capture(self.written(content)) as capture:
             has_more = capture.has_nanoseconds if has_nanoseconds is None else has_nanoseconds
-            with CaptureWriter(path, has_more) as writer:
+            with CaptureWriter(path, has_more, comments=capture.comments) as writer:
                 for piece in capture.pieces():
                     for at in range(len(piece)):
                         writer.write(piece, at, longest)
@@ -315,6 +300,31 @@ class Writer(CaptureTest):
             written = self.scratch / "again.pcapng"
             written.write_bytes(self.copied(content, has_nanoseconds=has_nanoseconds, name="written.pcapng"))
             self.assertEqual(self.packets_of(written), self.packets_of(self.written(content)))
+
+    @needs_dpkt
+    def test_comments_are_kept_in_a_pcapng_file(self) -> None:
+        """Those on sections, interfaces and packets, in both byte orders, also if a packet is cut; dpkt reads them."""
+        for order in "<>":
+            comments = [comment(order, text) for text in (b"section", b"interface", b"packet", "für zwei".encode(), b"old")]
+            content = section(order, comments[0]) + interface(order, 1, comments[1]) + enhanced(order, b"abcde", 7, 9, options=comments[2] + comments[3])
+            content += enhanced(order, b"none", 8, 9, options=bytes(4)) + enhanced(order, b"", 9, 9) + old(order, b"abc", 5, 3, comments[4])
+            for longest in (100, 2):
+                written = self.copied(content, longest, name="written.pcapng")
+                told = [[option.data for option in block.opts if option.code == 1] for block in self.blocks(written)]
+                self.assertEqual(told, [[b"section"], [b"interface"], [b"packet", "für zwei".encode()], [], [], [b"old"]])
+                self.assertEqual(self.read(written), [(packet[:longest], stamp) for packet, stamp in self.read(content)])
+
+    def blocks(self, content: bytes) -> list[Any]:
+        """The blocks of a little-endian pcapng file, as dpkt reads them."""
+        from dpkt import pcapng as theirs
+
+        kinds = {0x0A0D0D0A: theirs.SectionHeaderBlockLE, 1: theirs.InterfaceDescriptionBlockLE, 6: theirs.EnhancedPacketBlockLE}
+        found, at = [], 0
+        while at < len(content):
+            kind, length = struct.unpack_from("<II", content, at)
+            found.append(kinds[kind](content[at : at + length]))
+            at += length
+        return found
 
     def packets_of(self, path: Path) -> list[tuple[bytes, int, Stamp]]:
         with open_capture(path) as capture:

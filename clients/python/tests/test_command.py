@@ -24,14 +24,14 @@ from unittest import mock
 from bpfhost import MissingPackage, hex_lines
 from bpfhost.command import main
 from tests.capture_bytes import RAW_IP, RECORDS, pcap, pcapng
-from tests.common import LENGTH, ONE, PROGRAM, HostTest
+from tests.common import LENGTH, ONE, PROGRAM, HostTest, without_notice
 
 PACKAGE = Path(__file__).resolve().parents[1]
 EXAMPLE = PACKAGE.parents[1] / "examples/capture"
 TIME = re.compile(rb"time a packet: [0-9.]+ us")
-MODULES = {"elftools": "python3-pyelftools", "dpkt": "python3-dpkt", "rich": "python3-rich"}
+MODULES = {"elftools": "python3-pyelftools", "rich": "python3-rich"}
 needs_packages = unittest.skipUnless(
-    all(map(importlib.util.find_spec, MODULES)), "python3-pyelftools, python3-dpkt or python3-rich is missing"
+    all(map(importlib.util.find_spec, MODULES)), "python3-pyelftools or python3-rich is missing"
 )
 
 
@@ -58,7 +58,7 @@ class CommandTest(HostTest):
                 status = int(exit.code or 0)
             written.flush()
             errors.flush()
-        return Ended(_bytes_of(written), _bytes_of(errors), status)
+        return Ended(_bytes_of(written), without_notice(_bytes_of(errors)), status)
 
     def process(self, *words: str, given: bytes = b"", **variables: str) -> Ended:
         """The same by `python3 -m bpfhost`, in a process of its own."""
@@ -69,7 +69,7 @@ class CommandTest(HostTest):
         environment = {**os.environ, "PYTHONPATH": str(PACKAGE), "BPFHOST": PROGRAM, "VERIFIER_LOG": "", **variables}
         call = ["bash", "-c", f"{shlex.quote(sys.executable)} -m bpfhost {words}"]
         ended = subprocess.run(call, input=given, capture_output=True, check=False, cwd=self.scratch, env=environment)
-        return Ended(ended.stdout, ended.stderr, ended.returncode)
+        return Ended(ended.stdout, without_notice(ended.stderr), ended.returncode)
 
     def writes(self, wanted: str, *words: str, given: bytes = b"") -> None:
         """The command writes this, and its status is 0."""
@@ -149,6 +149,8 @@ class Words(CommandTest):
             ("run", "a", "b", "--limit", "-1"): "invalid number of at least 0",
             ("run", "a", "b", "--limit", "ten"): "invalid number of at least 0",
             ("run", "a", "b", "c"): "unrecognized arguments: c",
+            ("run", "a", "--json", "b", "--limit", "1", "c"): "unrecognized arguments: c",
+            ("run", "a", "b", "--csv"): "argument --csv: expected one argument",
             ("check",): "the following arguments are required: OBJECT",
             ("test-run", "0"): "the following arguments are required: DESCRIPTOR",
             ("test-run", "0", "3", "abc"): "invalid bytes in hexadecimal digits",
@@ -161,6 +163,12 @@ class Words(CommandTest):
         self.assertEqual(ended.returncode, 0)
         for word in ("run", "check", "asm", "dis", "replies", "load", "test-run"):
             self.assertIn(word, ended.stdout.decode())
+
+    def test_the_first_example_of_help_is_a_filter(self) -> None:
+        for words in ((), ("run",), ("check",), ("dis",), ("build",)):
+            described = self.command(*words, "--help").stdout.decode().partition("\n\n")[2]
+            example = next(line for line in described.splitlines() if line.strip().startswith("python3 -m bpfhost "))
+            self.assertIn(f"{' '.join(words)} --filter 'tcp port 443'", example)
 
 
 class Texts(CommandTest):
@@ -364,6 +372,11 @@ class Run(CommandTest):
             self.assertEqual(self.command("run", "counter.o", "sample.pcap", "--section", named).returncode, 0)
         told = "counter.o: xdp names not one program, of keep_first_bytes in section socket"
         self.refuses(1, told, "run", "counter.o", "sample.pcap", "--section", "xdp")
+
+    def test_options_between_files(self) -> None:
+        wanted = self.command("run", "counter.o", "sample.pcap", "--section", "socket", "--csv", ".bss").stdout
+        for words in (("counter.o", "--section", "socket", "sample.pcap", "--csv", ".bss"), ("--csv", ".bss", "counter.o", "--section=socket", "sample.pcap")):
+            self.assertEqual(self.command("run", *words).stdout, wanted)
 
     def test_a_refused_filter(self) -> None:
         self.refuses(1, "return table[class]; (slot", "run", "refused.o", "sample.pcap")

@@ -7,15 +7,13 @@ import random
 
 from tests.common import PROGRAM, TimedTest
 from tests.damaged_captures import TRIAL, originals, outcome_of
-from tests.test_captures import needs_dpkt
 
-HAS_ALL = all(map(importlib.util.find_spec, ("elftools", "dpkt")))
+HAS_OBJECTS = importlib.util.find_spec("elftools") is not None
 
 
-@needs_dpkt
 class Damaged(TimedTest):
     def test_each_ends_in_packets_and_a_sentence_at_most(self) -> None:
-        counts = TRIAL.run(1000, 37, 60 if PROGRAM and HAS_ALL else 0, PROGRAM)
+        counts = TRIAL.run(1000, 37, 60 if PROGRAM and HAS_OBJECTS else 0, PROGRAM)
         self.assertEqual(counts["read"] + counts["refused"], 1000)
         # Damage that is never noticed, or always, would test little.
         self.assertGreater(counts["read"], 200)

@@ -2,27 +2,19 @@
 
 from __future__ import annotations
 
-import unittest
-
 from bpfhost import Host, MapType, Packets, TestRuns, assemble, frames
 from bpfhost.captures import open_capture
 from bpfhost.captures.piece import Stamp
+from bpfhost.captures.writer import CaptureWriter
+from bpfhost.filtering import Filter, Outcome, TenantsDiffer, accept_none, accept_to
 from tests.capture_bytes import RAW_IP, pcap, pcapng
 from tests.common import LENGTH, PROGRAM, HostTest, TimedTest
-from tests.test_captures import HAS_DPKT
-
-if not HAS_DPKT:
-    raise unittest.SkipTest("python3-dpkt is missing")
-
-from bpfhost.captures.writer import CaptureWriter  # noqa: E402
-from bpfhost.filtering import Filter, Outcome, TenantsDiffer, accept_none, accept_to  # noqa: E402
 
 # Keeps packets of at least 3 bytes, and of these 4 bytes at most.
 FOUR_BYTES = "r0 = *(u32 *)(r1 + 0)\nif r0 > 2 goto +2\nr0 = 0\nexit\nif r0 < 4 goto +1\nr0 = 4\nexit\n"
 # Counts its runs in the one value of the map of descriptor 3, and returns the count.
 COUNT = "r1 = map_value 3 + 0 ll\nr0 = *(u64 *)(r1 + 0)\nr0 += 1\n*(u64 *)(r1 + 0) = r0\nexit\n"
 RECORDS = [(bytes(length), Stamp(length, 1000 * length, length + 1)) for length in (0, 2, 3, 4, 5, 70)] * 300
-
 
 
 class FramesOfCaptures(TimedTest):

@@ -14,7 +14,7 @@ from pathlib import Path
 from bpfhost.captures import open_capture
 from bpfhost.captures.piece import Stamp
 from tests.capture_bytes import RAW_IP, RECORDS, enhanced, interface, pcap, pcapng, section
-from tests.common import PROGRAM
+from tests.common import PROGRAM, without_notice
 from tests.test_command import PACKAGE, CommandTest, needs_packages
 
 # Twelve packets of Ethernet, each of 60 bytes.
@@ -60,7 +60,7 @@ class Interrupted(RunTest):
             time.sleep(0.5)
             os.killpg(process.pid, number)
             written, told = process.communicate()
-        return written, told, process.returncode
+        return written, without_notice(told.encode()).decode(), process.returncode
 
     def test_the_table_is_shown(self) -> None:
         written, told, status = self.interrupted(signal.SIGINT)

@@ -10,7 +10,7 @@ import sys
 
 from bpfhost import hex_lines
 from tests.classic.common import needs_libpcap
-from tests.common import ONE, PROGRAM, HostTest
+from tests.common import ONE, PROGRAM, HostTest, without_notice
 from tests.test_command import EXAMPLE, PACKAGE, needs_packages
 
 TUTORIAL = PACKAGE.parents[1] / "docs/TUTORIAL.md"
@@ -41,7 +41,7 @@ class Pages(HostTest):
         environment["VERIFIER_LOG"] = ""
         call = ["bash", "-c", command]
         ended = subprocess.run(call, stdout=subprocess.PIPE, stderr=subprocess.STDOUT, text=True, cwd=self.scratch, env=environment)
-        return ended.stdout
+        return without_notice(ended.stdout.encode()).decode()
 
     def set_up(self) -> None:
         """The names that the pages use: python3, bpfhost, clang."""

@@ -16,11 +16,10 @@ from unittest import mock
 
 from bpfhost import InputError
 from bpfhost.captures.piece import Stamp
-from bpfhost.command import version
 from bpfhost.objects import load_object
 from bpfhost.objects.settings import with_values
 from tests.capture_bytes import RECORDS, pcap, pcapng
-from tests.common import PROGRAM
+from tests.common import PROGRAM, without_notice
 from tests.objects.common import ClangTest
 from tests.test_command import EXAMPLE, PACKAGE, CommandTest, needs_packages
 
@@ -156,7 +155,7 @@ class Pauses(CommandTest):
                     written.flush()
                     while not re.match(rf"packets +{count}\n", process.stdout.readline()):
                         pass
-            self.assertEqual(process.communicate()[1], "")
+            self.assertEqual(without_notice(process.communicate()[1].encode()), b"")
 
 
 @needs_packages
@@ -180,7 +179,7 @@ class Interfaces(CommandTest):
         if subprocess.run(["unshare", "-n", "true"], capture_output=True, check=False).returncode:
             self.skipTest("no network namespace can be made")
         ended = subprocess.run(call, capture_output=True, text=True, check=False, cwd=self.scratch, env=environment)
-        return ended.stdout, ended.stderr, ended.returncode
+        return ended.stdout, without_notice(ended.stderr.encode()).decode(), ended.returncode
 
     def test_loopback(self) -> None:
         """Each packet once, though the interface has it going and coming."""
@@ -206,24 +205,34 @@ class Interfaces(CommandTest):
             self.refuses(1, "lo: only root, or a process with CAP_NET_RAW, reads packets of an interface", "run", "counter.o", "--interface", "lo")
 
 
+# The mark of tools/quick-build, and what is printed for it.
+MARK, UNPROVED = b"built without proofs\0", "{} is built without proofs, by tools/quick-build\n"
+
+
 class Versions(CommandTest):
     def test_a_program_with_and_without_proofs(self) -> None:
-        program = self.scratch / "bpfhost"
-        program.symlink_to(Path(PROGRAM).resolve())
-        self.assertIn(f"{program}, built with its proofs (no file UNPROVED next to it)", self.command("--version", BPFHOST=str(program)).stdout.decode())
-        (self.scratch / version.UNPROVED).touch()
-        told = self.command("--version", BPFHOST=str(program))
-        self.assertIn(f"{program} is built without proofs (file UNPROVED next to it)\n", told.stdout.decode())
-        self.assertEqual(told.returncode, 0)
+        """A copy of a program has its mark; older builds only have a file next to them."""
+        program = self.scratch / "copied"
+        for mark, told in ((b"", f"{program}, built with its proofs (it has no mark of tools/quick-build)\n"), (MARK, UNPROVED.format(program))):
+            program.write_bytes(b"#!/bin/sh\n" + mark)
+            program.chmod(0o755)
+            ended = self.command("--version", BPFHOST=str(program))
+            self.assertIn(told, ended.stdout.decode())
+            self.assertEqual(ended.returncode, 0)
+        program.write_bytes(b"#!/bin/sh\n")
+        (self.scratch / "UNPROVED").touch()
+        self.assertIn(UNPROVED.format(program), self.command("--version", BPFHOST=str(program)).stdout.decode())
 
     @needs_packages
     def test_it_is_told_once(self) -> None:
         program = self.scratch / "bpfhost"
         program.symlink_to(Path(PROGRAM).resolve())
-        (self.scratch / version.UNPROVED).touch()
+        (self.scratch / "UNPROVED").touch()
         self.example("flows.o", "sample.pcap")
-        told = self.command("run", "flows.o", "sample.pcap", "--limit", "1", BPFHOST=str(program))
-        self.assertEqual((told.stderr.decode(), told.returncode), (f"bpfhost: {program} is built without proofs\n", 0))
+        environment = {**os.environ, "PYTHONPATH": str(PACKAGE), "BPFHOST": str(program), "VERIFIER_LOG": ""}
+        call = [sys.executable, "-m", "bpfhost", "run", "flows.o", "sample.pcap", "--limit", "1"]
+        told = subprocess.run(call, capture_output=True, text=True, check=False, cwd=self.scratch, env=environment)
+        self.assertEqual((told.stderr, told.returncode), (f"bpfhost: {program} is built without proofs\n", 0))
 
     def test_completion(self) -> None:
         """argcomplete, if it is installed, completes words for `python3 -m bpfhost`."""

@@ -21,7 +21,11 @@ _ETH_P_ALL, _ETH_P_8021Q, _OUTGOING = 3, 0x8100, 4
 _ARPHRD_ETHER, _ARPHRD_LOOPBACK = 1, 772
 _TIMESTAMPS = 35
 _AUX, _TIME, _COUNTS = struct.Struct("=IIIHHHH"), struct.Struct("@qq"), struct.Struct("=II")
-_RAW_IP = 101
+_RAW_IP, _LINUX_SLL2 = 101, 276
+# The name of all interfaces together, and the header of a packet of them (LINKTYPE_LINUX_SLL2 of tcpdump.org/linktypes.html): the type of
+# its payload, the interface, its hardware type, whether the packet is incoming, and the sender's address with its length.
+ANY = "any"
+_COOKED = struct.Struct(">HxxIHBB8s")
 # The request for an interface's hardware type, which follows its name (netdevice(7)).
 _SIOCGIFHWADDR, _HARDWARE = 0x8927, struct.Struct("=16xH14x")
 # How many bytes of packets the kernel buffers while the reader is busy.
@@ -43,7 +47,7 @@ class _Arrived(Piece):
 
 
 class InterfaceCapture(Capture):
-    """The packets of an interface, in both directions, without an end. After so many seconds it yields a piece, even an empty one."""
+    """The packets of an interface, or of all, in both directions, without an end. After so many seconds it yields a piece, even an empty one."""
 
     has_nanoseconds = True
 
@@ -51,10 +55,15 @@ class InterfaceCapture(Capture):
         """Reads packets of a socket that is bound to the interface of this name."""
         self.name = name
         self.bytes_read = self.packets_read = 0
+        self.comments = []
         self._socket = opened
         self._pause = pause
+        self._is_any = name == ANY
+        self._indices: dict[str, int] = {}
+        if self._is_any:
+            self._link_type = _LINUX_SLL2
+            return
         kind = _HARDWARE.unpack(fcntl.ioctl(opened, _SIOCGIFHWADDR, struct.pack("32s", name.encode())))[0]
-        self._is_loopback = kind == _ARPHRD_LOOPBACK
         self._link_type = ETHERNET if kind in (_ARPHRD_ETHER, _ARPHRD_LOOPBACK) else _RAW_IP
 
     def size(self) -> int | None:
@@ -88,16 +97,29 @@ class InterfaceCapture(Capture):
             return None
         except OSError as error:
             raise self.error(error.strerror or "it can't be read") from error
-        if self._is_loopback and address[2] == _OUTGOING:
+        if address[3] == _ARPHRD_LOOPBACK and address[2] == _OUTGOING:
             return None
+        if self._is_any:
+            packet = self._cooked(address) + packet
         arrived = time.time_ns()
         for level, kind, data in notes:
             if level == socket.SOL_SOCKET and kind == _TIMESTAMPS:
                 seconds_of, nanoseconds = _TIME.unpack(data)
                 arrived = seconds_of * 1_000_000_000 + nanoseconds
-            elif level == _SOL_PACKET and kind == _AUXDATA:
+            elif level == _SOL_PACKET and kind == _AUXDATA and not self._is_any:
                 packet = _with_tag(packet, data)
         return packet, arrived
+
+    def _cooked(self, address: tuple[str, int, int, int, bytes]) -> bytes:
+        """The header of a packet of all interfaces, from the address that it came with."""
+        name, protocol, direction, hardware, sender = address
+        if name not in self._indices:
+            try:
+                self._indices[name] = socket.if_nametoindex(name)
+            except OSError:
+                # The interface is gone.
+                return _COOKED.pack(protocol, 0, hardware, direction, len(sender), sender[:8])
+        return _COOKED.pack(protocol, self._indices[name], hardware, direction, len(sender), sender[:8])
 
     def _pieces_of(self, packets: list[tuple[bytes, int]]) -> Iterator[Piece]:
         """What has arrived, with each oversized packet in a piece of its own; an empty piece if nothing has."""
@@ -136,16 +158,17 @@ def _with_tag(packet: bytes, auxiliary: bytes) -> bytes:
 
 @contextmanager
 def open_interface(name: str, pause: float = 0.2) -> Iterator[InterfaceCapture]:
-    """Opens an interface. Raises CaptureError if there is no such one, or if it may not be read."""
+    """Opens an interface, or all of them by the name `any`. Raises CaptureError if there is no such one, or if it may not be read."""
     try:
-        opened = socket.socket(socket.AF_PACKET, socket.SOCK_RAW, socket.htons(_ETH_P_ALL))
+        opened = socket.socket(socket.AF_PACKET, socket.SOCK_DGRAM if name == ANY else socket.SOCK_RAW, socket.htons(_ETH_P_ALL))
     except PermissionError as error:
         raise CaptureError(f"{name}: only root, or a process with CAP_NET_RAW, reads packets of an interface") from error
     except (AttributeError, OSError) as error:
         raise CaptureError(f"{name}: this system has no packet sockets") from error
     with opened:
         try:
-            opened.bind((name, 0))
+            if name != ANY:
+                opened.bind((name, 0))
             opened.setsockopt(socket.SOL_SOCKET, _TIMESTAMPS, 1)
             opened.setsockopt(_SOL_PACKET, _AUXDATA, 1)
             opened.setsockopt(socket.SOL_SOCKET, socket.SO_RCVBUF, _KEPT)

@@ -4,18 +4,42 @@ from __future__ import annotations
 
 import contextlib
 import struct
+from collections.abc import Sequence
 from dataclasses import dataclass, field
-from gzip import GzipFile
 from io import BufferedReader
+from typing import TYPE_CHECKING
 
-from dpkt import pcap
-
-from bpfhost.captures.piece import LONGEST_CAPTURED, Capture, Piece, Stamp, low_first
+from bpfhost.captures.piece import LONGEST_CAPTURED, Capture, Piece, Stamp
 from bpfhost.numbers import LONGEST_PACKET
 
-_NANOSECONDS = (pcap.TCPDUMP_MAGIC_NANO, pcap.PMUDPCT_MAGIC_NANO)
-# The highest bits of the link type have another meaning.
-_LINK_TYPE = 0xFFFF
+if TYPE_CHECKING:
+    from gzip import GzipFile
+
+# The bytes of a file's header, of a packet's header, and of one in the format of magic number a1b2cd34.
+_FILE_HEAD, _HEAD, _LONGER_HEAD = 24, 16, 24
+# The major version, 2, and the snapshot length and the link type in the file's header.
+_FIELDS, _VERSION = "H10xII", 2
+
+
+@dataclass(frozen=True)
+class _Kind:
+    """What the magic number at the start of a file says: the byte order, the bytes of a packet's header, and the unit of its time."""
+
+    order: str
+    head: int = _HEAD
+    has_nanoseconds: bool = False
+
+
+_KINDS = {
+    bytes.fromhex("a1b2c3d4"): _Kind(">"),
+    bytes.fromhex("d4c3b2a1"): _Kind("<"),
+    bytes.fromhex("a1b23c4d"): _Kind(">", has_nanoseconds=True),
+    bytes.fromhex("4d3cb2a1"): _Kind("<", has_nanoseconds=True),
+    bytes.fromhex("a1b2cd34"): _Kind(">", _LONGER_HEAD),
+    bytes.fromhex("34cdb2a1"): _Kind("<", _LONGER_HEAD),
+}
+# The highest six bits of the link type's word have other things, as the length of a frame check sequence.
+_LINK_TYPE = 0x03FF_FFFF
 
 
 @dataclass(frozen=True)
@@ -25,6 +49,7 @@ class _Layout:
     head: int
     times: struct.Struct
     part: int
+    is_low_first: bool
 
 
 @dataclass(frozen=True)
@@ -35,6 +60,18 @@ class _PcapPiece(Piece):
         seconds, parts, length = self.layout.times.unpack_from(self.data, self.starts[at] - self.layout.head)
         return Stamp(seconds, parts * self.layout.part, length)
 
+    def records(self, kept: Sequence[int], has_nanoseconds: bool) -> bytes | None:
+        """These packets with their headers, as a little-endian pcap file with timestamps of this precision has them.
+
+        None if the capture has other headers, or if this piece has not all that the capture has of a packet.
+        """
+        layout = self.layout
+        is_same = layout.is_low_first and layout.head == _HEAD and layout.part == (1 if has_nanoseconds else 1000)
+        if not is_same or self.is_cut or self.whole is not None:
+            return None
+        data, starts, lengths = self.data, self.starts, self.lengths
+        return b"".join([data[starts[at] - _HEAD : starts[at] + lengths[at]] for at in kept])
+
 
 class PcapCapture(Capture):
     """A capture in the pcap format, in either byte order, with microseconds or nanoseconds."""
@@ -42,52 +79,54 @@ class PcapCapture(Capture):
     def __init__(self, name: str, file: BufferedReader | GzipFile, magic: bytes) -> None:
         """Reads the file header, whose first bytes are `magic`."""
         super().__init__(name, file, b"")
-        number = int.from_bytes(magic, "big")
-        kind = pcap.MAGIC_TO_PKT_HDR.get(number) if len(magic) == 4 else None
+        kind = _KINDS.get(magic)
         if kind is None:
             raise self.error("it is neither a pcap nor a pcapng file")
-        header = magic + self._read(pcap.FileHdr.__hdr_len__ - len(magic))
-        if len(header) < pcap.FileHdr.__hdr_len__:
+        header = magic + self._read(_FILE_HEAD - len(magic))
+        if len(header) < _FILE_HEAD:
             raise self.error("it is cut off in its header")
-        order = kind.__hdr_fmt__[0]
-        read = (pcap.LEFileHdr if order == "<" else pcap.FileHdr)(header)
-        if read.v_major != pcap.PCAP_VERSION_MAJOR:
-            raise self.error(f"it has version {read.v_major} of pcap, and only 2 is supported")
+        order = kind.order
+        version, self.longest, link_type = struct.unpack_from(f"{order}{_FIELDS}", header, len(magic))
+        if version != _VERSION:
+            raise self.error(f"it has version {version} of pcap, and only 2 is supported")
         self.bytes_read = len(header)
-        self.has_nanoseconds = number in _NANOSECONDS
-        self._link_type = self.link_type = read.linktype & _LINK_TYPE
-        self.longest = read.snaplen
-        self._order = order
+        self.has_nanoseconds = kind.has_nanoseconds
+        self._link_type = self.link_type = link_type & _LINK_TYPE
+        self.link_type_bits = link_type & ~_LINK_TYPE
+        self.savefile = header
         self._length = struct.Struct(f"{order}8xII").unpack_from
-        self._layout = _Layout(kind.__hdr_len__, struct.Struct(f"{order}II4xI"), 1 if self.has_nanoseconds else 1000)
-        # A packet's length, its length on the wire, and the type in its Ethernet header, 12 bytes after the packet's header.
-        self._length_and_type = struct.Struct(f"{order}8xII{kind.__hdr_len__ - 4}xH").unpack_from
+        self._layout = _Layout(kind.head, struct.Struct(f"{order}II4xI"), 1 if self.has_nanoseconds else 1000, order == "<")
 
     def _next_piece(self, data: bytes, at: int, most: int) -> tuple[Piece | None, int]:
         starts: list[int] = []
         lengths: list[int] = []
-        wire, is_short = 0, False
-        types: list[int] = []
-        head, unpack, size = self._layout.head, self._length_and_type, len(data)
+        begun, is_short = at, False
+        head, unpack, add_start, add_length = self._layout.head, self._length, starts.append, lengths.append
         with contextlib.suppress(struct.error):
-            # If the bytes end before the type, there is nothing to unpack.
+            # If the bytes end before the next header, there is nothing to unpack.
             for _ in range(most):
-                length, wire, ethernet_type = unpack(data, at)
-                start = at + head
-                end = start + length
-                if end > size or length > LONGEST_PACKET:
-                    break
-                starts.append(start)
-                lengths.append(length)
+                length, wire = unpack(data, at)
+                at += head
+                add_start(at)
+                add_length(length)
                 if wire != length:
                     is_short = True
-                types.append(ethernet_type)
-                at = end
-        if starts:
-            # Most captures have whole packets; then the lengths on the wire are the same list.
-            wires = self._wires(data, starts) if is_short else lengths
-            return self._piece(data, starts, lengths, wires, low_first(types, self._order)), at
-        return self._last_packet(data, at)
+                at += length
+        many = self._whole_ones(data, starts, lengths)
+        if not many:
+            return self._last_packet(data, begun)
+        del starts[many:], lengths[many:]
+        # Most captures have whole packets; then the lengths on the wire are the same list.
+        wires = self._wires(data, starts) if is_short else lengths
+        return self._piece(data, starts, lengths, wires), starts[-1] + lengths[-1]
+
+    @staticmethod
+    def _whole_ones(data: bytes, starts: list[int], lengths: list[int]) -> int:
+        """How many of these packets come before one that is too long, or that the bytes do not have in full."""
+        if max(lengths, default=0) > LONGEST_PACKET:
+            return next(at for at, length in enumerate(lengths) if length > LONGEST_PACKET)
+        # Only the last one can end after the bytes: a header was read after each other one.
+        return len(starts) - (bool(starts) and starts[-1] + lengths[-1] > len(data))
 
     def _wires(self, data: bytes, starts: list[int]) -> list[int]:
         """The lengths on the wire of the packets that begin there."""
@@ -95,7 +134,7 @@ class PcapCapture(Capture):
         return [self._length(data, start - head)[1] for start in starts]
 
     def _last_packet(self, data: bytes, at: int) -> tuple[Piece | None, int]:
-        """The packet at `at` and its end, if it is whole, even if the bytes end before the type in its header."""
+        """The packet at `at` and its end, if it is whole, even if it is longer than test runs take."""
         start = at + self._layout.head
         if start > len(data):
             return None, at
@@ -106,9 +145,7 @@ class PcapCapture(Capture):
         if end > len(data):
             return None, at
         whole = length if length > LONGEST_PACKET else None
-        return self._piece(data, [start], [min(length, LONGEST_PACKET)], [wire], None, whole), end
+        return self._piece(data, [start], [min(length, LONGEST_PACKET)], [wire], whole), end
 
-    def _piece(
-        self, data: bytes, starts: list[int], lengths: list[int], wires: list[int], types: list[int] | None, whole: int | None = None
-    ) -> Piece:
-        return _PcapPiece(data, starts, lengths, self._link_type, types, wires=wires, whole=whole, layout=self._layout)
+    def _piece(self, data: bytes, starts: list[int], lengths: list[int], wires: list[int], whole: int | None = None) -> Piece:
+        return _PcapPiece(data, starts, lengths, self._link_type, wires=wires, whole=whole, layout=self._layout)

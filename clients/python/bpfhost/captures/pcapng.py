@@ -4,24 +4,28 @@ from __future__ import annotations
 
 import contextlib
 import struct
-from collections.abc import Sequence
+from collections.abc import Iterator, Sequence
 from dataclasses import dataclass, field
-from gzip import GzipFile
 from io import BufferedReader
+from typing import TYPE_CHECKING
 
-from dpkt import pcapng
-
-from bpfhost.captures.piece import LONGEST_CAPTURED, Capture, Piece, Stamp, low_first
+from bpfhost.captures.piece import LONGEST_CAPTURED, Capture, Comments, Piece, Stamp, low_first
 from bpfhost.errors import CaptureError
 from bpfhost.numbers import LONGEST_PACKET
 
+if TYPE_CHECKING:
+    from gzip import GzipFile
+
 # The type of a section header block, the same in both byte orders.
 SECTION = b"\x0a\x0d\x0d\x0a"
+_BYTE_ORDER = 0x1A2B3C4D
 _ORDERS = {b"\x4d\x3c\x2b\x1a": "<", b"\x1a\x2b\x3c\x4d": ">"}
 # Sizes in bytes: a block without a body; a packet block before and around the packet; a simple packet block before the packet; an
-# interface's block before its options.
-_SHORTEST_BLOCK, _BEFORE, _AROUND, _BEFORE_SIMPLE, _BEFORE_OPTIONS = 12, 28, 32, 12, 16
-_ENHANCED: int = pcapng.PCAPNG_BT_EPB
+# interface's block and a section's before their options.
+_SHORTEST_BLOCK, _BEFORE, _AROUND, _BEFORE_SIMPLE, _BEFORE_OPTIONS, _BEFORE_SECTION_OPTIONS = 12, 28, 32, 12, 16, 24
+# Types of blocks, and codes of options.
+_INTERFACE, _OLD, _SIMPLE, _ENHANCED, _SECTION = 1, 2, 3, 6, int.from_bytes(SECTION, "big")
+_END_OF_OPTIONS, _COMMENT, _RESOLUTION, _OFFSET = 0, 1, 9, 14
 # A block with a greater length is rejected as damaged.
 _LONGEST_BLOCK = 1 << 24
 _SECOND = 1_000_000_000
@@ -35,6 +39,7 @@ class _Interface:
     longest: int
     per_second: int
     offset: int
+    comments: Comments
 
 
 @dataclass(frozen=True)
@@ -46,14 +51,56 @@ class _PcapngPiece(Piece):
     interfaces: Sequence[_Interface] = field(kw_only=True)
 
     def stamp(self, at: int) -> Stamp:
-        if self.kind == pcapng.PCAPNG_BT_SPB:
+        if self.kind == _SIMPLE:
             (length,) = struct.unpack_from(f"{self.order}I", self.data, self.starts[at] - 4)
             return Stamp(0, 0, length)
-        layout = "5I" if self.kind == pcapng.PCAPNG_BT_EPB else "H2x4I"
-        number, high, low, _, length = struct.unpack_from(f"{self.order}{layout}", self.data, self.starts[at] - 20)
+        number, high, low, _, length = self._head(at)
         interface = self.interfaces[number]
         nanoseconds = (high << 32 | low) * _SECOND // interface.per_second
         return Stamp(interface.offset + nanoseconds // _SECOND, nanoseconds % _SECOND, length)
+
+    def _head(self, at: int) -> tuple[int, int, int, int, int]:
+        """Of a packet: its interface, the halves of its time, its length in the capture and on the wire."""
+        layout = "5I" if self.kind == _ENHANCED else "H2x4I"
+        number, high, low, length, wire = struct.unpack_from(f"{self.order}{layout}", self.data, self.starts[at] - 20)
+        return number, high, low, length, wire
+
+    def comments(self, at: int) -> Comments:
+        if self.kind == _SIMPLE:
+            return ()
+        start, length = self.starts[at], self._head(at)[3]
+        (block,) = struct.unpack_from(f"{self.order}I", self.data, start - _BEFORE + 4)
+        options = start + length + -length % 4, start - _BEFORE + block - 4
+        # Most packets have no options.
+        return _comments(self.data[slice(*options)], self.order) if options[0] < options[1] else ()
+
+    def interface_comments(self, at: int) -> Comments:
+        number = 0 if self.kind == _SIMPLE else self._head(at)[0]
+        return self.interfaces[number].comments
+
+
+def _options(data: bytes, order: str) -> Iterator[tuple[int, bytes]]:
+    """The codes and values of options. Raises struct.error if one is cut off."""
+    unpack, at = struct.Struct(f"{order}HH").unpack_from, 0
+    while at < len(data):
+        code, length = unpack(data, at)
+        if code == _END_OF_OPTIONS:
+            return
+        at += 4
+        if at + length > len(data):
+            raise struct.error("an option is longer than its block")
+        yield code, data[at : at + length]
+        at += length + -length % 4
+
+
+def _comments(options: bytes, order: str) -> Comments:
+    """The comments in options, up to one that is cut off."""
+    found = []
+    with contextlib.suppress(struct.error):
+        for code, value in _options(options, order):
+            if code == _COMMENT:
+                found.append(value)
+    return found
 
 
 class PcapngCapture(Capture):
@@ -169,24 +216,32 @@ class PcapngCapture(Capture):
     def _take(self, data: bytes, at: int, end: int) -> Piece | None:
         """Reads a whole block, and returns its packet if it has one."""
         kind: int = self._pair(data, at)[0]
-        if kind == pcapng.PCAPNG_BT_SHB:
+        if kind == _SECTION:
             self._begin_section()
-        if kind == pcapng.PCAPNG_BT_IDB:
+            self.comments += _comments(data[at + _BEFORE_SECTION_OPTIONS : end - 4], self._order)
+        if kind == _INTERFACE:
             self._interfaces.append(self._interface(data[at:end]))
             self._link_types.append(self._interfaces[-1].link_type)
             if self.link_type is None:
-                self.link_type, self.longest = self._interfaces[0].link_type, self._interfaces[0].longest
-        if kind == pcapng.PCAPNG_BT_SPB:
+                self._begin_savefile(self._interfaces[0])
+        if kind == _SIMPLE:
             return self._simple_packet(data, at, end)
-        if kind in (pcapng.PCAPNG_BT_EPB, pcapng.PCAPNG_BT_PB):
+        if kind in (_ENHANCED, _OLD):
             return self._packet(data, at, end, kind)
         return None
+
+    def _begin_savefile(self, interface: _Interface) -> None:
+        """Notes the first interface, which other readers of the file go by."""
+        self.link_type, self.longest, order = interface.link_type, interface.longest, self._order
+        section = SECTION + struct.pack(f"{order}IIHHqI", 28, _BYTE_ORDER, 1, 0, -1, 28)
+        described = struct.pack(f"{order}IIHHII", _INTERFACE, 20, interface.link_type, 0, interface.longest, 20)
+        self.savefile = section + described
 
     def _packet(self, data: bytes, at: int, end: int, kind: int) -> Piece:
         """The packet of an obsolete packet block, or of an enhanced packet block that is wrong or the last one in these bytes."""
         if end - at < _AROUND:
             raise self._wrong_packet()
-        _, _, number, length, wire = (self._old if kind == pcapng.PCAPNG_BT_PB else self._enhanced)(data, at)
+        _, _, number, length, wire = (self._old if kind == _OLD else self._enhanced)(data, at)
         if number >= len(self._interfaces) or end - at < _AROUND + length:
             raise self._wrong_packet()
         return self._one(data, at + _BEFORE, length, wire, self._interfaces[number].link_type, kind)
@@ -198,7 +253,7 @@ class PcapngCapture(Capture):
         interface = self._interfaces[0]
         whole: int = self._pair(data, at + 4)[1]
         length = min(whole, interface.longest or whole, end - at - _BEFORE_SIMPLE - 4)
-        return self._one(data, at + _BEFORE_SIMPLE, length, whole, interface.link_type, pcapng.PCAPNG_BT_SPB)
+        return self._one(data, at + _BEFORE_SIMPLE, length, whole, interface.link_type, _SIMPLE)
 
     def _wrong_packet(self) -> CaptureError:
         return self.error(f"the block of {self._next_packet()} does not match its lengths")
@@ -207,27 +262,10 @@ class PcapngCapture(Capture):
         body = block[:-4]
         try:
             link_type, longest = struct.unpack_from(f"{self._order}HxxI", body, 8)
-            options = self._options(body)
-            parts = options.get(pcapng.PCAPNG_OPT_IF_TSRESOL, b"\x06")[0]
-            (offset,) = struct.unpack(f"{self._order}q", options.get(pcapng.PCAPNG_OPT_IF_TSOFFSET, bytes(8)))
+            options = dict(_options(body[_BEFORE_OPTIONS:], self._order))
+            parts = options.get(_RESOLUTION, b"\x06")[0]
+            (offset,) = struct.unpack(f"{self._order}q", options.get(_OFFSET, bytes(8)))
         except (struct.error, IndexError) as error:
             raise self.error("it has an invalid block of an interface") from error
         per_second = 2 ** (parts & 0x7F) if parts & 0x80 else 10**parts
-        return _Interface(link_type, longest, per_second, offset)
-
-    def _options(self, body: bytes) -> dict[int, bytes]:
-        """The options of an interface by their codes, in one pass: dpkt copies the rest of the bytes for each. Raises struct.error if one is
-        cut off.
-        """
-        options: dict[int, bytes] = {}
-        unpack, at = struct.Struct(f"{self._order}HH").unpack_from, _BEFORE_OPTIONS
-        while at < len(body):
-            code, length = unpack(body, at)
-            if code == pcapng.PCAPNG_OPT_ENDOFOPT:
-                break
-            at += 4
-            if at + length > len(body):
-                raise struct.error("an option is longer than its block")
-            options[code] = body[at : at + length]
-            at += length + -length % 4
-        return options
+        return _Interface(link_type, longest, per_second, offset, _comments(body[_BEFORE_OPTIONS:], self._order))

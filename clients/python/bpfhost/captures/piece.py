@@ -8,16 +8,18 @@ import stat
 import zlib
 from abc import ABC, abstractmethod
 from array import array
-from collections.abc import Callable, Generator, Iterator
+from collections.abc import Callable, Generator, Iterator, Sequence
 from dataclasses import dataclass, field, replace
-from gzip import BadGzipFile, GzipFile
 from io import BufferedReader
 from itertools import accumulate
-from typing import TypeVar
+from typing import TYPE_CHECKING, TypeVar
 
 from bpfhost.errors import CaptureError
 from bpfhost.numbers import LONGEST_PACKET
 from bpfhost.packets import LEAST_WITH_TYPE, Packets
+
+if TYPE_CHECKING:
+    from gzip import GzipFile
 
 # How many bytes of a capture are read at once: enough to make the cost of a piece small compared with that of its packets, and few enough
 # to stay in the processor's cache until they are sent.
@@ -30,6 +32,7 @@ MOST_PACKETS = 1024
 LONGEST_CAPTURED = 262_144
 
 SomePiece = TypeVar("SomePiece", bound="Piece")
+Comments = Sequence[bytes]
 
 
 @dataclass(frozen=True)
@@ -45,17 +48,26 @@ class Stamp:
 class Piece(Packets, ABC):
     """Packets of a capture.
 
-    `wires[i]` is the length of packet i on the wire, according to the capture; it is `lengths` if all packets are whole. `whole` is for a
-    packet that is longer than test runs take: the bytes that the capture has of it. Such a packet is a piece of its own, and `lengths` has
+    `wires[i]` is the length of packet i on the wire, according to the capture; it is `lengths` if all packets are whole. `is_cut` says that
+    the capture has more bytes of some packets. `whole` is for a packet that is longer than test runs take: the bytes that the capture has of it. Such a packet is a piece of its own, and `lengths` has
     the length that a test run takes.
     """
 
     wires: list[int] = field(kw_only=True)
     whole: int | None = field(kw_only=True, default=None)
+    is_cut: bool = field(kw_only=True, default=False)
 
     @abstractmethod
     def stamp(self, at: int) -> Stamp:
         """The time and the length of a packet."""
+
+    def comments(self, at: int) -> Comments:
+        """The comments that the capture has on a packet, in UTF-8."""
+        return ()
+
+    def interface_comments(self, at: int) -> Comments:
+        """The comments on the interface that a packet came from."""
+        return ()
 
     def shorts(self) -> int:
         """How many packets have fewer bytes in the capture than on the wire."""
@@ -68,6 +80,17 @@ class Piece(Packets, ABC):
         joined = b"".join([packet.ljust(length, b"\0") for packet, length in zip(self, lengths)])
         types = self.types if min(self.lengths) >= LEAST_WITH_TYPE else None
         return Packets(joined, list(accumulate(lengths, initial=0))[: len(lengths)], lengths, self.link_type, types)
+
+    def within(self: SomePiece, longest: int) -> SomePiece:
+        """The packets, of each the first bytes up to a number."""
+        if max(self.lengths if self.whole is None else [self.whole], default=0) <= longest:
+            return self
+        whole = None if self.whole is None or longest <= LONGEST_PACKET else longest
+        return replace(self, lengths=[min(length, longest) for length in self.lengths], whole=whole, is_cut=True)
+
+    def records(self, kept: Sequence[int], has_nanoseconds: bool) -> bytes | None:
+        """The packets of these numbers as a pcap file has them, if the capture has them in the same bytes."""
+        return None
 
     def captured(self, at: int, longest: int) -> bytes:
         """The first bytes of a packet that the capture has, at most `longest`."""
@@ -105,9 +128,12 @@ class Capture(ABC):
     seconds: float | None = None
     # Whether timestamps are finer than microseconds.
     has_nanoseconds = False
-    # The first link type of the capture, once it is read, and its snapshot length in bytes.
+    # The first link type of the capture, once it is read, with the bits above it, and its snapshot length in bytes.
     link_type: int | None = None
+    link_type_bits = 0
     longest = LONGEST_PACKET
+    # What comes before the packets of the file: the header of a pcap file, or the blocks of a section and of its first interface.
+    savefile: bytes | None = None
 
     def __init__(self, name: str, file: BufferedReader | GzipFile, begun: bytes) -> None:
         """Reads nothing; `begun` has the bytes that were already read."""
@@ -116,6 +142,8 @@ class Capture(ABC):
         self._rest = begun
         self.bytes_read = len(begun)
         self.packets_read = 0
+        # The comments on the sections that were read.
+        self.comments: list[bytes] = []
 
     @abstractmethod
     def _next_piece(self, data: bytes, at: int, most: int) -> tuple[Piece | None, int]:
@@ -146,7 +174,7 @@ class Capture(ABC):
 
     def _is_quiet(self) -> bool:
         """Whether nothing arrives through a pipe for a while; all that was read of it has been used by then."""
-        if self.seconds is None or isinstance(self._file, GzipFile) or self._file.seekable():
+        if self.seconds is None or not isinstance(self._file, BufferedReader) or self._file.seekable():
             return False
         return not select.select([self._file], [], [], self.seconds)[0]
 
@@ -168,7 +196,7 @@ class Capture(ABC):
 
     def size(self) -> int | None:
         """The size of the file, or None if it is not a regular file, or compressed."""
-        if isinstance(self._file, GzipFile):
+        if not isinstance(self._file, BufferedReader):
             return None
         status = os.fstat(self._file.fileno())
         return status.st_size if stat.S_ISREG(status.st_mode) else None
@@ -184,12 +212,18 @@ class Capture(ABC):
     def _read(self, size: int, by: Callable[[int], bytes] | None = None) -> bytes:
         try:
             read = (by or self._file.read)(size)
-        except (EOFError, BadGzipFile, zlib.error) as error:
-            raise self.error(f"its compressed bytes are damaged or cut off after packet {self.packets_read:,}") from error
+        except (EOFError, zlib.error) as error:
+            raise self._damaged() from error
         except OSError as error:
+            # That compressed bytes are wrong is an error without a number (gzip.BadGzipFile).
+            if error.errno is None:
+                raise self._damaged() from error
             raise self.error(error.strerror or "it can't be read") from error
         self.bytes_read += len(read)
         return read
+
+    def _damaged(self) -> CaptureError:
+        return self.error(f"its compressed bytes are damaged or cut off after packet {self.packets_read:,}")
 
     def _next_packet(self) -> str:
         return f"packet {self.packets_read + 1:,}"

@@ -19,13 +19,14 @@ class ContextWord:
 
 
 LENGTH = ContextWord("len", 0)
+PROTOCOL = ContextWord("protocol", 16, is_packet_order=True)
 # No ancillary load reads this word, so it can hold a value for which a run has no word.
 WIRE_LENGTH = ContextWord("priority", 32)
 
 # The ancillary area, by the offset in it: the kernel's name, and the word, or the reason why there is none.
 _XOR = 40
 _WORDS: Mapping[int, tuple[str, ContextWord]] = {
-    0: ("SKF_AD_PROTOCOL", ContextWord("protocol", 16, is_packet_order=True)),
+    0: ("SKF_AD_PROTOCOL", PROTOCOL),
     4: ("SKF_AD_PKTTYPE", ContextWord("pkt_type", 4)),
     8: ("SKF_AD_IFINDEX", ContextWord("ifindex", 40)),
     20: ("SKF_AD_MARK", ContextWord("mark", 8)),

@@ -51,7 +51,7 @@ def _fault(at: int, instruction: Instruction, count: int) -> str | None:
     if form.kind in (Kind.SCRATCH, Kind.STORE) and k >= SCRATCH_WORDS:
         return f"scratch memory has {SCRATCH_WORDS} words"
     if form.kind is Kind.JUMP and k >= behind:
-        return "it jumps backward, as protochain does, and a program that ends surely has jumps forward alone" if k >= 2**31 else _OUT
+        return _BACKWARD if k >= 2**31 else _OUT
     if form.kind is Kind.BRANCH and max(jt, jf) >= behind:
         return _OUT
     if form.kind is Kind.ABSOLUTE and k >= ANCILLARY and not is_known(k):
@@ -59,6 +59,10 @@ def _fault(at: int, instruction: Instruction, count: int) -> str | None:
     return None
 
 
+_BACKWARD = (
+    "it jumps backward, as protochain does, and a program that ends surely has jumps forward alone; "
+    "proto in place of protochain tests the first header after that of IP"
+)
 _OUT = "it jumps out of the program"
 
 

@@ -5,7 +5,6 @@ from __future__ import annotations
 from collections.abc import Iterable, Sequence
 from dataclasses import dataclass
 
-from bpfhost.classic import libpcap, listing, texts
 from bpfhost.classic.ancillary import context_word
 from bpfhost.classic.checking import check
 from bpfhost.classic.errors import ClassicError
@@ -17,13 +16,14 @@ from bpfhost.packets import ETHERNET
 
 @dataclass(frozen=True)
 class ClassicProgram:
-    """A classic BPF program that passes the kernel's checks; `name` is its expression, or the file that it was read from.
+    """A classic BPF program that passes the kernel's checks; `name` has its expression, or the file that it was read from.
 
-    A ClassicError names the instruction that breaks a rule.
+    `expression` is the expression that it was compiled from, if it was. A ClassicError names the instruction that breaks a rule.
     """
 
     instructions: tuple[Instruction, ...]
     name: str = "the classic program"
+    expression: str | None = None
 
     def __post_init__(self) -> None:
         try:
@@ -43,31 +43,46 @@ class ClassicProgram:
     @classmethod
     def of_text(cls, text: str, name: str = "standard input") -> ClassicProgram:
         """The program of a text as `tcpdump -dd`, `tcpdump -ddd` or iptables' bytecode has it; raises ClassicError if it is damaged."""
+        from bpfhost.classic import texts
+
         return cls(tuple(texts.read(text, name)), name)
 
     @classmethod
-    def of_expression(cls, expression: str, link_type: int = ETHERNET, *, netmask: int = 0, optimized: bool = True) -> ClassicProgram:
+    def of_expression(
+        cls, expression: str, link_type: int = ETHERNET, *, netmask: int = 0, optimized: bool = True, savefile: bytes | None = None
+    ) -> ClassicProgram:
         """The program that libpcap makes of an expression for a link type, as captures number it (pcap-filter(7)).
 
-        Raises ExpressionError with libpcap's sentence if it refuses, and MissingLibrary without libpcap. Names of hosts are looked up.
+        With the header of a capture in `savefile` (`Capture.savefile`), it is the program that tcpdump has for that capture. Raises
+        ExpressionError with libpcap's sentence if it refuses, and MissingLibrary without libpcap. Names of hosts are looked up.
         """
-        made = libpcap.compile_expression(expression, link_type, netmask=netmask, optimized=optimized)
-        return cls(tuple(made), f"the expression '{libpcap.shown(expression)}'")
+        from bpfhost.classic import libpcap
+
+        made = libpcap.compile_expression(expression, link_type, netmask=netmask, optimized=optimized, savefile=savefile)
+        return cls(tuple(made), f"the expression '{libpcap.shown(expression)}'", expression)
 
     def listing(self) -> str:
         """The program as `tcpdump -d` shows it."""
+        from bpfhost.classic import listing
+
         return listing.listing(self.instructions)
 
     def elements(self) -> str:
         """The program as `tcpdump -dd` shows it."""
+        from bpfhost.classic import texts
+
         return texts.elements(self.instructions)
 
     def decimals(self) -> str:
         """The program as `tcpdump -ddd` shows it."""
+        from bpfhost.classic import texts
+
         return texts.decimals(self.instructions)
 
     def bytecode(self) -> str:
         """The program as iptables' match `bpf` takes it."""
+        from bpfhost.classic import texts
+
         return texts.bytecode(self.instructions)
 
     def reads_length(self) -> bool:

@@ -11,6 +11,10 @@ from bpfhost.classic.instructions import MOST_INSTRUCTIONS, Instruction
 # `{ 0x28, 0, 0, 0x0000000c },` of -dd.
 _NUMBER = r"(0[xX][0-9a-fA-F]{1,16}|[0-9]{1,20})"
 _ELEMENT = re.compile(rf"\{{\s*{_NUMBER}\s*,\s*{_NUMBER}\s*,\s*{_NUMBER}\s*,\s*{_NUMBER}\s*\}}")
+# `(000) ldh      [12]` of tcpdump -d, and `ldh [12]` or `start: ldh [12]` of sources for bpf_asm.
+_LISTED = re.compile(r"\(\d+\)\s")
+_SOURCE = re.compile(r"(?:\w+:\s*)?(?:ldx?[bhi]?|stx?|add|sub|mul|div|mod|neg|x?or|and|lsh|rsh|tax|txa|ret|jmp|ja|jn?eq|jn?e|jg[te]|jl[te]|jset)\b")
+_TAKEN = "the texts of tcpdump -dd and -ddd, and bytecode of iptables and bpf_asm can be read"
 _FIELDS = ("the code", "jt", "jf", "k")
 _ROOM = (2**16, 2**8, 2**8, 2**32)
 
@@ -20,6 +24,10 @@ def read(text: str, name: str = "standard input") -> list[Instruction]:
     begun = text.lstrip()
     if not begun:
         raise ClassicError(f"{name}: there is no classic program")
+    if _LISTED.match(begun):
+        raise ClassicError(f"{name}: it is a listing of tcpdump -d, which does not have the whole program: {_TAKEN}")
+    if _SOURCE.match(begun):
+        raise ClassicError(f"{name}: it is a source for bpf_asm, which makes the program of it: {_TAKEN}")
     if begun.startswith("{"):
         return _read_elements(text, name)
     return _read_counted(begun.split(","), name, "part") if "," in begun.split("\n", 1)[0] else _read_lines(text, name)
@@ -50,7 +58,7 @@ def _read_counted(parts: Sequence[str], name: str, what: str) -> list[Instructio
         # bpf_asm writes a comma after the last one as well.
         parts.pop()
     if not re.fullmatch(r"[0-9]{1,10}", parts[0]):
-        raise ClassicError(f"{name}: {_cut(parts[0])} is no count of instructions, as tcpdump -ddd and iptables begin with one")
+        raise ClassicError(f"{name}: {_cut(parts[0])} is no count of instructions, as tcpdump -ddd and iptables begin with one: {_TAKEN}")
     count = int(parts[0])
     found = []
     for number, part in enumerate(parts[1:], before + 2):

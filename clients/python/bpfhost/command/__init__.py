@@ -1,5 +1,5 @@
 # PYTHON_ARGCOMPLETE_OK
-"""The command `python3 -m bpfhost`: runs objects on captures, checks them, and reads and writes programs and frames as text.
+"""The command `python3 -m bpfhost`: runs objects and filters on captures, checks them, and reads and writes programs and frames as text.
 
 Its status is 0 for success; 1 for an input that is rejected: a file, a program, a frame; 2 for wrong arguments; 3 if the host does not
 start or ends, or if a package is missing. Each error is one sentence on standard error.

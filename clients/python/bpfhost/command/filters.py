@@ -3,40 +3,42 @@
 from __future__ import annotations
 
 import argparse
+import os
 import sys
-from collections.abc import Sequence
-from pathlib import Path
 
 from bpfhost.classic import ClassicError, ClassicProgram, Semantics, Translation
-from bpfhost.classic.listing import shown
+from bpfhost.command.subjects import EXPRESSION, EXPRESSION_FILE, Source
 from bpfhost.command.version import program_of
 from bpfhost.errors import BpfhostError, InputError
 from bpfhost.program import disassemble, log_or_fault, verify
 from bpfhost.words import reason_words
 
-# The arguments that name a filter in place of an object.
-EXPRESSION, FILE = "--filter", "--classic"
 _STANDARD_INPUT = "-"
 # The text of a classic program has at most about 60 KB; longer input is rejected.
 _LONGEST_TEXT = 1 << 20
 
 
-def is_about_filters(words: Sequence[str]) -> bool:
-    """Whether these arguments name filters."""
-    return any(word.partition("=")[0] in (EXPRESSION, FILE) for word in words)
-
-
-def read_filters(said: argparse.Namespace, link_type: int) -> list[ClassicProgram]:
-    """The filters, in order. Raises BpfhostError for the first that is rejected."""
-    return [ClassicProgram.of_expression(of, link_type) if kind == EXPRESSION else _read(of) for kind, of in said.filters]
+def read_filters(said: argparse.Namespace, link_type: int, savefile: bytes | None = None) -> list[ClassicProgram]:
+    """The filters, in order, for a link type or for the capture with this header. Raises BpfhostError for the first that is rejected."""
+    return [_read(source, link_type, savefile) for source in said.filters]
 
 
 def files_of(said: argparse.Namespace) -> list[str]:
     """The files that filters are read from, standard input included."""
-    return [of for kind, of in said.filters if kind == FILE]
+    return [source.file for source in said.filters if source.file is not None]
 
 
-def _read(file: str) -> ClassicProgram:
+def _read(source: Source, link_type: int, savefile: bytes | None = None) -> ClassicProgram:
+    if source.kind == EXPRESSION:
+        return ClassicProgram.of_expression(source.of, link_type, savefile=savefile)
+    name, given = _content(source.of)
+    if source.kind == EXPRESSION_FILE:
+        return ClassicProgram.of_expression(_without_comments(given.decode(errors="replace")), link_type, savefile=savefile)
+    return ClassicProgram.of_text(given.decode("ascii", errors="replace"), name)
+
+
+def _content(file: str) -> tuple[str, bytes]:
+    """The name of a file, or of standard input, and its bytes."""
     if file == _STANDARD_INPUT:
         given, name = sys.stdin.buffer.read(_LONGEST_TEXT + 1), "standard input"
     else:
@@ -44,8 +46,13 @@ def _read(file: str) -> ClassicProgram:
         with open(file, "rb") as opened:
             given = opened.read(_LONGEST_TEXT + 1)
     if len(given) > _LONGEST_TEXT:
-        raise ClassicError(f"{name}: a text of a classic program has {_LONGEST_TEXT:,} bytes at most")
-    return ClassicProgram.of_text(given.decode("ascii", errors="replace"), name)
+        raise ClassicError(f"{name}: a text of a filter has {_LONGEST_TEXT:,} bytes at most")
+    return name, given
+
+
+def _without_comments(text: str) -> str:
+    """An expression of a file, in which # begins a comment, as for tcpdump -F."""
+    return " ".join(line.partition("#")[0] for line in text.split("\n")).strip()
 
 
 def _translated(said: argparse.Namespace, program: ClassicProgram) -> Translation:
@@ -55,10 +62,9 @@ def _translated(said: argparse.Namespace, program: ClassicProgram) -> Translatio
 def check(said: argparse.Namespace) -> int:
     """Translates and verifies each filter; the status is 1 if one is rejected."""
     bpfhost, status = program_of(said), 0
-    for kind, of in said.filters:
+    for source in said.filters:
         try:
-            one = argparse.Namespace(**{**vars(said), "filters": [(kind, of)]})
-            program = read_filters(one, said.link_type)[0]
+            program = _read(source, said.link_type)
             translation = _translated(said, program)
         except InputError as error:
             print(f"refused: {error}")
@@ -104,6 +110,8 @@ def _text(bpfhost: str, program: ClassicProgram, translation: Translation) -> st
 
 def _source(program: ClassicProgram, number: int) -> str:
     """The classic instruction that slots come from, as a comment."""
+    from bpfhost.classic.listing import shown
+
     if number < 0:
         return "// a load that the packet has no bytes for ends here\n"
     return f"// {shown(number, program.instructions[number]).expandtabs(1).rstrip()}\n"
@@ -111,6 +119,8 @@ def _source(program: ClassicProgram, number: int) -> str:
 
 def build(said: argparse.Namespace) -> int:
     """Writes a filter to a file that is loaded without Python."""
+    from pathlib import Path
+
     from bpfhost.classic.building import built_filter
     from bpfhost.command.build import write
 
@@ -118,7 +128,7 @@ def build(said: argparse.Namespace) -> int:
     if len(programs) > 1:
         raise InputError("a file has one filter, but several are named")
     for file in files_of(said):
-        if Path(said.output).exists() and Path(file).exists() and Path(said.output).samefile(file):
+        if os.path.exists(said.output) and os.path.exists(file) and os.path.samefile(said.output, file):
             raise InputError(f"{said.output}: the program can't be written over the file that it is read from")
     translation = _translated(said, programs[0])
     refused = verify(program_of(said), translation.slots, {}).refused

@@ -14,8 +14,6 @@ if TYPE_CHECKING:
 
     from bpfhost.captures import Capture
     from bpfhost.filtering import Outcome
-    from bpfhost.loading import LoadedProgram
-    from bpfhost.objects import ObjectFile
 
 Advanced = Callable[["Outcome"], None]
 
@@ -24,43 +22,44 @@ def _nothing(_outcome: Outcome) -> None:
     pass
 
 
-class Shown:
-    """The tables of a run, or its JSON or CSV; the arguments name the form."""
+def microseconds(outcome: Outcome) -> float | None:
+    """The processor time of the host for a packet, by all tenants, if it is known."""
+    return outcome.seconds / outcome.packets * 1e6 if outcome.packets and outcome.seconds else None
 
-    def __init__(self, said: argparse.Namespace, object_file: ObjectFile, loaded: LoadedProgram) -> None:
-        self._said, self._object_file, self._loaded = said, object_file, loaded
-        self.name: str = said.interface or said.capture
+
+def told_time(outcome: Outcome) -> str:
+    """The time in the host, on a line of its own: it differs in each run, and the tables do not."""
+    time = microseconds(outcome)
+    return "time a packet: -" if time is None else f"time a packet: {time:.2f} us"
+
+
+class Shown:
+    """The results of a run, which a function writes, in the form that the arguments name."""
+
+    def __init__(self, said: argparse.Namespace, write: Callable[[Outcome, TextIO], None]) -> None:
+        self._every: float | None = said.every
+        self._write = write
+        self._has_tables = not said.json and said.csv is None
         # If the kept packets go to standard output, the report goes to standard error.
         self._output: TextIO = sys.stderr if said.accepted == "-" else sys.stdout
 
     @contextlib.contextmanager
     def advancing(self, capture: Capture) -> Iterator[Advanced]:
         """Shows the progress of a run: the tables again after each interval, or how much of the capture is read."""
-        if self._said.every is not None:
-            yield _Every(self._said.every, self._show).advanced
+        if self._every is not None:
+            yield _Every(self._every, self.show).advanced
             return
         with _progress(capture) as progress:
             yield progress
 
-    def end(self, outcome: Outcome) -> None:
+    def show(self, outcome: Outcome) -> None:
         """Prints the results of the run."""
-        self._show(outcome)
-
-    def _show(self, outcome: Outcome) -> None:
-        from bpfhost.command import show
-
-        order = show.Order(self._said.top, self._said.by)
-        report = show.Report.of(self._object_file, self._loaded, self.name, self._said.tenants, outcome, order)
-        if self._said.json:
-            show.write_json(report, self._output)
-        elif self._said.csv is not None:
-            show.write_csv(report, self._said.csv, self._output)
-        else:
-            if self._said.every is not None and self._output.isatty():
-                self._output.write(_CLEAR)
-            show.write_tables(report, self._output)
-            if self._said.every is not None:
-                print(file=self._output)
+        is_repeated = self._has_tables and self._every is not None
+        if is_repeated and self._output.isatty():
+            self._output.write(_CLEAR)
+        self._write(outcome, self._output)
+        if is_repeated:
+            print(file=self._output)
         self._output.flush()
 
 

@@ -3,11 +3,14 @@
 from __future__ import annotations
 
 import argparse
+import os
 import sys
 from collections.abc import Iterable
 from typing import TYPE_CHECKING
 
-from bpfhost.errors import MissingPackage
+from bpfhost.captures import is_capture
+from bpfhost.command.subjects import hint_of_filter
+from bpfhost.errors import InputError, MissingPackage
 
 if TYPE_CHECKING:
     from bpfhost.objects import ObjectFile
@@ -18,6 +21,10 @@ def read_object(said: argparse.Namespace, path: str) -> ObjectFile:
 
     Prints what is changed in its maps.
     """
+    if not os.path.exists(path):
+        raise InputError(f"{path}: No such file or directory{hint_of_filter(path)}")
+    if is_capture(path):
+        raise InputError(f"{path} is a capture, and not an object")
     try:
         from bpfhost.objects import Form, load_object
     except ModuleNotFoundError as error:

@@ -8,6 +8,7 @@ from collections.abc import Iterator
 from dataclasses import dataclass
 from typing import TYPE_CHECKING, Literal, TextIO
 
+from bpfhost.command.live import microseconds, told_time
 from bpfhost.command.words import first_number, number_at
 from bpfhost.errors import InputError, MissingPackage
 from bpfhost.filtering import Outcome
@@ -86,10 +87,6 @@ class Report:
         return cls(object_file, loaded.program.section, loaded.program.name, capture, tenants, outcome, maps, order)
 
 
-def _microseconds(outcome: Outcome) -> float | None:
-    return outcome.seconds / outcome.packets * 1e6 if outcome.packets else None
-
-
 # JSON.
 
 
@@ -107,7 +104,7 @@ def write_json(report: Report, output: TextIO) -> None:
         "accepted": outcome.accepted,
         "bytes_kept": outcome.bytes_kept,
         "results": {str(result): count for result, count in sorted(outcome.results.items())},
-        "microseconds_per_packet": _microseconds(outcome),
+        "microseconds_per_packet": microseconds(outcome),
         "maps": {each.declared.name: _plain_map(report.object_file, each) for each in report.maps},
         "short": outcome.short,
         "long": outcome.long,
@@ -211,7 +208,7 @@ def _parts(report: Report) -> Iterator[str | Table]:
     tenants = f", by each of {report.tenants} tenants, with the same results" if report.tenants > 1 else ""
     yield f"{report.program} of {report.object_file.path} on {report.capture}{tenants}"
     yield _counts(report.outcome)
-    yield _time(report.outcome)
+    yield told_time(report.outcome)
     yield ""
     yield _results(report.outcome)
     for shown in report.maps:
@@ -234,12 +231,6 @@ def _counts(outcome: Outcome) -> Table:
     table.add_row("accepted", f"{outcome.accepted:,}")
     table.add_row("bytes kept", f"{outcome.bytes_kept:,}")
     return table
-
-
-def _time(outcome: Outcome) -> str:
-    """The time, on a line of its own: it differs in each run, and the tables do not."""
-    time = _microseconds(outcome)
-    return "time a packet: -" if time is None else f"time a packet: {time:.2f} us"
 
 
 def _results(outcome: Outcome) -> Table:

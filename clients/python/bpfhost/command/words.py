@@ -1,17 +1,19 @@
-"""Values of arguments of `run` that several of its parts read."""
+"""Values of arguments, from their words."""
 
 from __future__ import annotations
 
 import re
 from collections.abc import Mapping
 
-_SECONDS = re.compile(r"(\d+(?:\.\d+)?)(ms|s|m|)")
+from bpfhost.packets import ETHERNET
+
+_SECONDS = r"(\d+(?:\.\d+)?)(ms|s|m|)"
 _UNITS = {"ms": 0.001, "s": 1.0, "": 1.0, "m": 60.0}
 
 
 def seconds(word: str) -> float:
     """A time, as `1s`, `500ms`, `2m` or `1.5`. Raises ValueError if it is not a time above 0."""
-    found = _SECONDS.fullmatch(word)
+    found = re.fullmatch(_SECONDS, word)
     if found is None or float(found[1]) == 0:
         raise ValueError(word)
     return float(found[1]) * _UNITS[found[2]]
@@ -39,3 +41,15 @@ def first_number(value: object) -> float | None:
     if isinstance(value, Mapping):
         return next((number for number in map(first_number, value.values()) if number is not None), None)
     return value if isinstance(value, int | float) else None
+
+
+def link_type(word: str) -> int:
+    """A link type, by its number in captures or by libpcap's name. Raises ValueError if it is none."""
+    from bpfhost.classic.errors import MissingLibrary
+    from bpfhost.classic.libpcap import link_type_number
+
+    try:
+        return link_type_number(word)
+    except MissingLibrary:
+        # Without libpcap no expression is compiled: that is reported later.
+        return ETHERNET

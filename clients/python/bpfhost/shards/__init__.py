@@ -3,8 +3,9 @@
 No tenant is lost when a process dies. docs/SCALING.md of the repository describes how, what is proved, and what depends on Redis.
 """
 
-from bpfhost.shards.client import Client, Customer
-from bpfhost.shards.directory import Directory, Seat
+from bpfhost.shards.blocking import Client, Customer, Directory, abort_move, move, remove
+from bpfhost.shards.client import AsyncClient, AsyncCustomer
+from bpfhost.shards.directory import Seat
 from bpfhost.shards.errors import (
     CallError,
     CallPassed,
@@ -23,13 +24,14 @@ from bpfhost.shards.errors import (
     SetAside,
     ShardError,
 )
-from bpfhost.shards.moving import abort_move, move, remove
 from bpfhost.shards.names import ShardKeys
 from bpfhost.shards.settings import Settings
 from bpfhost.shards.tickets import Place, Ticket
 from bpfhost.shards.worker import Worker
 
 __all__ = [
+    "AsyncClient",
+    "AsyncCustomer",
     "CallError",
     "CallPassed",
     "Client",

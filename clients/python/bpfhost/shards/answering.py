@@ -7,6 +7,7 @@ what is played meanwhile goes into the next batch.
 
 from __future__ import annotations
 
+import asyncio
 import contextlib
 from collections import deque
 from collections.abc import Callable, Sequence
@@ -14,10 +15,11 @@ from typing import NamedTuple
 
 from bpfhost.parts import in_parts
 from bpfhost.shards.calls import Call, NoCall
+from bpfhost.shards.connection import forgotten
 from bpfhost.shards.errors import OutOfMemory
 from bpfhost.shards.served import Served
 from bpfhost.shards.serving import Written
-from bpfhost.shards.system import Pending
+from bpfhost.shards.system import Work
 from bpfhost.shards.writing import WRITTEN_AT_ONCE
 
 _MOST_ON_THEIR_WAY = 2
@@ -35,13 +37,13 @@ class Played(NamedTuple):
 
 class _Batch(NamedTuple):
     played: Sequence[Played]
-    pending: Pending
+    task: asyncio.Task[int]
 
 
 class Answering:
     """Writes the replies of one shard. It calls `written` for stored replies, and `make_room` if Redis has no memory for them."""
 
-    def __init__(self, shard: Served, written: Callable[[Sequence[Played]], None], make_room: Callable[[OutOfMemory], None]) -> None:
+    def __init__(self, shard: Served, written: Callable[[Sequence[Played]], None], make_room: Callable[[OutOfMemory], Work[None]]) -> None:
         self._shard, self._written, self._make_room = shard, written, make_room
         self._line = shard.redis.line()
         self._batches: deque[_Batch] = deque()
@@ -51,21 +53,21 @@ class Answering:
         self._waiting: list[Played] = []
         self._size = 0
 
-    def begin(self, played: Sequence[Played]) -> None:
+    async def begin(self, played: Sequence[Played]) -> None:
         """Begins to write replies, now or when there is room for them."""
         self._waiting += played
         self._size += sum(len(one.written.value) for one in played)
         self._send()
         while self._size > _MOST_WAITING:
-            self._end_first()
+            await self._end_first()
             self._send()
 
     def _send(self) -> None:
         """Sends what waits, as far as there is room."""
         while self._waiting and len(self._batches) < _MOST_ON_THEIR_WAY:
             some = _parts(self._waiting)[0]
-            pending = self._shard.writing.begin(self._line, [one.written for one in some], self._last)
-            self._batches.append(_Batch(some, pending))
+            task = self._shard.wakes(self._shard.writing.begin(self._line, [one.written for one in some], self._last))
+            self._batches.append(_Batch(some, task))
             self._last.update((one.written.tenant, one.written.entry) for one in some)
             del self._waiting[: len(some)]
             self._size -= sum(len(one.written.value) for one in some)
@@ -74,26 +76,26 @@ class Answering:
         """Whether no more batches can be sent at the moment."""
         return len(self._batches) >= _MOST_ON_THEIR_WAY
 
-    def first(self) -> list[Pending]:
+    def first(self) -> list[asyncio.Task[int]]:
         """The batch that Redis replies to next, if one is in progress."""
-        return [self._batches[0].pending] if self._batches else []
+        return [self._batches[0].task] if self._batches else []
 
-    def look(self) -> None:
+    async def look(self) -> None:
         """Notes the batches that Redis has replied to, and sends what waits."""
-        while self._batches and self._batches[0].pending.is_answered():
-            self._end_first()
+        while self._batches and self._batches[0].task.done():
+            await self._end_first()
         self._send()
 
-    def settle(self) -> None:
+    async def settle(self) -> None:
         """Waits until all replies are written."""
         while self._batches:
-            self._end_first()
+            await self._end_first()
             self._send()
 
     def forget(self) -> None:
         """Drops the batches in progress: they belong to a log that this worker does not continue."""
-        if self._batches:
-            self._line.cut()
+        for batch in self._batches:
+            forgotten(batch.task)
         self._batches.clear()
         self._last.clear()
         self._waiting.clear()
@@ -101,38 +103,39 @@ class Answering:
 
     def end(self) -> None:
         """Ends its connection."""
+        self.forget()
         self._line.cut()
 
-    def write(self, played: Sequence[Played]) -> None:
+    async def write(self, played: Sequence[Played]) -> None:
         """Writes replies; each is stored once, even if it is not known whether they were written and they are written again."""
         for some in _parts(played):
-            self._write([one.written for one in some])
+            await self._write([one.written for one in some])
             self._note(some)
 
-    def _write(self, written: Sequence[Written]) -> None:
+    async def _write(self, written: Sequence[Written]) -> None:
         while True:
             try:
-                return self._shard.waiting(lambda: self._shard.writing.write(written))
+                return await self._shard.waiting(lambda: self._shard.writing.write(written))
             except OutOfMemory as error:
-                self._make_room(error)
+                await self._make_room(error)
 
-    def _end_first(self) -> None:
+    async def _end_first(self) -> None:
         """Waits for the batch that was begun first."""
         is_written = False
         with contextlib.suppress(OutOfMemory):
-            is_written = self._shard.writing.end(self._batches[0].pending)
+            is_written = await self._shard.writing.end(self._batches[0].task)
         if is_written:
             self._note(self._batches.popleft().played)
         else:
-            self._write_again()
+            await self._write_again()
 
-    def _write_again(self) -> None:
+    async def _write_again(self) -> None:
         """Writes all batches in progress once more."""
         for batch in list(self._batches)[1:]:
             with contextlib.suppress(OutOfMemory):
-                self._shard.writing.end(batch.pending)
+                await self._shard.writing.end(batch.task)
         for batch in list(self._batches):
-            self._write([one.written for one in batch.played])
+            await self._write([one.written for one in batch.played])
             self._batches.popleft()
             self._note(batch.played)
 

@@ -15,7 +15,7 @@ from bpfhost.shards.gateway.limits import GatewayLimits
 from bpfhost.shards.lease import SECONDS as LEASE_SECONDS
 from bpfhost.shards.names import PREFIX
 from bpfhost.shards.settings import LEAST_REPLY_BYTES, MOST_ENTRIES, Settings
-from bpfhost.telling import WRONG_WORDS, Parser, add_program, in_range, named
+from bpfhost.telling import WRONG_WORDS, Parser, Version, add_program, in_range, named
 
 _ABOUT = "Serves customers by many hosts, behind Redis Streams (docs/SCALING.md)."
 
@@ -43,6 +43,7 @@ _OF_SHARDS = {
 
 def _parser() -> tuple[Parser, Mapping[str, Parser]]:
     parser = Parser(prog="python3 -m bpfhost.shards", description=_ABOUT)
+    parser.add_argument("--version", action=Version, nargs=0, help="the client's version, and the program that it uses")
     words = parser.add_subparsers(metavar="WORD", required=True, parser_class=Parser, dest="word")
     _add_worker(words)
     for word, does in _OF_CUSTOMERS.items():
@@ -70,7 +71,7 @@ def _parser() -> tuple[Parser, Mapping[str, Parser]]:
         one.add_argument("--config", metavar="FILE", type=Path, help="what is not said here; else that of the variable BPFHOST_SHARDS_CONFIG")
         if word in ("worker", "gateway"):
             one.add_argument("--log", choices=("text", "json"), default="text", help="how lines on standard error are written (text)")
-            one.add_argument("--metrics", metavar="ADDRESS", help="host:port where /metrics and /health are read")
+            one.add_argument("--metrics", metavar="ADDRESS", help="host:port where /metrics and /health are read; `host:port+` adds the shard's number")
     return parser, words.choices
 
 

@@ -5,9 +5,12 @@ It records that the shard is served, watches whether other workers do the same, 
 
 from __future__ import annotations
 
+import asyncio
 from collections.abc import Callable
 from typing import TypeVar
 
+from bpfhost.shards import moving
+from bpfhost.shards.client import AsyncClient
 from bpfhost.shards.directory import Directory
 from bpfhost.shards.errors import Away, RedisError, ShardError
 
@@ -47,49 +50,41 @@ class Attending:
         self._beats, self._moves = _Watch(), _Watch()
         self._is_known = True
 
-    def run(self, until: Callable[[], bool]) -> None:
-        """Attends until that ends. Errors are reported, and what failed is tried again."""
-        while not until():
-            began = self._system.now()
+    async def run(self) -> None:
+        """Attends until it is cancelled. Errors are reported, and what failed is tried again."""
+        while True:
             try:
-                self._attend()
+                await self._attend()
             except Away:
                 self._beats.forget()
                 self._moves.forget()
             except ShardError as error:
                 self._tell(f"shard {self._shard}: {error}")
-                self._sleep(began + 10 * self._seconds, until)
-            self._sleep(began + self._seconds, until)
+                await asyncio.sleep(9 * self._seconds)
+            await asyncio.sleep(self._seconds)
 
-    def _sleep(self, deadline: float, until: Callable[[], bool]) -> None:
-        while not until() and self._system.now() < deadline:
-            self._system.sleep(min(_LEAST_SECONDS, self._seconds))
-
-    def _attend(self) -> None:
-        self._directory.beat(self._shard, self._incarnation)
+    async def _attend(self) -> None:
+        await self._directory.beat(self._shard, self._incarnation)
         now = self._system.now()
-        beats: dict[int, object] = dict(self._directory.beats())
+        beats: dict[int, object] = dict(await self._directory.beats())
         for shard in self._beats.stood_still(beats, now, _BEATS_MISSED * self._seconds):
             if shard != self._shard:
-                self._directory.withdraw(shard, bytes(beats[shard]))  # type: ignore[call-overload]
-        self._end_moves(now)
+                await self._directory.withdraw(shard, bytes(beats[shard]))  # type: ignore[call-overload]
+        await self._end_moves(now)
 
-    def _end_moves(self, now: float) -> None:
+    async def _end_moves(self, now: float) -> None:
         """Ends moves from this shard or to it that did not change for a while."""
-        from bpfhost.shards import moving
-        from bpfhost.shards.client import Client
-
-        moves: dict[str, object] = dict(self._directory.moves())
+        moves: dict[str, object] = dict(await self._directory.moves())
         for name in self._moves.stood_still(moves, now, _BEATS_OF_A_MOVE * self._seconds):
-            seat, next_seat = self._directory.seat(name), self._directory.moves().get(name)
+            seat, next_seat = await self._directory.seat(name), (await self._directory.moves()).get(name)
             if self._shard in (seat and seat.shard, next_seat and next_seat.shard):
-                with Client(self._directory.redis.url, self._directory.keys.prefix, self._system) as client:
-                    moving.end_move(client, name, _SECONDS_FOR_A_MOVE)
+                async with AsyncClient(self._directory.redis.url, self._directory.keys.prefix, self._system) as client:
+                    await moving.end_move(client, name, _SECONDS_FOR_A_MOVE)
                 self._tell(f"shard {self._shard}: the move of customer {name} was ended, which had broken off")
 
-    def end(self) -> None:
+    async def end(self) -> None:
         """Records that the shard is not served any more."""
         try:
-            self._directory.withdraw(self._shard)
+            await self._directory.withdraw(self._shard)
         except RedisError:
             pass

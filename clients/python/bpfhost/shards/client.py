@@ -1,4 +1,4 @@
-"""A client of shards: it sends a customer's frames and returns the replies, whichever host the customer is on.
+"""A client of shards for asyncio: it sends a customer's frames and returns the replies, whichever host the customer is on.
 
 Each call is taken once: it has a number in a session, and the step that adds its frames to the stream also records that number. So a call
 is sent again if it is not known whether it was taken.
@@ -6,17 +6,12 @@ is sent again if it is not known whether it was taken.
 
 from __future__ import annotations
 
-from collections.abc import Iterable, Iterator, Sequence
-from types import TracebackType
-from typing import NamedTuple, cast
+import asyncio
+from collections.abc import AsyncIterator, Iterable, Sequence
+from typing import NamedTuple
 
-from bpfhost import frames as make
-from bpfhost.alike import packed
-from bpfhost.frames import NO_CONTEXT, Context
-from bpfhost.host import Host
-from bpfhost.packets import Packets
+from bpfhost.alike import packed, size_of_alike
 from bpfhost.parts import in_parts
-from bpfhost.replies import Reply, read_replies
 from bpfhost.shards import names, scripts
 from bpfhost.shards.aside import Aside
 from bpfhost.shards.calls import LONGEST_CALL, MOST_FRAMES, count_of
@@ -37,10 +32,9 @@ from bpfhost.shards.errors import (
     ShardError,
 )
 from bpfhost.shards.names import FAULT, FRAMES, PREFIX, REPLIES, RUNS, ShardKeys, before, order
-from bpfhost.shards.system import MACHINE, System
+from bpfhost.shards.link import MACHINE
+from bpfhost.shards.system import System
 from bpfhost.shards.tickets import Gathered, Part, Place, Ticket
-from bpfhost.state import split
-from bpfhost.tenant import Tenant
 
 SECONDS = 30.0
 _PAUSE, _LONGEST_PAUSE = 0.005, 0.1
@@ -53,39 +47,39 @@ NAMELESS = "~"
 _SESSIONS = f"customer {{name}} has {names.MOST_SESSIONS} sessions, and can't have another one"
 
 
-class Client:
-    """A client that knows the directory and the shards. It is a context manager, which closes its connections."""
+class AsyncClient:
+    """A client that knows the directory and the shards, for one event loop. It is a context manager, which closes its connections."""
 
     def __init__(self, url: str | None = None, prefix: str = PREFIX, system: System = MACHINE) -> None:
-        """The directory's Redis, by its URL (`connect`)."""
+        """The directory's Redis, by its URL (`redis_url`)."""
         self.redis, self.prefix, self.system = Redis(url, system), prefix, system
         self.directory = Directory(self.redis, prefix)
         self._servers: dict[str, Redis] = {"": self.redis}
 
-    def __enter__(self) -> Client:
+    async def __aenter__(self) -> AsyncClient:
         return self
 
-    def __exit__(self, _kind: type[BaseException] | None, _error: BaseException | None, _trace: TracebackType | None) -> None:
-        self.close()
+    async def __aexit__(self, *_error: object) -> None:
+        await self.close()
 
-    def close(self) -> None:
+    async def close(self) -> None:
         """Closes the connections."""
         for redis in self._servers.values():
-            redis.close()
+            await redis.close()
 
-    def customer(self, name: str, seconds: float = SECONDS, session: str | None = None) -> Customer:
+    def customer(self, name: str, seconds: float = SECONDS, session: str | None = None) -> AsyncCustomer:
         """A customer by its name, which waits for so many seconds at most.
 
-        The next process can continue a session with a name (`Customer.resume`); from then on calls of the previous process are refused.
+        The next process can continue a session with a name (`AsyncCustomer.resume`); from then on calls of the previous process are refused.
         """
         if session is not None and (not session or session.startswith(NAMELESS)):
             raise ValueError(f"a session's name is not empty and does not begin with {NAMELESS}, and is not {session!r}")
-        return Customer(self, demand_name(name), seconds, session or NAMELESS + self.system.fresh())
+        return AsyncCustomer(self, demand_name(name), seconds, session or NAMELESS + self.system.fresh())
 
-    def shard(self, number: int, deadline: float | None = None) -> tuple[Redis, ShardKeys]:
+    async def shard(self, number: int, deadline: float | None = None) -> tuple[Redis, ShardKeys]:
         """The Redis of a shard, and its keys."""
         until = self.system.now() + SECONDS if deadline is None else deadline
-        url = self.redis.patiently(lambda redis: Directory(redis, self.prefix).server(number), until)
+        url = await self.redis.patiently(lambda redis: Directory(redis, self.prefix).server(number), until)
         if url not in self._servers:
             self._servers[url] = Redis(as_in(url, self.redis.url), self.system)
         return self._servers[url], ShardKeys(number, self.prefix)
@@ -100,10 +94,10 @@ class _Used(NamedTuple):
     owner: bytes
 
 
-class Customer:
-    """Sends the calls of one customer; only one thread may use it. Frames and replies name tenant 0, whichever host the customer is on."""
+class AsyncCustomer:
+    """Sends the calls of one customer; only one task may use it. Frames and replies name tenant 0, whichever host the customer is on."""
 
-    def __init__(self, client: Client, name: str, seconds: float, session: str) -> None:
+    def __init__(self, client: AsyncClient, name: str, seconds: float, session: str) -> None:
         self._client, self.name, self.seconds, self.session = client, name, seconds, session
         self._system = client.system
         self._seat: Seat | None = None
@@ -115,53 +109,43 @@ class Customer:
         # The latest calls that were taken, and whose replies were not read yet.
         self._unread: dict[Place, Ticket] = {}
 
-    # As a host is asked.
-
-    def ask(self, frame: bytes) -> Reply:
-        """Sends a frame and waits for its reply."""
-        return next(self.ask_all([frame]))
-
-    def ask_all(self, frames: Iterable[bytes]) -> Iterator[Reply]:
-        """Sends frames, many at once, and yields their replies in order."""
-        for reply in self.ask_bytes(frames):
-            yield from read_replies(reply)
-
-    def ask_bytes(self, frames: Iterable[bytes]) -> Iterator[bytes]:
-        """The same, with each reply as the bytes that the host wrote."""
+    async def ask_bytes(self, frames: Iterable[bytes]) -> AsyncIterator[bytes]:
+        """Sends frames, many at once, and yields their replies in order, each as the bytes that the host wrote."""
         for call in in_parts(frames, len, LONGEST_CALL, MOST_FRAMES):
-            yield from self.wait(self.post(b"".join(call)))
+            for reply in await self.ask_call(b"".join(call)):
+                yield reply
 
-    def tenant(self) -> Tenant:
-        """The commands by their names, and maps as mappings."""
-        return CustomersTenant(cast(Host, self), 0)
+    async def ask_call(self, stream: bytes) -> list[bytes]:
+        """Sends a call and waits for its replies."""
+        return await self.wait(await self.post(stream))
 
     # Calls.
 
-    def resume(self) -> int:
+    async def resume(self) -> int:
         """The number of calls of this session that were taken, by this process or an earlier one; the next call has the next number.
 
         So a producer that is killed and started again with the same session name knows which of its calls comes next. Calls that an
         earlier process has in progress are not taken any more, and its next call raises SessionPassed.
         """
-        last = self.last()
+        last = await self.last()
         return last.number if last else 0
 
-    def last(self) -> Ticket | None:
+    async def last(self) -> Ticket | None:
         """The last call of this session that was taken, also by an earlier process, so that the caller can wait for it; or None."""
         deadline = self._deadline(None)
-        seat, number, given_up, place = self._resumed(deadline)
+        seat, number, given_up, place = await self._resumed(deadline)
         self._number, self._given_up = max(self._number, number), given_up
         return Ticket(b"", self.session, number, given_up, seat=seat, place=Place.read(place)) if place != b"-" else None
 
-    def _resumed(self, deadline: float) -> tuple[Seat, int, int, bytes]:
+    async def _resumed(self, deadline: float) -> tuple[Seat, int, int, bytes]:
         """The customer's seat, and the session's record there; from then on no calls of earlier processes are taken."""
         given_up = b"0"
         while True:
-            seat = self._seat or self._take_seat(deadline, None)
-            redis, keys = self._shard(seat.shard, deadline)
+            seat = self._seat or await self._take_seat(deadline, None)
+            redis, keys = await self._shard(seat.shard, deadline)
             used = [keys.seats, keys.sessions(seat.generation), keys.lease]
             words = [self.session, given_up, seat.tenant, seat.owned_by(self.name), names.MOST_SESSIONS]
-            what, *said = scripts.RESUME.patiently(redis, used, words, deadline)
+            what, *said = await scripts.RESUME.patiently(redis, used, words, deadline)
             if what == b"resumed":
                 return seat, int(said[0]), int(said[1]), bytes(said[2])
             if what == b"passed":
@@ -171,7 +155,7 @@ class Customer:
             else:
                 self._seat = None
 
-    def post(self, stream: bytes, seconds: float | None = None, by: int = 1) -> Ticket:
+    async def post(self, stream: bytes, seconds: float | None = None, by: int = 1) -> Ticket:
         """Adds a call to the stream of the customer's shard, without waiting for its replies.
 
         Its number in the session is the number of the last call plus `by`, so that a session may count its frames.
@@ -181,56 +165,61 @@ class Customer:
         """
         _, alike = count_of(stream)
         if self._gathered.count:
-            self.flush()
-        return self._post(stream, alike, seconds, by)
+            await self.flush()
+        return await self._post(stream, alike, seconds, by)
 
-    def _post(self, stream: bytes, alike: int, seconds: float | None = None, by: int = 1) -> Ticket:
+    async def post_checked(self, stream: bytes, count: int) -> Ticket:
+        """The same with frames that the caller has split and checked; their number is counted in the session."""
+        return await self._post(stream, size_of_alike(stream), None, count)
+
+    async def _post(self, stream: bytes, alike: int, seconds: float | None = None, by: int = 1) -> Ticket:
         """Does what `post` does, with the length of each frame if they are known to be alike, and 0 otherwise."""
-        self.settle(seconds)
+        await self.settle(seconds)
         runs = packed(stream, alike)
         self._open = ticket = Ticket(runs or stream, self.session, self._number + by, self._given_up, bool(runs))
-        self.settle(seconds)
+        await self.settle(seconds)
         return ticket
 
-    def send(self, stream: bytes) -> Part:
+    def gather(self, stream: bytes) -> Part | None:
+        """Adds frames to others in one call, which is sent later; None if it has no room for them."""
+        return self._gathered.add(stream, *count_of(stream))
+
+    async def send(self, stream: bytes) -> Part:
         """Adds frames to others in one call, which is sent before one of them is waited for, or when it has no more room.
 
         So many small calls cost no more than a large one. The wait for their replies shows whether they were taken.
         """
-        count, alike = count_of(stream)
-        part = self._gathered.add(stream, count, alike)
-        while part is None:
-            self.flush()
-            part = self._gathered.add(stream, count, alike)
+        while (part := self.gather(stream)) is None:
+            await self.flush()
         return part
 
-    def flush(self) -> None:
+    async def flush(self) -> None:
         """Sends the gathered calls. An error is passed to each caller that waits for one of them."""
         call, self._gathered = self._gathered, Gathered()
         try:
-            call.ticket = self._post(bytes(call.stream), call.alike) if call.count else None
+            call.ticket = await self._post(bytes(call.stream), call.alike) if call.count else None
         except CallError as error:
             call.error, call.ticket = error, error.ticket
         except ShardError:
             call.ticket = self._open
             raise
 
-    def receive(self, part: Part, seconds: float | None = None) -> list[bytes]:
+    async def receive(self, part: Part, seconds: float | None = None) -> list[bytes]:
         """Waits for the replies to frames that were sent, as `wait` does; other gathered calls are sent first."""
         if part.call is self._gathered:
-            self.flush()
+            await self.flush()
         if part.call.ticket is None or isinstance(part.call.error, NotTaken):
             raise part.call.error or NotTaken(f"frames of customer {self.name} were not sent", None)
-        return (part.call.ticket.answered or self.wait(part.call.ticket, seconds))[part.first : part.end]
+        return (await self.wait(part.call.ticket, seconds))[part.first : part.end]
 
-    def settle(self, seconds: float | None = None) -> None:
+    async def settle(self, seconds: float | None = None) -> None:
         """Sends a call again if it is not known whether it was taken."""
         ticket = self._open
         if ticket is None:
             return
         deadline = self._deadline(seconds)
         try:
-            self._send(ticket, deadline)
+            await self._send(ticket, deadline)
         except NotTaken:
             # A later call with this number can't be mistaken for it.
             self._open, self._given_up = None, ticket.given_up + 1
@@ -243,55 +232,59 @@ class Customer:
             if len(self._unread) > _MOST_UNREAD:
                 del self._unread[next(iter(self._unread))]
 
-    def wait(self, ticket: Ticket, seconds: float | None = None) -> list[bytes]:
-        """Waits for the replies to a call, one for each frame; raises NoReply after so many seconds, and can then be called again.
+    async def wait(self, ticket: Ticket, seconds: float | None = None) -> list[bytes]:
+        """Waits for the replies to a call, one for each frame (`wait_bytes`)."""
+        await self.wait_bytes(ticket, seconds)
+        return ticket.replies
+
+    async def wait_bytes(self, ticket: Ticket, seconds: float | None = None) -> bytes:
+        """Waits for the replies to a call, one after another; raises NoReply after so many seconds, and can then be called again.
 
         Raises SetAside if the call waits for an operator, NotDone if its frames were not done and won't be, and ReplyGone if its replies
         were dropped.
         """
-        if ticket.answered:
-            return ticket.answered
-        deadline = self._deadline(seconds)
-        if ticket.place is None and ticket is self._open:
-            self.settle(max(0.0, deadline - self._system.now()))
-        if ticket.place is None:
-            raise NotTaken(f"the call of customer {self.name} was given up", ticket)
-        ticket.answered = self._replies(ticket, ticket.place, deadline)
+        if not ticket.answered:
+            deadline = self._deadline(seconds)
+            if ticket.place is None and ticket is self._open:
+                await self.settle(max(0.0, deadline - self._system.now()))
+            if ticket.place is None:
+                raise NotTaken(f"the call of customer {self.name} was given up", ticket)
+            ticket.answered = await self._replies(ticket, ticket.place, deadline)
         return ticket.answered
 
     def _deadline(self, seconds: float | None) -> float:
         return self._system.now() + (self.seconds if seconds is None else seconds)
 
-    def _shard(self, number: int, deadline: float) -> tuple[Redis, ShardKeys]:
+    async def _shard(self, number: int, deadline: float) -> tuple[Redis, ShardKeys]:
         if number not in self._at:
-            self._at[number] = self._client.shard(number, deadline)
+            self._at[number] = await self._client.shard(number, deadline)
         return self._at[number]
 
     # Sending.
 
-    def _send(self, ticket: Ticket, deadline: float) -> None:
+    async def _send(self, ticket: Ticket, deadline: float) -> None:
         """Sends a call until it is taken, or is never taken: then raises NotTaken."""
         pause = _PAUSE
         while ticket.place is None:
-            seat = ticket.seat = ticket.seat or self._seat or self._take_seat(deadline, ticket)
-            why = self._send_to(ticket, seat, deadline)
+            seat = ticket.seat = ticket.seat or self._seat or await self._take_seat(deadline, ticket)
+            why = await self._send_to(ticket, seat, deadline)
             if not why:
                 continue
             if self._system.now() + pause > deadline:
-                self._give_up(ticket, seat, why)
+                await self._give_up(ticket, seat, why)
                 return
-            self._system.sleep(pause)
+            await asyncio.sleep(pause)
             pause = min(2 * pause, _LONGEST_PAUSE)
 
-    def _send_to(self, ticket: Ticket, seat: Seat, deadline: float) -> str:
+    async def _send_to(self, ticket: Ticket, seat: Seat, deadline: float) -> str:
         """Sends a call once; returns a sentence if there is no room for it now."""
         used = self._used
         if not used or used.seat is not seat:
-            used = self._used = self._used_of(seat, deadline)
+            used = self._used = await self._used_of(seat, deadline)
         session = [ticket.session, ticket.number, ticket.given_up, used.owner, seat.shard, seat.tenant]
         limits = [names.weight(len(ticket.stored)), names.MOST_WAITING, names.MOST_SESSIONS, RUNS if ticket.is_packed else FRAMES]
         try:
-            what, *said = scripts.ASK.patiently(used.redis, used.keys, [*session, ticket.stored, *limits], deadline)
+            what, *said = await scripts.ASK.patiently(used.redis, used.keys, [*session, ticket.stored, *limits], deadline)
         except OutOfMemory as error:
             return f"a call of customer {self.name} is not taken: {error}"
         if what == b"taken":
@@ -302,7 +295,7 @@ class Customer:
         elif what == b"full":
             return f"customer {self.name} has as many calls waiting as one may have: the worker of shard {seat.shard} is behind"
         elif what == b"sessions":
-            self._give_up(ticket, seat, _SESSIONS.format(name=self.name))
+            await self._give_up(ticket, seat, _SESSIONS.format(name=self.name))
         elif what == b"given up":
             if int(said[0]) > ticket.given_up + 1:
                 raise SessionPassed(f"another process goes on with session {self.session} of customer {self.name}", ticket)
@@ -312,53 +305,53 @@ class Customer:
             raise CallPassed(sentence, ticket)
         return ""
 
-    def _used_of(self, seat: Seat, deadline: float) -> _Used:
-        redis, keys = self._shard(seat.shard, deadline)
+    async def _used_of(self, seat: Seat, deadline: float) -> _Used:
+        redis, keys = await self._shard(seat.shard, deadline)
         of_seat = [keys.seats, keys.frames(seat.tenant), keys.sessions(seat.generation), keys.waiting, keys.lease]
         return _Used(seat, redis, of_seat, seat.owned_by(self.name))
 
-    def _give_up(self, ticket: Ticket, seat: Seat, why: str) -> None:
+    async def _give_up(self, ticket: Ticket, seat: Seat, why: str) -> None:
         """Ensures that a call is not taken later, even if a command with it is still in transit to the server."""
         deadline = self._system.now() + _SECONDS_TO_LOOK
-        redis, keys = self._shard(seat.shard, deadline)
+        redis, keys = await self._shard(seat.shard, deadline)
         used = [keys.sessions(seat.generation), keys.lease]
-        what, *said = scripts.GIVE_UP.patiently(redis, used, [ticket.session, ticket.number, ticket.given_up], deadline)
+        what, *said = await scripts.GIVE_UP.patiently(redis, used, [ticket.session, ticket.number, ticket.given_up], deadline)
         if what == b"taken":
             ticket.place = Place.read(said[0])
         else:
             raise NotTaken(why, ticket)
 
-    def _take_seat(self, deadline: float, ticket: Ticket | None) -> Seat:
+    async def _take_seat(self, deadline: float, ticket: Ticket | None) -> Seat:
         """The customer's seat in the directory. Waits while the customer is moved, or no shard that may have it is served."""
         pause = _PAUSE
         while True:
             try:
-                seat = self._client.redis.patiently(lambda redis: Directory(redis, self._client.prefix).place(self.name), deadline)
-                if self._claim(seat, deadline):
+                seat = await self._client.redis.patiently(lambda redis: Directory(redis, self._client.prefix).place(self.name), deadline)
+                if await self._claim(seat, deadline):
                     return seat
                 why = f"customer {self.name} is being moved"
             except NotServed as error:
                 why = str(error)
             if self._system.now() + pause > deadline:
                 raise NotTaken(why, ticket)
-            self._system.sleep(pause)
+            await asyncio.sleep(pause)
             pause = min(2 * pause, _LONGEST_PAUSE)
 
-    def _claim(self, seat: Seat, deadline: float) -> bool:
+    async def _claim(self, seat: Seat, deadline: float) -> bool:
         # A shard may have moved to another server since it was last looked up.
         self._at.pop(seat.shard, None)
         self._used = None
-        redis, keys = self._shard(seat.shard, deadline)
+        redis, keys = await self._shard(seat.shard, deadline)
         claim = [seat.tenant, seat.generation, seat.owned_by(self.name)]
-        if not scripts.CLAIM.patiently(redis, [keys.seats], claim, deadline):
+        if not await scripts.CLAIM.patiently(redis, [keys.seats], claim, deadline):
             return False
         self._seat = seat
         return True
 
     # Waiting.
 
-    def _replies(self, ticket: Ticket, place: Place, deadline: float) -> list[bytes]:
-        redis, keys = self._shard(place.shard, deadline)
+    async def _replies(self, ticket: Ticket, place: Place, deadline: float) -> bytes:
+        redis, keys = await self._shard(place.shard, deadline)
         name, behind = keys.replies(place.tenant), before(place.entry)
 
         def give_up(away: Away) -> Exception:
@@ -368,13 +361,13 @@ class Customer:
             wait = min(_SECONDS_TO_LOOK, deadline - self._system.now())
             # The first reply after the last id below this one is the reply to this call, since each call has one.
             many = max(1, len(self._unread))
-            found = redis.patiently(lambda limited: limited.xread({name: behind}, many, wait), deadline, give_up).get(name)
+            found = (await redis.patiently(lambda limited: limited.xread({name: behind}, many, wait), deadline, give_up)).get(name)
             if found and found[0][0] == place.entry:
                 self._note_read(place, found)
                 return self._said(found[0][1], ticket)
             if found:
-                raise redis.patiently(lambda limited: self._gone(limited, keys, place, ticket), deadline, give_up)
-            redis.patiently(lambda limited: self._demand_hope(limited, keys, place, ticket), deadline, give_up)
+                raise await redis.patiently(lambda limited: self._gone(limited, keys, place, ticket), deadline, give_up)
+            await redis.patiently(lambda limited: self._demand_hope(limited, keys, place, ticket), deadline, give_up)
             if self._system.now() >= deadline:
                 raise NoReply(f"shard {place.shard} has not answered entry {place.entry.decode()}: does its worker run?", ticket)
 
@@ -383,37 +376,25 @@ class Customer:
         for entry, fields in found:
             ticket = self._unread.pop(place._replace(entry=entry), None)
             if ticket and entry != place.entry and REPLIES in fields:
-                ticket.answered = split(fields[REPLIES])
+                ticket.answered = fields[REPLIES]
 
-    def _said(self, fields: dict[bytes, bytes], ticket: Ticket) -> list[bytes]:
+    def _said(self, fields: dict[bytes, bytes], ticket: Ticket) -> bytes:
         if FAULT in fields:
             raise NotDone(fields[FAULT].decode(errors="replace"), ticket)
-        return split(fields[REPLIES])
+        return fields[REPLIES]
 
-    def _gone(self, redis: Redis, keys: ShardKeys, place: Place, ticket: Ticket) -> Exception:
+    async def _gone(self, redis: Redis, keys: ShardKeys, place: Place, ticket: Ticket) -> Exception:
         """The reason why an entry has no reply although later ones have."""
         entry = f"entry {place.entry.decode()} of shard {place.shard}"
-        if order(redis.dropped_id(keys.replies(place.tenant))) >= order(place.entry):
+        if order(await redis.dropped_id(keys.replies(place.tenant))) >= order(place.entry):
             return ReplyGone(f"the replies to {entry} were dropped: nobody read them in time", ticket)
         return NotDone(f"{entry} was dropped from its stream before it was done: its frames were not done, and won't be", ticket)
 
-    def _demand_hope(self, redis: Redis, keys: ShardKeys, place: Place, ticket: Ticket) -> None:
+    async def _demand_hope(self, redis: Redis, keys: ShardKeys, place: Place, ticket: Ticket) -> None:
         """Raises an error if there won't be a reply: the call is set aside, or was dropped."""
-        kept = redis.hget(keys.aside, place.tenant)
+        kept = await redis.hget(keys.aside, place.tenant)
         if kept and order(Aside.read(kept).entry.encode()) <= order(place.entry):
             raise SetAside(f"customer {self.name} is set aside until an operator has looked: {Aside.read(kept).why}", ticket)
-        is_dropped = order(redis.dropped_id(keys.frames(place.tenant))) >= order(place.entry)
-        if is_dropped and order(redis.last_id(keys.replies(place.tenant))) < order(place.entry):
-            raise self._gone(redis, keys, place, ticket)
-
-
-class CustomersTenant(Tenant):
-    """A tenant whose host is one of the shards' hosts."""
-
-    def prog_test_runs(
-        self, descriptor: int, pieces: Iterable[Packets], context: Context = NO_CONTEXT
-    ) -> Iterator[tuple[int, ...]]:
-        """Runs a program on many packets, and returns the results in order."""
-        for piece in pieces:
-            replies = self.host.ask_all(make.prog_test_run(0, descriptor, packet, context) for packet in piece)
-            yield tuple(reply.result() for reply in replies if not reply.done())
+        is_dropped = order(await redis.dropped_id(keys.frames(place.tenant))) >= order(place.entry)
+        if is_dropped and order(await redis.last_id(keys.replies(place.tenant))) < order(place.entry):
+            raise await self._gone(redis, keys, place, ticket)

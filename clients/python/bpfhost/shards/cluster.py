@@ -8,14 +8,15 @@ so have all keys of the directory, so each of these sets is on one node.
 
 from __future__ import annotations
 
-import threading
+import asyncio
+import binascii
 import urllib.parse
 from collections.abc import Callable, Sequence
 from dataclasses import dataclass, field
 from typing import Any, cast
 
 from bpfhost.shards.errors import Away, Moved, RedisError
-from bpfhost.shards.system import Link, Pending, Word
+from bpfhost.shards.system import Link, Word
 
 _SLOTS = 16_384
 # Commands that may write. WAIT is sent after them.
@@ -25,24 +26,6 @@ _SECONDS_FOR_REPLICAS = 1.0
 _MOST_MOVES = 4
 
 
-class Command(str):
-    """The name of a command with more about it.
-
-    `key` is a key on the node that runs the command, if the command has no key itself; `changes` is how often nodes may have changed, if
-    the caller needs to know of another change.
-    """
-
-    key: str = ""
-    changes: int | None = None
-
-
-def told_to(name: object, key: str = "", changes: int | None = None) -> Command:
-    """A command's name, with this information."""
-    made = Command(str(name))
-    made.key, made.changes = key, changes
-    return made
-
-
 def slot_of(key: str | bytes) -> int:
     """The hash slot of a key: CRC16 (XMODEM) of its hash tag, or else of all of it, modulo 16384 (Redis Cluster specification)."""
     word = key.encode() if isinstance(key, str) else key
@@ -50,26 +33,19 @@ def slot_of(key: str | bytes) -> int:
     end = word.find(b"}", begin + 1)
     if begin >= 0 and end > begin + 1:
         word = word[begin + 1 : end]
-    crc = 0
-    for byte in word:
-        crc ^= byte << 8
-        for _ in range(8):
-            crc = (crc << 1 ^ 0x1021 if crc & 0x8000 else crc << 1) & 0xFFFF
-    return crc % _SLOTS
+    return binascii.crc_hqx(word, 0) % _SLOTS
 
 
 def key_of(words: Sequence[Word]) -> str | bytes | None:
-    """The first key of a command, or the key given with its name."""
+    """The first key of a command, if it has one."""
     name, found = words[0], cast(Sequence[Any], words)
     if name in ("EVALSHA", "EVAL"):
         return found[3] if int(found[2]) else None
     if name == "XREAD":
         return str(found[list(words).index("STREAMS") + 1])
-    if name == "XINFO":
-        return str(found[2])
     if name in ("INFO", "CONFIG", "PING"):
-        return name.key or None if isinstance(name, Command) else None
-    return str(found[1])
+        return None
+    return str(found[2] if name == "XINFO" else found[1])
 
 
 @dataclass
@@ -82,42 +58,37 @@ class Nodes:
     # Nodes that could not be reached the last time, and the history that each node reports, by its replication id.
     away: set[str] = field(default_factory=set)
     histories: dict[str, str] = field(default_factory=dict)
-    lock: threading.Lock = field(default_factory=threading.Lock)
 
     def find(self, slot: int, expected: int | None) -> str:
         """The node of a slot as far as it is known, or a node to ask; raises Away if something has changed since it was `expected`."""
-        with self.lock:
-            if expected is not None and expected != self.changes:
-                raise Away("Redis has another history since, or another node of its cluster serves a slot")
-            node = self.of_slots.get(slot, self.seeds[0])
-            others = [one for one in self.seeds if one not in self.away]
-            return others[0] if node in self.away and others else node
+        if expected is not None and expected != self.changes:
+            raise Away("Redis has another history since, or another node of its cluster serves a slot")
+        node = self.of_slots.get(slot, self.seeds[0])
+        others = [one for one in self.seeds if one not in self.away]
+        return others[0] if node in self.away and others else node
 
     def learn(self, slot: int, node: str) -> bool:
         """Notes the node of a slot; returns whether it differs from the known one."""
-        with self.lock:
-            known = self.of_slots.get(slot, node)
-            self.of_slots[slot] = node
-            if node not in self.seeds:
-                self.seeds.append(node)
-            self.changes += known != node
-            return known != node
+        known = self.of_slots.get(slot, node)
+        self.of_slots[slot] = node
+        if node not in self.seeds:
+            self.seeds.append(node)
+        self.changes += known != node
+        return known != node
 
     def tells(self, node: str, history: str) -> bool:
         """Notes the history that a node reports; returns whether it differs from the one it reported before."""
-        with self.lock:
-            known = self.histories.get(node, history)
-            self.histories[node] = history
-            self.changes += known != history
-            return known != history
+        known = self.histories.get(node, history)
+        self.histories[node] = history
+        self.changes += known != history
+        return known != history
 
     def note(self, node: str, is_away: bool) -> None:
         """Notes whether a node could be reached. If none could, all are asked again."""
-        with self.lock:
-            (self.away.add if is_away else self.away.discard)(node)
-            if len(self.away) == len(self.seeds):
-                self.away.clear()
-                self.seeds.append(self.seeds.pop(0))
+        (self.away.add if is_away else self.away.discard)(node)
+        if len(self.away) == len(self.seeds):
+            self.away.clear()
+            self.seeds.append(self.seeds.pop(0))
 
 
 @dataclass(frozen=True)
@@ -155,27 +126,6 @@ class Place:
         return user + has_user, first
 
 
-class _NodesPending:
-    """A command that was sent to a node, followed by WAIT if replicas have to have what it writes."""
-
-    def __init__(self, link: NodesLink, node: str, words: Sequence[Word], sent: Sequence[Pending]) -> None:
-        self._link, self._node, self._words, self._sent = link, node, words, sent
-
-    @property
-    def first(self) -> Pending:
-        return self._sent[0].first
-
-    def is_answered(self) -> bool:
-        return self.first.is_answered()
-
-    def answer(self) -> Any:
-        try:
-            return self._link.end(self._node, self._words, self._sent)
-        except Moved as moved:
-            # Another connection has learned of it since the command was sent.
-            raise Away(f"{moved.node} of the cluster serves a slot now, which another node served") from None
-
-
 class NodesLink:
     """A connection to the nodes of a cluster, or to a server with replicas."""
 
@@ -185,86 +135,70 @@ class NodesLink:
         # Nodes whose history was checked since this connection was last cut.
         self._seen: set[str] = set()
 
-    def call(self, words: Sequence[Word], seconds: float) -> Any:
-        """The reply to a command, from the node that has its key.
+    async def call(self, words: Sequence[Word], seconds: float, near: str = "", expected: int | None = None) -> Any:
+        """The reply to a command, from the node that has its key, or has `near` if it has none.
 
-        Raises Away also if another node has the key than before, and if too few replicas have what the command writes.
+        Raises Away also if another node has the key than before, if too few replicas have what the command writes, and if nodes have not
+        changed as often as is `expected`.
         """
-        node = self._node(words)
+        key = (key_of(words) or near) if self._place.is_cluster else ""
+        slot = slot_of(key) if key else -1
+        node = self._nodes.find(slot, expected)
         for _ in range(_MOST_MOVES):
             try:
-                return self.end(node, words, self._sent(node, words, seconds))
+                found, *waited = await self._called(node, words, seconds, expected is not None)
             except Moved as moved:
+                # The caller has to know that the history of the new node of a slot may be another one.
+                if self._nodes.learn(slot, moved.node):
+                    raise Away(f"{moved.node} of the cluster serves a slot now, which another node served") from None
                 node = moved.node
+                continue
+            except Away:
+                self._lost(node)
+                raise
+            if waited and waited[0] < self._place.replicas:
+                self._lost(node)
+                raise Away(f"{waited[0]} replicas have what was written, and {self._place.replicas} are to have it")
+            self._nodes.note(node, is_away=False)
+            return found
         raise Away("the nodes of the cluster do not agree on who serves a slot")
 
-    def begin(self, words: Sequence[Word], seconds: float) -> Pending:
-        """Begins the same. If another node has the key, the reply raises Away; the caller calls again and finds that node."""
-        node = self._node(words)
-        return _NodesPending(self, node, words, self._sent(node, words, seconds))
-
-    def _slot(self, words: Sequence[Word]) -> int:
-        key = key_of(words) if self._place.is_cluster else None
-        return slot_of(key) if key is not None else -1
-
-    def _node(self, words: Sequence[Word]) -> str:
-        """The node that a command is sent to."""
-        name = words[0]
-        return self._nodes.find(self._slot(words), name.changes if isinstance(name, Command) else None)
-
-    def _sent(self, node: str, words: Sequence[Word], seconds: float) -> list[Pending]:
-        """Sends a command to a node, followed by WAIT if the node has replicas."""
-        name = words[0]
-        try:
-            link = self._link(node)
-            if isinstance(name, Command) and name.changes is not None and node not in self._seen:
-                self._look(node, link, seconds)
-        except Away:
-            self._lost(node)
-            raise
-        sent = [link.begin(words, seconds)]
-        if self._place.replicas and name in _WRITES:
-            limit = max(0.001, min(seconds, _SECONDS_FOR_REPLICAS))
-            sent.append(link.begin(["WAIT", self._place.replicas, int(limit * 1000)], seconds + limit))
-        return sent
-
-    def end(self, node: str, words: Sequence[Word], sent: Sequence[Pending]) -> Any:
-        """The reply to what was sent. Raises Away if too few replicas have what it writes."""
-        try:
-            answer, *waited = [one.answer() for one in sent]
-            for has in waited:
-                if has < self._place.replicas:
-                    raise Away(f"{has} replicas have what was written, and {self._place.replicas} are to have it")
-        except Moved as moved:
-            # The caller has to know that the history of the new node of a slot may be another one.
-            if self._nodes.learn(self._slot(words), moved.node):
-                raise Away(f"{moved.node} of the cluster serves a slot now, which another node served") from None
-            raise
-        except Away:
-            self._lost(node)
-            raise
-        self._nodes.note(node, is_away=False)
-        return answer
+    async def _called(self, node: str, words: Sequence[Word], seconds: float, is_watched: bool) -> list[Any]:
+        """The reply of a node, and if the command writes and the node has replicas, how many of them have it."""
+        if node not in self._links:
+            self._links[node] = self._make(self._place.at(node))
+        link = self._links[node]
+        if is_watched and node not in self._seen:
+            await self._look(node, link, seconds)
+        if not self._place.replicas or words[0] not in _WRITES:
+            return [await link.call(words, seconds)]
+        limit = max(0.001, min(seconds, _SECONDS_FOR_REPLICAS))
+        waits = link.call(["WAIT", self._place.replicas, int(limit * 1000)], seconds + limit)
+        found: list[Any] = await asyncio.gather(link.call(words, seconds), waits, return_exceptions=True)
+        for one in found:
+            if isinstance(one, BaseException):
+                raise one
+        return found
 
     def _lost(self, node: str) -> None:
         """Notes that a node could not be reached; it may report another history when it can be reached again."""
         self._seen.discard(node)
         self._nodes.note(node, is_away=True)
 
-    def _look(self, node: str, link: Link, seconds: float) -> None:
+    async def _look(self, node: str, link: Link, seconds: float) -> None:
         """Checks which history a node reports: a node that was away may report another one."""
-        said = bytes(link.call(["INFO", "replication"], seconds)).decode()
+        said = bytes(await link.call(["INFO", "replication"], seconds)).decode()
         history = next((line.partition(":")[2] for line in said.splitlines() if line.startswith("master_replid:")), "")
         self._seen.add(node)
         if self._nodes.tells(node, history):
             raise Away(f"{node} tells another history than before")
 
-    def _link(self, node: str) -> Link:
-        if node not in self._links:
-            self._links[node] = self._make(self._place.at(node))
-        return self._links[node]
-
-    def close(self) -> None:
-        """Ends the connections."""
+    def cut(self) -> None:
+        """Ends the connections; the next command makes new ones."""
         for link in self._links.values():
-            link.close()
+            link.cut()
+
+    async def close(self) -> None:
+        """The same, and waits for the end."""
+        for link in self._links.values():
+            await link.close()

@@ -14,20 +14,24 @@ import signal
 import sys
 from argparse import Namespace
 from collections.abc import Callable, Sequence
-from contextlib import closing, nullcontext
+from contextlib import AbstractContextManager, closing, nullcontext
 from typing import TextIO, cast
 
 from bpfhost.program import find_program
 from bpfhost.shards import moving, operating
 from bpfhost.shards.arguments import parse
-from bpfhost.shards.client import Client
-from bpfhost.shards.connection import connect
-from bpfhost.shards.errors import LeaseHeld, LeaseLost, MemoryRefused, NoReply, OtherShard, RedisError, SetAside
+from bpfhost.shards.client import AsyncClient
+from bpfhost.shards.connection import Redis
+from bpfhost.shards.errors import LeaseHeld, LeaseLost, MemoryRefused, NoReply, OtherShard, RedisError, SetAside, ShardError
+from bpfhost.shards.gateway.customers import hash_of, new_token
+from bpfhost.shards.gateway.running import serve
 from bpfhost.shards.library import find_library
 from bpfhost.shards.logs import JsonLines
+from bpfhost.shards.loop import new_loop
 from bpfhost.shards.metrics import Page
 from bpfhost.shards.names import ShardKeys
 from bpfhost.shards.settings import Settings
+from bpfhost.shards.system import Work
 from bpfhost.shards.worker import Worker
 from bpfhost.state import split
 from bpfhost.telling import FAILED, GOOD, REFUSED, status_of
@@ -56,11 +60,15 @@ def main(words: Sequence[str] | None = None) -> int:
         elif said.word == "token":
             run_token()
         else:
-            with Client(said.redis, said.prefix) as client:
-                _RUNS[said.word](client, said)
+            asyncio.run(_run(said))
         return GOOD
 
     return status_of("bpfhost.shards", run, _STATUSES)
+
+
+async def _run(said: Namespace) -> None:
+    async with AsyncClient(said.redis, said.prefix) as client:
+        await _RUNS[said.word](client, said)
 
 
 def run_worker(said: Namespace) -> None:
@@ -84,26 +92,38 @@ def run_worker(said: Namespace) -> None:
         drain_seconds=said.drain,
     )
     _log(said, shard=said.shard)
-    with closing(connect(said.redis)) as redis, closing(connect(said.directory)) if said.directory else nullcontext() as directory:
-        keys = ShardKeys(said.shard, said.prefix)
-        program = find_program(said.bpfhost)
-        worker = Worker(redis, keys, program, settings, _say, directory, find_library(said.library, program))
-        with closing(Page(said.metrics, worker.metrics.text, worker.health)) if said.metrics else nullcontext():
-            worker.run(lambda: stopped[0])
+    keys, program, directory = ShardKeys(said.shard, said.prefix), find_program(said.bpfhost), Redis(said.directory) if said.directory else None
+    worker = Worker(Redis(said.redis), keys, program, settings, _say, directory, find_library(said.library, program))
+    with _page(said, worker):
+        worker.run(lambda: stopped[0])
+
+
+def _page(said: Namespace, worker: Worker) -> AbstractContextManager[object]:
+    """The metrics of a worker. If nothing can listen at their address, it serves all the same."""
+    if not said.metrics:
+        return nullcontext()
+    try:
+        return closing(Page(metrics_of(said.metrics, said.shard), worker.metrics.text, worker.health))
+    except ShardError as error:
+        _say(f"shard {said.shard}: {error}; it is served without")
+        return nullcontext()
+
+
+def metrics_of(address: str, shard: int) -> str:
+    """The address of a shard's metrics: one file of configuration may have an address for all workers of a machine."""
+    host, _, port = address.removesuffix("+").rpartition(":")
+    return f"{host}:{int(port) + shard}" if address.endswith("+") and port.isdecimal() else address
 
 
 def run_gateway(said: Namespace) -> None:
     """Accepts customers until SIGTERM or SIGINT."""
-    from bpfhost.shards.gateway.running import serve
-
     _log(said)
-    asyncio.run(serve(said, _say))
+    with asyncio.Runner(loop_factory=new_loop) as runner:
+        runner.run(serve(said, _say))
 
 
 def run_token() -> None:
     """Prints a new token, and its hash."""
-    from bpfhost.shards.gateway.customers import hash_of, new_token
-
     token = new_token()
     print(f"{token}\ntoken-sha256 = \"{hash_of(token)}\"")
 
@@ -118,50 +138,50 @@ def _say(sentence: str) -> None:
     print(sentence, file=sys.stderr, flush=True)
 
 
-def run_client(client: Client, said: Namespace) -> None:
+async def run_client(client: AsyncClient, said: Namespace) -> None:
     """Sends the frames of standard input, and writes their replies, as `bpfhost serve` does for one tenant."""
     frames = split(sys.stdin.buffer.read())
-    for reply in client.customer(said.name, said.seconds).ask_bytes(frames):
+    async for reply in client.customer(said.name, said.seconds).ask_bytes(frames):
         sys.stdout.buffer.write(reply)
 
 
-def run_move(client: Client, said: Namespace) -> None:
+async def run_move(client: AsyncClient, said: Namespace) -> None:
     """Moves a customer, and prints its new seat."""
-    print(operating.place(said.name, moving.move(client, said.name, said.to, said.seconds)))
+    print(operating.place(said.name, await moving.move(client, said.name, said.to, said.seconds)))
 
 
-def run_remove(client: Client, said: Namespace) -> None:
+async def run_remove(client: AsyncClient, said: Namespace) -> None:
     """Removes a customer."""
-    moving.remove(client, said.name, said.seconds)
+    await moving.remove(client, said.name, said.seconds)
 
 
-def run_abort(client: Client, said: Namespace) -> None:
+async def run_abort(client: AsyncClient, said: Namespace) -> None:
     """Takes a move back, and prints the customer's seat."""
-    print(operating.place(said.name, moving.abort_move(client, said.name, said.seconds)))
+    print(operating.place(said.name, await moving.abort_move(client, said.name, said.seconds)))
 
 
-def run_word(client: Client, said: Namespace) -> None:
+async def run_word(client: AsyncClient, said: Namespace) -> None:
     """Decides on what is set aside of a customer."""
-    print(f"{said.name}: {operating.say(client, said.name, said.word, said.seconds)}")
+    print(f"{said.name}: {await operating.say(client, said.name, said.word, said.seconds)}")
 
 
-def run_drain(client: Client, said: Namespace) -> None:
+async def run_drain(client: AsyncClient, said: Namespace) -> None:
     """Empties a shard, or offers it again."""
     if said.undo:
-        client.directory.drain(said.shard, False)
+        await client.directory.drain(said.shard, False)
         return
-    for name, seat in operating.drain(client, said.shard, said.seconds):
+    async for name, seat in operating.drain(client, said.shard, said.seconds):
         print(operating.place(name, seat))
 
 
-def run_remove_shard(client: Client, said: Namespace) -> None:
+async def run_remove_shard(client: AsyncClient, said: Namespace) -> None:
     """Removes a shard."""
-    operating.remove_shard(client, said.shard, said.lost)
+    await operating.remove_shard(client, said.shard, said.lost)
 
 
-def run_show(client: Client, said: Namespace) -> None:
+async def run_show(client: AsyncClient, said: Namespace) -> None:
     """Prints the state of the shards, moves and customers."""
-    seen = operating.look(client)
+    seen = await operating.look(client)
     if said.json:
         print(json.dumps(operating.plain(seen)))
         return
@@ -169,7 +189,7 @@ def run_show(client: Client, said: Namespace) -> None:
         print(line)
 
 
-_RUNS: dict[str, Callable[[Client, Namespace], None]] = {
+_RUNS: dict[str, Callable[[AsyncClient, Namespace], Work[None]]] = {
     "client": run_client,
     "move": run_move,
     "remove": run_remove,

@@ -2,18 +2,20 @@
 
 from __future__ import annotations
 
+import asyncio
 import hashlib
 import os
-import threading
 import urllib.parse
+from collections import deque
 from collections.abc import Callable, Mapping, Sequence
-from functools import partial
-from typing import Any, TypeVar
+from copy import copy
+from typing import Any
 
-from bpfhost.shards.cluster import NodesLink, Place, told_to
+from bpfhost.shards.cluster import NodesLink, Place
 from bpfhost.shards.errors import Away, NoScript, NotAllowed, RedisError
+from bpfhost.shards.link import MACHINE
 from bpfhost.shards.names import START, before
-from bpfhost.shards.system import MACHINE, Link, NotBegun, Pending, System, Word
+from bpfhost.shards.system import Answer, Link, System, Word, Work
 
 DEFAULT_URL = "redis://127.0.0.1:6379/0"
 # A server that does not reply for so many seconds is taken to be away. No call blocks for longer than LONGEST_WAIT.
@@ -23,8 +25,10 @@ _PAUSE, _LONGEST_PAUSE = 0.01, 0.25
 # Redis has flags of scripts from this version on.
 _LEAST_VERSION = (7, 0)
 
+# A connection that was not used for so many seconds ends.
+SECONDS_IDLE = 30.0
+
 Entry = tuple[bytes, dict[bytes, bytes]]
-Answer = TypeVar("Answer")
 
 
 def redis_url(url: str | None = None) -> str:
@@ -63,71 +67,72 @@ class _Links:
 
     def __init__(self, system: System, place: Place) -> None:
         self._system, self._place, self.nodes = system, place, place.nodes()
-        # Connections that are not in use, and all of them.
-        self._idle: list[Link] = []
-        self._all: list[Link] = []
-        self._lock = threading.Lock()
-        self._idle.append(self._made())
+        # Connections that are not in use, with the times since when, the oldest first; and all of them.
+        self._idle: deque[tuple[float, Link | NodesLink]] = deque()
+        self._all: set[Link | NodesLink] = set()
+        self._timer: asyncio.TimerHandle | None = None
+        # A URL that is none is refused at once.
+        self._idle.append((system.now(), self._made()))
 
-    def _made(self) -> Link:
-        made = self._new()
-        self._all.append(made)
+    def _made(self) -> Link | NodesLink:
+        made = NodesLink(self._place, self.nodes, self._system.link) if self.nodes else self._system.link(self._place.url)
+        self._all.add(made)
         return made
 
-    def _new(self) -> Link:
-        return NodesLink(self._place, self.nodes, self._system.link) if self.nodes else self._system.link(self._place.url)
+    def taken(self) -> Link | NodesLink:
+        return self._idle.pop()[1] if self._idle else self._made()
 
-    def call(self, words: Sequence[Word], seconds: float) -> Any:
-        link = self.taken()
-        try:
-            return link.call(words, seconds)
-        finally:
-            self.give_back(link)
+    def give_back(self, link: Link | NodesLink) -> None:
+        self._idle.append((self._system.now(), link))
+        if not self._timer:
+            self._timer = asyncio.get_running_loop().call_later(SECONDS_IDLE, self._shrink)
 
-    def give_back(self, link: Link) -> None:
-        with self._lock:
-            self._idle.append(link)
+    def _shrink(self) -> None:
+        """Ends the connections that were not used for a while."""
+        self._timer = None
+        while self._idle and self._idle[0][0] <= self._system.now() - SECONDS_IDLE:
+            link = self._idle.popleft()[1]
+            self._all.discard(link)
+            link.cut()
+        if self._idle:
+            self._timer = asyncio.get_running_loop().call_later(SECONDS_IDLE, self._shrink)
 
-    def taken(self) -> Link:
-        with self._lock:
-            link = self._idle.pop() if self._idle else None
-        return link or self._made()
-
-    def close(self) -> None:
-        with self._lock:
-            links, self._all, self._idle = self._all, [], []
+    async def close(self) -> None:
+        links, self._all = self._all, set()
+        self._idle.clear()
+        if self._timer:
+            self._timer.cancel()
         for link in links:
-            link.close()
-
-
-def _fail(error: RedisError) -> Any:
-    raise error
+            await link.close()
 
 
 class Line:
     """A connection on which commands are sent one after another, without a wait for each reply."""
 
     def __init__(self, redis: Redis, links: _Links) -> None:
-        self._redis, self._links, self._link = redis, links, links.taken()
+        self._redis, self._link = redis, links.taken()
 
-    def begin(self, *words: Word, wait: float = 0.0) -> Pending:
-        """Begins a command, which may block for so many seconds. Its `answer` raises Away if no reply comes."""
-        try:
-            return self._link.begin(*self._redis.prepared(words, wait))
-        except RedisError as error:
-            return NotBegun(partial(_fail, error))
+    def begin(self, *words: Word, wait: float = 0.0) -> asyncio.Task[Any]:
+        """Begins a command, which may block for so many seconds. The task raises Away if no reply comes."""
+        return asyncio.create_task(self._redis.sent(self._link, words, wait))
 
-    def begin_xread(self, places: Mapping[str, bytes], many: int, wait: float) -> Pending:
+    def begin_xread(self, places: Mapping[str, bytes], many: int, wait: float) -> asyncio.Task[Any]:
         """Begins what `Redis.xread` does; `entries_of` reads the reply."""
         return self.begin(*_reading(places, many, wait), wait=wait)
 
     def cut(self) -> None:
         """Ends the connection: no more replies come to what was sent. The next command makes a new connection."""
-        self._link.close()
+        self._link.cut()
+
+
+def forgotten(task: asyncio.Task[Any]) -> None:
+    """Ends a task whose result nobody needs any more."""
+    task.cancel()
+    task.add_done_callback(lambda ended: ended.cancelled() or ended.exception())
 
 
 class Redis:
-    """A server. Threads may share it: each call has its own connection. Replies are bytes."""
+    """A server, for one event loop: calls that are under way at the same time have a connection each. Replies are bytes."""
 
     def __init__(self, url: str | None = None, system: System = MACHINE) -> None:
         """The server of a URL (`redis_url`), to which a connection is made when it is first called."""
@@ -141,26 +146,22 @@ class Redis:
         self._deadline: float | None = None
         self._patience = 0.0
 
-    def _copy(self) -> Redis:
-        copied = Redis.__new__(Redis)
-        copied.__dict__.update(self.__dict__)
-        return copied
-
     def until(self, deadline: float) -> Redis:
         """The same server, whose calls end at a time of the system's clock."""
-        limited = self._copy()
-        limited._deadline = deadline
+        # Each call has one: `copy` takes ten times as long.
+        limited = Redis.__new__(Redis)
+        limited.__dict__.update(self.__dict__, _deadline=deadline)
         return limited
 
     def patient(self, seconds: float) -> Redis:
         """The same server, but if it is away calls are repeated for so many seconds: only for calls that may be done twice."""
-        patient = self._copy()
+        patient = copy(self)
         patient._patience = seconds
         return patient
 
     def near(self, key: str) -> Redis:
         """The same server; in a cluster, commands that name no key go to the node of this key."""
-        near = self._copy()
+        near = copy(self)
         near._near = key
         return near
 
@@ -176,106 +177,103 @@ class Redis:
         """Whether another node or history was seen since `watch`."""
         return bool(self._links.nodes and self._known_changes and self._known_changes[0] != self._links.nodes.changes)
 
-    def close(self) -> None:
+    async def close(self) -> None:
         """Ends the connections."""
-        self._links.close()
+        await self._links.close()
 
-    def call(self, *words: Word, wait: float = 0.0) -> Any:
+    async def call(self, *words: Word, wait: float = 0.0) -> Any:
         """The reply to a command, which may block for so many seconds. Raises Away if the server can't be reached in time."""
-        if not self._patience:
-            return self._call_once(words, wait)
         until = self.system.now() + self._patience
         while True:
+            link = self._links.taken()
             try:
-                return self._call_once(words, wait)
+                return await self.sent(link, words, wait)
             except Away:
                 if self.system.now() >= until or self.has_changed():
                     raise
-            self.system.sleep(_PAUSE)
+            finally:
+                self._links.give_back(link)
+            await asyncio.sleep(_PAUSE)
 
     def line(self) -> Line:
         """A connection of its own."""
         return Line(self, self._links)
 
-    def _call_once(self, words: Sequence[Word], wait: float) -> Any:
-        return self._links.call(*self.prepared(words, wait))
-
-    def prepared(self, words: Sequence[Word], wait: float) -> tuple[Sequence[Word], float]:
-        """A command as connections take it, and the number of seconds within which the reply has to come."""
+    def sent(self, link: Link | NodesLink, words: Sequence[Word], wait: float) -> Work[Any]:
+        """The reply to a command that is sent on a connection, within the time that a call may take."""
         seconds = wait + _SECONDS_TO_ANSWER
         if self._deadline is not None:
             seconds = max(_LEAST_SECONDS, min(seconds, self._deadline - self.system.now()))
-        if self._links.nodes:
-            name = told_to(words[0], self._near, self._known_changes[0] if self._known_changes else None)
-            words = (name, *words[1:])
-        return words, seconds
+        if isinstance(link, NodesLink):
+            return link.call(words, seconds, self._near, self._known_changes[0] if self._known_changes else None)
+        return link.call(words, seconds)
 
-    def patiently(
-        self, call: Callable[[Redis], Answer], deadline: float, give_up: Callable[[Away], Exception] | None = None
+    async def patiently(
+        self, call: Callable[[Redis], Work[Answer]], deadline: float, give_up: Callable[[Away], Exception] | None = None
     ) -> Answer:
         """Repeats a call while the server is away, until a time of the system's clock; the call must be right to do twice."""
         pause = _PAUSE
         while True:
             try:
-                return call(self.until(deadline))
+                return await call(self.until(deadline))
             except Away as away:
                 if self.system.now() + pause > deadline or self.has_changed():
                     raise (give_up(away) if give_up else away) from None
-            self.system.sleep(pause)
+            await asyncio.sleep(pause)
             pause = min(2 * pause, _LONGEST_PAUSE)
 
     # Commands, by their names.
 
-    def hget(self, name: str, field: Word) -> bytes | None:
-        found: bytes | None = self.call("HGET", name, field)
+    async def hget(self, name: str, field: Word) -> bytes | None:
+        found: bytes | None = await self.call("HGET", name, field)
         return found
 
-    def hset(self, name: str, field: Word, value: Word) -> None:
-        self.call("HSET", name, field, value)
+    async def hset(self, name: str, field: Word, value: Word) -> None:
+        await self.call("HSET", name, field, value)
 
-    def hdel(self, name: str, *fields: Word) -> None:
-        self.call("HDEL", name, *fields)
+    async def hdel(self, name: str, *fields: Word) -> None:
+        await self.call("HDEL", name, *fields)
 
-    def get(self, name: str) -> bytes | None:
-        found: bytes | None = self.call("GET", name)
+    async def get(self, name: str) -> bytes | None:
+        found: bytes | None = await self.call("GET", name)
         return found
 
-    def delete(self, name: str) -> None:
-        self.call("DEL", name)
+    async def delete(self, name: str) -> None:
+        await self.call("DEL", name)
 
-    def hgetall(self, name: str) -> dict[bytes, bytes]:
-        return _pairs(self.call("HGETALL", name))
+    async def hgetall(self, name: str) -> dict[bytes, bytes]:
+        return _pairs(await self.call("HGETALL", name))
 
-    def hkeys(self, name: str) -> list[bytes]:
-        return list(self.call("HKEYS", name))
+    async def hkeys(self, name: str) -> list[bytes]:
+        return list(await self.call("HKEYS", name))
 
-    def xlen(self, name: str) -> int:
-        return int(self.call("XLEN", name))
+    async def xlen(self, name: str) -> int:
+        return int(await self.call("XLEN", name))
 
-    def xrange(self, name: str, least: bytes, most: bytes, many: int) -> list[Entry]:
+    async def xrange(self, name: str, least: bytes, most: bytes, many: int) -> list[Entry]:
         """Entries from one id up to another one, at most so many; a `(` before an id excludes it."""
-        return _entries(self.call("XRANGE", name, least, most, "COUNT", many))
+        return _entries(await self.call("XRANGE", name, least, most, "COUNT", many))
 
-    def xread(self, places: Mapping[str, bytes], many: int, wait: float) -> dict[str, list[Entry]]:
+    async def xread(self, places: Mapping[str, bytes], many: int, wait: float) -> dict[str, list[Entry]]:
         """Entries of streams after given ids, at most so many of each; waits so many seconds if there is none."""
         wait = min(wait, LONGEST_WAIT)
         if self._deadline is not None:
             # The server replies before the client gives the call up.
             left = self._deadline - self.system.now()
             wait = min(wait, left - min(_SECONDS_FOR_AN_ANSWER, left / 2))
-        return entries_of(self.call(*_reading(places, many, wait), wait=max(0.0, wait)))
+        return entries_of(await self.call(*_reading(places, many, wait), wait=max(0.0, wait)))
 
-    def stream(self, name: str) -> dict[bytes, Any]:
+    async def stream(self, name: str) -> dict[bytes, Any]:
         """What Redis reports of a stream (XINFO STREAM): empty if there is no such stream."""
-        return _pairs(self.call("XINFO", "STREAM", name)) if self.call("EXISTS", name) else {}
+        return _pairs(await self.call("XINFO", "STREAM", name)) if await self.call("EXISTS", name) else {}
 
-    def last_id(self, name: str) -> bytes:
+    async def last_id(self, name: str) -> bytes:
         """The id of the last entry that was ever added to a stream."""
-        return bytes(self.stream(name).get(b"last-generated-id", b"0-0"))
+        return bytes((await self.stream(name)).get(b"last-generated-id", b"0-0"))
 
-    def dropped_id(self, name: str) -> bytes:
+    async def dropped_id(self, name: str) -> bytes:
         """An id up to which no entry of a stream is left, though there were some; 0-0 if nothing was dropped."""
-        said = self.stream(name)
+        said = await self.stream(name)
         if said.get(b"length") == said.get(b"entries-added"):
             return START
         return bytes(said[b"last-generated-id"]) if not said[b"length"] else before(bytes(said[b"recorded-first-entry-id"]))
@@ -300,11 +298,6 @@ def entries_of(found: Any) -> dict[str, list[Entry]]:
     return {name.decode(): _entries(entries) for name, entries in found or []}
 
 
-def connect(url: str | None = None, system: System = MACHINE) -> Redis:
-    """The Redis of a URL (`redis_url`)."""
-    return Redis(url, system)
-
-
 class Script:
     """A script that the server runs as one step: nothing else runs meanwhile, and all of its writes are kept, or none."""
 
@@ -316,14 +309,14 @@ class Script:
         self.touching = f"{head}redis.call('SET', KEYS[1] .. ':touched', '')\n{text}"
         self._names = {text: hashlib.sha1(text.encode()).hexdigest() for text in (self.text, self.touching)}
 
-    def __call__(self, redis: Redis, keys: Sequence[str], arguments: Sequence[Word]) -> Any:
+    async def __call__(self, redis: Redis, keys: Sequence[str], arguments: Sequence[Word]) -> Any:
         """The result of the script. A server that has just started does not know the script yet."""
         try:
-            return redis.call(*self._words(redis, keys, arguments))
+            return await redis.call(*self._words(redis, keys, arguments))
         except NoScript:
-            return redis.call("EVAL", self._text(redis), len(keys), *keys, *arguments)
+            return await redis.call("EVAL", self._text(redis), len(keys), *keys, *arguments)
 
-    def begin(self, redis: Redis, line: Line, keys: Sequence[str], arguments: Sequence[Word]) -> Pending:
+    def begin(self, redis: Redis, line: Line, keys: Sequence[str], arguments: Sequence[Word]) -> asyncio.Task[Any]:
         """Begins the script on a line of a server. If its reply is a NoScript, the script is called once more."""
         return line.begin(*self._words(redis, keys, arguments))
 
@@ -333,7 +326,7 @@ class Script:
     def _words(self, redis: Redis, keys: Sequence[str], arguments: Sequence[Word]) -> list[Word]:
         return ["EVALSHA", self._names[self._text(redis)], len(keys), *keys, *arguments]
 
-    def patiently(
+    async def patiently(
         self,
         redis: Redis,
         keys: Sequence[str],
@@ -343,28 +336,28 @@ class Script:
     ) -> Any:
         """The same, repeated while Redis is away (`Redis.patiently`)."""
 
-        def call(limited: Redis) -> Any:
-            return self(limited, keys, arguments)
-
-        return redis.patiently(call, deadline, give_up)
+        return await redis.patiently(lambda limited: self(limited, keys, arguments), deadline, give_up)
 
 
-def told_by(redis: Redis, section: str) -> dict[str, str]:
+async def told_by(redis: Redis, section: str) -> dict[str, str]:
     """What the server reports of itself in a section of INFO."""
-    lines = bytes(redis.call("INFO", section)).decode().splitlines()
+    lines = bytes(await redis.call("INFO", section)).decode().splitlines()
     return dict(line.split(":", 1) for line in lines if ":" in line)
 
 
-def demand_durable(redis: Redis) -> str:
-    """Raises RedisError if the server replies before a change is on its disk, or may drop keys.
+async def demand_durable(redis: Redis) -> str:
+    """Raises RedisError if the server replies before a change is on its disk, or may drop keys, and Away while it loads its files.
 
     Returns a sentence on what this user may not ask for, so that it could not be checked, or an empty string.
     """
-    is_logged, policy = told_by(redis, "persistence").get("aof_enabled"), told_by(redis, "memory").get("maxmemory_policy", "")
-    _demand("appendonly", "yes" if is_logged == "1" else "no", "yes")
-    _demand("maxmemory-policy", policy, "noeviction")
+    persistence = await told_by(redis, "persistence")
+    if persistence.get("loading") == "1":
+        # Meanwhile it says that it has no log.
+        raise Away("Redis loads its files")
+    _demand("appendonly", "yes" if persistence.get("aof_enabled") == "1" else "no", "yes")
+    _demand("maxmemory-policy", (await told_by(redis, "memory")).get("maxmemory_policy", ""), "noeviction")
     try:
-        found = _pairs(redis.call("CONFIG", "GET", "appendfsync"))
+        found = _pairs(await redis.call("CONFIG", "GET", "appendfsync"))
     except NotAllowed:
         return "this user may not see whether appendfsync is always, as a shard's log needs: `show` of an operator tells it"
     _demand("appendfsync", found.get(b"appendfsync", b"").decode(), "always")
@@ -376,8 +369,8 @@ def _demand(name: str, has: str, wanted: str) -> None:
         raise RedisError(f"Redis has {name} {has}, and a shard's log needs {wanted}: else it may lose what it has answered")
 
 
-def demand_version(redis: Redis) -> None:
+async def demand_version(redis: Redis) -> None:
     """Raises RedisError if the server is too old for flags of scripts."""
-    version = told_by(redis, "server").get("redis_version", "0.0")
+    version = (await told_by(redis, "server")).get("redis_version", "0.0")
     if tuple(map(int, version.split(".")[:2])) < _LEAST_VERSION:
         raise RedisError(f"Redis is of version {version}, and shards need one from 7.0 on")

@@ -58,91 +58,91 @@ class Directory:
 
     # Shards.
 
-    def register(self, shard: int, incarnation: bytes, server: str = "") -> None:
+    async def register(self, shard: int, incarnation: bytes, server: str = "") -> None:
         """Registers a shard by the name that was made with it, and the URL of its Redis if that is another one; may be repeated.
 
         Raises ShardError if it is no number of a shard, and OtherShard if the directory knows it by another name.
         """
         demand_shard(shard)
         keys = [self.keys.loads, self.keys.incarnations, self.keys.servers]
-        known = scripts.REGISTER(self.redis, keys, [shard, incarnation, server])
+        known = await scripts.REGISTER(self.redis, keys, [shard, incarnation, server])
         if known != incarnation:
             raise OtherShard(_OTHER.format(shard=shard))
 
-    def incarnation(self, shard: int) -> bytes | None:
+    async def incarnation(self, shard: int) -> bytes | None:
         """The name that was made with a shard, or None if the shard is not known."""
-        return self.redis.hget(self.keys.incarnations, shard)
+        return await self.redis.hget(self.keys.incarnations, shard)
 
-    def beat(self, shard: int, incarnation: bytes) -> None:
+    async def beat(self, shard: int, incarnation: bytes) -> None:
         """Records that a shard is served, so that it is offered; raises OtherShard if the directory does not know it by this name."""
-        if not scripts.BEAT(self.redis, [self.keys.incarnations, self.keys.beats], [shard, incarnation]):
+        if not await scripts.BEAT(self.redis, [self.keys.incarnations, self.keys.beats], [shard, incarnation]):
             raise OtherShard(_OTHER.format(shard=shard))
 
-    def withdraw(self, shard: int, count: bytes = b"") -> None:
+    async def withdraw(self, shard: int, count: bytes = b"") -> None:
         """Records that a shard is not served any more, if its count is still the one that was seen."""
-        scripts.WITHDRAW(self.redis, [self.keys.beats], [shard, count])
+        await scripts.WITHDRAW(self.redis, [self.keys.beats], [shard, count])
 
-    def beats(self) -> dict[int, bytes]:
+    async def beats(self) -> dict[int, bytes]:
         """The shards that are served, with the counts that their workers raise."""
-        return {int(shard): count for shard, count in self.redis.hgetall(self.keys.beats).items()}
+        return {int(shard): count for shard, count in (await self.redis.hgetall(self.keys.beats)).items()}
 
-    def drain(self, shard: int, is_drained: bool = True) -> None:
+    async def drain(self, shard: int, is_drained: bool = True) -> None:
         """Stops or resumes offering a shard to customers. Raises ShardError if the shard is not known."""
-        if shard not in self.loads():
+        if shard not in await self.loads():
             raise ShardError(f"the directory knows no shard {shard}")
         if is_drained:
-            self.redis.hset(self.keys.drained, shard, "1")
+            await self.redis.hset(self.keys.drained, shard, "1")
         else:
-            self.redis.hdel(self.keys.drained, shard)
+            await self.redis.hdel(self.keys.drained, shard)
 
-    def drained(self) -> set[int]:
+    async def drained(self) -> set[int]:
         """The shards that are not offered to customers."""
-        return {int(shard) for shard in self.redis.hkeys(self.keys.drained)}
+        return {int(shard) for shard in await self.redis.hkeys(self.keys.drained)}
 
-    def remove_shard(self, shard: int, lost: bool = False) -> None:
+    async def remove_shard(self, shard: int, lost: bool = False) -> None:
         """Removes a shard that has no customers, or whose customers are lost. Raises ShardError if it can't be removed."""
         keys = [*self.keys.all, self.keys.incarnations, self.keys.servers]
-        what = scripts.REMOVE_SHARD(self.redis, keys, [shard, "lost" if lost else ""])
+        what = await scripts.REMOVE_SHARD(self.redis, keys, [shard, "lost" if lost else ""])
         if what != b"removed":
             raise ShardError(f"shard {shard} can't be removed: {_WHY_NOT_REMOVED[what]}")
 
-    def server(self, shard: int) -> str:
+    async def server(self, shard: int) -> str:
         """The URL of a shard's Redis, or an empty string if it is that of the directory."""
-        return (self.redis.hget(self.keys.servers, shard) or b"").decode()
+        return (await self.redis.hget(self.keys.servers, shard) or b"").decode()
 
-    def loads(self) -> dict[int, int]:
+    async def loads(self) -> dict[int, int]:
         """The number of customers of each shard, including those on the way to it."""
-        found = self.redis.call("ZRANGE", self.keys.loads, 0, -1, "WITHSCORES")
+        found = await self.redis.call("ZRANGE", self.keys.loads, 0, -1, "WITHSCORES")
         return {int(shard): int(float(load)) for shard, load in zip(found[::2], found[1::2])}
 
     # Customers.
 
-    def place(self, name: str) -> Seat:
+    async def place(self, name: str) -> Seat:
         """The seat of a customer, which is given one if it has none; raises NotTaken if there is no room."""
-        seat, *why = scripts.PLACE(self.redis, self.keys.all, [name])
+        seat, *why = await scripts.PLACE(self.redis, self.keys.all, [name])
         if not seat:
             kind = NotServed if why[0] == b"not served" else NotTaken
             raise kind(f"customer {name}: {_WHY[why[0]]}")
         return Seat.read(seat)
 
-    def seat(self, name: str) -> Seat | None:
+    async def seat(self, name: str) -> Seat | None:
         """The seat of a customer, or None."""
-        seat = self.redis.hget(self.keys.customers, name)
+        seat = await self.redis.hget(self.keys.customers, name)
         return Seat.read(seat) if seat else None
 
-    def customers(self) -> dict[str, Seat]:
+    async def customers(self) -> dict[str, Seat]:
         """All customers."""
-        return {name.decode(): Seat.read(seat) for name, seat in self.redis.hgetall(self.keys.customers).items()}
+        return {name.decode(): Seat.read(seat) for name, seat in (await self.redis.hgetall(self.keys.customers)).items()}
 
-    def moves(self) -> dict[str, Seat | None]:
+    async def moves(self) -> dict[str, Seat | None]:
         """The customers that are being moved, and their next seats; None if they are removed."""
-        found = self.redis.hgetall(self.keys.moves)
+        found = await self.redis.hgetall(self.keys.moves)
         return {name.decode(): None if seat == NOWHERE else Seat.read(seat) for name, seat in found.items()}
 
-    def begin_move(self, name: str, shard: int | None = None, removed: bool = False) -> tuple[Seat, Seat | None]:
+    async def begin_move(self, name: str, shard: int | None = None, removed: bool = False) -> tuple[Seat, Seat | None]:
         """The seat of a customer, and the next one, which is reserved, or None if the customer is removed. May be repeated."""
         words = [name, "" if shard is None else shard, NOWHERE if removed else b""]
-        seat, what = scripts.BEGIN_MOVE(self.redis, self.keys.all, words)
+        seat, what = await scripts.BEGIN_MOVE(self.redis, self.keys.all, words)
         if not seat:
             raise MoveError(f"customer {name} can't be moved: {_WHY[what]}")
         if removed and what != NOWHERE:
@@ -151,17 +151,17 @@ class Directory:
             raise MoveError(f"customer {name} is being removed")
         return Seat.read(seat), None if what == NOWHERE else Seat.read(what)
 
-    def end_move(self, name: str, seat: Seat, next_seat: Seat | None) -> None:
+    async def end_move(self, name: str, seat: Seat, next_seat: Seat | None) -> None:
         """Gives the customer its next seat, and frees the old one, if this move has not ended. May be repeated."""
-        scripts.END_MOVE(self.redis, self.keys.all, [name, seat.text(), next_seat.text() if next_seat else NOWHERE])
+        await scripts.END_MOVE(self.redis, self.keys.all, [name, seat.text(), next_seat.text() if next_seat else NOWHERE])
 
-    def turn_move(self, name: str, seat: Seat, next_seat: Seat | None) -> Seat | None:
+    async def turn_move(self, name: str, seat: Seat, next_seat: Seat | None) -> Seat | None:
         """Turns the move of a customer that has left its seat back to the same shard, and returns the next seat there.
 
         If the move is another one by now, returns the next seat of that one.
         """
         words = [name, seat.text(), next_seat.text() if next_seat else NOWHERE]
-        given, why = scripts.TURN_MOVE(self.redis, self.keys.all, words)
+        given, why = await scripts.TURN_MOVE(self.redis, self.keys.all, words)
         if why:
             raise MoveError(f"customer {name} can't go back to shard {seat.shard}: it is full")
         return Seat.read(given) if given and given != NOWHERE else None

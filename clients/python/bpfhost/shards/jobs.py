@@ -25,7 +25,7 @@ from bpfhost.shards.served import Served
 from bpfhost.shards.serving import Written
 from bpfhost.shards.states import States
 from bpfhost.shards.suspects import Suspects
-from bpfhost.state import Steps
+from bpfhost.shards.steps import advance, in_steps
 
 # For so long, between two turns, the worker does steps of work other than calls.
 _SECONDS_BESIDE = 0.01
@@ -37,24 +37,23 @@ class Jobs:
     def __init__(self, shard: Served, states: States, suspects: Suspects) -> None:
         self._shard, self._states, self._suspects = shard, states, suspects
 
-    def do_some(self) -> None:
+    async def do_some(self) -> None:
         """Does some steps of the first job. A job that Redis or the host interrupted begins anew when it is due again."""
         shard = self._shard
         until = shard.system.now() + _SECONDS_BESIDE
         while shard.jobs:
             tenant, job = shard.jobs[0]
             try:
-                next(job)
-            except StopIteration:
-                shard.end_job(tenant)
+                if await advance(job):
+                    shard.end_job(tenant)
             except (Away, OutOfMemory) as error:
                 shard.demand_same_log()
                 shard.end_job(tenant)
                 shard.tell_now_and_then(f"shard {shard.keys.number} waits: {error}")
-                if not self._made_again(tenant):
+                if not await self._made_again(tenant):
                     return
             except (HostError, ReplyError, MemoryRefused) as error:
-                self._suspects.job_ended_host(tenant, error)
+                await self._suspects.job_ended_host(tenant, error)
                 return
             except (LeaseLost, LogChanged, RedisError, Stopped):
                 raise
@@ -65,48 +64,48 @@ class Jobs:
             if shard.system.now() >= until:
                 return
 
-    def _made_again(self, tenant: int) -> bool:
+    async def _made_again(self, tenant: int) -> bool:
         """Restores a tenant whose job broke off; False if the host ended meanwhile and all tenants are restored."""
         try:
-            self._shard.waiting(lambda: self._states.make_again(tenant))
+            await self._shard.waiting(lambda: self._states.make_again(tenant))
         except (HostError, ReplyError, MemoryRefused) as error:
-            self._suspects.job_ended_host(tenant, error)
+            await self._suspects.job_ended_host(tenant, error)
             return False
         return True
 
-    def begin_control(self, item: Leaves | Arrives) -> None:
+    async def begin_control(self, item: Leaves | Arrives) -> None:
         """Lets a tenant leave or arrive, before all other jobs."""
-        self._shard.begin_job(item.tenant, self._control(item), first=True)
+        await self._shard.begin_job(item.tenant, self._control(item), first=True)
 
-    def _control(self, item: Leaves | Arrives) -> Steps[None]:
+    async def _control(self, item: Leaves | Arrives) -> None:
         shard, log = self._shard, self._shard.logs[item.tenant]
         old = [one for one in (log.snapshot, log.before) if one]
         if isinstance(item, Leaves):
             try:
                 self._suspects.demand_hope(log)
-                manifest = yield from shard.keeping.keep(shard.serving, log)
+                manifest = await shard.keeping.keep(shard.serving, log)
             except (SnapshotDamaged, CopyDiffers, StateRefused) as error:
-                shard.set_aside(log, Aside(STATE, item.entry.decode(), f"the tenant can't leave: {error}"))
+                await shard.set_aside(log, Aside(STATE, item.entry.decode(), f"the tenant can't leave: {error}"))
                 return
             shard.serving.empty(item.tenant)
-            shard.writing.write_left(log, item, manifest, shard.keeping.empty(item.entry))
+            await shard.writing.write_left(log, item, manifest, shard.keeping.empty(item.entry))
         else:
-            yield from self._arrive(log, item)
+            await self._arrive(log, item)
         log.place, log.since = item.entry, Since()
         for one in old:
-            yield from shard.keeping.forget_old(log, one)
+            await shard.keeping.forget_old(log, one)
 
-    def _arrive(self, log: Log, item: Arrives) -> Steps[None]:
+    async def _arrive(self, log: Log, item: Arrives) -> None:
         """Restores an arriving state; if it can't be restored, it is refused, and the tenant is then empty."""
         shard = self._shard
         try:
             self._suspects.demand_hope(log)
             manifest = Manifest.read(item.manifest)
-            stream = yield from log.stream_of(manifest)
-            yield from shard.serving.make(item.tenant, stream)
+            stream = await log.stream_of(manifest)
+            await in_steps(shard.serving.make(item.tenant, stream))
         except (SnapshotDamaged, StateRefused, ValueError) as error:
             shard.serving.empty(item.tenant)
             sentence = f"what arrives at shard {shard.keys.number} is refused: {error}"
-            shard.writing.write([Written(item.tenant, item.entry, FAULT, sentence.encode())])
+            await shard.writing.write([Written(item.tenant, item.entry, FAULT, sentence.encode())])
             return
-        shard.writing.write_arrived(log, item, manifest.at(item.entry))
+        await shard.writing.write_arrived(log, item, manifest.at(item.entry))

@@ -7,7 +7,7 @@ from __future__ import annotations
 
 import hashlib
 import math
-from collections.abc import Callable, Generator, Sequence
+from collections.abc import Callable, Sequence
 
 from bpfhost.shards import scripts
 from bpfhost.shards.client import NAMELESS
@@ -18,7 +18,8 @@ from bpfhost.shards.names import START, after, order
 from bpfhost.shards.serving import Serving
 from bpfhost.shards.settings import Settings
 from bpfhost.shards.writing import Writing
-from bpfhost.state import Steps
+from bpfhost.shards.steps import step
+from bpfhost.shards.system import Work
 
 # Replies are checked so often during the time for which they are kept.
 _LOOKS = 8
@@ -71,14 +72,14 @@ class Keeping:
         """The snapshot of a new tenant."""
         return Manifest(entry.decode(), self._build).summed()
 
-    def keep(self, serving: Serving, log: Log) -> Steps[Manifest]:
+    async def keep(self, serving: Serving, log: Log) -> Manifest:
         """Stores the state of a tenant, in pieces that no manifest names yet."""
-        stream = yield from serving.state(log.tenant, log.last_snapshot, log.history)
+        stream = await serving.state(log.tenant, log.last_snapshot, log.history)
         name, digest = self._redis.system.fresh(), hashlib.sha256()
         for at, piece in enumerate(pieces_of(stream)):
             digest.update(piece)
-            self._writing.keep_piece(f"{name}:{at}", piece)
-            yield
+            await self._writing.keep_piece(f"{name}:{at}", piece)
+            await step()
         return Manifest(log.place.decode(), self._build, name, len(stream), digest.hexdigest()).summed()
 
     # Snapshots.
@@ -102,52 +103,52 @@ class Keeping:
         can = [log for log in logs if log.tenant not in busy and not log.aside and log.tenant not in self.failed and log.since.entries]
         return max(can, key=lambda log: shares[log.tenant]) if can else None
 
-    def snapshot(self, serving: Serving, log: Log) -> Steps[None]:
+    async def snapshot(self, serving: Serving, log: Log) -> None:
         """Takes a snapshot of a tenant, and drops what came before the previous one."""
         old, began = log.before, self._redis.system.now()
         if log.since.changed or log.snapshot is None:
-            manifest = yield from self.keep(serving, log)
+            manifest = await self.keep(serving, log)
         else:
             # The same state, after more frames.
             manifest = log.snapshot.at(log.place)
-        self._writing.keep_snapshot(log, manifest)
+        await self._writing.keep_snapshot(log, manifest)
         log.since = Since()
         self._metrics.add("bpfhost_worker_snapshots_total")
-        self._metrics.add("bpfhost_worker_snapshot_seconds_total", self._redis.system.now() - began)
-        yield from self.forget_old(log, old)
-        yield from self._forget_sessions(log)
+        self._metrics.saw("bpfhost_worker_snapshot_seconds", self._redis.system.now() - began)
+        await self.forget_old(log, old)
+        await self._forget_sessions(log)
 
-    def forget_old(self, log: Log, old: Manifest | None) -> Steps[None]:
+    async def forget_old(self, log: Log, old: Manifest | None) -> None:
         """Drops the pieces of a snapshot, and the entries that the snapshot before the last one covers."""
         kept = {name for manifest in (log.snapshot, log.before) if manifest for name in manifest.names()}
         if old:
-            yield from self._writing.drop_pieces([name for name in old.names() if name not in kept])
+            await self._writing.drop_pieces([name for name in old.names() if name not in kept])
         least = self._kept_from(log)
         if least != START:
-            yield from self._writing.drop(log.frames, after(least))
-        yield from self.drop_old(log)
+            await self._writing.drop(log.frames, after(least))
+        await self.drop_old(log)
 
-    def drop_before(self, log: Log) -> Steps[None]:
+    async def drop_before(self, log: Log) -> None:
         """Drops the snapshot before the last one, and the entries that the last one covers, if there is no memory for more."""
         if log.before and log.snapshot:
             names = set(log.before.names()) - set(log.snapshot.names())
-            self._writing.note(self._keys.snapshots, f"{log.tenant}:before", b"")
+            await self._writing.note(self._keys.snapshots, f"{log.tenant}:before", b"")
             log.before = None
-            yield from self._writing.drop_pieces(sorted(names))
+            await self._writing.drop_pieces(sorted(names))
         if log.snapshot:
             log.is_cut = True
-            yield from self._writing.drop(log.frames, after(log.snapshot.place.encode()))
-            yield from self.drop_old(log)
+            await self._writing.drop(log.frames, after(log.snapshot.place.encode()))
+            await self.drop_old(log)
 
-    def make_room(self, serving: Serving, log: Log) -> Steps[None]:
+    async def make_room(self, serving: Serving, log: Log) -> None:
         """Drops all that can be dropped of a tenant: what is not needed to restore its state, and old replies."""
         if log.since.size:
-            yield from self.snapshot(serving, log)
-        yield from self.drop_before(log)
+            await self.snapshot(serving, log)
+        await self.drop_before(log)
 
     # Ages, in seconds for which the shard was served.
 
-    def look_at_ages(self, logs: Sequence[Log], begin: Callable[[int, Generator[None, None, None]], None], busy: set[int]) -> None:
+    async def look_at_ages(self, logs: Sequence[Log], begin: Callable[[int, Work[None]], Work[None]], busy: set[int]) -> None:
         """Now and then marks the tenants' places, and drops old replies."""
         now = self._redis.system.now()
         if now < self._looked + max(_LEAST_SECONDS, self._settings.reply_seconds / _LOOKS):
@@ -155,9 +156,9 @@ class Keeping:
         self._looked = now
         for log in logs:
             if log.tenant not in busy and (log.place != START) and (not log.marks or log.marks[-1].place != log.place or len(log.marks) > 1):
-                begin(log.tenant, self.drop_old(log))
+                await begin(log.tenant, self.drop_old(log))
 
-    def look_at_bytes(self, logs: Sequence[Log], begin: Callable[[int, Generator[None, None, None]], None], busy: set[int]) -> None:
+    async def look_at_bytes(self, logs: Sequence[Log], begin: Callable[[int, Work[None]], Work[None]], busy: set[int]) -> None:
         """Marks the place of each tenant once per so many bytes of replies; if all together have more than they may, drops the oldest."""
         most = self._settings.reply_bytes
         if self.came < most // _MARKS:
@@ -165,7 +166,7 @@ class Keeping:
         self.came = 0
         for log in logs:
             if log.tenant not in busy and log.place != START:
-                begin(log.tenant, self.drop_old(log))
+                await begin(log.tenant, self.drop_old(log))
         too_many = sum(log.kept_size() for log in logs) - most
         for one, log in sorted(((one, log) for log in logs for one in log.marks), key=_age):
             if too_many <= 0:
@@ -181,23 +182,23 @@ class Keeping:
         self._settled = now
         return True
 
-    def look_at_waiting(self, logs: Sequence[Log], busy: set[int]) -> None:
+    async def look_at_waiting(self, logs: Sequence[Log], busy: set[int]) -> None:
         """Checks whether something is recorded as waiting though nothing waits."""
-        weights = self._redis.hgetall(self._keys.waiting)
+        weights = await self._redis.hgetall(self._keys.waiting)
         self._metrics.set("bpfhost_worker_waiting_bytes", sum(map(int, weights.values())))
         for tenant, weight in weights.items():
             if weight != b"0" and int(tenant) not in busy:
-                logs[int(tenant)].settle(self._writing.note)
+                await logs[int(tenant)].settle(self._writing.note)
 
-    def drop_old(self, log: Log) -> Steps[None]:
+    async def drop_old(self, log: Log) -> None:
         """Marks a tenant's place, and drops replies that are old and in the snapshot before the last one."""
-        served = self._writing.lease.served()
+        served = await self._writing.lease.served()
         kept = log.mark(served, self._settings.reply_seconds)
-        self._writing.note(self._keys.marks, log.tenant, kept)
+        await self._writing.note(self._keys.marks, log.tenant, kept)
         old = max(log.old_place(served, self._settings.reply_seconds), self._drop_by_bytes.get(log.tenant, START), key=order)
         least = min(old, self._kept_from(log), key=order)
         if least != START:
-            yield from self._writing.drop(log.replies, after(least))
+            await self._writing.drop(log.replies, after(least))
             log.dropped(least)
 
     @staticmethod
@@ -207,14 +208,14 @@ class Keeping:
             return log.before.place.encode()
         return log.snapshot.place.encode() if log.snapshot and log.is_cut else START
 
-    def _forget_sessions(self, log: Log) -> Steps[None]:
+    async def _forget_sessions(self, log: Log) -> None:
         """Forgets sessions without a name whose last call is long ago."""
-        said = (self._redis.hget(self._keys.seats, log.tenant) or b"").partition(b" ")[0]
+        said = (await self._redis.hget(self._keys.seats, log.tenant) or b"").partition(b" ")[0]
         if not said:
             return
-        name, served = self._keys.sessions(int(said)), self._writing.lease.served()
-        for session, record in self._redis.hgetall(name).items():
+        name, served = self._keys.sessions(int(said)), await self._writing.lease.served()
+        for session, record in (await self._redis.hgetall(name)).items():
             then = int(record.split()[2]) / 1000
             if session.startswith(NAMELESS.encode()) and then < served - SECONDS_OF_SESSIONS:
-                scripts.FORGET_SESSION(self._redis, [name], [session, record])
-                yield
+                await scripts.FORGET_SESSION(self._redis, [name], [session, record])
+                await step()

@@ -7,6 +7,7 @@ compares the worker's token in the same step as it writes.
 
 from __future__ import annotations
 
+import asyncio
 import os
 import socket
 from collections.abc import Callable
@@ -34,13 +35,15 @@ class Lease:
         self._redis, self._keys, self.seconds = redis, keys, seconds
         self._system = redis.system
         self.token = f"{self._system.fresh()} {socket.gethostname()} process {os.getpid()}"
-        self._raised = 0.0
-        self._is_lost = False
+        # When it was raised last, and when that was tried last; a try may have failed.
+        self._raised = self._tried = 0.0
+        # Why it is not this worker's any more, once that is known.
+        self._lost: LeaseLost | None = None
         # Whether the previous worker ended without releasing it.
         self.was_left = False
         self._work_until = 0.0
 
-    def take(self, is_stopped: Callable[[], bool] = lambda: False) -> None:
+    async def take(self, is_stopped: Callable[[], bool] = lambda: False) -> None:
         """Takes the lease. If another worker has it, waits until its count has not changed for its time.
 
         Raises LeaseHeld if the count was raised meanwhile, and Stopped if this worker is asked to stop.
@@ -50,7 +53,7 @@ class Lease:
         while True:
             expected = seen if first and self._system.now() >= since else (b"", b"")
             try:
-                token, count, milliseconds = scripts.TAKE(self._redis, [self._keys.lease], [self.token, self._milliseconds(), *expected])
+                token, count, milliseconds = await scripts.TAKE(self._redis, [self._keys.lease], [self.token, self._milliseconds(), *expected])
             except Away:
                 # Its holder may not have reached Redis either.
                 first = None
@@ -65,65 +68,66 @@ class Lease:
                 since = self._system.now() + max(self.seconds, int(milliseconds) / 1000) + _PAUSE
             if is_stopped():
                 raise Stopped(f"shard {self._keys.number} was not served: its lease was waited for")
-            self._system.sleep(_PAUSE)
-        self._raised = self._system.now()
+            await asyncio.sleep(_PAUSE)
+        self._raised = self._tried = self._system.now()
 
     def _milliseconds(self) -> int:
         return int(self.seconds * 1000)
 
-    def keep(self) -> None:
+    async def keep(self) -> None:
         """Raises the count, if a third of the lease's time is gone; raises LeaseLost if the lease is another worker's."""
-        if self._is_lost:
-            raise self.lost()
+        if self._lost:
+            raise self._lost
         now = self._system.now()
-        if now >= self._raised + self.seconds / 3:
-            since, self._raised = self._raised, now
-            if not scripts.KEEP(self._redis, [self._keys.lease], [self.token, int((now - since) * 1000)]):
-                self._is_lost = True
-                raise self.lost()
+        if now >= self._tried + self.seconds / 3:
+            since, self._tried = self._tried, now
+            if not await scripts.KEEP(self._redis, [self._keys.lease], [self.token, int((now - since) * 1000)]):
+                self._lost = await self.lost()
+                raise self._lost
+            self._raised = now
 
-    def keep_beside(self, until: Callable[[], bool]) -> None:
-        """Raises the count at the same time as the worker works, until `until` holds: the lease outlasts a long write over a slow link.
+    async def keep_beside(self) -> None:
+        """Raises the count at the same time as the worker works: the lease outlasts a long write over a slow link.
 
         The count is not raised any more if the worker has not called `at_work` for a while: a worker that hangs must not hold its shard
         for ever.
         """
-        while not until():
+        while True:
             try:
                 if self._system.now() < self._work_until:
-                    self.keep()
+                    await self.keep()
             except LeaseLost:
                 return
             except RedisError:
                 # The worker finds the same when it writes, and reports it.
                 pass
-            self._system.sleep(min(self.seconds / 6, 0.5))
+            await asyncio.sleep(min(self.seconds / 6, 0.5))
 
     def age(self) -> float:
-        """The seconds since it was raised last, by this worker's clock; 0 before it is held."""
+        """The seconds since the last raise that succeeded began, by this worker's clock; 0 before it is held."""
         return self._system.now() - self._raised if self._raised else 0.0
 
     def at_work(self, seconds: float) -> None:
         """Records that the worker goes on, and may take so many seconds for its next work."""
         self._work_until = self._system.now() + seconds
-        if self._is_lost:
-            raise self.lost()
+        if self._lost:
+            raise self._lost
 
-    def is_held(self) -> bool:
+    async def is_held(self) -> bool:
         """Whether the lease is this worker's."""
-        return self._redis.hget(self._keys.lease, "token") == self.token.encode()
+        return await self._redis.hget(self._keys.lease, "token") == self.token.encode()
 
-    def served(self) -> float:
+    async def served(self) -> float:
         """The number of seconds for which the shard was served, by all its workers."""
-        return int(self._redis.hget(self._keys.lease, "served") or 0) / 1000
+        return int(await self._redis.hget(self._keys.lease, "served") or 0) / 1000
 
-    def release(self) -> None:
+    async def release(self) -> None:
         """Releases the lease, so that another worker need not wait."""
-        scripts.RELEASE(self._redis, [self._keys.lease], [self.token])
+        await scripts.RELEASE(self._redis, [self._keys.lease], [self.token])
 
-    def lost(self) -> LeaseLost:
+    async def lost(self) -> LeaseLost:
         """The error to raise if the lease is not this worker's any more."""
-        holder = self._redis.hget(self._keys.lease, "token")
+        holder = await self._redis.hget(self._keys.lease, "token")
         now = f"; it is now {_who(holder)}'s" if holder else ""
         return LeaseLost(f"the lease on shard {self._keys.number} is lost{now}: this worker writes nothing more")
 

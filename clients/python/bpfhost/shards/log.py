@@ -2,7 +2,7 @@
 
 from __future__ import annotations
 
-from collections.abc import Callable, Iterator
+from collections.abc import AsyncIterator, Callable
 from dataclasses import dataclass, field
 
 from bpfhost.shards.aside import Aside
@@ -12,7 +12,8 @@ from bpfhost.shards.copied import Asked
 from bpfhost.shards.errors import ShardError, SnapshotDamaged
 from bpfhost.shards.manifest import Manifest, read_pieces
 from bpfhost.shards.names import REPLIES, START, ShardKeys, after, order
-from bpfhost.state import Steps, split
+from bpfhost.shards.system import Work
+from bpfhost.state import split
 
 _READ_AT_ONCE = 64
 
@@ -88,15 +89,15 @@ class Log:
     def replies(self) -> str:
         return self.keys.replies(self.tenant)
 
-    def last(self) -> bytes:
+    async def last(self) -> bytes:
         """The last entry that has a reply."""
-        return self.redis.last_id(self.replies)
+        return await self.redis.last_id(self.replies)
 
-    def manifests(self) -> list[Manifest]:
+    async def manifests(self) -> list[Manifest]:
         """The snapshots, the last one first; damaged ones are left out."""
         found = []
         for name in (f"{self.tenant}", f"{self.tenant}:before"):
-            kept = self.redis.hget(self.keys.snapshots, name)
+            kept = await self.redis.hget(self.keys.snapshots, name)
             try:
                 if kept is not None:
                     found.append(Manifest.read(kept))
@@ -104,42 +105,40 @@ class Log:
                 continue
         return found
 
-    def reaches(self, place: bytes, last: bytes) -> bool:
+    async def reaches(self, place: bytes, last: bytes) -> bool:
         """Whether the stream still has all entries after a place that have replies."""
-        dropped = self.redis.dropped_id(self.frames)
+        dropped = await self.redis.dropped_id(self.frames)
         if order(dropped) <= order(place) or order(last) <= order(place):
             return True
-        return not self.redis.xrange(self.replies, after(place), min(dropped, last, key=order), 1)
+        return not await self.redis.xrange(self.replies, after(place), min(dropped, last, key=order), 1)
 
-    def settle(self, note: Callable[[str, int, bytes], None]) -> None:
+    async def settle(self, note: Callable[[str, int, bytes], Work[None]]) -> None:
         """If nothing waits, records that: the recorded weight still counts what others dropped."""
-        if not self.redis.xrange(self.frames, after(self.place), b"+", 1):
-            note(self.keys.waiting, self.tenant, b"0")
+        if not await self.redis.xrange(self.frames, after(self.place), b"+", 1):
+            await note(self.keys.waiting, self.tenant, b"0")
 
-    def stream_of(self, manifest: Manifest) -> Steps[bytes]:
+    def stream_of(self, manifest: Manifest) -> Work[bytes]:
         """The frames of a snapshot, in steps; raises SnapshotDamaged if they are not those that were written."""
         return read_pieces(self.redis, self.keys.pieces, manifest)
 
-    def last_snapshot(self) -> Steps[bytes]:
-        """The frames of the last snapshot."""
-        if not self.snapshot:
-            return b""
-        stream: bytes = yield from self.stream_of(self.snapshot)
-        return stream
+    async def last_snapshot(self) -> bytes:
+        """The frames of the last snapshot, in steps."""
+        return await self.stream_of(self.snapshot) if self.snapshot else b""
 
-    def both(self, place: bytes, last: bytes) -> Iterator[tuple[list[Entry], Replies]]:
+    async def both(self, place: bytes, last: bytes) -> AsyncIterator[tuple[list[Entry], Replies]]:
         """The entries after a place up to another one, in pieces, with their replies."""
         while order(place) < order(last):
-            entries = self.redis.xrange(self.frames, after(place), last, _READ_AT_ONCE)
+            entries = await self.redis.xrange(self.frames, after(place), last, _READ_AT_ONCE)
             if not entries:
                 return
             place = entries[-1][0]
-            yield entries, dict(self.redis.xrange(self.replies, entries[0][0], place, 2 * _READ_AT_ONCE))
+            yield entries, dict(await self.redis.xrange(self.replies, entries[0][0], place, 2 * _READ_AT_ONCE))
 
-    def history(self) -> Iterator[Asked]:
-        """The frames since the last snapshot, with their replies."""
+    async def history(self) -> AsyncIterator[list[Asked]]:
+        """The frames since the last snapshot, with their replies, in pieces."""
         place = self.snapshot.place.encode() if self.snapshot else START
-        for entries, replies in self.both(place, self.place):
+        async for entries, replies in self.both(place, self.place):
+            asked: list[Asked] = []
             for entry in entries:
                 item = item_of(self.tenant, entry)
                 if isinstance(item, (Arrives, Leaves)):
@@ -147,13 +146,14 @@ class Log:
                 elif item.entry not in replies:
                     raise ShardError(f"entry {item.entry.decode()} of shard {self.keys.number} has no reply any more")
                 elif isinstance(item, Call) and REPLIES in replies[item.entry]:
-                    yield from zip(item.frames, split(replies[item.entry][REPLIES]), strict=True)
+                    asked += zip(item.frames, split(replies[item.entry][REPLIES]), strict=True)
+            yield asked
 
     # Ages.
 
-    def read_marks(self) -> None:
+    async def read_marks(self) -> None:
         """The marks of this worker and the previous ones."""
-        kept = self.redis.hget(self.keys.marks, self.tenant) or b""
+        kept = await self.redis.hget(self.keys.marks, self.tenant) or b""
         self.marks = [Mark.read(one) for one in kept.split()]
 
     def mark(self, served: float, most: float) -> bytes:

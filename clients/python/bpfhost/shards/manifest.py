@@ -13,7 +13,7 @@ from dataclasses import asdict, dataclass, replace
 
 from bpfhost.shards.connection import Redis
 from bpfhost.shards.errors import SnapshotDamaged
-from bpfhost.state import Steps
+from bpfhost.shards.steps import step
 
 VERSION = 1
 PIECE = 1 << 18
@@ -57,8 +57,8 @@ class Manifest:
         """Reads a manifest; raises SnapshotDamaged if the bytes are none, are of another version, or differ from what was written."""
         try:
             found = cls(**json.loads(kept))
-            is_whole = found.checksum == found._sum() and 0 <= found.size <= _LARGEST
-        except (ValueError, TypeError):
+            is_whole = found.checksum == found._sum() and isinstance(found.size, int) and 0 <= found.size <= _LARGEST
+        except (ValueError, TypeError, RecursionError):
             raise SnapshotDamaged("what a snapshot says of itself is damaged") from None
         if not is_whole:
             raise SnapshotDamaged("what a snapshot says of itself has a wrong checksum")
@@ -77,16 +77,16 @@ def pieces_of(stream: bytes) -> Iterator[bytes]:
         yield stream[at : at + PIECE]
 
 
-def read_pieces(redis: Redis, pieces: str, manifest: Manifest) -> Steps[bytes]:
+async def read_pieces(redis: Redis, pieces: str, manifest: Manifest) -> bytes:
     """The frames of a snapshot, in steps; raises SnapshotDamaged if a piece is missing or anything of it differs from what was written."""
     stream, digest = bytearray(), hashlib.sha256()
     for name in manifest.names():
-        piece = redis.hget(pieces, name)
+        piece = await redis.hget(pieces, name)
         if piece is None:
             raise SnapshotDamaged(f"the snapshot at {manifest.place} has no piece {name} any more")
         stream += piece
         digest.update(piece)
-        yield
+        await step()
     if len(stream) != manifest.size:
         raise SnapshotDamaged(f"the snapshot at {manifest.place} has {len(stream)} bytes, and had {manifest.size}")
     if digest.hexdigest() != manifest.digest:

@@ -1,99 +1,126 @@
 """The metrics and the health of a worker or a gateway, over HTTP.
 
-`/metrics` has Prometheus's text format (version 0.0.4), and `/health` is JSON.
+`/metrics` is for Prometheus, by its library for Python (of Debian: python3-prometheus-client), without which nothing is counted. `/health`
+is JSON.
 """
 
 from __future__ import annotations
 
+import functools
 import http.server
+import importlib
 import json
+import os
 import threading
-import time
 from collections.abc import Callable, Mapping
-from pathlib import Path
+from typing import Any, NamedTuple
 
+from bpfhost.errors import PACKAGES, MissingPackage
 from bpfhost.shards.errors import ShardError
 
-# The name of each metric, its kind, and its help text.
+
+class Metric(NamedTuple):
+    """A metric: its kind, its help text, and the name of its label, if it has one."""
+
+    kind: str
+    what: str
+    label: str = ""
+
+
 WORKER = {
-    "bpfhost_worker_calls_total": ("counter", "calls that were answered"),
-    "bpfhost_worker_frames_total": ("counter", "frames of calls that were answered"),
-    "bpfhost_worker_bytes_total": ("counter", "bytes of calls that were answered, with their replies"),
-    "bpfhost_worker_turns_total": ("counter", "turns, in each of which every tenant has its share"),
-    "bpfhost_worker_hosts_total": ("counter", "hosts that were begun, but for the first one"),
-    "bpfhost_worker_snapshots_total": ("counter", "snapshots that were taken"),
-    "bpfhost_worker_snapshot_seconds_total": ("counter", "seconds from the begin of snapshots to their end"),
-    "bpfhost_worker_replayed_frames_total": ("counter", "frames that were played again"),
-    "bpfhost_worker_restore_seconds": ("gauge", "seconds that making the states took the last time"),
-    "bpfhost_worker_lease_age_seconds": ("gauge", "seconds since the lease was raised"),
-    "bpfhost_worker_serves": ("gauge", "1 while the shard is served"),
-    "bpfhost_worker_waiting_bytes": ("gauge", "the weight of calls that wait, as it was last looked at"),
-    "bpfhost_worker_aside": ("gauge", "tenants of which something is set aside"),
-    "bpfhost_worker_redis_memory_bytes": ("gauge", "memory that Redis uses, as it was last looked at"),
-    "bpfhost_worker_redis_memory_most_bytes": ("gauge", "memory that Redis may use, 0 without a limit"),
+    "bpfhost_worker_calls_total": Metric("Counter", "calls that were answered"),
+    "bpfhost_worker_frames_total": Metric("Counter", "frames of calls that were answered"),
+    "bpfhost_worker_bytes_total": Metric("Counter", "bytes of calls that were answered, with their replies"),
+    "bpfhost_worker_turns_total": Metric("Counter", "turns, in each of which every tenant has its share"),
+    "bpfhost_worker_turn_seconds": Metric("Histogram", "seconds in which the host did the calls of a turn"),
+    "bpfhost_worker_hosts_total": Metric("Counter", "hosts that were begun, but for the first one"),
+    "bpfhost_worker_snapshots_total": Metric("Counter", "snapshots that were taken"),
+    "bpfhost_worker_snapshot_seconds": Metric("Histogram", "seconds from the begin of a snapshot to its end"),
+    "bpfhost_worker_replayed_frames_total": Metric("Counter", "frames that were played again"),
+    "bpfhost_worker_restore_seconds": Metric("Gauge", "seconds that making the states took the last time"),
+    "bpfhost_worker_lease_age_seconds": Metric("Gauge", "seconds since the last raise of the lease that succeeded"),
+    "bpfhost_worker_serves": Metric("Gauge", "1 while the shard is served"),
+    "bpfhost_worker_waiting_bytes": Metric("Gauge", "the weight of calls that wait, as it was last looked at"),
+    "bpfhost_worker_aside": Metric("Gauge", "tenants of which something is set aside"),
+    "bpfhost_worker_redis_memory_bytes": Metric("Gauge", "memory that Redis uses, as it was last looked at"),
+    "bpfhost_worker_redis_memory_most_bytes": Metric("Gauge", "memory that Redis may use, 0 without a limit"),
 }
 GATEWAY = {
-    "bpfhost_gateway_calls_total": ("counter", "calls that were taken"),
-    "bpfhost_gateway_frames_total": ("counter", "frames of calls that were taken"),
-    "bpfhost_gateway_bytes_total": ("counter", "bytes of calls that were taken"),
-    "bpfhost_gateway_call_seconds_total": ("counter", "seconds from a call to its replies"),
-    "bpfhost_gateway_connections_total": ("counter", "connections that came"),
-    "bpfhost_gateway_refusals_total": ("counter", "connections that were ended, by why"),
-    "bpfhost_gateway_connections": ("gauge", "connections of customers"),
-    "bpfhost_gateway_unknown": ("gauge", "connections that have not said who they are"),
+    "bpfhost_gateway_calls_total": Metric("Counter", "calls that were taken", "customer"),
+    "bpfhost_gateway_frames_total": Metric("Counter", "frames of calls that were taken", "customer"),
+    "bpfhost_gateway_bytes_total": Metric("Counter", "bytes of calls that were taken", "customer"),
+    "bpfhost_gateway_call_seconds": Metric("Histogram", "seconds from a call to its replies", "customer"),
+    "bpfhost_gateway_new_connections_total": Metric("Counter", "connections that came"),
+    "bpfhost_gateway_refusals_total": Metric("Counter", "connections that were ended, by why", "why"),
+    "bpfhost_gateway_connections": Metric("Gauge", "connections of customers"),
+    "bpfhost_gateway_unknown": Metric("Gauge", "connections that have not said who they are"),
+    "bpfhost_gateway_unread_bytes": Metric("Gauge", "bytes of replies that customers have not read yet"),
 }
-PROCESS = {"process_resident_memory_bytes": ("gauge", "memory of the process"), "process_cpu_seconds_total": ("counter", "processor time")}
+# Upper bounds of the histograms, in seconds.
+_BUCKETS = (0.001, 0.0025, 0.005, 0.01, 0.025, 0.05, 0.1, 0.25, 0.5, 1.0, 2.5, 5.0, 10.0, 30.0)
 
-# A metric by its name, and by the values of its label.
-Numbers = Mapping[str, float | Mapping[str, float]]
-_LABEL = "why"
-_PAGE = 4096
-
-
-def text_of(said: Numbers, known: Mapping[str, tuple[str, str]]) -> str:
-    """Metrics in Prometheus's text format."""
-    lines = []
-    for name, (kind, what) in known.items():
-        value = said.get(name, 0.0)
-        lines += [f"# HELP {name} {what}", f"# TYPE {name} {kind}"]
-        if isinstance(value, Mapping):
-            lines += [f'{name}{{{_LABEL}="{label}"}} {one:.17g}' for label, one in sorted(value.items())]
-        else:
-            lines.append(f"{name} {value:.17g}")
-    return "\n".join(lines) + "\n"
+# Metrics by their names that are computed when they are read.
+Numbers = Mapping[str, float]
 
 
-def of_process() -> Numbers:
-    """The memory and the processor time of this process; empty if the system does not report them."""
+@functools.cache
+def library() -> Any:
+    """The library; None if it is missing."""
+    # The time at which each metric was made is of no use here.
+    os.environ.setdefault("PROMETHEUS_DISABLE_CREATED_SERIES", "true")
     try:
-        resident = int(Path("/proc/self/statm").read_text().split()[1]) * _PAGE
-    except (OSError, ValueError, IndexError):
-        resident = 0
-    return {"process_resident_memory_bytes": resident, "process_cpu_seconds_total": time.process_time()}
+        return importlib.import_module("prometheus_client")
+    except ModuleNotFoundError:
+        return None
 
 
 class Told:
     """Metrics that a process counts, and those that are computed when they are read."""
 
-    def __init__(self, known: Mapping[str, tuple[str, str]], look: Callable[[], Numbers] = dict) -> None:
-        self._known, self._look = known, look
-        self._counted: dict[str, float] = dict.fromkeys(known, 0.0)
+    def __init__(self, known: Mapping[str, Metric], look: Callable[[], Numbers] = dict) -> None:
+        self._look, self._made, self._registry = look, dict[str, Any](), None
+        client = library()
+        if client is None:
+            return
+        self._registry = client.CollectorRegistry()
+        for name, metric in known.items():
+            words = {"buckets": _BUCKETS} if metric.kind == "Histogram" else {}
+            labels = [metric.label] if metric.label else []
+            self._made[name] = getattr(client, metric.kind)(name, metric.what, labels, registry=self._registry, **words)
+        client.ProcessCollector(registry=self._registry)
 
-    def add(self, name: str, many: float = 1.0) -> None:
-        """Adds so many to a metric."""
-        self._counted[name] += many
+    def _of(self, name: str, label: str) -> Any:
+        made = self._made.get(name)
+        return made.labels(label) if made is not None and label else made
+
+    def add(self, name: str, many: float = 1.0, label: str = "") -> None:
+        """Adds so many to a counter."""
+        if made := self._of(name, label):
+            made.inc(many)
 
     def set(self, name: str, value: float) -> None:
-        """Sets a metric."""
-        self._counted[name] = value
+        """Sets a gauge."""
+        if made := self._of(name, ""):
+            made.set(value)
 
-    def value(self, name: str) -> float:
-        """The value of a metric."""
-        return self._counted[name]
+    def saw(self, name: str, seconds: float, label: str = "") -> None:
+        """Adds a time to a histogram."""
+        if made := self._of(name, label):
+            made.observe(seconds)
+
+    def value(self, name: str, **labels: str) -> float:
+        """The value of a metric that is counted; 0 if nothing is."""
+        said = self._registry.get_sample_value(name, labels) if self._registry else None
+        return said or 0.0
 
     def text(self) -> str:
-        """All of them, in Prometheus's text format."""
-        return text_of({**self._counted, **self._look()}, self._known) + text_of(of_process(), PROCESS)
+        """All of them, in Prometheus's text format; raises MissingPackage without the library."""
+        if self._registry is None:
+            raise MissingPackage("prometheus_client", PACKAGES["prometheus_client"])
+        for name, value in self._look().items():
+            self.set(name, value)
+        text: bytes = library().generate_latest(self._registry)
+        return text.decode()
 
 
 # Whether a process is well, and the details.
@@ -104,10 +131,11 @@ class Page:
     """An HTTP server with both pages, in a thread of its own. It shows nothing of customers' frames, and accepts no data."""
 
     def __init__(self, address: str, text: Callable[[], str], health: Health) -> None:
-        """Listens at `host:port`; raises ShardError if it can't."""
+        """Listens at `host:port`; raises ShardError if it can't, and MissingPackage if there are no metrics."""
         host, _, port = address.rpartition(":")
         if not host or not port.isdecimal():
             raise ShardError(f"metrics are read at host:port, and not at {address}")
+        text()
         try:
             self._server = http.server.ThreadingHTTPServer((host.strip("[]"), int(port)), _handler(text, health))
         except (OSError, OverflowError) as error:

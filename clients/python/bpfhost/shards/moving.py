@@ -9,71 +9,69 @@ from __future__ import annotations
 
 from collections.abc import Callable
 from dataclasses import dataclass
-from typing import TypeVar
 
 from bpfhost.shards import scripts
 from bpfhost.shards.aside import Aside
-from bpfhost.shards.client import Client
+from bpfhost.shards.client import AsyncClient
 from bpfhost.shards.connection import Redis
 from bpfhost.shards.directory import Directory, Seat
 from bpfhost.shards.errors import MoveError, NoReply, SetAside, SnapshotDamaged
 from bpfhost.shards.manifest import Manifest
 from bpfhost.shards.names import FAULT, ShardKeys, before, order
+from bpfhost.shards.system import Answer, Work
 
 SECONDS = 60.0
 _PAUSE, _SECONDS_TO_LOOK = 0.005, 1.0
 _AT_ONCE = 500
 
-Answer = TypeVar("Answer")
 
-
-def move(client: Client, name: str, shard: int | None = None, seconds: float = SECONDS) -> Seat:
+async def move(client: AsyncClient, name: str, shard: int | None = None, seconds: float = SECONDS) -> Seat:
     """Moves a customer to a shard, or to the least loaded other one, and returns its new seat.
 
     Raises MoveError if it can't be moved, and NoReply if a worker does not reply in time: then the same call continues the move later.
     """
     deadline = client.system.now() + seconds
-    seat, next_seat = _directory(client, deadline, lambda directory: directory.begin_move(name, shard))
+    seat, next_seat = await _directory(client, deadline, lambda directory: directory.begin_move(name, shard))
     if next_seat is None:
         raise MoveError(f"customer {name} is being removed")
-    return _Move(client, name, seat, deadline).to(next_seat)
+    return await (await _Move.of(client, name, seat, deadline)).to(next_seat)
 
 
-def remove(client: Client, name: str, seconds: float = SECONDS) -> None:
+async def remove(client: AsyncClient, name: str, seconds: float = SECONDS) -> None:
     """Removes a customer, with all its data."""
     deadline = client.system.now() + seconds
-    seat, _ = _directory(client, deadline, lambda directory: directory.begin_move(name, removed=True))
-    moved = _Move(client, name, seat, deadline)
-    moved.leave()
-    moved.forget()
-    moved.end(None)
+    seat, _ = await _directory(client, deadline, lambda directory: directory.begin_move(name, removed=True))
+    moved = await _Move.of(client, name, seat, deadline)
+    await moved.leave()
+    await moved.forget()
+    await moved.end(None)
 
 
-def end_move(client: Client, name: str, seconds: float = SECONDS) -> None:
+async def end_move(client: AsyncClient, name: str, seconds: float = SECONDS) -> None:
     """Completes a move, or a removal, that was begun; does nothing if there is none."""
-    moves = client.directory.moves()
+    moves = await client.directory.moves()
     if name in moves:
         if moves[name] is None:
-            remove(client, name, seconds)
+            await remove(client, name, seconds)
         else:
-            move(client, name, None, seconds)
+            await move(client, name, None, seconds)
 
 
-def abort_move(client: Client, name: str, seconds: float = SECONDS) -> Seat:
+async def abort_move(client: AsyncClient, name: str, seconds: float = SECONDS) -> Seat:
     """Takes back a move that was begun, or a removal, and returns the seat that the customer then has.
 
     It is a new seat of the shard that the customer was on; a customer that has arrived stays on the new shard.
     """
     deadline = client.system.now() + seconds
-    moves = _directory(client, deadline, lambda directory: directory.moves())
-    seat = _directory(client, deadline, lambda directory: directory.seat(name))
+    moves = await _directory(client, deadline, lambda directory: directory.moves())
+    seat = await _directory(client, deadline, lambda directory: directory.seat(name))
     if name not in moves or seat is None:
         raise MoveError(f"customer {name} is not being moved")
-    return _Move(client, name, seat, deadline).turn_back(moves[name])
+    return await (await _Move.of(client, name, seat, deadline)).turn_back(moves[name])
 
 
-def _directory(client: Client, deadline: float, call: Callable[[Directory], Answer]) -> Answer:
-    return client.redis.patiently(lambda redis: call(Directory(redis, client.prefix)), deadline)
+async def _directory(client: AsyncClient, deadline: float, call: Callable[[Directory], Work[Answer]]) -> Answer:
+    return await client.redis.patiently(lambda redis: call(Directory(redis, client.prefix)), deadline)
 
 
 @dataclass
@@ -87,53 +85,58 @@ class _Refused(Exception):
 class _Move:
     """A customer that moves from a seat."""
 
-    def __init__(self, client: Client, name: str, seat: Seat, deadline: float) -> None:
+    def __init__(self, client: AsyncClient, name: str, seat: Seat, deadline: float, redis: Redis, keys: ShardKeys) -> None:
         self._client, self._name, self._seat, self._deadline = client, name, seat, deadline
-        self._redis, self._keys = client.shard(seat.shard, deadline)
+        self._redis, self._keys = redis, keys
 
-    def to(self, next_seat: Seat, turned: str = "") -> Seat:
+    @classmethod
+    async def of(cls, client: AsyncClient, name: str, seat: Seat, deadline: float) -> _Move:
+        """A move from a seat."""
+        return cls(client, name, seat, deadline, *await client.shard(seat.shard, deadline))
+
+    async def to(self, next_seat: Seat, turned: str = "") -> Seat:
         """Continues until the customer has its next seat; if that is refused, turns back to the old shard, once."""
         try:
-            if not self._has_arrived(next_seat):
-                self.leave()
-                self._arrive(next_seat)
+            if not await self._has_arrived(next_seat):
+                await self.leave()
+                await self._arrive(next_seat)
         except _Refused as refused:
             if turned:
                 raise MoveError(f"customer {self._name} is refused by both shards: {turned}; and {refused.why}") from None
-            self._turn(next_seat, refused)
+            await self._turn(next_seat, refused)
             raise MoveError(f"customer {self._name} stays on shard {self._seat.shard}: {refused.why}") from None
-        self._give(next_seat)
-        self.forget()
-        self.end(next_seat)
+        await self._give(next_seat)
+        await self.forget()
+        await self.end(next_seat)
         return next_seat
 
     # Leaving.
 
-    def leave(self) -> None:
+    async def leave(self) -> None:
         """Lets the customer leave its shard, and waits until it has."""
         seat, keys = self._seat, self._keys
         claim = [seat.tenant, seat.generation, seat.owned_by(self._name)]
 
-        def leave(redis: Redis) -> bytes | None:
+        async def leave(redis: Redis) -> bytes | None:
             # A customer that never called has a seat only in the directory.
-            scripts.CLAIM(redis, [keys.seats], claim)
-            entry: bytes | None = scripts.LEAVE(redis, [keys.seats, keys.frames(seat.tenant)], claim)
+            await scripts.CLAIM(redis, [keys.seats], claim)
+            entry: bytes | None = await scripts.LEAVE(redis, [keys.seats, keys.frames(seat.tenant)], claim)
             return entry
 
-        entry = self._redis.patiently(leave, self._deadline)
+        entry = await self._redis.patiently(leave, self._deadline)
         if entry is None:
             raise MoveError(f"customer {self._name} can't leave shard {seat.shard}: its seat there is another's")
-        self._wait(self._redis, keys, seat.tenant, entry)
+        await self._wait(self._redis, keys, seat.tenant, entry)
 
-    def _wait(self, redis: Redis, keys: ShardKeys, tenant: int, entry: bytes) -> dict[bytes, bytes]:
+    async def _wait(self, redis: Redis, keys: ShardKeys, tenant: int, entry: bytes) -> dict[bytes, bytes]:
         """The reply to an entry with which a tenant leaves or arrives; empty if the reply was dropped since."""
         name, behind = keys.replies(tenant), before(entry)
         while True:
             wait = min(_SECONDS_TO_LOOK, self._deadline - self._client.system.now())
-            found = redis.patiently(lambda limited: limited.xread({name: behind}, 1, wait), self._deadline).get(name)
+            found = (await redis.patiently(lambda limited: limited.xread({name: behind}, 1, wait), self._deadline)).get(name)
             if found:
                 return found[0][1] if found[0][0] == entry else {}
-            kept = redis.patiently(lambda limited: limited.hget(keys.aside, tenant), self._deadline)
+            kept = await redis.patiently(lambda limited: limited.hget(keys.aside, tenant), self._deadline)
             if kept and order(Aside.read(kept).entry.encode()) <= order(entry):
                 raise SetAside(f"customer {self._name} is set aside until an operator has looked: {Aside.read(kept).why}")
             if self._client.system.now() >= self._deadline:
@@ -141,107 +144,107 @@ class _Move:
 
     # Arriving.
 
-    def _arrive(self, next_seat: Seat) -> None:
+    async def _arrive(self, next_seat: Seat) -> None:
         """Gives the state of the tenant to the next shard, and waits until it has arrived; raises _Refused if the shard refuses it."""
-        redis, keys = self._client.shard(next_seat.shard, self._deadline)
-        kept = self._redis.patiently(lambda limited: limited.hget(self._keys.left, self._seat.generation), self._deadline)
+        redis, keys = await self._client.shard(next_seat.shard, self._deadline)
+        kept = await self._redis.patiently(lambda limited: limited.hget(self._keys.left, self._seat.generation), self._deadline)
         if kept is None:
-            if self._has_arrived(next_seat):
+            if await self._has_arrived(next_seat):
                 # Another process has ended the same move meanwhile.
                 return
             raise MoveError(f"shard {self._seat.shard} has no state of customer {self._name}, which has left it")
         try:
-            manifest = self._bring(redis, keys, next_seat, Manifest.read(kept))
+            manifest = await self._bring(redis, keys, next_seat, Manifest.read(kept))
         except SnapshotDamaged as damaged:
             raise MoveError(f"customer {self._name} can't be moved: {damaged}") from None
-        records = self._redis.patiently(lambda limited: limited.hgetall(self._keys.sessions(self._seat.generation)), self._deadline)
+        records = await self._redis.patiently(lambda limited: limited.hgetall(self._keys.sessions(self._seat.generation)), self._deadline)
         used = [keys.seats, keys.frames(next_seat.tenant), keys.sessions(next_seat.generation)]
         words = [next_seat.tenant, next_seat.generation, manifest.to_bytes(), *(word for pair in records.items() for word in pair)]
-        entry = scripts.ARRIVE.patiently(redis, used, words, self._deadline)
+        entry = await scripts.ARRIVE.patiently(redis, used, words, self._deadline)
         if entry is None:
             # The process that took the move back has not finished.
             raise _Refused(b"", f"the seat on shard {next_seat.shard} is closed: the move was taken back")
         if entry != b"has":
-            self._demand_made(redis, keys, next_seat, entry)
+            await self._demand_made(redis, keys, next_seat, entry)
 
-    def _bring(self, redis: Redis, keys: ShardKeys, next_seat: Seat, manifest: Manifest) -> Manifest:
+    async def _bring(self, redis: Redis, keys: ShardKeys, next_seat: Seat, manifest: Manifest) -> Manifest:
         """Copies the pieces of the state to the next shard, under names of this arrival."""
         arriving = manifest.renamed(arrival(next_seat.generation))
         for old, new in zip(manifest.names(), arriving.names()):
-            piece = self._redis.patiently(lambda limited: limited.hget(self._keys.pieces, old), self._deadline)
+            piece = await self._redis.patiently(lambda limited: limited.hget(self._keys.pieces, old), self._deadline)
             if piece is not None:
                 words = [next_seat.tenant, next_seat.generation, new, piece]
-                scripts.BRING.patiently(redis, [keys.seats, keys.pieces], words, self._deadline)
+                await scripts.BRING.patiently(redis, [keys.seats, keys.pieces], words, self._deadline)
         return arriving
 
-    def _has_arrived(self, seat: Seat) -> bool:
+    async def _has_arrived(self, seat: Seat) -> bool:
         """Whether the arrival is in the new shard's stream, and then waits until it is done."""
-        redis, keys = self._client.shard(seat.shard, self._deadline)
-        said = redis.patiently(lambda limited: limited.hget(keys.seats, seat.tenant), self._deadline) or b""
+        redis, keys = await self._client.shard(seat.shard, self._deadline)
+        said = await redis.patiently(lambda limited: limited.hget(keys.seats, seat.tenant), self._deadline) or b""
         generation, _, rest = said.partition(b" ")
         what, _, entry = rest.partition(b":")
         if not generation or int(generation) != seat.generation or what == b"closed":
             return False
         if what == b"arrives":
-            self._demand_made(redis, keys, seat, entry)
+            await self._demand_made(redis, keys, seat, entry)
         return True
 
-    def _demand_made(self, redis: Redis, keys: ShardKeys, seat: Seat, entry: bytes) -> None:
-        reply = self._wait(redis, keys, seat.tenant, entry)
+    async def _demand_made(self, redis: Redis, keys: ShardKeys, seat: Seat, entry: bytes) -> None:
+        reply = await self._wait(redis, keys, seat.tenant, entry)
         if FAULT in reply:
             raise _Refused(entry, reply[FAULT].decode(errors="replace"))
 
-    def _give(self, seat: Seat) -> None:
-        redis, keys = self._client.shard(seat.shard, self._deadline)
-        scripts.SEAT.patiently(redis, [keys.seats], [seat.tenant, seat.generation, seat.owned_by(self._name)], self._deadline)
+    async def _give(self, seat: Seat) -> None:
+        redis, keys = await self._client.shard(seat.shard, self._deadline)
+        await scripts.SEAT.patiently(redis, [keys.seats], [seat.tenant, seat.generation, seat.owned_by(self._name)], self._deadline)
 
     # The end of a move.
 
-    def forget(self) -> None:
+    async def forget(self) -> None:
         """Drops the state that the old shard has kept."""
-        kept = self._redis.patiently(lambda limited: limited.hget(self._keys.left, self._seat.generation), self._deadline)
+        kept = await self._redis.patiently(lambda limited: limited.hget(self._keys.left, self._seat.generation), self._deadline)
         if kept is not None:
-            _drop_pieces(self._redis, self._keys, Manifest.read(kept), self._deadline)
-        self._redis.patiently(lambda limited: limited.delete(self._keys.sessions(self._seat.generation)), self._deadline)
-        self._redis.patiently(lambda limited: limited.hdel(self._keys.left, self._seat.generation), self._deadline)
+            await _drop_pieces(self._redis, self._keys, Manifest.read(kept), self._deadline)
+        await self._redis.patiently(lambda limited: limited.delete(self._keys.sessions(self._seat.generation)), self._deadline)
+        await self._redis.patiently(lambda limited: limited.hdel(self._keys.left, self._seat.generation), self._deadline)
 
-    def end(self, next_seat: Seat | None) -> None:
+    async def end(self, next_seat: Seat | None) -> None:
         """Records the end in the directory."""
-        _directory(self._client, self._deadline, lambda directory: directory.end_move(self._name, self._seat, next_seat))
+        await _directory(self._client, self._deadline, lambda directory: directory.end_move(self._name, self._seat, next_seat))
 
     # Back.
 
-    def turn_back(self, next_seat: Seat | None) -> Seat:
+    async def turn_back(self, next_seat: Seat | None) -> Seat:
         """Takes the move back: the customer leaves and returns, so that no late step of the move has an effect.
 
         A move whose customer has arrived is completed.
         """
-        if next_seat and not self._close(next_seat, b""):
-            return self.to(next_seat)
-        self.leave()
-        if self._redis.patiently(lambda limited: limited.hget(self._keys.left, self._seat.generation), self._deadline) is None:
+        if next_seat and not await self._close(next_seat, b""):
+            return await self.to(next_seat)
+        await self.leave()
+        if await self._redis.patiently(lambda limited: limited.hget(self._keys.left, self._seat.generation), self._deadline) is None:
             raise MoveError(f"customer {self._name} has left shard {self._seat.shard}, and nothing of it is kept there")
-        again = _directory(self._client, self._deadline, lambda directory: directory.turn_move(self._name, self._seat, next_seat))
+        again = await _directory(self._client, self._deadline, lambda directory: directory.turn_move(self._name, self._seat, next_seat))
         if again is None:
             raise MoveError(f"the move of customer {self._name} has ended meanwhile")
-        return self.to(again, "the move was taken back")
+        return await self.to(again, "the move was taken back")
 
-    def _turn(self, next_seat: Seat, refused: _Refused) -> None:
+    async def _turn(self, next_seat: Seat, refused: _Refused) -> None:
         """Lets the customer return to the old shard, after the next shard has refused it."""
-        self._close(next_seat, refused.entry)
-        again = _directory(self._client, self._deadline, lambda directory: directory.turn_move(self._name, self._seat, next_seat))
+        await self._close(next_seat, refused.entry)
+        again = await _directory(self._client, self._deadline, lambda directory: directory.turn_move(self._name, self._seat, next_seat))
         if again:
-            self.to(again, refused.why)
+            await self.to(again, refused.why)
 
-    def _close(self, seat: Seat, entry: bytes) -> bool:
+    async def _close(self, seat: Seat, entry: bytes) -> bool:
         """Closes a seat that nobody has arrived at, or an entry by which nobody could; returns whether it is closed."""
-        redis, keys = self._client.shard(seat.shard, self._deadline)
+        redis, keys = await self._client.shard(seat.shard, self._deadline)
         words = [seat.tenant, seat.generation, entry]
-        closed = scripts.CLOSE_SEAT.patiently(redis, [keys.seats, keys.sessions(seat.generation)], words, self._deadline)
+        closed = await scripts.CLOSE_SEAT.patiently(redis, [keys.seats, keys.sessions(seat.generation)], words, self._deadline)
         if closed:
             prefix = arrival(seat.generation).encode() + b":"
-            names = [name for name in redis.patiently(lambda limited: limited.hkeys(keys.pieces), self._deadline) if name.startswith(prefix)]
-            _drop(redis, keys, names, self._deadline)
+            names = [name for name in await redis.patiently(lambda limited: limited.hkeys(keys.pieces), self._deadline) if name.startswith(prefix)]
+            await _drop(redis, keys, names, self._deadline)
         return bool(closed)
 
 
@@ -250,11 +253,11 @@ def arrival(generation: int) -> str:
     return f"arrival-{generation}"
 
 
-def _drop_pieces(redis: Redis, keys: ShardKeys, manifest: Manifest, deadline: float) -> None:
-    _drop(redis, keys, [name.encode() for name in manifest.names()], deadline)
+async def _drop_pieces(redis: Redis, keys: ShardKeys, manifest: Manifest, deadline: float) -> None:
+    await _drop(redis, keys, [name.encode() for name in manifest.names()], deadline)
 
 
-def _drop(redis: Redis, keys: ShardKeys, names: list[bytes], deadline: float) -> None:
+async def _drop(redis: Redis, keys: ShardKeys, names: list[bytes], deadline: float) -> None:
     for at in range(0, len(names), _AT_ONCE):
         some = names[at : at + _AT_ONCE]
-        redis.patiently(lambda limited: limited.hdel(keys.pieces, *some), deadline)
+        await redis.patiently(lambda limited: limited.hdel(keys.pieces, *some), deadline)

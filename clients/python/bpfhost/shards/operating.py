@@ -2,12 +2,13 @@
 
 from __future__ import annotations
 
-from collections.abc import Iterator
+import asyncio
+from collections.abc import AsyncIterator, Iterator
 from dataclasses import asdict, dataclass
 
 from bpfhost.shards import moving, scripts
 from bpfhost.shards.aside import LOST, SKIP, Aside
-from bpfhost.shards.client import Client
+from bpfhost.shards.client import AsyncClient
 from bpfhost.shards.connection import Redis, demand_durable
 from bpfhost.shards.directory import Seat
 from bpfhost.shards.errors import Away, RedisError, ShardError
@@ -18,49 +19,49 @@ _SECONDS_TO_ANSWER = 5.0
 _PAUSE = 0.1
 
 
-def drain(client: Client, shard: int, seconds: float) -> Iterator[tuple[str, Seat]]:
+async def drain(client: AsyncClient, shard: int, seconds: float) -> AsyncIterator[tuple[str, Seat]]:
     """Stops offering a shard, and moves its customers away; yields each with its new seat. The same call goes on later."""
-    client.directory.drain(shard)
-    moves = client.directory.moves()
-    for name, seat in sorted(client.directory.customers().items()):
+    await client.directory.drain(shard)
+    moves = await client.directory.moves()
+    for name, seat in sorted((await client.directory.customers()).items()):
         if seat.shard == shard or (name in moves and (to := moves[name]) and to.shard == shard):
-            found = moving.move(client, name, None, seconds)
-            yield name, moving.move(client, name, None, seconds) if found.shard == shard else found
+            found = await moving.move(client, name, None, seconds)
+            yield name, await moving.move(client, name, None, seconds) if found.shard == shard else found
 
 
-def remove_shard(client: Client, shard: int, lost: bool) -> None:
+async def remove_shard(client: AsyncClient, shard: int, lost: bool) -> None:
     """Removes a shard (`Directory.remove_shard`).
 
     If the directory has it as served, its count is watched for some seconds: the shard is not served if the count does not change.
     """
-    seen = client.directory.beats().get(shard)
+    seen = (await client.directory.beats()).get(shard)
     if seen is not None:
-        client.system.sleep(_SECONDS_TO_ANSWER)
-        client.directory.withdraw(shard, seen)
-    client.directory.remove_shard(shard, lost)
+        await asyncio.sleep(_SECONDS_TO_ANSWER)
+        await client.directory.withdraw(shard, seen)
+    await client.directory.remove_shard(shard, lost)
 
 
-def say(client: Client, name: str, word: str, seconds: float) -> str:
+async def say(client: AsyncClient, name: str, word: str, seconds: float) -> str:
     """Decides on what is set aside of a customer, waits until the worker has done it, and returns what was set aside.
 
     Raises ShardError if nothing is set aside, or the decision does not apply to it.
     """
-    seat = client.directory.seat(name)
+    seat = await client.directory.seat(name)
     if seat is None:
         raise ShardError(f"customer {name} is not in the directory")
-    redis, keys = client.shard(seat.shard)
-    kept = redis.hget(keys.aside, seat.tenant)
+    redis, keys = await client.shard(seat.shard)
+    kept = await redis.hget(keys.aside, seat.tenant)
     if kept is None:
         raise ShardError(f"nothing of customer {name} is set aside")
     aside = Aside.read(kept)
     if word == SKIP and aside.kind == LOST:
         raise ShardError(f"the state of customer {name} is lost, and there is nothing to go on with: `retry` or `remove` it: {aside.why}")
-    scripts.SAY(redis, [keys.aside, keys.words], [seat.tenant, kept, f"{word} {aside.entry}"])
+    await scripts.SAY(redis, [keys.aside, keys.words], [seat.tenant, kept, f"{word} {aside.entry}"])
     deadline = client.system.now() + seconds
-    while redis.hget(keys.words, seat.tenant) is not None:
+    while await redis.hget(keys.words, seat.tenant) is not None:
         if client.system.now() > deadline:
             raise ShardError(f"shard {seat.shard} has not done it yet: does its worker run?")
-        client.system.sleep(_PAUSE)
+        await asyncio.sleep(_PAUSE)
     return aside.why
 
 
@@ -100,28 +101,28 @@ class Seen:
     customers: dict[str, Seat]
 
 
-def look(client: Client) -> Seen:
+async def look(client: AsyncClient) -> Seen:
     """Reads the whole state; reads the leases twice, to see whether they are raised."""
-    loads, drained, beats = client.directory.loads(), client.directory.drained(), client.directory.beats()
-    first = {shard: _lease_of(client, shard) for shard in loads}
+    loads, drained, beats = await client.directory.loads(), await client.directory.drained(), await client.directory.beats()
+    first = {shard: await _lease_of(client, shard) for shard in loads}
     held = [lease.seconds for lease in first.values() if isinstance(lease, _Lease) and lease.token]
     if held:
-        client.system.sleep(min(_SECONDS_TO_ANSWER, max(held) * 0.7))
-    customers, shards = client.directory.customers(), []
+        await asyncio.sleep(min(_SECONDS_TO_ANSWER, max(held) * 0.7))
+    customers, shards = await client.directory.customers(), []
     for shard, load in sorted(loads.items()):
-        second = _lease_of(client, shard)
+        second = await _lease_of(client, shard)
         told, raises = ("", False) if isinstance(second, str) else (holder_of(second.token), _is_raised(first[shard], second))
         seen = SeenShard(
-            shard, load, _waiting(client, shard), told, raises, shard in beats, shard in drained,
-            second if isinstance(second, str) else "", _durability(client, shard),
+            shard, load, await _waiting(client, shard), told, raises, shard in beats, shard in drained,
+            second if isinstance(second, str) else "", await _durability(client, shard),
         )  # fmt: skip
         shards.append(seen)
-    return Seen(shards, client.directory.moves(), list(_asides(client, customers)), customers)
+    return Seen(shards, await client.directory.moves(), [one async for one in _asides(client, customers)], customers)
 
 
-def show(client: Client) -> Iterator[str]:
+async def show(client: AsyncClient) -> list[str]:
     """Lines on the shards, moves, what is set aside, and customers."""
-    return lines(look(client))
+    return list(lines(await look(client)))
 
 
 def lines(seen: Seen) -> Iterator[str]:
@@ -154,16 +155,16 @@ def place(name: str, seat: Seat) -> str:
     return f"{name}: shard {seat.shard}, tenant {seat.tenant}"
 
 
-def _near(client: Client, shard: int) -> tuple[Redis, ShardKeys]:
-    redis, keys = client.shard(shard)
+async def _near(client: AsyncClient, shard: int) -> tuple[Redis, ShardKeys]:
+    redis, keys = await client.shard(shard)
     return redis.until(client.system.now() + _SECONDS_TO_ANSWER), keys
 
 
-def _lease_of(client: Client, shard: int) -> _Lease | str:
+async def _lease_of(client: AsyncClient, shard: int) -> _Lease | str:
     """The lease of a shard, or why it can't be read."""
     try:
-        redis, keys = _near(client, shard)
-        said = redis.hgetall(keys.lease)
+        redis, keys = await _near(client, shard)
+        said = await redis.hgetall(keys.lease)
     except RedisError as error:
         return str(error)
     return _Lease(said.get(b"token", b""), said.get(b"count", b"0"), int(said.get(b"milliseconds", b"0")) / 1000)
@@ -182,32 +183,32 @@ def _health(seen: SeenShard) -> str:
     return f"served by {seen.served_by}" if seen.raises else f"{seen.served_by} has its lease, and does not raise it"
 
 
-def _durability(client: Client, shard: int) -> str:
+async def _durability(client: AsyncClient, shard: int) -> str:
     """What is wrong with the durability of a shard's Redis; empty if it can't be reached, which the shard's lease shows."""
     try:
-        redis, keys = _near(client, shard)
-        return demand_durable(redis.near(keys.lease))
+        redis, keys = await _near(client, shard)
+        return await demand_durable(redis.near(keys.lease))
     except Away:
         return ""
     except RedisError as error:
         return str(error)
 
 
-def _waiting(client: Client, shard: int) -> int | None:
+async def _waiting(client: AsyncClient, shard: int) -> int | None:
     """The number of bytes that wait in a shard; None if its Redis does not report it."""
     try:
-        redis, keys = _near(client, shard)
-        return sum(int(one) for one in redis.hgetall(keys.waiting).values())
+        redis, keys = await _near(client, shard)
+        return sum(int(one) for one in (await redis.hgetall(keys.waiting)).values())
     except RedisError:
         return None
 
 
-def _asides(client: Client, customers: dict[str, Seat]) -> Iterator[tuple[str, str]]:
+async def _asides(client: AsyncClient, customers: dict[str, Seat]) -> AsyncIterator[tuple[str, str]]:
     names = {(seat.shard, seat.tenant): name for name, seat in customers.items()}
-    for shard in sorted(client.directory.loads()):
+    for shard in sorted(await client.directory.loads()):
         try:
-            redis, keys = _near(client, shard)
-            found = redis.hgetall(keys.aside)
+            redis, keys = await _near(client, shard)
+            found = await redis.hgetall(keys.aside)
         except RedisError:
             continue
         for tenant, kept in sorted(found.items()):

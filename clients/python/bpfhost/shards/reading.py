@@ -7,16 +7,17 @@ the entries that come together with it would need a second read.
 
 from __future__ import annotations
 
+import asyncio
 from collections.abc import Iterator, Sequence
 from dataclasses import dataclass
+from typing import Any
 
 from bpfhost.numbers import MOST_TENANTS
 from bpfhost.shards.calls import Call, Item, NoCall, item_of
-from bpfhost.shards.connection import Entry, Line, entries_of
+from bpfhost.shards.connection import Entry, Line, entries_of, forgotten
 from bpfhost.shards.errors import Away
 from bpfhost.shards.names import ShardKeys
 from bpfhost.shards.served import Served
-from bpfhost.shards.system import Pending
 
 # In a turn each tenant has calls of so many frames and bytes at most, or one call.
 TURN_FRAMES, TURN_BYTES = 512, 1 << 18
@@ -30,7 +31,7 @@ class _Asked:
     """What a lane reads: its streams with the ids after which they are read, and the pending reply."""
 
     places: dict[str, bytes]
-    pending: Pending
+    task: asyncio.Task[Any]
 
 
 class _Lane:
@@ -59,11 +60,12 @@ class Reading:
         self._read_to.clear()
         for lane in self._lanes:
             if lane.asked:
+                forgotten(lane.asked.task)
                 lane.asked = None
-                lane.line.cut()
 
     def end(self) -> None:
         """Ends its connections."""
+        self.forget()
         for lane in self._lanes:
             lane.line.cut()
 
@@ -84,12 +86,12 @@ class Reading:
 
     # Lanes.
 
-    def ask(self) -> list[Pending]:
+    def ask(self) -> list[asyncio.Task[Any]]:
         """Lets all lanes wait for entries, and returns the pending replies."""
         for lane in self._lanes:
             if not lane.asked:
                 self._ask(lane)
-        return [lane.asked.pending for lane in self._lanes if lane.asked]
+        return [lane.asked.task for lane in self._lanes if lane.asked]
 
     def _ask(self, lane: _Lane) -> None:
         shard, busy, read_to = self._shard, self._shard.busy, self._read_to
@@ -97,18 +99,20 @@ class Reading:
         places = {lane.names[log.tenant]: read_to.get(log.tenant) or log.place for log in logs}
         if places:
             wait = min(shard.settings.lease_seconds / 4, _SECONDS_TO_WAIT if len(places) == len(lane.names) else _SECONDS_BESIDE)
-            lane.asked = _Asked(places, lane.line.begin_xread(places, lane.at_once, wait))
+            lane.asked = _Asked(places, shard.wakes(lane.line.begin_xread(places, lane.at_once, wait)))
 
-    def shares(self) -> Iterator[list[Item]]:
+    async def shares(self) -> list[list[Item]]:
         """What each tenant has in this turn: calls, or one entry that is no call."""
+        found: list[list[Item]] = []
         for lane in self._lanes:
-            if lane.asked and lane.asked.pending.is_answered():
+            if lane.asked and lane.asked.task.done():
                 asked, lane.asked = lane.asked, None
-                yield from self._shares(lane, asked)
+                found += self._shares(lane, asked, await self._found(asked))
+        return found
 
-    def _shares(self, lane: _Lane, asked: _Asked) -> Iterator[list[Item]]:
+    def _shares(self, lane: _Lane, asked: _Asked, found: dict[str, list[Entry]]) -> Iterator[list[Item]]:
         shard, most = self._shard, 1
-        for name, entries in self._found(asked).items():
+        for name, entries in found.items():
             log = shard.logs[lane.tenants[name]]
             # Other work may have been done for the tenant since the read began.
             if log.aside or log.tenant in shard.busy or (self._read_to.get(log.tenant) or log.place) != asked.places[name]:
@@ -118,12 +122,12 @@ class Reading:
             yield share_of(items)
         lane.at_once = max(1, min(_MOST_READ, TURN_FRAMES // most))
 
-    def _found(self, asked: _Asked) -> dict[str, list[Entry]]:
+    async def _found(self, asked: _Asked) -> dict[str, list[Entry]]:
         """The entries that have come; empty if Redis is away, and then the worker waits for it."""
         try:
-            return entries_of(asked.pending.answer())
+            return entries_of(await asked.task)
         except Away as away:
-            self._shard.wait_for_redis(away)
+            await self._shard.wait_for_redis(away)
             return {}
 
 

@@ -12,18 +12,18 @@ from bpfhost.shards.errors import OtherShard
 from bpfhost.shards.names import ShardKeys
 
 
-def register(redis: Redis, keys: ShardKeys, directory: Directory, server: str) -> bytes:
+async def register(redis: Redis, keys: ShardKeys, directory: Directory, server: str) -> bytes:
     """Registers a shard in the directory, after its lease is held and its Redis is known to be durable; returns its name.
 
     Raises OtherShard if the directory knows another one by this number, or none though the shard has customers.
     """
-    own = redis.get(keys.incarnation)
-    if own is None and directory.incarnation(keys.number) is None:
-        own = bytes(scripts.BE_MADE(redis, [keys.incarnation], [redis.system.fresh()]))
-    elif own is not None and directory.incarnation(keys.number) is None and redis.hkeys(keys.seats):
+    own = await redis.get(keys.incarnation)
+    if own is None and await directory.incarnation(keys.number) is None:
+        own = bytes(await scripts.BE_MADE(redis, [keys.incarnation], [redis.system.fresh()]))
+    elif own is not None and await directory.incarnation(keys.number) is None and await redis.hkeys(keys.seats):
         raise OtherShard(
             f"shard {keys.number} has customers, and the directory knows nothing of it: it is another directory, or was told that the"
             f" shard is removed"
         )
-    directory.register(keys.number, own or b"nothing", server)
+    await directory.register(keys.number, own or b"nothing", server)
     return own or b""

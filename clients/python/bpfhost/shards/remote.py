@@ -21,7 +21,8 @@ from typing import Any, cast
 from bpfhost.host import Host
 from bpfhost.replies import Reply, read_replies
 from bpfhost.shards.calls import LONGEST_CALL, MOST_FRAMES, whole_frames
-from bpfhost.shards.client import NAMELESS, SECONDS, CustomersTenant
+from bpfhost.shards.blocking import CustomersTenant
+from bpfhost.shards.client import NAMELESS, SECONDS
 from bpfhost.shards.errors import NoReply, NotDone, NotTaken, ReplyGone, SessionPassed, SetAside, ShardError
 from bpfhost.shards.gateway.protocol import GATEWAY, Why, Word, ack, hello, read_told
 from bpfhost.parts import in_parts

@@ -12,7 +12,7 @@ from bpfhost.shards.log import Log, Replies, Since
 from bpfhost.shards.manifest import Manifest
 from bpfhost.shards.names import START, after, order
 from bpfhost.shards.serving import Serving
-from bpfhost.state import Steps
+from bpfhost.shards.steps import in_steps, step
 
 
 @dataclass
@@ -23,17 +23,17 @@ class Restored:
     aside: Aside | None = None
 
 
-def restored(serving: Serving, log: Log, alive: Callable[[], None], accepts: bool = False) -> Steps[Restored]:
+async def restored(serving: Serving, log: Log, alive: Callable[[], None], accepts: bool = False) -> Restored:
     """Restores the state of a tenant that is empty, in steps.
 
     With `accepts`, an operator accepts what this build makes of it: programs that it refuses are closed, and replies that differ from the
     written ones are ignored.
     """
     found = Restored()
-    log.read_marks()
-    last = log.last()
+    await log.read_marks()
+    last = await log.last()
     try:
-        yield from _from_best(serving, log, last, found, alive, accepts)
+        await _from_best(serving, log, last, found, alive, accepts)
     except RepliesDiffer as error:
         found.aside = Aside(DIFFERS, after(log.place).decode(), str(error))
     except StateRefused as error:
@@ -46,75 +46,75 @@ def restored(serving: Serving, log: Log, alive: Callable[[], None], accepts: boo
     return found
 
 
-def _from_best(
+async def _from_best(
     serving: Serving, log: Log, last: bytes, found: Restored, alive: Callable[[], None], accepts: bool
-) -> Steps[None]:
+) -> None:
     """Restores from the last snapshot that is whole, or the whole stream."""
-    kept = log.redis.hget(log.keys.snapshots, f"{log.tenant}")
-    manifests = log.manifests()
+    kept = await log.redis.hget(log.keys.snapshots, f"{log.tenant}")
+    manifests = await log.manifests()
     damaged = SnapshotDamaged("what a snapshot says of itself is damaged") if kept and (not manifests or kept != manifests[0].to_bytes()) else None
     for manifest in manifests:
         try:
-            stream = yield from log.stream_of(manifest)
+            stream = await log.stream_of(manifest)
         except SnapshotDamaged as error:
             damaged = damaged or error
             continue
-        if not log.reaches(manifest.place.encode(), last):
+        if not await log.reaches(manifest.place.encode(), last):
             damaged = damaged or SnapshotDamaged(f"entries behind {manifest.place} were dropped that are in no snapshot")
             continue
         log.snapshot, log.before = manifest, (manifests[1] if manifest is manifests[0] and len(manifests) > 1 else None)
-        yield from _made(serving, manifest, stream, log, accepts)
-        yield from _played(serving, log, manifest.place.encode(), last, alive, accepts)
+        await _made(serving, manifest, stream, log, accepts)
+        await _played(serving, log, manifest.place.encode(), last, alive, accepts)
         break
     else:
-        if not log.reaches(START, last):
+        if not await log.reaches(START, last):
             raise SnapshotDamaged(f"{damaged or 'there is no snapshot'}, and the stream does not reach to what came before it")
-        yield from _played(serving, log, START, last, alive, accepts)
+        await _played(serving, log, START, last, alive, accepts)
     if damaged:
         found.told.append(f"{damaged}; the state was made of {'the snapshot before it' if log.snapshot else 'the stream'}")
-        _mend(log)
+        await _mend(log)
 
 
-def _mend(log: Log) -> None:
+async def _mend(log: Log) -> None:
     """Removes a damaged snapshot, so that it does not become the one before the next one."""
-    log.redis.hdel(log.keys.snapshots, f"{log.tenant}", f"{log.tenant}:before")
+    await log.redis.hdel(log.keys.snapshots, f"{log.tenant}", f"{log.tenant}:before")
     if log.snapshot:
-        log.redis.hset(log.keys.snapshots, f"{log.tenant}", log.snapshot.to_bytes())
+        await log.redis.hset(log.keys.snapshots, f"{log.tenant}", log.snapshot.to_bytes())
 
 
-def _made(serving: Serving, manifest: Manifest, stream: bytes, log: Log, accepts: bool) -> Steps[None]:
+async def _made(serving: Serving, manifest: Manifest, stream: bytes, log: Log, accepts: bool) -> None:
     try:
-        yield from serving.make(log.tenant, stream, accepts)
+        await in_steps(serving.make(log.tenant, stream, accepts))
     except StateRefused as error:
         raise StateRefused(f"{error}; build {manifest.build or '?'} made its snapshot at entry {manifest.place}") from None
 
 
-def _played(
+async def _played(
     serving: Serving, log: Log, place: bytes, last: bytes, alive: Callable[[], None], accepts: bool
-) -> Steps[None]:
+) -> None:
     """Plays the calls after a place that have replies, and compares the replies."""
     log.place, log.since = place, Since(changed=True)
-    for entries, replies in log.both(place, last):
+    async for entries, replies in log.both(place, last):
         alive()
         for entry in entries:
             item = item_of(log.tenant, entry)
             if isinstance(item, (Leaves, Arrives)):
-                yield from _play_control(serving, log, item)
+                await _play_control(serving, log, item)
             else:
                 _play(serving, log, item, replies, accepts)
             log.since.entries += 1
             log.since.size += size_of(entry[1]) + size_of(replies.get(entry[0], {}))
             log.place = entry[0]
-        yield
+        await step()
     if order(log.place) < order(last):
         sentence = f"the stream of tenant {log.tenant} of shard {log.keys.number} has no entry {last.decode()}, and a reply to it"
         raise SnapshotDamaged(sentence)
 
 
-def _play_control(serving: Serving, log: Log, item: Leaves | Arrives) -> Steps[None]:
+async def _play_control(serving: Serving, log: Log, item: Leaves | Arrives) -> None:
     serving.empty(log.tenant)
     if isinstance(item, Arrives):
-        yield from serving.make(log.tenant, (yield from log.stream_of(Manifest.read(item.manifest))))
+        await in_steps(serving.make(log.tenant, await log.stream_of(Manifest.read(item.manifest))))
 
 
 def _play(serving: Serving, log: Log, item: Item, replies: Replies, accepts: bool) -> None:

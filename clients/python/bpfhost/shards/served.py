@@ -2,9 +2,10 @@
 
 from __future__ import annotations
 
+import asyncio
 from collections import deque
-from collections.abc import Callable, Generator
-from typing import Protocol, TypeVar
+from collections.abc import Callable
+from typing import Protocol
 
 from bpfhost.numbers import MOST_TENANTS
 from bpfhost.shards.aside import Aside
@@ -17,6 +18,7 @@ from bpfhost.shards.metrics import Told
 from bpfhost.shards.names import ShardKeys, order
 from bpfhost.shards.serving import Serving
 from bpfhost.shards.settings import Settings
+from bpfhost.shards.system import Answer, Work
 from bpfhost.shards.writing import Writing
 
 # One piece of the worker's work may take so long before the worker is taken to hang.
@@ -26,14 +28,13 @@ LONGEST_PAUSE = 0.5
 _SECONDS_OF_PATIENCE = 5.0
 
 # Work done in steps between calls, for one tenant, whose calls are not played meanwhile.
-Job = tuple[int, Generator[None, None, None]]
-Answer = TypeVar("Answer")
+Job = tuple[int, Work[None]]
 
 
 class UnderWay(Protocol):
     """The work in progress in turns."""
 
-    def settle(self) -> None:
+    async def settle(self) -> None:
         """Waits until the replies to all that was played are written."""
 
     def forget(self) -> None:
@@ -60,8 +61,15 @@ class Served:
         self.jobs: deque[Job] = deque()
         # Tenants with a job.
         self.busy: set[int] = set()
+        # Something has come of what the worker waits for.
+        self.came = asyncio.Event()
         self.is_stopped: Callable[[], bool] = lambda: False
         self._told_at = -_SECONDS_TO_TELL
+
+    def wakes(self, task: asyncio.Task[Answer]) -> asyncio.Task[Answer]:
+        """Lets the worker go on when a task is done."""
+        task.add_done_callback(lambda _: self.came.set())
+        return task
 
     def alive(self) -> None:
         """Records that the worker goes on."""
@@ -79,23 +87,23 @@ class Served:
 
     # Redis that is away.
 
-    def waiting(self, call: Callable[[], Answer]) -> Answer:
+    async def waiting(self, call: Callable[[], Work[Answer]]) -> Answer:
         """Calls until Redis is there, and reports if it is not; raises Stopped if the worker is stopped meanwhile."""
         pause = 0.02
         while True:
             try:
-                return call()
+                return await call()
             except Away as away:
-                self.wait_for_redis(away, pause)
+                await self.wait_for_redis(away, pause)
             pause = min(2 * pause, LONGEST_PAUSE)
 
-    def wait_for_redis(self, away: Away, pause: float = 0.02) -> None:
+    async def wait_for_redis(self, away: Away, pause: float = 0.02) -> None:
         """Waits a little for a Redis that is away, and reports that now and then; raises Stopped if the worker is stopped."""
         self.demand_same_log()
         self.tell_now_and_then(f"shard {self.keys.number} waits: {away}")
         if self.is_stopped():
             raise Stopped(f"shard {self.keys.number} waited for its Redis")
-        self.system.sleep(pause)
+        await asyncio.sleep(pause)
 
     def demand_same_log(self) -> None:
         """Raises LogChanged if the log may lack what this worker has played."""
@@ -107,8 +115,7 @@ class Served:
     def begin_anew(self) -> None:
         """Forgets all tenants, and drops all jobs."""
         self.under_way.forget()
-        self.jobs.clear()
-        self.busy.clear()
+        self.drop_jobs()
         self.keeping.begin()
         self.logs = [self.log_of(tenant) for tenant in range(MOST_TENANTS)]
 
@@ -120,23 +127,34 @@ class Served:
         """The latest place of all tenants."""
         return max((log.place for log in self.logs), key=order)
 
-    def set_aside(self, log: Log, aside: Aside) -> None:
+    async def set_aside(self, log: Log, aside: Aside) -> None:
         """Sets a tenant aside, and reports it."""
         if log.aside != aside:
             log.aside = aside
-            self.writing.note(self.keys.aside, log.tenant, aside.to_bytes())
+            await self.writing.note(self.keys.aside, log.tenant, aside.to_bytes())
             self.tell(f"shard {self.keys.number}, tenant {log.tenant} is set aside: {aside.why}")
 
     # Jobs, done in steps.
 
-    def begin_job(self, tenant: int, job: Generator[None, None, None], first: bool = False) -> None:
+    async def begin_job(self, tenant: int, job: Work[None], first: bool = False) -> None:
         """Does something for a tenant, in steps; before that, the replies to all that was played are written."""
-        self.under_way.settle()
+        try:
+            await self.under_way.settle()
+        except BaseException:
+            job.close()
+            raise
         self.busy.add(tenant)
         if first:
             self.jobs.appendleft((tenant, job))
         else:
             self.jobs.append((tenant, job))
+
+    def drop_jobs(self) -> None:
+        """Drops all jobs."""
+        for _, job in self.jobs:
+            job.close()
+        self.jobs.clear()
+        self.busy.clear()
 
     def end_job(self, tenant: int) -> None:
         """Ends a job."""

@@ -5,7 +5,7 @@ The replies to a tenant are a function of its own frames. So each tenant's state
 
 from __future__ import annotations
 
-from collections.abc import Callable, Iterable, Iterator, Sequence
+from collections.abc import AsyncIterator, Callable, Iterable, Iterator, Sequence
 from itertools import groupby, islice
 from typing import NamedTuple, cast
 
@@ -23,7 +23,8 @@ from bpfhost.shards.errors import CopyDiffers, MemoryRefused, ShardError, StateR
 from bpfhost.shards.library import Library, LibraryHost
 from bpfhost.shards.names import FAULT, REPLIES, weight
 from bpfhost.shards.system import Asked as AskedHost
-from bpfhost.shards.system import System
+from bpfhost.shards.steps import in_steps, step
+from bpfhost.shards.system import System, Work
 from bpfhost.state import FILLER, Steps, read_pairs, same_pairs, split, state_frames, wanted_status, with_tenant
 from bpfhost.tenancy import Tenancy, command_of, status_of
 
@@ -34,7 +35,7 @@ _ASKED_AT_ONCE, _MADE_IN_A_STEP, _READ_AT_ONCE = 1024, 400, 1 << 16
 _WANTS_MEMORY = (Command.MAP_CREATE, Command.MAP_UPDATE_ELEM, Command.PROG_LOAD)
 
 # The frames of a tenant with their replies, since its last snapshot.
-History = Callable[[], Iterable[Asked]]
+History = Callable[[], AsyncIterator[Iterable[Asked]]]
 
 
 class Written(NamedTuple):
@@ -222,30 +223,31 @@ class Serving:
                 raise ShardError(f"the host answers {reply.hex()} to the end of tenant {tenant}")
             tenancy.note(frame, 0)
 
-    def state(self, tenant: int, before: Callable[[], Steps[bytes]], history: History) -> Steps[bytes]:
+    async def state(self, tenant: int, before: Callable[[], Work[bytes]], history: History) -> bytes:
         """The frames that make a tenant's state, in steps; no calls of the tenant are played meanwhile.
 
-        A host in this process saves it. Otherwise its maps are read: `before` yields the frames of its last snapshot, and `history` its
+        A host in this process saves it. Otherwise its maps are read: `before` returns the frames of its last snapshot, and `history` its
         frames since then, which are played again if a map has no descriptor any more.
         """
         if isinstance(self._host, LibraryHost):
-            return (yield from self._host.save(tenant))
+            return await in_steps(self._host.save(tenant))
         tenancy = self.tenancies[tenant]
         live = tenancy.live()
         named = [on for on in live if tenancy.is_open(on)]
-        pairs = yield from read_pairs(self, tenant, {on: on.descriptor for on in named})
+        pairs = await in_steps(read_pairs(self, tenant, {on: on.descriptor for on in named}))
         if len(named) < len(live):
             with Copy(self._new_host(1)) as copy:
-                yield from copy.play(answered((yield from before())))
-                yield from copy.play(history())
-                copied = yield from copy.pairs(tenancy)
+                await in_steps(copy.play(answered(await before())))
+                async for played in history():
+                    await in_steps(copy.play(played))
+                copied = await in_steps(copy.pairs(tenancy))
             if not same_pairs(pairs, copied, named):
                 raise CopyDiffers(f"the copy of tenant {tenant} has other values than the tenant")
             pairs = copied
         stream = bytearray()
         for part in in_parts(state_frames(tenancy, pairs), lambda _: 1, _MADE_IN_A_STEP):
             stream += b"".join(part)
-            yield
+            await step()
         return bytes(stream)
 
 

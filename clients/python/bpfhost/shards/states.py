@@ -12,9 +12,9 @@ from bpfhost.shards.aside import ENTRY, MOST_TRIES, SKIP, STATE, Aside
 from bpfhost.shards.errors import LogChanged, MemoryRefused, Stopped
 from bpfhost.shards.log import Log
 from bpfhost.shards.names import after
-from bpfhost.shards.restoring import Restored, restored
+from bpfhost.shards.restoring import restored
 from bpfhost.shards.served import Served
-from bpfhost.state import Steps, at_once
+from bpfhost.shards.steps import at_once
 
 
 class States:
@@ -23,17 +23,17 @@ class States:
     def __init__(self, shard: Served) -> None:
         self._shard = shard
 
-    def make_all(self) -> None:
+    async def make_all(self) -> None:
         """Restores all states, from one log. If that log is still there, the replies to all that was played are written before."""
         with contextlib.suppress(LogChanged):
-            self._shard.under_way.settle()
+            await self._shard.under_way.settle()
         while True:
             try:
-                return self._shard.waiting(self._make_all)
+                return await self._shard.waiting(self._make_all)
             except LogChanged:
                 continue
 
-    def _make_all(self) -> None:
+    async def _make_all(self) -> None:
         """If the host ends meanwhile, another one is started; a state that ends it three times is set aside."""
         shard, ended = self._shard, Counter[int]()
         began = shard.system.now()
@@ -45,52 +45,52 @@ class States:
             shard.begin_anew()
             at = 0
             try:
-                for at in self._tenants_with_a_log():
-                    self._make_or_set_aside(shard.logs[at], ended[at])
-                shard.writing.drop_strays(shard.logs)
+                for at in await self._tenants_with_a_log():
+                    await self._make_or_set_aside(shard.logs[at], ended[at])
+                await shard.writing.drop_strays(shard.logs)
                 shard.metrics.set("bpfhost_worker_restore_seconds", shard.system.now() - began)
                 return
             except (HostError, ReplyError, MemoryRefused) as error:
                 ended[at] += 1
                 shard.tell_of_host(error)
 
-    def _tenants_with_a_log(self) -> list[int]:
+    async def _tenants_with_a_log(self) -> list[int]:
         """The tenants that ever had an entry; the others are new."""
         streams = [name for log in self._shard.logs for name in (log.frames, log.replies)]
-        found = scripts.ARE_THERE(self._shard.patient, streams, [])
+        found = await scripts.ARE_THERE(self._shard.patient, streams, [])
         return [tenant for tenant in range(MOST_TENANTS) if any(found[2 * tenant : 2 * tenant + 2])]
 
-    def _make_or_set_aside(self, log: Log, ended: int) -> None:
+    async def _make_or_set_aside(self, log: Log, ended: int) -> None:
         shard = self._shard
         shard.alive()
         if shard.is_stopped():
             raise Stopped(f"shard {shard.keys.number} was stopped while its states were made")
         if ended < MOST_TRIES:
-            at_once(self.make(log))
+            await at_once(self.make(log))
             return
-        log.place = log.last()
+        log.place = await log.last()
         sentence = f"the state of tenant {log.tenant} ended the host {MOST_TRIES} times"
-        shard.set_aside(log, Aside(STATE, after(log.place).decode(), sentence))
+        await shard.set_aside(log, Aside(STATE, after(log.place).decode(), sentence))
 
-    def make(self, log: Log, word: str = "") -> Steps[None]:
+    async def make(self, log: Log, word: str = "") -> None:
         """Restores a tenant's state; if that fails, sets it aside. An operator may have decided on it."""
         shard = self._shard
-        kept = shard.patient.hget(shard.keys.aside, log.tenant)
-        found: Restored = yield from restored(shard.serving, log, shard.alive, accepts=word == SKIP)
+        kept = await shard.patient.hget(shard.keys.aside, log.tenant)
+        found = await restored(shard.serving, log, shard.alive, accepts=word == SKIP)
         shard.keeping.reckon()
         shard.metrics.add("bpfhost_worker_replayed_frames_total", log.since.frames)
         for sentence in found.told:
             shard.tell(f"shard {shard.keys.number}, tenant {log.tenant}: {sentence}")
         if found.aside:
-            shard.set_aside(log, found.aside)
+            await shard.set_aside(log, found.aside)
         elif kept and Aside.read(kept).kind == ENTRY:
             log.aside = Aside.read(kept)
         elif kept:
-            shard.writing.note(shard.keys.aside, log.tenant, b"")
+            await shard.writing.note(shard.keys.aside, log.tenant, b"")
 
-    def make_again(self, tenant: int) -> None:
+    async def make_again(self, tenant: int) -> None:
         """Restores a tenant whose job was interrupted."""
         shard = self._shard
         shard.serving.empty(tenant)
         shard.logs[tenant] = shard.log_of(tenant)
-        at_once(self.make(shard.logs[tenant]))
+        await at_once(self.make(shard.logs[tenant]))

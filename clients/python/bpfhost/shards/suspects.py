@@ -28,23 +28,23 @@ class Suspects:
         """Whether calls have to be played one at a time."""
         return bool(self._careful)
 
-    def host_has_ended(self, suspects: Sequence[Call | NoCall], error: Exception) -> None:
+    async def host_has_ended(self, suspects: Sequence[Call | NoCall], error: Exception) -> None:
         """Notes the entries that may have ended the host, sets an entry aside that has done so three times, and starts another host."""
         for call in suspects:
             key = call.tenant, call.entry
             self._tries[key] = self._tries.get(key, 0) + 1
             self._careful.setdefault(call.tenant, call.entry)
         self._shard.tell_of_host(error)
-        self._states.make_all()
+        await self._states.make_all()
         if len(suspects) == 1 and self._tries[suspects[0].tenant, suspects[0].entry] >= MOST_TRIES:
-            self._give_up(suspects[0], error)
+            await self._give_up(suspects[0], error)
 
-    def _give_up(self, call: Call | NoCall, error: Exception) -> None:
+    async def _give_up(self, call: Call | NoCall, error: Exception) -> None:
         log, entry = self._shard.logs[call.tenant], call.entry.decode()
         self._careful.pop(call.tenant, None)
         self._tries.pop((call.tenant, call.entry), None)
         aside = Aside(ENTRY, entry, f"entry {entry} of shard {self._shard.keys.number} ended the host {MOST_TRIES} times: {error}")
-        self._shard.waiting(lambda: self._shard.set_aside(log, aside))
+        await self._shard.waiting(lambda: self._shard.set_aside(log, aside))
 
     def is_answered(self, tenant: int, entry: bytes) -> None:
         """Notes that an entry did not end the host."""
@@ -56,7 +56,7 @@ class Suspects:
         """Lets an entry that was set aside be played by itself."""
         self._careful[tenant] = entry
 
-    def job_ended_host(self, tenant: int, error: Exception) -> None:
+    async def job_ended_host(self, tenant: int, error: Exception) -> None:
         """Starts another host. A job that ended the host three times is given up.
 
         Then no snapshot is taken, or the arriving tenant is refused, or the leaving tenant is set aside.
@@ -65,7 +65,7 @@ class Suspects:
         key = tenant, b"behind " + place
         self._tries[key] = self._tries.get(key, 0) + 1
         self._shard.tell_of_host(error)
-        self._states.make_all()
+        await self._states.make_all()
         if self._tries[key] >= MOST_TRIES:
             del self._tries[key]
             self._shard.keeping.failed.add(tenant)

@@ -3,12 +3,14 @@
 from __future__ import annotations
 
 from dataclasses import dataclass, field
+from functools import cached_property
 from typing import NamedTuple
 
 from bpfhost.alike import is_short
 from bpfhost.shards.calls import LONGEST_CALL, MOST_ALIKE, MOST_FRAMES
 from bpfhost.shards.directory import Seat
 from bpfhost.shards.errors import CallError
+from bpfhost.state import split
 from bpfhost.tenancy import BODY
 
 
@@ -40,7 +42,13 @@ class Ticket:
     is_packed: bool = False
     seat: Seat | None = None
     place: Place | None = None
-    answered: list[bytes] = field(default_factory=list)
+    # The replies, one after another; empty until they have come.
+    answered: bytes = b""
+
+    @cached_property
+    def replies(self) -> list[bytes]:
+        """The replies that have come, one for each frame."""
+        return split(self.answered)
 
     @property
     def entry(self) -> bytes | None:

@@ -6,7 +6,9 @@ the turns before are written (`answering`).
 
 from __future__ import annotations
 
+import asyncio
 from collections.abc import Sequence
+from typing import Any
 
 from bpfhost.errors import HostError, ReplyError
 from bpfhost.shards.answering import Answering, Played
@@ -18,6 +20,9 @@ from bpfhost.shards.served import Served
 from bpfhost.shards.suspects import Suspects
 from bpfhost.shards.upkeep import SECONDS_TO_LOOK, Upkeep
 
+# The host runs for so long before what waits for Redis goes on, the lease too.
+_SECONDS_AT_ONCE = 0.02
+
 
 class Turns:
     """The turns of one shard."""
@@ -27,9 +32,9 @@ class Turns:
         self._reading = Reading(shard)
         self._answering = Answering(shard, self._note, self._make_room)
 
-    def settle(self) -> None:
+    async def settle(self) -> None:
         """Waits until the replies to all that was played are written."""
-        self._answering.settle()
+        await self._answering.settle()
 
     def forget(self) -> None:
         """Begins anew, with tenants that were just restored."""
@@ -41,73 +46,84 @@ class Turns:
         self._reading.end()
         self._answering.end()
 
-    def turn(self) -> None:
+    async def turn(self) -> None:
         """One turn, and some steps of other jobs."""
         shard = self._shard
         shard.alive()
         shard.metrics.add("bpfhost_worker_turns_total")
-        shard.waiting(shard.lease.keep)
-        shard.waiting(self._upkeep.look_at_words)
+        await shard.waiting(self._upkeep.look_at_words)
         if shard.keeping.is_due_to_look():
-            self.settle()
-            shard.waiting(self._upkeep.look_around)
-        self._wait()
-        items = list(self._reading.shares())
+            await self.settle()
+            await shard.waiting(self._upkeep.look_around)
+        await self._wait()
+        items = await self._reading.shares()
         calls = [item for one in items for item in one if isinstance(item, (Call, NoCall))]
         if calls:
-            self._play(calls)
+            began = shard.system.now()
+            await self._play(calls)
+            shard.metrics.saw("bpfhost_worker_turn_seconds", shard.system.now() - began)
         for one in items:
             if one and not isinstance(one[0], (Call, NoCall)):
-                self._jobs.begin_control(one[0])
-        self._upkeep.look_at_snapshots()
-        self._jobs.do_some()
+                await self._jobs.begin_control(one[0])
+        await self._upkeep.look_at_snapshots()
+        await self._jobs.do_some()
 
-    def _wait(self) -> None:
+    async def _wait(self) -> None:
         """Waits until something has come, or is written; does not wait if a job has steps to do."""
         shard, asked = self._shard, self._reading.ask()
         wait = 0.0 if shard.jobs else min(shard.settings.lease_seconds / 4, SECONDS_TO_LOOK)
         if not asked:
-            self.settle()
-            shard.system.sleep(min(wait, 0.05))
-        elif self._answering.is_full():
-            # What comes meanwhile is taken together.
-            shard.system.any_of(self._answering.first(), wait)
-            shard.system.any_of(asked, 0.0)
+            await self.settle()
+            await asyncio.sleep(min(wait, 0.05))
         else:
-            shard.system.any_of([*asked, *self._answering.first()], wait)
-        self._answering.look()
+            # If no more batches can be sent, what comes meanwhile is taken together.
+            await self._until_one(self._answering.first() if self._answering.is_full() else [*asked, *self._answering.first()], wait)
+        await self._answering.look()
 
-    def _play(self, calls: Sequence[Call | NoCall]) -> None:
+    async def _until_one(self, tasks: Sequence[asyncio.Task[Any]], seconds: float) -> None:
+        """Waits until one of these is done, at most so many seconds."""
+        came, until = self._shard.came, self._shard.system.now() + seconds
+        timer = asyncio.get_running_loop().call_later(seconds, came.set)
+        while not any(task.done() for task in tasks) and self._shard.system.now() < until:
+            came.clear()
+            await came.wait()
+        timer.cancel()
+
+    async def _play(self, calls: Sequence[Call | NoCall]) -> None:
         """Plays calls, and writes their replies; one at a time if one of them may have ended a host."""
         self._reading.taken(calls)
         if self._suspects.are_there:
-            self.settle()
+            await self.settle()
             for call in calls:
-                if not self._played([call]):
+                if not await self._played([call]):
                     return
-                self.settle()
+                await self.settle()
         else:
             # What comes next is read meanwhile.
             self._reading.ask()
-            self._played(calls)
+            await self._played(calls)
 
-    def _played(self, calls: Sequence[Call | NoCall]) -> bool:
+    async def _played(self, calls: Sequence[Call | NoCall]) -> bool:
         """Plays calls, and begins to write their replies; False if the host has ended, and all states were restored."""
         played: list[Played] = []
+        pause = self._shard.system.now() + _SECONDS_AT_ONCE
         try:
             for call, (written, changed) in zip(calls, self._shard.serving.play(calls)):
                 played.append(Played(call, written, changed))
+                if self._shard.system.now() > pause:
+                    await asyncio.sleep(0)
+                    pause = self._shard.system.now() + _SECONDS_AT_ONCE
         except (HostError, ReplyError, MemoryRefused) as error:
-            self.settle()
-            self._answering.write(played)
-            self._suspects.host_has_ended(calls[len(played) :], error)
+            await self.settle()
+            await self._answering.write(played)
+            await self._suspects.host_has_ended(calls[len(played) :], error)
             return False
-        self._answering.begin(played)
+        await self._answering.begin(played)
         return True
 
-    def _make_room(self, error: OutOfMemory) -> None:
+    async def _make_room(self, error: OutOfMemory) -> None:
         """Makes room. Calls that were read, and may have been played, have no replies yet."""
-        self._upkeep.make_room(self._reading.unanswered(), error)
+        await self._upkeep.make_room(self._reading.unanswered(), error)
 
     def _note(self, played: Sequence[Played]) -> None:
         """Notes that replies are written."""

@@ -2,6 +2,8 @@
 
 from __future__ import annotations
 
+import asyncio
+
 from bpfhost.shards.aside import ENTRY, LOST, RETRY, SKIP, Aside
 from bpfhost.shards.calls import size_of
 from bpfhost.shards.errors import OutOfMemory, Stopped
@@ -11,7 +13,7 @@ from bpfhost.shards.served import LONGEST_PAUSE, Served
 from bpfhost.shards.serving import Written
 from bpfhost.shards.states import States
 from bpfhost.shards.suspects import Suspects
-from bpfhost.state import Steps, at_once
+from bpfhost.shards.steps import at_once
 
 SECONDS_TO_LOOK = 1.0
 # If so much of its memory is in use, Redis is about to have none left.
@@ -27,7 +29,7 @@ class Upkeep:
 
     # Operators' decisions.
 
-    def look_at_words(self) -> None:
+    async def look_at_words(self) -> None:
         """Applies operators' decisions on tenants that are set aside."""
         shard, now = self._shard, self._shard.system.now()
         if now < self._looked + SECONDS_TO_LOOK:
@@ -36,88 +38,88 @@ class Upkeep:
         aside = [log for log in shard.logs if log.aside and log.tenant not in shard.busy]
         if not aside:
             return
-        said = shard.redis.hgetall(shard.keys.words)
+        said = await shard.redis.hgetall(shard.keys.words)
         for log in aside:
             word, _, entry = said.get(b"%d" % log.tenant, b"").decode().partition(" ")
             if log.aside and word and entry == log.aside.entry:
-                shard.begin_job(log.tenant, self._decide(log, log.aside, word))
+                await shard.begin_job(log.tenant, self._decide(log, log.aside, word))
 
-    def _decide(self, log: Log, aside: Aside, word: str) -> Steps[None]:
+    async def _decide(self, log: Log, aside: Aside, word: str) -> None:
         """Applies an operator's decision on a tenant that is set aside."""
         shard = self._shard
         self._suspects.forgive(log.tenant)
         if aside.kind == ENTRY:
-            self._decide_entry(log, aside, word)
+            await self._decide_entry(log, aside, word)
         elif word == RETRY or aside.kind != LOST:
             log.aside = None
             shard.serving.empty(log.tenant)
-            yield from self._states.make(log, word)
-        shard.writing.note(shard.keys.words, log.tenant, b"")
+            await self._states.make(log, word)
+        await shard.writing.note(shard.keys.words, log.tenant, b"")
         shard.tell(f"shard {shard.keys.number}, tenant {log.tenant}: an operator said {word}")
 
-    def _decide_entry(self, log: Log, aside: Aside, word: str) -> None:
+    async def _decide_entry(self, log: Log, aside: Aside, word: str) -> None:
         """Skips an entry that is set aside, or lets it be tried again."""
         shard, entry = self._shard, aside.entry.encode()
         if word == SKIP:
             sentence = f"entry {aside.entry} was skipped by an operator: its frames were not done, and won't be"
-            size = sum(size_of(fields) for _, fields in shard.redis.xrange(log.frames, entry, entry, 1))
-            shard.writing.write([Written(log.tenant, entry, FAULT, sentence.encode(), shard.writing.weight(size))])
+            size = sum(size_of(fields) for _, fields in await shard.redis.xrange(log.frames, entry, entry, 1))
+            await shard.writing.write([Written(log.tenant, entry, FAULT, sentence.encode(), shard.writing.weight(size))])
             log.place = entry
         else:
             self._suspects.try_again(log.tenant, entry)
-        shard.writing.note(shard.keys.aside, log.tenant, b"")
+        await shard.writing.note(shard.keys.aside, log.tenant, b"")
         log.aside = None
 
     # Snapshots.
 
-    def look_at_snapshots(self) -> None:
+    async def look_at_snapshots(self) -> None:
         """Begins a snapshot of the tenant that has most to play again, if there is too much of that."""
         shard, keeping = self._shard, self._shard.keeping
-        keeping.look_at_ages(shard.logs, shard.begin_job, shard.busy)
+        await keeping.look_at_ages(shard.logs, shard.begin_job, shard.busy)
         if shard.jobs:
             return
         if shard.serving.asked >= shard.settings.most_asked:
-            self._replace_host()
+            await self._replace_host()
             return
         due = keeping.due(shard.logs, shard.busy)
         if due is not None:
-            shard.begin_job(due.tenant, keeping.snapshot(shard.serving, due))
+            await shard.begin_job(due.tenant, keeping.snapshot(shard.serving, due))
         else:
-            keeping.look_at_bytes(shard.logs, shard.begin_job, shard.busy)
+            await keeping.look_at_bytes(shard.logs, shard.begin_job, shard.busy)
 
-    def _replace_host(self) -> None:
+    async def _replace_host(self) -> None:
         """Replaces a host that was sent many frames by a new one, after snapshots of all tenants, so that little is played again."""
         shard = self._shard
         changed = [log for log in shard.logs if not log.aside and log.since.frames > 1000]
         for log in changed:
-            shard.begin_job(log.tenant, shard.keeping.snapshot(shard.serving, log))
+            await shard.begin_job(log.tenant, shard.keeping.snapshot(shard.serving, log))
         if not changed:
             shard.serving.is_careful = False
-            self._states.make_all()
+            await self._states.make_all()
 
-    def snapshot_all(self) -> None:
+    async def snapshot_all(self) -> None:
         """Begins snapshots of all tenants that had entries, so that the next worker has little to play again."""
         shard = self._shard
         for log in shard.logs:
             if log.since.frames and not log.aside and log.tenant not in shard.busy | shard.keeping.failed:
-                shard.begin_job(log.tenant, shard.keeping.snapshot(shard.serving, log))
+                await shard.begin_job(log.tenant, shard.keeping.snapshot(shard.serving, log))
 
     # Memory.
 
-    def look_around(self) -> None:
+    async def look_around(self) -> None:
         """Checks what waits, and the memory of Redis: if little is left, makes room before there is none."""
         shard = self._shard
-        shard.keeping.look_at_waiting(shard.logs, shard.busy)
-        used, most = shard.writing.memory()
+        await shard.keeping.look_at_waiting(shard.logs, shard.busy)
+        used, most = await shard.writing.memory()
         shard.metrics.set("bpfhost_worker_redis_memory_bytes", used)
         shard.metrics.set("bpfhost_worker_redis_memory_most_bytes", most)
         if most and used > most * _FULL_MEMORY and not shard.jobs:
             shard.tell_now_and_then(f"shard {shard.keys.number} makes room: {_memory(used, most)}")
             for log in shard.logs:
                 if not log.aside and log.place != START:
-                    shard.begin_job(log.tenant, shard.keeping.make_room(shard.serving, log))
+                    await shard.begin_job(log.tenant, shard.keeping.make_room(shard.serving, log))
 
-    def make_room(self, played: set[int], error: OutOfMemory) -> None:
+    async def make_room(self, played: set[int], error: OutOfMemory) -> None:
         """Makes room in a Redis that has no memory for replies.
 
         It takes no snapshot of the tenants whose replies are not written yet: their state includes calls that have no replies.
@@ -125,14 +127,14 @@ class Upkeep:
         shard = self._shard
         for log in shard.logs:
             if log.tenant in played | shard.busy or log.aside or log.place == START:
-                at_once(shard.keeping.drop_before(log))
+                await at_once(shard.keeping.drop_before(log))
             else:
-                at_once(shard.keeping.make_room(shard.serving, log))
-        shard.tell_now_and_then(f"shard {shard.keys.number} waits: {error}. {_memory(*shard.writing.memory())}")
+                await at_once(shard.keeping.make_room(shard.serving, log))
+        shard.tell_now_and_then(f"shard {shard.keys.number} waits: {error}. {_memory(*await shard.writing.memory())}")
         shard.alive()
         if shard.is_stopped():
             raise Stopped("stopped")
-        shard.system.sleep(LONGEST_PAUSE)
+        await asyncio.sleep(LONGEST_PAUSE)
 
 
 def _memory(used: int, most: int) -> str:

@@ -7,6 +7,7 @@ continues with the next ones (`turns`).
 
 from __future__ import annotations
 
+import asyncio
 import contextlib
 from collections.abc import Callable
 
@@ -15,12 +16,13 @@ from bpfhost.program import Program
 from bpfhost.shards import metrics
 from bpfhost.shards.attending import Attending
 from bpfhost.shards.building import build_of
-from bpfhost.shards.connection import Redis, demand_durable, demand_version, without_secrets
+from bpfhost.shards.connection import Redis, demand_durable, demand_version, forgotten, without_secrets
 from bpfhost.shards.directory import Directory
 from bpfhost.shards.errors import LeaseLost, LogChanged, RedisError, ShardError, Stopped
 from bpfhost.shards.jobs import Jobs
 from bpfhost.shards.library import Library
 from bpfhost.shards.log import Log
+from bpfhost.shards.loop import new_loop
 from bpfhost.shards.metrics import Told
 from bpfhost.shards.names import ShardKeys
 from bpfhost.shards.registering import register
@@ -33,6 +35,14 @@ from bpfhost.shards.turns import Turns
 from bpfhost.shards.upkeep import Upkeep
 
 _SECONDS_TO_END = 2.0
+
+
+async def ended(*tasks: asyncio.Task[None] | None) -> None:
+    """Ends tasks, and waits a little until they have ended."""
+    running = [task for task in tasks if task]
+    for task in running:
+        forgotten(task)
+    await asyncio.wait(running, timeout=_SECONDS_TO_END)
 
 
 class Worker:
@@ -49,6 +59,7 @@ class Worker:
         library: Library | None = None,
     ) -> None:
         """The directory is in the shard's Redis if no other one is named. With a library, the host is in this process."""
+        self._serves = False
         self.metrics = Told(metrics.WORKER, self._numbers)
         self._program, self._library, self._settings = program, library, settings
         self._server = without_secrets(redis.url) if directory else ""
@@ -58,7 +69,6 @@ class Worker:
         suspects = Suspects(shard, self._states)
         self._upkeep = Upkeep(shard, self._states, suspects)
         shard.under_way = self._turns = Turns(shard, suspects, Jobs(shard, self._states, suspects), self._upkeep)
-        self._has_ended = False
 
     @property
     def logs(self) -> list[Log]:
@@ -66,6 +76,19 @@ class Worker:
         return self._shard.logs
 
     def run(self, is_stopped: Callable[[], bool] = lambda: False) -> None:
+        """Serves (`serve`) on an event loop of its own, and closes the connections at the end."""
+
+        async def run() -> None:
+            try:
+                await self.serve(is_stopped)
+            finally:
+                for redis in dict.fromkeys((self._shard.redis, self._directory.redis)):
+                    await redis.close()
+
+        with asyncio.Runner(loop_factory=new_loop) as runner:
+            runner.run(run())
+
+    async def serve(self, is_stopped: Callable[[], bool] = lambda: False) -> None:
         """Serves until it is stopped; then releases the lease. If Redis is away, it waits, and reports that.
 
         Raises LeaseHeld if another worker serves the shard, LeaseLost if another one has taken the lease, OtherShard if the directory
@@ -76,58 +99,57 @@ class Worker:
         # The host starts first, so that none of the lease's time passes meanwhile.
         with contextlib.suppress(Stopped), Serving(self._program, shard.system, shard.alive, self._library) as shard.serving:
             try:
-                shard.waiting(self._take_lease)
-                self._serve_under_lease()
+                await shard.waiting(self._take_lease)
+                await self._serve_under_lease()
             finally:
                 self._turns.end()
+                shard.drop_jobs()
 
-    def _take_lease(self) -> None:
+    async def _take_lease(self) -> None:
         shard = self._shard
         near = shard.redis.near(shard.keys.lease)
-        demand_version(near)
+        await demand_version(near)
         if self._settings.demand_durable:
-            unseen = demand_durable(near)
+            unseen = await demand_durable(near)
             if unseen:
                 shard.tell_now_and_then(f"shard {shard.keys.number}: {unseen}")
-        shard.lease.take(shard.is_stopped)
+        await shard.lease.take(shard.is_stopped)
 
-    def _serve_under_lease(self) -> None:
+    async def _serve_under_lease(self) -> None:
         shard, number = self._shard, self._shard.keys.number
-        beside = shard.system.beside(lambda: shard.lease.keep_beside(lambda: self._has_ended))
-        attending = None
+        keeping = asyncio.create_task(shard.lease.keep_beside())
+        attending: Attending | None = None
+        attended: asyncio.Task[None] | None = None
         try:
             shard.alive()
-            incarnation = shard.waiting(lambda: register(shard.redis, shard.keys, self._directory, self._server))
+            incarnation = await shard.waiting(lambda: register(shard.redis, shard.keys, self._directory, self._server))
             is_careful = self._is_careful()
-            self._states.make_all()
-            shard.waiting(lambda: self._directory.beat(number, incarnation))
+            await self._states.make_all()
+            await shard.waiting(lambda: self._directory.beat(number, incarnation))
             shard.tell(f"shard {number} is served, from entry {shard.last_place().decode()} on")
             if is_careful:
                 shard.tell(f"shard {number}: the worker before ended without a word, so the host is a process of its own at first")
             attending = Attending(self._directory, number, incarnation, self._settings.lease_seconds, shard.tell)
-            attended = shard.system.beside(lambda: attending.run(lambda: self._has_ended) if attending else None)
-            self.metrics.set("bpfhost_worker_serves", 1)
+            attended = asyncio.create_task(attending.run())
+            self._serves = True
             while not shard.is_stopped():
-                self._turn_or_begin_anew()
-            self._drain()
+                await self._turn_or_begin_anew()
+            await self._drain()
         except (RedisError, LeaseLost):
             raise
         except (ShardError, StateError) as error:
             # Another worker may have dropped what this one was about to read.
-            if not isinstance(error, Stopped) and not shard.lease.is_held():
-                raise shard.lease.lost() from error
+            if not isinstance(error, Stopped) and not await shard.lease.is_held():
+                raise await shard.lease.lost() from error
             raise
         finally:
-            self._has_ended = True
-            self.metrics.set("bpfhost_worker_serves", 0)
+            self._serves = False
             # Nothing is written any more, so the next worker need not wait.
             with contextlib.suppress(RedisError):
-                if attending:
-                    attended.join(_SECONDS_TO_END)
-                beside.join(_SECONDS_TO_END)
-                shard.lease.release()
-                if attending and not shard.redis.hget(shard.keys.lease, "token"):
-                    attending.end()
+                await ended(keeping, attended)
+                await shard.lease.release()
+                if attending and not await shard.redis.hget(shard.keys.lease, "token"):
+                    await attending.end()
 
     def _is_careful(self) -> bool:
         """Whether the host has to be a separate process at first.
@@ -142,23 +164,23 @@ class Worker:
         serving.restart()
         return True
 
-    def _turn_or_begin_anew(self) -> None:
+    async def _turn_or_begin_anew(self) -> None:
         """One turn; if the log may lack what this host has played, all states are restored from the log."""
         try:
-            self._turns.turn()
+            await self._turns.turn()
         except LogChanged as changed:
             self._shard.tell_of_host(changed)
-            self._states.make_all()
+            await self._states.make_all()
 
-    def _drain(self) -> None:
+    async def _drain(self) -> None:
         """Takes snapshots, between turns, for as long as it may, and writes the replies to all that was played."""
         shard = self._shard
         until = shard.system.now() + self._settings.drain_seconds
         if self._settings.drain_seconds:
-            self._upkeep.snapshot_all()
+            await self._upkeep.snapshot_all()
         while shard.jobs and shard.system.now() < until:
-            self._turn_or_begin_anew()
-        self._turns.settle()
+            await self._turn_or_begin_anew()
+        await self._turns.settle()
 
     # For metrics and health.
 
@@ -166,12 +188,13 @@ class Worker:
         """Metrics that are computed when they are read."""
         return {
             "bpfhost_worker_lease_age_seconds": self._shard.lease.age(),
+            "bpfhost_worker_serves": self._serves,
             "bpfhost_worker_aside": sum(log.aside is not None for log in self.logs),
         }
 
     def health(self) -> tuple[bool, dict[str, object]]:
         """Whether it serves, under a lease that is raised."""
         shard, seconds = self._shard, self._settings.lease_seconds
-        age, serves = shard.lease.age(), bool(self.metrics.value("bpfhost_worker_serves"))
-        said: dict[str, object] = {"shard": shard.keys.number, "serves": serves, "lease_age": round(age, 3), "lease_seconds": seconds}
-        return serves and age < seconds, said
+        age = shard.lease.age()
+        said: dict[str, object] = {"shard": shard.keys.number, "serves": self._serves, "lease_age": round(age, 3), "lease_seconds": seconds}
+        return self._serves and age < seconds, said

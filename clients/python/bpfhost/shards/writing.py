@@ -2,6 +2,7 @@
 
 from __future__ import annotations
 
+import asyncio
 from collections.abc import Iterable, Mapping, Sequence
 
 from bpfhost.parts import in_parts
@@ -14,8 +15,8 @@ from bpfhost.shards.log import Log
 from bpfhost.shards.manifest import Manifest
 from bpfhost.shards.names import ShardKeys
 from bpfhost.shards.serving import Written
-from bpfhost.shards.system import Pending, Word
-from bpfhost.state import Steps
+from bpfhost.shards.steps import at_once, step
+from bpfhost.shards.system import Word
 
 # A script gets about so many bytes of replies at most, and so many names of pieces.
 WRITTEN_AT_ONCE = 1 << 20
@@ -29,11 +30,11 @@ class Writing:
     def __init__(self, redis: Redis, keys: ShardKeys, lease: Lease) -> None:
         self.redis, self.keys, self.lease = redis, keys, lease
 
-    def _do(self, script: Script, keys: Sequence[str], words: Iterable[Word]) -> int:
+    async def _do(self, script: Script, keys: Sequence[str], words: Iterable[Word]) -> int:
         deadline = self.redis.system.now() + _SECONDS_FOR_REDIS
-        done = script.patiently(self.redis, [self.keys.lease, *keys], [self.lease.token, *words], deadline)
+        done = await script.patiently(self.redis, [self.keys.lease, *keys], [self.lease.token, *words], deadline)
         if done == (-1 if script is scripts.DROP else 0):
-            raise self.lease.lost()
+            raise await self.lease.lost()
         return int(done)
 
     # Replies.
@@ -43,23 +44,23 @@ class Writing:
         """The weight of a call of so many bytes while it waited."""
         return names.weight(size)
 
-    def write(self, written: Sequence[Written]) -> None:
+    async def write(self, written: Sequence[Written]) -> None:
         """Writes replies of tenants, those of each in order."""
-        self._do(scripts.WRITE, *self._words(written, {}))
+        await self._do(scripts.WRITE, *self._words(written, {}))
 
-    def begin(self, line: Line, written: Sequence[Written], behind: Mapping[int, bytes]) -> Pending:
+    def begin(self, line: Line, written: Sequence[Written], behind: Mapping[int, bytes]) -> asyncio.Task[int]:
         """Begins to write replies on a line, after earlier replies of some tenants up to these ids, which are still being written."""
         keys, words = self._words(written, behind)
         return scripts.WRITE.begin(self.redis, line, [self.keys.lease, *keys], [self.lease.token, *words])
 
-    def end(self, pending: Pending) -> bool:
+    async def end(self, task: asyncio.Task[int]) -> bool:
         """Whether replies whose write was begun are written; if not, write them again. Raises OutOfMemory if they have no room."""
         try:
-            done = pending.answer()
+            done = await task
         except (Away, NoScript):
             return False
         if not done:
-            raise self.lease.lost()
+            raise await self.lease.lost()
         return bool(done == 1)
 
     def _words(self, written: Sequence[Written], behind: Mapping[int, bytes]) -> tuple[list[str], list[Word]]:
@@ -72,61 +73,60 @@ class Writing:
             words += (word for one in own for word in (one.entry, one.name, one.value))
         return [self.keys.waiting, *map(self.keys.replies, of)], words
 
-    def write_left(self, log: Log, item: Leaves, state: Manifest, nothing: Manifest) -> None:
+    async def write_left(self, log: Log, item: Leaves, state: Manifest, nothing: Manifest) -> None:
         """Writes that a tenant has left."""
         keys = [log.replies, self.keys.snapshots, self.keys.left]
-        self._do(scripts.WRITE_LEFT, keys, [item.entry, item.tenant, item.generation, state.to_bytes(), nothing.to_bytes()])
+        await self._do(scripts.WRITE_LEFT, keys, [item.entry, item.tenant, item.generation, state.to_bytes(), nothing.to_bytes()])
         log.snapshot, log.before, log.is_cut = nothing, None, True
 
-    def write_arrived(self, log: Log, item: Arrives, state: Manifest) -> None:
+    async def write_arrived(self, log: Log, item: Arrives, state: Manifest) -> None:
         """Writes that a tenant has arrived."""
-        self._do(scripts.WRITE_ARRIVED, [log.replies, self.keys.snapshots], [item.entry, item.tenant, state.to_bytes()])
+        await self._do(scripts.WRITE_ARRIVED, [log.replies, self.keys.snapshots], [item.entry, item.tenant, state.to_bytes()])
         log.snapshot, log.before, log.is_cut = state, None, True
 
-    def note(self, name: str, field: Word, value: bytes) -> None:
+    async def note(self, name: str, field: Word, value: bytes) -> None:
         """Writes a field of a hash of the shard, or deletes it."""
-        self._do(scripts.NOTE, [name], [field, value])
+        await self._do(scripts.NOTE, [name], [field, value])
 
     # Snapshots.
 
-    def keep_piece(self, name: str, piece: bytes) -> None:
+    async def keep_piece(self, name: str, piece: bytes) -> None:
         """Stores a piece of a snapshot."""
-        self._do(scripts.KEEP_PIECES, [self.keys.pieces], [name, piece])
+        await self._do(scripts.KEEP_PIECES, [self.keys.pieces], [name, piece])
 
-    def keep_snapshot(self, log: Log, manifest: Manifest) -> None:
+    async def keep_snapshot(self, log: Log, manifest: Manifest) -> None:
         """Replaces the last snapshot by a new one; the last one becomes the one before it."""
         last = log.snapshot.to_bytes() if log.snapshot else b""
-        self._do(scripts.KEEP_SNAPSHOT, [self.keys.snapshots], [log.tenant, manifest.to_bytes(), last])
+        await self._do(scripts.KEEP_SNAPSHOT, [self.keys.snapshots], [log.tenant, manifest.to_bytes(), last])
         log.before, log.snapshot, log.is_cut = log.snapshot, manifest, False
 
-    def drop(self, stream: str, least: bytes) -> Steps[None]:
+    async def drop(self, stream: str, least: bytes) -> None:
         """Drops the entries of a stream below an id, some in each step."""
-        while self._do(scripts.DROP, [stream], [least]):
-            yield
+        while await self._do(scripts.DROP, [stream], [least]):
+            await step()
 
-    def drop_pieces(self, dropped: Sequence[str]) -> Steps[None]:
+    async def drop_pieces(self, dropped: Sequence[str]) -> None:
         """Drops pieces, some in each step."""
         for some in in_parts(dropped, lambda _: 1, _NAMES_AT_ONCE):
-            self._do(scripts.DROP_PIECES, [self.keys.pieces], some)
-            yield
+            await self._do(scripts.DROP_PIECES, [self.keys.pieces], some)
+            await step()
 
-    def drop_strays(self, logs: Sequence[Log]) -> None:
+    async def drop_strays(self, logs: Sequence[Log]) -> None:
         """Drops pieces that no manifest names, since a worker died before it could write the manifest."""
         kept: set[str] = set()
         for log in logs:
-            kept.update(name for manifest in log.manifests() for name in manifest.names())
-        for said in self.redis.hgetall(self.keys.left).values():
+            kept.update(name for manifest in await log.manifests() for name in manifest.names())
+        for said in (await self.redis.hgetall(self.keys.left)).values():
             try:
                 kept.update(Manifest.read(said).names())
             except SnapshotDamaged as damaged:
                 raise ShardError(f"the state of a customer that left shard {self.keys.number} is damaged: {damaged}") from None
-        strays = [name.decode() for name in self.redis.hkeys(self.keys.pieces)]
-        for _ in self.drop_pieces([name for name in strays if name not in kept and not name.startswith("arrival-")]):
-            pass
+        strays = [name.decode() for name in await self.redis.hkeys(self.keys.pieces)]
+        await at_once(self.drop_pieces([name for name in strays if name not in kept and not name.startswith("arrival-")]))
 
     # Memory.
 
-    def memory(self) -> tuple[int, int]:
+    async def memory(self) -> tuple[int, int]:
         """The memory that the server uses, and the most that it may use, in bytes: 0 if there is no such limit."""
-        said = told_by(self.redis.near(self.keys.lease), "memory")
+        said = await told_by(self.redis.near(self.keys.lease), "memory")
         return int(said["used_memory"]), int(said["maxmemory"])

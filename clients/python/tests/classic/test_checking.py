@@ -32,7 +32,8 @@ class Checking(TimedTest):
     def test_jumps(self) -> None:
         ClassicProgram.of([(0x05, 0, 0, 1), LOAD, RETURN])
         self.refuses("instruction 0, ja 3: it jumps out of the program", (0x05, 0, 0, 2), LOAD, RETURN)
-        backward = "it jumps backward, as protochain does, and a program that ends surely has jumps forward alone"
+        backward = "it jumps backward, as protochain does, and a program that ends surely has jumps forward alone; proto in place of protochain "
+        backward += "tests the first header after that of IP"
         self.refuses(f"instruction 1, ja 0: {backward}", LOAD, (0x05, 0, 0, 2**32 - 2), RETURN)
         ClassicProgram.of([(0x15, 1, 0, 0), LOAD, RETURN])
         self.refuses("instruction 0, jeq #0x0 jt 3 jf 1: it jumps out of the program", (0x15, 2, 0, 0), LOAD, RETURN)

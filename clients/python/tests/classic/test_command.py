@@ -5,7 +5,6 @@ from __future__ import annotations
 import json
 import os
 import re
-import shutil
 import socket
 import struct
 import subprocess
@@ -13,18 +12,19 @@ import sys
 import time
 import unittest
 from pathlib import Path
+from typing import Any
 
 from bpfhost import Host, disassemble
+from bpfhost.captures import open_capture
 from bpfhost.captures.piece import Stamp
 from bpfhost.classic import ClassicError, ClassicProgram, ExpressionError, Length, Semantics
-from tests.capture_bytes import MICRO, NANO, pcap, pcapng
+from tests.capture_bytes import MICRO, pcap
 from tests.classic.common import needs_libpcap
 from tests.classic.test_texts import BYTECODE, DECIMALS, ELEMENTS
 from tests.classic.traffic import ethernet
 from tests.common import PROGRAM
 from tests.test_command import PACKAGE, CommandTest, needs_packages
 
-TCPDUMP = shutil.which("tcpdump")
 TIME = re.compile(r"time a packet: [0-9.]+ us")
 # Packets as a capture with 96 bytes of each has them, and their lengths on the wire.
 CUT = [(packet[:96], Stamp(1_700_000_000 + at, 1000 * at + 7, len(packet))) for at, packet in enumerate(ethernet())]
@@ -35,6 +35,15 @@ def captured(order: str = "<", magic: int = MICRO, longest: int = 96) -> bytes:
     whole = bytearray(pcap(CUT, order, magic))
     struct.pack_into(f"{order}I", whole, 16, longest)
     return bytes(whole)
+
+
+def has_packet_sockets() -> bool:
+    """Whether packets of an interface can be read here."""
+    try:
+        socket.socket(socket.AF_PACKET, socket.SOCK_RAW).close()
+    except OSError:
+        return False
+    return True
 
 
 @needs_libpcap
@@ -63,8 +72,8 @@ class Run(FilterTest):
 
     def test_json(self) -> None:
         report = json.loads(self.command("run", "--filter", "udp", "--limit", "20", "--json", "sample.pcap").stdout)
-        kept = {"filter": "the expression 'udp'", "tenant": 0, "packets": 20, "accepted": 10, "bytes_kept": 1232}
-        self.assertEqual(report, {"capture": "sample.pcap", "link_type": 1, "filters": [kept], "fault": None})
+        kept = {"filter": "udp", "file": None, "tenant": 0, "packets": 20, "accepted": 10, "bytes_kept": 1232}
+        self.assertEqual(report, {"capture": "sample.pcap", "link_type": 1, "tenants": 1, "filters": [kept], "fault": None})
 
     def test_classic_programs(self) -> None:
         (self.scratch / "elements").write_text(ELEMENTS)
@@ -72,16 +81,82 @@ class Run(FilterTest):
         words = ("run", "--classic", "elements", "--classic=bytecode", "--classic", "-", "--filter", "ip", "sample.pcap", "--json")
         report = json.loads(self.command(*words, given=DECIMALS.encode()).stdout)
         self.assertEqual([each["accepted"] for each in report["filters"]], [198] * 4)
-        self.assertEqual([each["filter"] for each in report["filters"]], ["elements", "bytecode", "standard input", "the expression 'ip'"])
+        named = [(each["filter"], each["file"]) for each in report["filters"]]
+        self.assertEqual(named, [(None, "elements"), (None, "bytecode"), (None, "-"), ("ip", None)])
+
+    def test_csv(self) -> None:
+        wanted = "filter,file,tenant,packets,accepted,bytes_kept\ntcp port 443,,0,235,82,11529\narp,,1,235,2,84\n"
+        for words in (("--csv", "sample.pcap"), ("sample.pcap", "--csv")):
+            self.writes(wanted, "run", "--filter", "tcp port 443", "--filter", "arp", *words)
+
+    def test_several_tenants(self) -> None:
+        words = ("run", "--filter", "tcp port 443", "--filter", "arp", "--tenants", "3", "sample.pcap")
+        lines = self.command(*words).stdout.decode().splitlines()
+        self.assertEqual(lines[0], "sample.pcap: 235 packets, by each of 3 tenants, with the same results")
+        self.assertEqual(lines[4:], ["   0-2    82      11,529  'tcp port 443'", "   3-5     2          84  'arp'"])
+        report = json.loads(self.command(*words, "--json").stdout)
+        self.assertEqual((report["tenants"], [each["tenant"] for each in report["filters"]]), (3, [0, 3]))
+
+    def test_again_and_again(self) -> None:
+        (self.scratch / "long.pcap").write_bytes(pcap([(bytes(60), Stamp(1, 0, 60))] * 30_000))
+        told = self.command("run", "--filter", "len = 60", "long.pcap", "--every", "1ms").stdout.decode()
+        counts = [int(count.replace(",", "")) for count in re.findall(r"^long.pcap: ([0-9,]+) packets$", told, re.M)]
+        self.assertEqual((counts[-1], counts), (30_000, sorted(counts)))
+        self.assertGreater(len(counts), 2)
+
+    def test_expressions_of_files(self) -> None:
+        (self.scratch / "https").write_text("tcp # by IPv4 or IPv6\n  port 443\n# and nothing else\n")
+        words = ("-F", "https", "-Fhttps", "-F", "-", "sample.pcap", "--json")
+        report = json.loads(self.command("run", *words, given=b"tcp port 443").stdout)
+        named = [(each["filter"], each["file"], each["accepted"]) for each in report["filters"]]
+        self.assertEqual([each[1:] for each in named], [("https", 82), ("https", 82), ("-", 82)])
+        self.assertRegex(named[0][0], r"\Atcp +port 443\Z")
+
+    def test_the_first_packets_that_are_kept(self) -> None:
+        """With -c the run ends after them, as tcpdump's does: a fault of the capture after them is not met."""
+        whole = (self.scratch / "sample.pcap").read_bytes()
+        (self.scratch / "cut_off").write_bytes(whole[:-1])
+        for kept, words in ((5, ("sample.pcap", "--filter", "udp")), (5, ("cut_off", "--filter", "udp", "--tenants", "2"))):
+            ended = self.command("run", *words, "-c", str(kept), "--accepted", "kept", "--json")
+            report = json.loads(ended.stdout)["filters"][0]
+            self.assertEqual((report["accepted"], ended.stderr, ended.returncode), (kept, b"", 0))
+            self.assertLess(report["packets"], 20)
+            self.command("run", "--filter", "udp", "sample.pcap", "--limit", str(report["packets"]), "--accepted", "limited")
+            self.assertEqual((self.scratch / "kept").read_bytes(), (self.scratch / "limited").read_bytes())
+        ended = self.command("run", "--filter", "udp", "cut_off", "-c", "1000", "--json")
+        self.assertEqual((json.loads(ended.stdout)["filters"][0]["packets"], ended.returncode), (234, 1))
+        self.refuses(1, "-c counts what one filter keeps", "run", "--filter", "ip", "--filter", "ip6", "sample.pcap", "-c", "1")
+        self.refuses(2, "invalid number of at least 1 value: '0'", "run", "--filter", "ip", "sample.pcap", "-c", "0")
+        self.refuses(2, "-c is for filters, and none is named by --filter", "run", "a.o", "sample.pcap", "-c", "1")
+
+    def test_options_anywhere(self) -> None:
+        wanted = self.command("run", "--filter", "arp", "sample.pcap", "--limit", "200", "--json").stdout
+        for words in (("sample.pcap", "--limit", "200", "--filter", "arp", "--json"), ("--json", "--filter", "arp", "--limit=200", "sample.pcap")):
+            self.assertEqual(self.command("run", *words).stdout, wanted)
+
+    def test_packets_to_standard_output(self) -> None:
+        """The packets that are kept, and nothing else; the table goes to standard error."""
+        self.assertEqual(self.command("run", "--filter", "udp", "sample.pcap", "--accepted", "kept").returncode, 0)
+        ended = self.command("run", "--filter", "udp", "sample.pcap", "--accepted", "-")
+        self.assertEqual((ended.stdout, ended.returncode), ((self.scratch / "kept").read_bytes(), 0))
+        self.assertIn(b"sample.pcap: 235 packets\n", ended.stderr)
+        self.assertFalse((self.scratch / "-").exists())
 
     def test_a_process(self) -> None:
         ended = self.process("run", "--filter", "tcp port 443", "sample.pcap")
         self.assertIn(b"\n     0    82      11,529  'tcp port 443'\n", ended.stdout)
 
     def test_words_that_a_capture_does_not_tell(self) -> None:
-        ended = self.command("run", "--filter", "outbound", "sample.pcap")
-        told = "bpfhost: the expression 'outbound' reads pkt_type, which a capture does not have: it is 0\n"
+        (self.scratch / "outbound").write_text(ClassicProgram.of_expression("outbound").decimals())
+        ended = self.command("run", "--classic", "outbound", "sample.pcap")
+        told = "bpfhost: outbound reads pkt_type, which a capture does not have: it is 0\n"
         self.assertEqual((ended.stderr.decode(), ended.returncode), (told, 0))
+
+    def test_a_direction_is_refused_on_files(self) -> None:
+        told = "the expression 'inbound' is refused by libpcap: inbound/outbound not supported on Ethernet when reading savefiles"
+        self.refuses(1, told, "run", "--filter", "inbound", "sample.pcap")
+        self.assertEqual(self.command("check", "--filter", "inbound").returncode, 0)
+        self.assertEqual(self.command("dis", "--filter", "inbound", "--form", "d").stdout.decode(), ClassicProgram.of_expression("inbound").listing())
 
     def test_whose_length(self) -> None:
         """On a capture that is cut, libpcap has the length on the wire, and the kernel what is there."""
@@ -113,65 +188,44 @@ class Run(FilterTest):
         self.assertEqual((json.loads(ended.stdout)["filters"][0]["accepted"], ended.returncode), (1, 1))
 
 
+@unittest.skipUnless(has_packet_sockets(), "packets of an interface can't be read here")
 class Live(FilterTest):
-    def test_an_interface(self) -> None:
-        """Datagrams of the loopback interface, until some have come."""
-        try:
-            socket.socket(socket.AF_PACKET, socket.SOCK_RAW).close()
-        except OSError as error:
-            self.skipTest(f"packets of an interface can't be read here: {error.strerror}")
+    """Datagrams of the loopback interface, until some have come."""
+
+    def reported(self, *words: str) -> dict[str, Any]:
+        """What a run reports, while datagrams of 1 and of 100 bytes are sent. `PORT` in the words is their port."""
         with socket.socket(socket.AF_INET, socket.SOCK_DGRAM) as receiver, socket.socket(socket.AF_INET, socket.SOCK_DGRAM) as sender:
             receiver.bind(("127.0.0.1", 0))
             port = receiver.getsockname()[1]
-            words = ("--filter", f"udp dst port {port}", "--filter", f"udp dst port {port} and len > 60", "--interface", "lo", "--json", "--limit", "20")
             environment = {**os.environ, "PYTHONPATH": str(PACKAGE), "BPFHOST": PROGRAM}
-            call = [sys.executable, "-m", "bpfhost", "run", *words]
+            call = [sys.executable, "-m", "bpfhost", "run", *(word.replace("PORT", str(port)) for word in words), "--json"]
             with subprocess.Popen(call, stdout=subprocess.PIPE, stderr=subprocess.DEVNULL, cwd=self.scratch, env=environment) as process:
                 while process.poll() is None:
                     for many in (1, 100):
                         sender.sendto(bytes(many), ("127.0.0.1", port))
                     time.sleep(0.05)
                 assert process.stdout is not None
-                report = json.load(process.stdout)
+                report: dict[str, Any] = json.load(process.stdout)
+            self.assertEqual(process.returncode, 0)
+            return report
+
+    def test_an_interface(self) -> None:
+        words = ("--filter", "udp dst port PORT", "--filter", "udp dst port PORT and len > 60", "--interface", "lo", "--limit", "20")
+        report = self.reported(*words)
         kept = [each["accepted"] for each in report["filters"]]
         self.assertTrue(0 < kept[1] < kept[0] <= 20, report)
-        self.assertEqual(process.returncode, 0)
 
-
-@unittest.skipUnless(TCPDUMP, "tcpdump is missing")
-class BesideTcpdump(FilterTest):
-    """`run --filter EXPRESSION CAPTURE --accepted FILE` writes the bytes that `tcpdump -r CAPTURE -w FILE EXPRESSION` does."""
-
-    EXPRESSIONS = ("tcp port 443", "greater 100", "len & 1 = 0 and not ip6", "ether[len - 20:4] != 0", "ip[ip[0]] > 3", "arp or vlan", "less 0")
-
-    def same(self, capture: str, *words: str, expressions: tuple[str, ...] = EXPRESSIONS) -> None:
-        for expression in expressions:
-            self.assertEqual(self.command("run", "--filter", expression, capture, "--accepted", "ours").returncode, 0)
-            as_root = ("-Z", "root") if os.geteuid() == 0 else ()
-            call = ["tcpdump", *as_root, *words, "-r", capture, "-w", "theirs", expression]
-            ended = subprocess.run(call, cwd=self.scratch, capture_output=True, check=False)
-            self.assertEqual(ended.returncode, 0, ended.stderr)
-            self.assertEqual((self.scratch / "ours").read_bytes(), (self.scratch / "theirs").read_bytes(), (capture, expression))
-
-    def test_captures(self) -> None:
-        self.same("sample.pcap")
-        self.same("cut.pcap")
-
-    def test_forms_of_captures(self) -> None:
-        (self.scratch / "big").write_bytes(captured(">"))
-        self.same("big")
-        (self.scratch / "nano").write_bytes(captured("<", NANO))
-        self.same("nano", "--nano")
-        (self.scratch / "unbounded").write_bytes(captured(longest=0))
-        self.same("unbounded")
-        (self.scratch / "pcapng").write_bytes(pcapng(CUT))
-        self.same("pcapng", "--nano")
-
-    def test_another_link_type(self) -> None:
-        """Also if nothing is kept, and so no packet shows the link type."""
-        packets = [(packet[14:], Stamp(at, 0, len(packet) - 14)) for at, packet in enumerate(ethernet()) if packet[12:14] == b"\x08\0"]
-        (self.scratch / "raw").write_bytes(pcap(packets, link_type=101))
-        self.same("raw", expressions=("udp", "greater 100000"))
+    def test_all_interfaces(self) -> None:
+        """Packets of the interface `any` are LINUX_SLL2, and those of the loopback interface come once; -c ends the run."""
+        report = self.reported("--filter", "udp dst port PORT and inbound", "--interface", "any", "-c", "4", "--accepted", "kept")
+        self.assertEqual((report["link_type"], report["filters"][0]["accepted"]), (276, 4))
+        with open_capture(self.scratch / "kept") as capture:
+            packets = [packet for piece in capture.pieces() for packet in piece]
+        index = socket.if_nametoindex("lo").to_bytes(4, "big")
+        for packet in packets:
+            # The type of the payload, the interface, its hardware type, an incoming packet, and an address of six zeros.
+            self.assertEqual(packet[:20].hex(), f"08000000{index.hex()}03040006{'00' * 8}")
+        self.assertEqual([len(packet) for packet in packets], [49, 148] * 2 if len(packets[0]) == 49 else [148, 49] * 2)
 
 
 class Texts(FilterTest):
@@ -219,7 +273,13 @@ class Wrong(FilterTest):
             ("run", "--filter", "ip"): "the following arguments are required: CAPTURE",
             ("run", "--filter", "ip", "a.o", "sample.pcap"): "unrecognized arguments: sample.pcap",
             ("run", "--filter", "ip", "sample.pcap", "--semantics", "both"): "invalid choice: 'both'",
-            ("run", "--filter", "ip", "sample.pcap", "--tenants", "2"): "unrecognized arguments: --tenants 2",
+            ("run", "--filter", "ip", "sample.pcap", "--section", "f"): "--section is for an object, and filters are named",
+            ("run", "--filter", "ip", "sample.pcap", "--as-is"): "--as-is is for an object, and filters are named",
+            ("run", "a.o", "sample.pcap", "--semantics", "kernel"): "--semantics is for filters, and none is named by --filter",
+            ("run", "--filter", "ip", "sample.pcap", "--link-type", "1"): "--link-type is for check, dis and build: packets that are run",
+            ("run", "--filter", "ip", "sample.pcap", "--csv", "flows"): "unrecognized arguments: flows",
+            ("check", "--filter", "ip", "a.o"): "unrecognized arguments: a.o",
+            ("dis", "--form", "d"): "--form is for filters, and none is named by --filter",
             ("check", "--filter", "ip", "--link-type", "ETHER"): "invalid link type value: 'ETHER'",
             ("check", "--filter"): "expected one argument",
             ("build", "--filter", "ip"): "the following arguments are required: -o/--output",
@@ -242,16 +302,40 @@ class Wrong(FilterTest):
         told = "damaged: instruction 1, jeq #0x0 jt 11 jf 2: it jumps out of the program"
         self.refuses(1, told, "run", "--classic", "damaged", "sample.pcap")
         self.refuses(1, "long: it has 4,097 instructions, and 4,096 are the most", "run", "--classic", "long", "sample.pcap")
-        self.refuses(1, "huge: a text of a classic program has 1,048,576 bytes at most", "dis", "--classic", "huge")
+        self.refuses(1, "huge: a text of a filter has 1,048,576 bytes at most", "dis", "--classic", "huge")
         self.refuses(1, "nothing: No such file or directory", "run", "--classic", "nothing", "sample.pcap")
         self.refuses(1, "it is no count of instructions"[3:], "dis", "--classic", "-", given=b"\xff\xfe")
+
+    def test_texts_of_other_forms(self) -> None:
+        program = ClassicProgram.of_expression("tcp port 443")
+        taken = "the texts of tcpdump -dd and -ddd, and bytecode of iptables and bpf_asm can be read"
+        for text, told in (
+            (program.listing(), "standard input: it is a listing of tcpdump -d, which does not have the whole program"),
+            ("ldh [12]\njne #0x806, drop\nret #-1\ndrop: ret #0\n", "standard input: it is a source for bpf_asm, which makes the program of it"),
+            ("start: ldh [12]\nret a\n", "standard input: it is a source for bpf_asm, which makes the program of it"),
+            ("what\n", "standard input: what is no count of instructions, as tcpdump -ddd and iptables begin with one"),
+        ):
+            self.refuses(1, f"{told}: {taken}", "run", "--classic", "-", "sample.pcap", given=text.encode())
+
+    def test_what_was_meant(self) -> None:
+        """A word in the place of an object is an expression, or a capture."""
+        told = "tcp port 443: No such file or directory; did you mean --filter 'tcp port 443'?"
+        for words in (("run", "tcp port 443", "sample.pcap"), ("check", "tcp port 443"), ("build", "tcp port 443", "-o", "file")):
+            self.refuses(1, told, *words)
+        self.refuses(2, "CAPTURE or --interface IF; did you mean --filter udp?", "run", "udp")
+        self.refuses(2, "sample.pcap is a capture: a filter is needed too, as in run --filter 'tcp port 443' sample.pcap", "run", "sample.pcap")
+        self.refuses(1, "sample.pcap is a capture, and not an object", "run", "sample.pcap", "sample.pcap")
+        told = "it jumps backward, as protochain does, and a program that ends surely has jumps forward alone; proto in place of protochain"
+        self.refuses(1, told, "run", "--filter", "ip6 protochain 6", "sample.pcap")
 
     def test_what_is_named_twice(self) -> None:
         self.refuses(1, "standard input can be read only once", "run", "--classic", "-", "-", given=b"")
         self.refuses(1, "--accepted writes what one filter keeps", "run", "--filter", "ip", "--filter", "ip6", "sample.pcap", "--accepted", "a")
         self.refuses(1, "a file has one filter", "build", "--filter", "ip", "--filter", "ip6", "-o", "file")
         words = [word for _ in range(65) for word in ("--filter", "ip")]
-        self.refuses(1, "each filter needs a tenant of its own, and 64 are the most", "run", *words, "sample.pcap")
+        self.refuses(1, "each filter needs tenants of its own, and 64 are the most", "run", *words, "sample.pcap")
+        words = ["--filter", "ip", "--filter", "ip6", "--tenants", "33"]
+        self.refuses(1, "each filter needs tenants of its own, and 64 are the most", "run", *words, "sample.pcap")
 
     def test_nothing_is_written_over(self) -> None:
         (self.scratch / "program").write_text(DECIMALS)

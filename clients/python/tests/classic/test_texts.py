@@ -43,7 +43,8 @@ class Texts(TimedTest):
     def test_damaged_texts(self) -> None:
         told = {
             "": "a: there is no classic program",
-            "four\n": "a: four is no count of instructions, as tcpdump -ddd and iptables begin with one",
+            "four\n": "a: four is no count of instructions, as tcpdump -ddd and iptables begin with one: the texts of tcpdump -dd and -ddd, "
+            "and bytecode of iptables and bpf_asm can be read",
             "2\n6 0 0 0\n": "a: 2 instructions are announced, and there are 1",
             "1\n6 0 0\n": "a:2: 6 0 0 is no code, jt, jf and k, four decimal numbers",
             "1\n6 0 0 0x0\n": "a:2: 6 0 0 0x0 is no code, jt, jf and k, four decimal numbers",

@@ -43,7 +43,7 @@ def _made() -> list[bytes]:
 
 
 # The header before a packet of IP on other links, by link types as captures number them; the argument is the EtherType.
-_HEADS: dict[int, Callable[[bytes], bytes]] = {
+HEADS: dict[int, Callable[[bytes], bytes]] = {
     0: lambda kind: b"\x02\0\0\0" if kind == b"\x08\0" else b"\x0a\0\0\0",
     6: lambda kind: bytes(14) + _SNAP + kind,
     9: lambda kind: b"\xff\x03" + (b"\0\x21" if kind == b"\x08\0" else b"\0\x57"),
@@ -67,6 +67,6 @@ def of_link(link_type: int) -> list[bytes]:
     """Packets of a link type: those of Ethernet after another header if that is known, as they are, and random ones."""
     draw = random.Random(link_type)
     drawn = [draw.randbytes(draw.randint(0, 100)) for _ in range(30)]
-    head = _HEADS.get(link_type)
+    head = HEADS.get(link_type)
     whole = ethernet()[::12]
     return ([head(packet[_TYPE]) + packet[14:] for packet in whole] if head else []) + whole[::3] + drawn

@@ -6,20 +6,28 @@ import threading
 import time
 import unittest
 import warnings
-from collections.abc import Callable, Sequence
+from collections.abc import AsyncIterator, Callable, Sequence
+from typing import Concatenate, ParamSpec, TypeVar
 
 from bpfhost import MapType, frames
 from bpfhost.alike import packed, size_of_alike
 from bpfhost.shards import Client, Settings, ShardKeys, Worker
 from bpfhost.shards.calls import Call
-from bpfhost.shards.connection import Redis, connect
+from bpfhost.shards import blocking, operating
+from bpfhost.shards.client import AsyncClient
+from bpfhost.shards.connection import Redis
+from bpfhost.shards.directory import Seat
 from bpfhost.shards.registering import register
+from bpfhost.shards.system import Work
 from tests.common import PROGRAM, HostTest
 from tests.shards.redis_server import RedisServer, missing
 
 # A customer creates a map, looks a key up there, and updates it with a number.
 CREATE = frames.map_create(0, MapType.HASH, 4, 8, 16)
 LOOK_UP = frames.map_lookup_elem(0, 3, b"key1")
+
+Given = ParamSpec("Given")
+Answer = TypeVar("Answer")
 
 _WHY = missing()
 SECONDS = 3.0
@@ -31,12 +39,45 @@ def put(value: int) -> bytes:
     return frames.map_update_elem(0, 3, b"key1", value.to_bytes(8, "little"))
 
 
+def all_steps(work: Work[Answer]) -> Answer:
+    """The result of work that waits for nothing but its next step."""
+    while True:
+        try:
+            work.send(None)
+        except StopIteration as end:
+            done: Answer = end.value
+            return done
+
+
+async def no_history() -> AsyncIterator[list[tuple[bytes, bytes]]]:
+    """No frames since the last snapshot."""
+    return
+    yield []
+
+
 def call_of(entry: bytes, tenant: int, frames: Sequence[bytes], packs: bool = False) -> Call:
     """A call of frames, whatever their number is; packed, if asked for and possible."""
     stream = b"".join(frames)
     if packs and len({frame[:8] for frame in frames}) == 1 and (runs := packed(stream, len(frames[0]))):
         return Call(entry, tenant, runs, len(frames), len(frames[0]), True)
     return Call(entry, tenant, stream, len(frames), size_of_alike(stream))
+
+
+def did(
+    client: Client, call: Callable[Concatenate[AsyncClient, Given], Work[Answer]], *args: Given.args, **words: Given.kwargs
+) -> Answer:
+    """The result of a function for an asynchronous client."""
+    return client.loop.run(call(client.aio, *args, **words))
+
+
+async def drained(client: AsyncClient, shard: int, seconds: float) -> list[tuple[str, Seat]]:
+    """The customers that were moved away from a shard."""
+    return [one async for one in operating.drain(client, shard, seconds)]
+
+
+def registered(redis: blocking.Redis, keys: ShardKeys, client: Client, server: str = "") -> bytes:
+    """Registers a shard."""
+    return redis.loop.run(register(redis.aio, keys, client.aio.directory, server))
 
 
 class WorkerThread:
@@ -48,8 +89,8 @@ class WorkerThread:
         self.told: list[str] = []
         self.error: Exception | None = None
         self._stopped = threading.Event()
-        other = connect(directory) if directory else None
-        self.worker = Worker(connect(url), ShardKeys(shard), program, settings, self.told.append, other)
+        other = Redis(directory) if directory else None
+        self.worker = Worker(Redis(url), ShardKeys(shard), program, settings, self.told.append, other)
         self._thread = threading.Thread(target=self._run, daemon=True)
         self._thread.start()
 
@@ -60,9 +101,12 @@ class WorkerThread:
             self.error = error
 
     def wait(self) -> None:
-        """Waits until it serves and is offered, or has ended."""
-        until = time.monotonic() + 30
-        while not self.serves() and self._thread.is_alive() and time.monotonic() < until:
+        """Waits until it serves and is offered; raises what it ended with."""
+        until = time.monotonic() + 60
+        while not self.serves():
+            if not self._thread.is_alive():
+                raise self.error or AssertionError("the worker has ended, and did not serve")
+            assert time.monotonic() < until, self.told
             time.sleep(0.005)
 
     def serves(self) -> bool:
@@ -94,16 +138,16 @@ class ShardTest(HostTest):
         self.addCleanup(self.client.close)
 
     def shard(self, number: int, settings: Settings = SETTINGS) -> WorkerThread:
-        """The worker of a shard, which serves it or has ended."""
+        """The worker of a shard, which serves it."""
         worker = WorkerThread(self.server.url, number, settings)
         self.addCleanup(worker.stop)
         worker.wait()
         return worker
 
-    def empty_shard(self, number: int) -> tuple[Redis, ShardKeys]:
+    def empty_shard(self, number: int) -> tuple[blocking.Redis, ShardKeys]:
         """A shard of the directory that nobody serves any more, but that is still offered."""
         redis, keys = self.client.shard(number)
-        name = register(redis, keys, self.client.directory, "")
+        name = registered(redis, keys, self.client)
         self.client.directory.beat(number, name)
         return redis, keys
 

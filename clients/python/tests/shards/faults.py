@@ -27,8 +27,9 @@ from pathlib import Path
 
 from bpfhost import Host
 from bpfhost.numbers import MOST_TENANTS
-from bpfhost.shards import Client, MoveError, NoReply, RedisError, moving
-from bpfhost.shards.connection import connect
+from bpfhost.shards import Client, MoveError, NoReply, RedisError, move, moving
+from bpfhost.shards.blocking import connect
+from tests.shards.common import did
 from tests.shards.redis_server import RedisServer, missing
 from tests.shards.streams import Stream
 from tests.shards.worker_process import WorkerProcess
@@ -250,10 +251,10 @@ class Faults:
             if client.directory.seat(name) is None:
                 return
             try:
-                moving.move(client, name, seconds=self._draw.choice((0.02, _SECONDS_TO_SETTLE)))
+                move(client, name, seconds=self._draw.choice((0.02, _SECONDS_TO_SETTLE)))
             except (NoReply, RedisError):
                 self.counts["broken off"] += 1
-                moving.end_move(client, name, _SECONDS_TO_SETTLE)
+                did(client, moving.end_move, name, _SECONDS_TO_SETTLE)
             except MoveError as error:
                 # Both other shards may have lost their workers just now.
                 if "is served" not in str(error):
@@ -302,9 +303,9 @@ class Faults:
         """Stops the workers, and compares how many entries, replies and calls there are."""
         with Client(self._redis.url) as client:
             for name in client.directory.moves():
-                moving.end_move(client, name, _SECONDS_TO_SETTLE)
+                did(client, moving.end_move, name, _SECONDS_TO_SETTLE)
             # Each seat that was given is a customer's first one, or that of a move.
-            given = int(client.redis.get(client.directory.keys.all[3]) or 0)
+            given = int(client.redis.get(client.aio.directory.keys.all[3]) or 0)
             self.counts["moved"] = given - len(client.directory.customers())
         for shard in self.shards:
             shard.worker.send(signal.SIGTERM)

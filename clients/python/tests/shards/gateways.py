@@ -3,7 +3,6 @@
 from __future__ import annotations
 
 import asyncio
-import importlib.util
 import socket
 import ssl
 import threading
@@ -14,9 +13,12 @@ from typing import Any
 from bpfhost.shards.gateway.customers import hash_of
 from bpfhost.shards.gateway.limits import GatewayLimits
 from bpfhost.shards.gateway.protocol import GATEWAY, Why, Word, hello, read_told
+from bpfhost.shards.gateway.server import Gateway
+from bpfhost.shards.metrics import library
 from bpfhost.state import split
 
-WHY_NOT = None if importlib.util.find_spec("greenlet") else "python3-greenlet is missing"
+# Why nothing is counted, or None.
+UNCOUNTED = None if library() else "python3-prometheus-client is missing"
 
 
 def customers_file(folder: Path, text: str = "", **tokens: str) -> Path:
@@ -31,8 +33,6 @@ class GatewayThread:
 
     def __init__(self, url: str, customers: Path, limits: GatewayLimits, addresses: Sequence[tuple[str, Any]]) -> None:
         """Listens at addresses, each with the files of TLS or None."""
-        from bpfhost.shards.gateway.server import Gateway
-
         self.told: list[str] = []
         self.addresses: list[str] = []
         self._loop, begun = asyncio.new_event_loop(), threading.Event()

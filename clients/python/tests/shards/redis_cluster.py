@@ -9,7 +9,9 @@ import time
 from pathlib import Path
 
 from bpfhost.shards.cluster import slot_of
-from bpfhost.shards.connection import Redis, connect, told_by
+from bpfhost.shards import blocking
+from bpfhost.shards.blocking import connect
+from bpfhost.shards.connection import Redis, told_by
 from bpfhost.shards.errors import RedisError
 from tests.shards.redis_server import SERVER
 
@@ -72,7 +74,7 @@ class Node:
     def told(self, section: str) -> dict[str, str]:
         """A section of INFO; empty if it does not reply."""
         with contextlib.suppress(RedisError):
-            return told_by(self.redis.until(time.monotonic() + 2), section)
+            return self.redis.loop.run(told_by(self.redis.until(time.monotonic() + 2).aio, section))
         return {}
 
     def kill(self) -> None:
@@ -161,6 +163,6 @@ class RedisCluster:
                         return next(one for one in self.nodes if one.port == port)
         raise AssertionError(f"nobody serves {key}")
 
-    def redis(self) -> Redis:
+    def redis(self) -> blocking.Redis:
         """A connection of the package to the cluster."""
         return connect(self.url)

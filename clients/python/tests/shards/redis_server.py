@@ -9,7 +9,7 @@ import time
 from collections.abc import Mapping
 from pathlib import Path
 
-from bpfhost.shards.connection import connect
+from bpfhost.shards.blocking import connect
 from bpfhost.shards.errors import Away
 
 SERVER = shutil.which("redis-server")

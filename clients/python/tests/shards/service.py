@@ -34,7 +34,6 @@ from bpfhost.shards import Client, RedisError, ShardKeys
 from bpfhost.shards.gateway.customers import hash_of
 from bpfhost.shards.remote import CustomerTls, GatewayCustomer
 from tests.shards.certificates import OPENSSL, authority, signed
-from tests.shards.gateways import WHY_NOT
 from tests.shards.redis_cluster import Node, RedisCluster
 from tests.shards.redis_server import missing
 from tests.shards.streams import Stream
@@ -300,7 +299,7 @@ def main() -> int:
     parser.add_argument("--seconds", type=float, default=60, help="for so long")
     parser.add_argument("--seed", type=int, default=1, help="of the random numbers")
     said = parser.parse_args()
-    why = missing() or WHY_NOT or (None if OPENSSL else "openssl is missing")
+    why = missing() or (None if OPENSSL else "openssl is missing")
     if why:
         print(f"service: skipped, as {why}")
         return 0

@@ -13,15 +13,16 @@ from pathlib import Path
 
 from bpfhost import Host
 from bpfhost.shards import Client, RedisError, Settings, ShardKeys, move, operating, remove
-from bpfhost.shards.connection import Redis, as_in, connect, without_secrets
-from bpfhost.shards.cluster import told_to
+from bpfhost.shards import blocking
+from bpfhost.shards.blocking import connect
+from bpfhost.shards.connection import Redis, as_in, without_secrets
 from bpfhost.shards.errors import Away, NotAllowed
 from bpfhost.shards.gateway.limits import GatewayLimits
 from bpfhost.shards.link import _library, packed
 from tests.common import PROGRAM, HostTest
 from tests.shards.certificates import OPENSSL, authority, signed
-from tests.shards.common import CREATE, SETTINGS, WorkerThread
-from tests.shards.gateways import WHY_NOT, GatewayThread, Raw, customers_file
+from tests.shards.common import CREATE, SETTINGS, WorkerThread, did
+from tests.shards.gateways import GatewayThread, Raw, customers_file
 from tests.shards.redis_server import RedisServer, missing
 from tests.shards.streams import Stream
 from tests.test_command import PACKAGE
@@ -58,7 +59,7 @@ class Users(HostTest):
         """The server's URL for a user of this kind."""
         return f"unix://{user(kind)}@{folder or self.scratch}/s"
 
-    def redis(self, kind: str) -> Redis:
+    def redis(self, kind: str) -> blocking.Redis:
         """The server, for a user of this kind."""
         made = connect(self.url(kind))
         self.addCleanup(made.close)
@@ -89,7 +90,7 @@ class Users(HostTest):
                     self.assertEqual(list(customer.ask_bytes(asked[150:])), wanted[150:])
                 self.assertEqual(operator.redis.hgetall("bpfhost:{directory}:servers"), {b"4": f"unix://{two}/s".encode()})
                 remove(operator, "customer-0")
-                self.assertRegex("\n".join(operating.show(operator)), r"shard 4: \d customers, 0 KiB of calls wait, served by ")
+                self.assertRegex("\n".join(did(operator, operating.show)), r"shard 4: \d customers, 0 KiB of calls wait, served by ")
             self.assertEqual([worker.error for worker in workers], [None, None])
             for worker in workers:
                 worker.stop()
@@ -131,7 +132,7 @@ class Users(HostTest):
         # The worker's user can't see it, so it serves.
         worker = self.worker(0)
         with Client(self.url("operator")) as operator:
-            self.assertIn("shard 0: Redis has appendfsync everysec, and a shard's log needs always", "\n".join(operating.show(operator)))
+            self.assertIn("shard 0: Redis has appendfsync everysec, and a shard's log needs always", "\n".join(did(operator, operating.show)))
         worker.stop()
         self.assertIsNone(worker.error)
 
@@ -153,14 +154,9 @@ class Words(unittest.TestCase):
             ["GET", "a"],
             ["XREAD", "COUNT", 64, "STREAMS", "bpfhost:{0}:frames:0", b"1-0"],
             ["EVALSHA", "0" * 40, 1, "key", "\u00e9", b"\0\r\n\xff", 5, -7, 1.5, ""],
-            [told_to("INFO", "key"), "memory"],
         )
         for words in cases:
-            self.assertEqual(packed(words), b"".join(connection.pack_command(*map(_plain, words))))
-
-
-def _plain(word: object) -> object:
-    return str(word) if isinstance(word, str) else word
+            self.assertEqual(packed(words), b"".join(connection.pack_command(*words)))
 
 
 class Urls(unittest.TestCase):
@@ -202,8 +198,7 @@ class ByTls(HostTest):
             self.addCleanup(worker.stop)
             with Client(url) as client:
                 self.assertEqual(client.customer("acme").ask(CREATE).status, 3)
-            if not WHY_NOT:
-                self.by_gateway(url)
+            self.by_gateway(url)
             for wrong, seconds in (
                 (f"rediss://127.0.0.1:{port}/0?ssl_ca_certs={other}", 2.0),
                 (f"rediss://127.0.0.1:{port}/0?ssl_ca_certs={own}", 2.0),

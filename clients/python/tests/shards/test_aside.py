@@ -8,7 +8,7 @@ from bpfhost import MapType, frames
 from bpfhost.shards import MoveError, NotDone, SetAside, Settings, ShardError, move, operating
 from bpfhost.shards.manifest import Manifest
 from tests.common import PROGRAM
-from tests.shards.common import CREATE, LOOK_UP, SECONDS, ShardTest, WorkerThread, put
+from tests.shards.common import CREATE, LOOK_UP, SECONDS, ShardTest, WorkerThread, put, did
 
 # A host that ends at a lookup of a key with these bytes.
 _POISON = b"poison!!"
@@ -66,15 +66,15 @@ class Poison(AsideTest):
             with self.assertRaisesRegex(SetAside, "customer acme is set aside until an operator has looked: entry .* ended the host 3 times"):
                 customer.wait(ticket)
         self.assertLess(time.monotonic() - began, 15)
-        self.assertIn("acme is set aside: entry", "\n".join(operating.show(self.client)))
+        self.assertIn("acme is set aside: entry", "\n".join(did(self.client, operating.show)))
         # It is as before if it is tried again, and done if the host takes it.
-        operating.say(self.client, "acme", "retry", 20)
+        did(self.client, operating.say, "acme", "retry", 20)
         with self.assertRaises(SetAside):
             customer.wait(poison)
         worker.stop()
         self.assertIsNone(worker.error)
         self.serve()
-        operating.say(self.client, "acme", "retry", 20)
+        did(self.client, operating.say, "acme", "retry", 20)
         self.assertEqual(customer.wait(poison)[0][8:], bytes(4))
         self.assertEqual(customer.wait(behind)[0][12:], _POISON)
 
@@ -85,12 +85,12 @@ class Poison(AsideTest):
         poison, behind = customer.post(POISON), customer.post(LOOK_UP)
         with self.assertRaises(SetAside):
             customer.wait(poison)
-        self.assertIn("ended the host 3 times", operating.say(self.client, "acme", "skip", 20))
+        self.assertIn("ended the host 3 times", did(self.client, operating.say, "acme", "skip", 20))
         self.assertEqual(customer.wait(behind)[0][8:], bytes.fromhex("feffffff"))
         with self.assertRaisesRegex(NotDone, "was skipped by an operator"):
             customer.wait(poison)
         with self.assertRaisesRegex(ShardError, "nothing of customer acme is set aside"):
-            operating.say(self.client, "acme", "skip", 20)
+            did(self.client, operating.say, "acme", "skip", 20)
         # A skipped entry is skipped when the log is played again.
         first.stop()
         self.serve()
@@ -177,7 +177,7 @@ class Damage(AsideTest):
         with self.assertRaisesRegex(SetAside, "the checksum of the snapshot at .* is wrong, and the stream does not reach"):
             self.client.customer("acme").ask(LOOK_UP)
         with self.assertRaisesRegex(ShardError, "there is nothing to go on with"):
-            operating.say(self.client, "acme", "skip", 20)
+            did(self.client, operating.say, "acme", "skip", 20)
 
     def test_the_stream_reaches(self) -> None:
         worker = self.serve(settings=Settings(SECONDS, snapshot_entries=20))
@@ -206,7 +206,7 @@ class OtherBuilds(AsideTest):
         with self.assertRaisesRegex(SetAside, "the state of tenant 0 can't be made: the host answers .*; build [0-9a-f]+ made its snapshot"):
             customer.ask(LOOK_UP)
         # An operator accepts what this build makes of it: the program is closed.
-        operating.say(self.client, "acme", "skip", 20)
+        did(self.client, operating.say, "acme", "skip", 20)
         self.assertEqual([reply.status for reply in customer.ask_all([frames.prog_test_run(0, 4), LOOK_UP])][:1], [-9])
         self.assertEqual(customer.ask(LOOK_UP).payload, (7).to_bytes(8, "little"))
         self.assertIsNone(strict.error)

@@ -10,7 +10,7 @@ from collections.abc import Callable
 
 from bpfhost import Host
 from bpfhost.shards import Client, NoReply, RedisError, Settings, ShardKeys, move
-from bpfhost.shards.cluster import Nodes, Place, key_of, slot_of, told_to
+from bpfhost.shards.cluster import Nodes, Place, key_of, slot_of
 from bpfhost.shards.errors import Away
 from bpfhost.shards.names import DirectoryKeys
 from tests.common import PROGRAM, HostTest
@@ -156,7 +156,6 @@ class Words(unittest.TestCase):
             (("XINFO", "STREAM", "a"), "a"),
             (("HGET", "a", "b"), "a"),
             (("INFO", "memory"), None),
-            ((told_to("INFO", "a"), "memory"), "a"),
         ):
             self.assertEqual(key_of(words), key)
 

@@ -11,7 +11,7 @@ import time
 
 from bpfhost import Host, MapType, frames
 from bpfhost.shards import Client, ShardKeys
-from bpfhost.shards.connection import connect
+from bpfhost.shards.blocking import connect
 from bpfhost.shards.settings import Settings
 from tests.common import PROGRAM
 from tests.shards.common import ShardTest

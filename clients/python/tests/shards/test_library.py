@@ -19,15 +19,15 @@ from bpfhost import Errno, Host, frames
 from bpfhost.errors import HostError
 from bpfhost.shards import Settings, ShardKeys, Worker
 from bpfhost.shards.calls import NoCall
-from bpfhost.shards.connection import connect
+from bpfhost.shards.connection import Redis
 from bpfhost.shards.errors import MemoryRefused
 from bpfhost.shards.library import SONAME, Library, LibraryHost, find_library
 from bpfhost.shards.serving import Serving
-from bpfhost.shards.system import MACHINE
+from bpfhost.shards.link import MACHINE
 from bpfhost.state import Steps, at_once, split
 from tests.common import PROGRAM, HostTest
 from tests.shards import test_snapshot, test_stalls
-from tests.shards.common import CREATE, LOOK_UP, SECONDS, ShardTest, call_of, put
+from tests.shards.common import CREATE, LOOK_UP, SECONDS, ShardTest, call_of, put, all_steps, no_history
 from tests.shards.library_file import library_file
 from tests.shards.streams import Stream, slots_of
 from tests.shards.worker_process import WorkerProcess
@@ -114,10 +114,10 @@ class Answers(HostTest):
                 asked, _ = stream.play(alone, 150)
             for serving in (here, beside):
                 list(serving.play([call_of(b"1-0", 3, asked)]))
-            saved, read = (at_once(serving.state(3, self.nothing, list)) for serving in (here, beside))
+            saved, read = (all_steps(serving.state(3, self.nothing, no_history)) for serving in (here, beside))
             at_once(here.make(9, read))
             at_once(beside.make(9, saved))
-            self.assertEqual([at_once(serving.state(9, self.nothing, list)) for serving in (here, beside)], [saved, read])
+            self.assertEqual([all_steps(serving.state(9, self.nothing, no_history)) for serving in (here, beside)], [saved, read])
             here.empty(9)
             self.assertEqual(here.tenancies[9].open, {})
             here.restart()
@@ -125,7 +125,7 @@ class Answers(HostTest):
             self.assertEqual(written.value[8:12], (-Errno.EBADF & 0xFFFFFFFF).to_bytes(4, "little"))
 
     @staticmethod
-    def nothing() -> Steps[bytes]:
+    async def nothing() -> bytes:
         raise AssertionError("a map is without a descriptor")
 
     def test_a_save_needs_no_history(self) -> None:
@@ -133,10 +133,10 @@ class Answers(HostTest):
         with self.serving() as serving:
             asked = [CREATE, put(5), frames.prog_load(0, slots_of(PROGRAM, "read")), frames.close(0, 3)]
             list(serving.play([call_of(b"1-0", 63, asked)]))
-            steps, parts = serving.state(63, self.nothing, list), 0
+            steps, parts = serving.state(63, self.nothing, no_history), 0
             with self.assertRaises(StopIteration) as ended:
                 while True:
-                    next(steps)
+                    steps.send(None)
                     parts += 1
                     list(serving.play([call_of(b"2-0", 62, [CREATE])]))
             # All descriptors, the map, the program, and what is closed.
@@ -149,7 +149,7 @@ class Answers(HostTest):
         library = loaded()
         with Serving(PROGRAM, MACHINE, library=library) as serving, mock.patch.object(library.functions, "save", return_value=-4):
             with self.assertRaisesRegex(MemoryRefused, "memory was refused to a snapshot of tenant 5"):
-                at_once(serving.state(5, self.nothing, list))
+                all_steps(serving.state(5, self.nothing, no_history))
 
     def test_memory_that_is_refused(self) -> None:
         """The library also reports a refusal within a run, whose reply does not show it."""
@@ -313,7 +313,7 @@ class Workers(ShardTest):
         told = list[str]()
         stopped = [False]
         settings = Settings(lease_seconds=0.2, most_asked=50)
-        worker = Worker(connect(self.server.url), ShardKeys(0), PROGRAM, settings, told.append, None, loaded())
+        worker = Worker(Redis(self.server.url), ShardKeys(0), PROGRAM, settings, told.append, None, loaded())
         thread = threading.Thread(target=lambda: worker.run(lambda: stopped[0]))
         thread.start()
         try:

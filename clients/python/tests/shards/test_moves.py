@@ -53,19 +53,19 @@ class Moves(ShardTest):
             customer.ask(put(step))
             done: list[object] = []
 
-            def breaks(script: Script, *arguments: object) -> object:
+            async def breaks(script: Script, *arguments: object) -> object:
                 if len(done) == step:
                     raise RuntimeError("broken off")
-                done.append(right(script, *arguments))  # type: ignore[arg-type]
+                done.append(await right(script, *arguments))  # type: ignore[arg-type]
                 return done[-1]
 
             mover = Client(self.server.url)
             moves = (directory_scripts.BEGIN_MOVE, scripts.CLAIM, scripts.LEAVE, scripts.ARRIVE, scripts.SEAT, directory_scripts.END_MOVE)
 
-            def only_moves(script: Script, redis: Redis, *arguments: object) -> object:
-                if redis._links in [one._links for one in mover._servers.values()] and script in moves:
-                    return breaks(script, redis, *arguments)
-                return right(script, redis, *arguments)  # type: ignore[arg-type]
+            async def only_moves(script: Script, redis: Redis, *arguments: object) -> object:
+                if redis._links in [one._links for one in mover.aio._servers.values()] and script in moves:
+                    return await breaks(script, redis, *arguments)
+                return await right(script, redis, *arguments)  # type: ignore[arg-type]
 
             with mock.patch.object(Script, "__call__", only_moves), self.assertRaises(RuntimeError):
                 move(mover, "acme")
@@ -89,12 +89,12 @@ class Moves(ShardTest):
         self.client.directory.begin_move("acme")
         redis, keys = self.client.shard(second.shard)
         leaves = [second.tenant, second.generation, second.owned_by("acme")]
-        left = scripts.LEAVE(redis, [keys.seats, keys.frames(second.tenant)], leaves)
+        left = redis.run(scripts.LEAVE, [keys.seats, keys.frames(second.tenant)], leaves)
         # Of the first move, late: the seat stays taken back, and the directory does not have the next one yet.
-        self.assertEqual(scripts.SEAT(redis, [keys.seats], leaves), 0)
+        self.assertEqual(redis.run(scripts.SEAT, [keys.seats], leaves), 0)
         self.client.directory.end_move("acme", first, second)
         self.assertEqual(self.client.directory.seat("acme"), second)
-        self.assertEqual(scripts.LEAVE(redis, [keys.seats, keys.frames(second.tenant)], leaves), left)
+        self.assertEqual(redis.run(scripts.LEAVE, [keys.seats, keys.frames(second.tenant)], leaves), left)
         third = move(self.client, "acme")
         self.assertNotEqual(third, second)
         self.assertEqual(customer.ask(LOOK_UP).payload, (5).to_bytes(8, "little"))

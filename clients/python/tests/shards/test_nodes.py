@@ -2,13 +2,14 @@
 
 from __future__ import annotations
 
+import asyncio
 import unittest
 from collections.abc import Sequence
 from typing import Any
 
 from bpfhost.shards.cluster import NodesLink, Place, slot_of
 from bpfhost.shards.errors import Away, Moved
-from bpfhost.shards.system import Link, NotBegun, Pending, Word
+from bpfhost.shards.system import Link, Word
 
 
 class MovedLink:
@@ -17,20 +18,17 @@ class MovedLink:
     def __init__(self, node: str) -> None:
         self._node = node
 
-    def call(self, words: Sequence[Word], seconds: float) -> Any:
-        return self.begin(words, seconds).answer()
-
-    def begin(self, words: Sequence[Word], seconds: float) -> Pending:
-        return NotBegun(self._send_on)
-
-    def _send_on(self) -> Any:
+    async def call(self, words: Sequence[Word], seconds: float) -> Any:
         raise Moved(self._node)
 
-    def close(self) -> None:
+    def cut(self) -> None:
+        """There is nothing to cut."""
+
+    async def close(self) -> None:
         """There is nothing to close."""
 
 
-class SlotThatMoved(unittest.TestCase):
+class SlotThatMoved(unittest.IsolatedAsyncioTestCase):
     def setUp(self) -> None:
         place = Place.of("redis://a:1/0?cluster=1")
         nodes = place.nodes()
@@ -42,18 +40,18 @@ class SlotThatMoved(unittest.TestCase):
 
         self.links = [NodesLink(place, nodes, link) for _ in range(2)]
 
-    def test_commands_behind_one_another(self) -> None:
-        """The first connection learns the new node. A command that another one sent before raises Away too, and no other error."""
-        sent = [link.begin(["GET", "key"], 1.0) for link in self.links]
-        for pending in sent:
+    async def test_commands_behind_one_another(self) -> None:
+        """One that learns first of the new node of a slot raises Away, as the history there may be another one."""
+        sent = [asyncio.create_task(link.call(["GET", "key"], 1.0)) for link in self.links]
+        for task in sent:
             with self.assertRaises(Away):
-                pending.answer()
+                await task
         self.assertEqual(self.nodes.find(slot_of("key"), None), "b:1")
 
-    def test_calls(self) -> None:
+    async def test_calls(self) -> None:
         """A call is redirected to the node that is named, as often as nodes agree."""
         with self.assertRaisesRegex(Away, "do not agree"):
-            self.links[0].call(["GET", "key"], 1.0)
+            await self.links[0].call(["GET", "key"], 1.0)
 
 
 if __name__ == "__main__":

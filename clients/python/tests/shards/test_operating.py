@@ -2,6 +2,7 @@
 
 from __future__ import annotations
 
+import subprocess
 import threading
 import time
 from unittest import mock
@@ -9,8 +10,9 @@ from unittest import mock
 from bpfhost import MapType, frames
 from bpfhost.shards import MoveError, NotTaken, OtherShard, Settings, ShardError, ShardKeys, abort_move, move, operating, scripts
 from bpfhost.shards import attending
-from bpfhost.shards.connection import Script, connect
-from tests.shards.common import CREATE, LOOK_UP, SECONDS, ShardTest, WorkerThread, put
+from bpfhost.shards.blocking import connect
+from bpfhost.shards.connection import Script
+from tests.shards.common import CREATE, LOOK_UP, SECONDS, ShardTest, WorkerThread, put, did, drained
 from tests.shards.redis_server import RedisServer
 
 
@@ -97,12 +99,12 @@ class Offered(ShardTest):
         customers = [self.client.customer(f"customer-{number}") for number in range(6)]
         for number, customer in enumerate(customers):
             self.assertEqual([reply.status for reply in customer.ask_all([CREATE, put(number)])], [3, 0])
-        moved = list(operating.drain(self.client, 0, 20))
+        moved = did(self.client, drained, 0, 20)
         self.assertEqual((len(moved), {seat.shard for _, seat in moved}), (3, {1}))
         self.assertEqual(self.client.directory.loads(), {0: 0, 1: 6})
         self.assertEqual(self.client.customer("new").ask(CREATE).status, 3)
         self.assertEqual(self.client.directory.loads(), {0: 0, 1: 7})
-        self.assertRegex("\n".join(operating.show(self.client)), "shard 0: 0 customers, 0 KiB of calls wait, served by .*, drained")
+        self.assertRegex("\n".join(did(self.client, operating.show)), "shard 0: 0 customers, 0 KiB of calls wait, served by .*, drained")
         for number, customer in enumerate(customers):
             self.assertEqual(customer.ask(LOOK_UP).payload, number.to_bytes(8, "little"))
         with self.assertRaisesRegex(ShardError, "shard 0 can't be removed: it is served: stop its worker first"):
@@ -125,10 +127,10 @@ class BrokenMoves(ShardTest):
         right = Script.__call__
         mover = threading.get_ident()
 
-        def dies(script: Script, *arguments: object) -> object:
+        async def dies(script: Script, *arguments: object) -> object:
             if script is behind and threading.get_ident() == mover:
                 raise RuntimeError("died")
-            return right(script, *arguments)  # type: ignore[arg-type]
+            return await right(script, *arguments)  # type: ignore[arg-type]
 
         with mock.patch.object(Script, "__call__", dies), self.assertRaisesRegex(RuntimeError, "died"):
             move(self.client, "acme", 1 - self.client.directory.customers()["acme"].shard)
@@ -152,7 +154,7 @@ class BrokenMoves(ShardTest):
                     self.broken(behind)
                     was = self.client.directory.customers()["acme"]
                     wanted = f"acme is being moved: from shard {was.shard} to shard {1 - was.shard}"
-                    self.assertIn(wanted, "\n".join(operating.show(self.client)))
+                    self.assertIn(wanted, "\n".join(did(self.client, operating.show)))
                     late = self.client.directory.moves()["acme"]
                     assert late is not None
                     self.assertEqual(abort_move(self.client, "acme").shard, was.shard)
@@ -161,7 +163,7 @@ class BrokenMoves(ShardTest):
                     # Late steps of the move that was taken back have no effect.
                     redis, keys = self.client.shard(late.shard)
                     used = [keys.seats, keys.frames(late.tenant), keys.sessions(late.generation)]
-                    self.assertIsNone(scripts.ARRIVE(redis, used, [late.tenant, late.generation, b"{}"]))
+                    self.assertIsNone(redis.run(scripts.ARRIVE, used, [late.tenant, late.generation, b"{}"]))
                     with self.assertRaisesRegex(MoveError, "customer acme is not being moved"):
                         abort_move(self.client, "acme")
                     self.doCleanups()
@@ -195,7 +197,8 @@ class Memory(ShardTest):
         def forgets(script: Script, *arguments: object) -> object:
             if script is scripts.WRITE and not refused:
                 refused.append(1)
-                redis.call("CONFIG", "SET", "maxmemory", 1)
+                # By a client of its own: this is the worker's thread, which runs a loop already.
+                subprocess.run(["redis-cli", "-s", f"{self.scratch}/s", "CONFIG", "SET", "maxmemory", "1"], check=True, capture_output=True)
             return right(script, *arguments)  # type: ignore[arg-type]
 
         with mock.patch.object(Script, "begin", forgets):
@@ -221,6 +224,6 @@ class Names(ShardTest):
 
     def test_the_name_that_is_made_with_a_shard(self) -> None:
         redis, keys = self.client.shard(5)
-        first = scripts.BE_MADE(redis, [keys.incarnation], ["one"])
-        self.assertEqual([first, scripts.BE_MADE(redis, [keys.incarnation], ["two"])], [b"one", b"one"])
+        first = redis.run(scripts.BE_MADE, [keys.incarnation], ["one"])
+        self.assertEqual([first, redis.run(scripts.BE_MADE, [keys.incarnation], ["two"])], [b"one", b"one"])
         self.assertEqual(ShardKeys(5).incarnation, "bpfhost:{5}:incarnation")

@@ -29,11 +29,14 @@ from bpfhost.shards import (
     remove,
     scripts,
 )
-from bpfhost.shards.connection import Script, connect, demand_durable
+from bpfhost.shards.blocking import connect
+from bpfhost.shards import connection
+from bpfhost.shards.connection import Script, demand_durable
+from bpfhost.shards.log import Log
 from bpfhost.shards.errors import Away
 from bpfhost.shards.names import FRAMES, after, before, order
 from tests.common import LENGTH, PROGRAM
-from tests.shards.common import CREATE, LOOK_UP, SECONDS, ShardTest, WorkerThread, put
+from tests.shards.common import CREATE, LOOK_UP, SECONDS, ShardTest, WorkerThread, put, did
 from tests.shards.streams import Stream
 
 class Asking(ShardTest):
@@ -135,10 +138,10 @@ class Calls(ShardTest):
             number: int, of: bytes = seat.owned_by("acme"), most: int = 10_000, session: str = "one", given_up: int = 0
         ) -> list[bytes]:
             words = [session, number, given_up, of, 0, 0, CREATE, 1000, most, 2, FRAMES]
-            return list(scripts.ASK(redis, used, words))
+            return list(redis.run(scripts.ASK, used, words))
 
         self.assertEqual(ask(1), [b"seat"])
-        self.assertEqual(scripts.CLAIM(redis, [keys.seats], [0, 1, seat.owned_by("acme")]), 1)
+        self.assertEqual(redis.run(scripts.CLAIM, [keys.seats], [0, 1, seat.owned_by("acme")]), 1)
         first = ask(1)
         self.assertEqual([ask(1), ask(1)], [first, first])
         self.assertNotEqual(ask(2), first)
@@ -150,14 +153,14 @@ class Calls(ShardTest):
         # A call that was given up is not taken later; one that was taken is not given up.
         gives = [keys.sessions(1), keys.lease]
         for _ in range(2):
-            self.assertEqual(scripts.GIVE_UP(redis, gives, ["one", 3, 0]), [b"given up"])
+            self.assertEqual(redis.run(scripts.GIVE_UP, gives, ["one", 3, 0]), [b"given up"])
         self.assertEqual([ask(3), ask(1), ask(2)[0]], [[b"given up", b"1"], [b"passed", b"2"], b"taken"])
         third = ask(3, given_up=1)
-        self.assertEqual((third[0], ask(3), scripts.GIVE_UP(redis, gives, ["one", 3, 1])), (b"taken", third, third))
-        self.assertEqual(scripts.GIVE_UP(redis, gives, ["one", 2, 0]), [b"passed", b"3"])
+        self.assertEqual((third[0], ask(3), redis.run(scripts.GIVE_UP, gives, ["one", 3, 1])), (b"taken", third, third))
+        self.assertEqual(redis.run(scripts.GIVE_UP, gives, ["one", 2, 0]), [b"passed", b"3"])
         self.assertEqual((ask(1, session="two")[0], ask(1, session="three")), (b"taken", [b"sessions"]))
-        self.assertEqual(scripts.CLAIM(redis, [keys.seats], [0, 9, b"9 name:other"]), 1)
-        self.assertEqual(scripts.CLAIM(redis, [keys.seats], [0, 1, seat.owned_by("acme")]), 0)
+        self.assertEqual(redis.run(scripts.CLAIM, [keys.seats], [0, 9, b"9 name:other"]), 1)
+        self.assertEqual(redis.run(scripts.CLAIM, [keys.seats], [0, 1, seat.owned_by("acme")]), 0)
         self.assertEqual(ask(3), third)
 
     def test_an_answer_that_is_lost(self) -> None:
@@ -167,8 +170,8 @@ class Calls(ShardTest):
         right = Script.__call__
         lost: list[object] = []
 
-        def loses(script: Script, *arguments: object) -> object:
-            answer = right(script, *arguments)  # type: ignore[arg-type]
+        async def loses(script: Script, *arguments: object) -> object:
+            answer = await right(script, *arguments)  # type: ignore[arg-type]
             if script is scripts.ASK and len(lost) < 3:
                 lost.append(answer)
                 raise Away("cut")
@@ -192,18 +195,18 @@ class Calls(ShardTest):
         customer = self.client.customer("acme", seconds=0.1)
         right, late = Script.__call__, list[tuple[object, ...]]()
 
-        def delays(script: Script, *arguments: object) -> object:
+        async def delays(script: Script, *arguments: object) -> object:
             if script is scripts.ASK and not late:
                 late.append(arguments)
                 raise Away("cut")
-            return right(script, *arguments)  # type: ignore[arg-type]
+            return await right(script, *arguments)  # type: ignore[arg-type]
 
         with mock.patch.object(Script, "__call__", delays), mock.patch.object(names, "MOST_WAITING", 1):
             redis.hset(keys.waiting, 0, 1)
             with self.assertRaisesRegex(NotTaken, "customer acme has as many calls waiting as one may have"):
                 customer.post(CREATE)
             redis.hset(keys.waiting, 0, 0)
-            self.assertEqual(scripts.ASK(*late[0])[0], b"given up")  # type: ignore[arg-type]
+            self.assertEqual(self.client.loop.run(scripts.ASK(*late[0]))[0], b"given up")  # type: ignore[arg-type]
         self.assertEqual(redis.xlen(keys.frames(0)), 0)
 
     def test_a_worker_that_comes_later(self) -> None:
@@ -229,7 +232,8 @@ class Calls(ShardTest):
             began = time.monotonic()
             with self.assertRaises(NoReply):
                 call()
-            self.assertLess(time.monotonic() - began, 1.0)
+            # Long before a minute, even if other processes use the processor.
+            self.assertLess(time.monotonic() - began, 20)
 
     def test_a_redis_that_comes_later(self) -> None:
         self.shard(0)
@@ -343,26 +347,26 @@ class Calls(ShardTest):
         first.post(CREATE + put(1), by=2)
         right, late = Script.__call__, list[tuple[object, ...]]()
 
-        def delays(script: Script, *arguments: object) -> object:
+        async def delays(script: Script, *arguments: object) -> object:
             if script is scripts.ASK and not late:
                 late.append(arguments)
                 raise ShardError("it is on its way")
-            return right(script, *arguments)  # type: ignore[arg-type]
+            return await right(script, *arguments)  # type: ignore[arg-type]
 
         with mock.patch.object(Script, "__call__", delays), self.assertRaisesRegex(ShardError, "on its way"):
             first.post(put(2) * 5, by=5)
         second = self.client.customer("acme", session="frames")
         self.assertEqual(second.resume(), 2)
         ticket = second.post(put(3), by=1)
-        self.assertEqual((ticket.number, scripts.ASK(*late[0])[0]), (3, b"given up"))  # type: ignore[arg-type]
+        self.assertEqual((ticket.number, self.client.loop.run(scripts.ASK(*late[0]))[0]), (3, b"given up"))  # type: ignore[arg-type]
         self.assertEqual((redis.xlen(keys.frames(0)), second.resume()), (2, 3))
         # A process that has read an old count gets the new one.
         seat = self.client.directory.seat("acme")
         assert seat is not None
         used, words = [keys.seats, keys.sessions(1), keys.lease], ["frames", 0, 0, seat.owned_by("acme"), 1]
-        self.assertEqual(scripts.RESUME(redis, used, words), [b"passed", b"2000000"])
-        self.assertEqual(scripts.RESUME(redis, used, ["other", *words[1:]]), [b"sessions"])
-        self.assertEqual(scripts.RESUME(redis, used, [*words[:3], b"7 name:acme", 1]), [b"seat"])
+        self.assertEqual(redis.run(scripts.RESUME, used, words), [b"passed", b"2000000"])
+        self.assertEqual(redis.run(scripts.RESUME, used, ["other", *words[1:]]), [b"sessions"])
+        self.assertEqual(redis.run(scripts.RESUME, used, [*words[:3], b"7 name:acme", 1]), [b"seat"])
 
 
 class Workers(ShardTest):
@@ -408,7 +412,8 @@ class Workers(ShardTest):
         time.sleep(0.2)
         began = time.monotonic()
         worker.stop()
-        self.assertLess(time.monotonic() - began, 2)
+        # The lease that it waits for lasts a minute.
+        self.assertLess(time.monotonic() - began, 30)
         self.assertIsNone(worker.error)
 
     def test_a_worker_that_starts_before_its_redis(self) -> None:
@@ -416,7 +421,7 @@ class Workers(ShardTest):
         worker = WorkerThread(self.server.url, 0)
         self.addCleanup(worker.stop)
         self.until(lambda: bool(worker.told))
-        self.assertRegex(worker.told[0], "^shard 0 waits: Redis can't be reached: ")
+        self.assertRegex(worker.told[0], "^shard 0 waits: Redis can't be reached: .+")
         self.server.start()
         worker.wait()
         self.assertEqual(self.client.customer("acme").ask(CREATE).status, 3)
@@ -453,10 +458,10 @@ class Workers(ShardTest):
         wanted = "is answered 080000000000000003000000 when it is played again, and was answered 080000000000000004000000"
         with self.assertRaisesRegex(SetAside, f"customer acme is set aside until an operator has looked: .* {wanted}"):
             customer.ask(LOOK_UP)
-        self.assertIn(wanted, operating.say(self.client, "acme", "retry", 20))
+        self.assertIn(wanted, did(self.client, operating.say, "acme", "retry", 20))
         with self.assertRaises(SetAside):
             customer.ask(LOOK_UP)
-        operating.say(self.client, "acme", "skip", 20)
+        did(self.client, operating.say, "acme", "skip", 20)
         self.assertEqual(customer.ask(LOOK_UP).status, -Errno.ENOENT)
 
     def test_an_entry_that_is_missing(self) -> None:
@@ -504,7 +509,7 @@ class Workers(ShardTest):
             # Each piece is one that a snapshot has.
             self.assertGreater(len(redis.hkeys(keys.pieces)), 1)
             second = self.shard(0)
-            found = {name for log in second.worker.logs for one in log.manifests() for name in one.names()}
+            found = {name for log in second.worker.logs for one in self.client.loop.run(Log(redis.aio, keys, log.tenant).manifests()) for name in one.names()}
             self.assertEqual({name.decode() for name in redis.hkeys(keys.pieces)} - found, set())
             for number in (1, 2, 4, 5, 6, 7):
                 self.assertEqual(self.client.customer(f"customer-{number}").ask(LOOK_UP).payload, number.to_bytes(8, "little"))
@@ -514,7 +519,7 @@ class Workers(ShardTest):
         redis.hset(keys.lease, "token", "token")
 
         def keep(this: str, last: str) -> object:
-            return scripts.KEEP_SNAPSHOT(redis, [keys.lease, keys.snapshots], ["token", 0, this, last])
+            return redis.run(scripts.KEEP_SNAPSHOT, [keys.lease, keys.snapshots], ["token", 0, this, last])
 
         self.assertEqual([keep("one", ""), keep("two", "one"), keep("two", "one")], [1, 1, 1])
         with self.assertRaisesRegex(RedisError, "the last snapshot of tenant 0 is another one"):
@@ -523,13 +528,32 @@ class Workers(ShardTest):
 
     def test_a_redis_that_may_lose(self) -> None:
         redis = connect(self.server.url)
-        demand_durable(redis)
+        redis.loop.run(demand_durable(redis.aio))
         redis.call("CONFIG", "SET", "appendfsync", "everysec")
         with self.assertRaisesRegex(RedisError, "Redis has appendfsync everysec, and a shard's log needs always"):
-            demand_durable(redis)
-        worker = self.shard(0)
+            redis.loop.run(demand_durable(redis.aio))
+        worker = WorkerThread(self.server.url, 0)
         worker.join()
         self.assertIsInstance(worker.error, RedisError)
+        with self.assertRaisesRegex(RedisError, "appendfsync everysec"):
+            worker.wait()
+
+    def test_a_redis_that_loads_its_files(self) -> None:
+        """A worker waits for it, and prints a notice: meanwhile Redis reports that it has no log."""
+        server = self.server.process
+        assert server is not None
+        right, loads = connection.told_by, [True]
+
+        async def told_by(redis: connection.Redis, section: str) -> dict[str, str]:
+            return {"loading": "1", "aof_enabled": "0"} if section == "persistence" and loads[0] else await right(redis, section)
+
+        with mock.patch.object(connection, "told_by", told_by):
+            worker = WorkerThread(self.server.url, 0)
+            self.addCleanup(worker.stop)
+            self.until(lambda: worker.told == ["shard 0 waits: Redis loads its files"])
+            loads[0] = False
+            worker.wait()
+        self.assertEqual(self.client.customer("acme").ask(CREATE).status, 3)
 
 
 class Ids(ShardTest):

@@ -4,6 +4,7 @@ from __future__ import annotations
 
 import random
 import signal
+from collections.abc import AsyncIterator
 
 from bpfhost import Host, MapType, assemble, frames
 from bpfhost.shards.calls import Call, NoCall, item_of
@@ -11,12 +12,12 @@ from bpfhost.shards.copied import Asked, Copy
 from bpfhost.shards.errors import CopyDiffers, MemoryRefused, StateRefused
 from bpfhost.shards.names import FRAMES
 from bpfhost.shards.serving import Serving, answered
-from bpfhost.shards.system import MACHINE
+from bpfhost.shards.link import MACHINE
 from bpfhost.slots import named_maps, renamed_maps
-from bpfhost.state import Steps, at_once, split, state_frames, with_tenant
+from bpfhost.state import at_once, split, state_frames, with_tenant
 from bpfhost.tenancy import Tenancy, status_of
 from tests.common import PROGRAM, SECONDS, HostTest, TimedTest
-from tests.shards.common import CREATE, LOOK_UP, call_of
+from tests.shards.common import CREATE, LOOK_UP, call_of, all_steps
 from tests.shards.streams import Stream, is_without_descriptor, slots_of
 
 SERVINGS, TENANTS, LENGTH = 5, 64, 200
@@ -38,13 +39,15 @@ class Played:
 
     def snapshot(self) -> bytes:
         """The frames of a snapshot; what is played from then on comes after it."""
-        self.before = at_once(self.serving.state(self.tenant, self._last, lambda: self.asked))
+        self.before = all_steps(self.serving.state(self.tenant, self._last, self._since))
         self.asked = []
         return self.before
 
-    def _last(self) -> Steps[bytes]:
-        yield
+    async def _last(self) -> bytes:
         return self.before
+
+    async def _since(self) -> AsyncIterator[list[Asked]]:
+        yield self.asked
 
     def restore(self, stream: bytes) -> None:
         """Makes the state of a snapshot."""

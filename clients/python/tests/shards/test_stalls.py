@@ -9,15 +9,16 @@ from collections.abc import Callable, Iterator, Sequence
 
 from bpfhost import MapType, frames
 from bpfhost.shards import Settings, ShardKeys, Worker, operating
-from bpfhost.shards.connection import Redis, connect
+from bpfhost.shards.connection import Redis
 from bpfhost.shards.library import Library
 from bpfhost.shards.names import MOST_WAITING
 from bpfhost.shards.serving import Serving
-from bpfhost.shards.system import MACHINE, Link, Machine, Word
+from bpfhost.shards.link import MACHINE, RedisLink
+from bpfhost.shards.system import Machine, Word, Work
 from bpfhost.shards.reading import TURN_FRAMES, share_of
 from bpfhost.state import Steps
 from tests.common import PROGRAM, HostTest
-from tests.shards.common import CREATE, LOOK_UP, SECONDS, ShardTest, call_of, put
+from tests.shards.common import CREATE, LOOK_UP, SECONDS, ShardTest, call_of, put, did, no_history
 from tests.shards.streams import slots_of
 
 # A step sends the host at most so many frames (the end of one part and the begin of another), and sends Redis so many bytes.
@@ -40,13 +41,13 @@ class InSteps(HostTest):
     # Its parts, if the library saves it; otherwise as many steps at least.
     parts = 100
 
-    def steps_of(self, serving: Serving, steps: Steps[bytes] | Steps[None]) -> tuple[object, list[int], list[float]]:
+    def steps_of(self, serving: Serving, steps: Work[bytes] | Steps[None]) -> tuple[object, list[int], list[float]]:
         """The result, and for each step the number of frames that it sends, and its processor time."""
         asked, took = list[int](), list[float]()
         while True:
             before, began = serving.asked, time.thread_time()
             try:
-                next(steps)
+                steps.send(None)
             except StopIteration as end:
                 return end.value, asked, took
             finally:
@@ -57,7 +58,7 @@ class InSteps(HostTest):
         with Serving(PROGRAM, MACHINE, library=self.library) as serving:
             for _ in serving.play([call_of(b"1-0", 0, list(full_maps()))]):
                 pass
-            state, asked, took = self.steps_of(serving, serving.state(0, nothing, list))
+            state, asked, took = self.steps_of(serving, serving.state(0, nothing, no_history))
             assert isinstance(state, bytes)
             self.assertGreaterEqual(len(asked), self.parts)
             self.assertLessEqual(max(asked), STEP_FRAMES)
@@ -69,9 +70,8 @@ class InSteps(HostTest):
             self.assertLessEqual(len(slow), 1, slow)
 
 
-def nothing() -> Steps[bytes]:
+async def nothing() -> bytes:
     """No frames."""
-    yield
     return b""
 
 
@@ -80,18 +80,16 @@ class Counting(Machine):
 
     def __init__(self) -> None:
         self.largest = 0
-
-    def link(self, url: str) -> Link:
-        return _CountingLink(self, super().link(url))
+        super().__init__(lambda url: _CountingLink(self, url))
 
 
-class _CountingLink:
-    def __init__(self, counting: Counting, link: Link) -> None:
-        self._counting, self._link = counting, link
-        self.close, self.begin = link.close, link.begin
+class _CountingLink(RedisLink):
+    def __init__(self, counting: Counting, url: str) -> None:
+        super().__init__(url)
+        self._counting = counting
 
-    def call(self, words: Sequence[Word], seconds: float) -> object:
-        answer = self._link.call(words, seconds)
+    async def call(self, words: Sequence[Word], seconds: float) -> object:
+        answer = await super().call(words, seconds)
         sizes = sum(len(word) for word in words if isinstance(word, bytes)), len(answer) if isinstance(answer, bytes) else 0
         self._counting.largest = max(self._counting.largest, *sizes)
         return answer
@@ -99,20 +97,21 @@ class _CountingLink:
 
 class Waits(ShardTest):
     def longest(self, work: Callable[[], object]) -> tuple[float, int]:
-        """The longest wait of another customer for a look-up meanwhile, and the number of its look-ups."""
+        """The longest wait of another customer for a look-up meanwhile, as a part of the time of the work, and the number of its look-ups."""
         other = self.client.customer("other")
         if other.resume() == 0:
             other.ask(CREATE).done()
             other.ask(put(1)).done()
         worker = threading.Thread(target=work)
         worker.start()
+        start = time.monotonic()
         waits = []
         while worker.is_alive():
             began = time.monotonic()
             other.ask(LOOK_UP).done()
             waits.append(time.monotonic() - began)
         worker.join()
-        return max(waits), len(waits)
+        return max(waits) / (time.monotonic() - start), len(waits)
 
 
 class Stalls(Waits):
@@ -127,7 +126,7 @@ class Stalls(Waits):
                 bulk.wait(ticket)
 
         longest, many = self.longest(work)
-        self.assertLess(longest, 1.0)
+        self.assertLess(longest, 1 / 3)
         self.assertGreater(many, 20)
         redis, keys = self.client.shard(0)
         self.assertLessEqual(int(redis.hget(keys.waiting, 0) or 0), MOST_WAITING)
@@ -142,7 +141,7 @@ class Stalls(Waits):
         """A reply of 2 MB over 300 kB a second takes longer than the lease, which is raised at the same time."""
         slow = SlowLink(f"{self.scratch}/s", 300_000)
         self.addCleanup(slow.close)
-        worker = Worker(connect(slow.url), ShardKeys(0), PROGRAM, Settings(1.0), lambda _: None)
+        worker = Worker(Redis(slow.url), ShardKeys(0), PROGRAM, Settings(1.0), lambda _: None)
         stopped, errors = threading.Event(), list[Exception]()
 
         def run() -> None:
@@ -163,7 +162,7 @@ class Stalls(Waits):
         self.assertEqual(len(customer.wait(customer.post(LOOK_UP * 500))), 500)
         self.assertGreater(time.monotonic() - began, 3)
         self.assertEqual(errors, [])
-        self.assertRegex("\n".join(operating.show(self.client)), "shard 0: 1 customers, 0 KiB of calls wait, served by ")
+        self.assertRegex("\n".join(did(self.client, operating.show)), "shard 0: 1 customers, 0 KiB of calls wait, served by ")
 
 
 class SnapshotStalls(Waits):
@@ -195,7 +194,7 @@ class SnapshotStalls(Waits):
                 full.ask(frames.map_update_elem(0, 3, bytes(8), value.to_bytes(8, "little"))).done()
 
         longest, _ = self.longest(work)
-        self.assertLess(longest, 1.0)
+        self.assertLess(longest, 1 / 3)
         keys = ShardKeys(0)
         self.assertGreater(len(self.client.redis.hkeys(keys.pieces)), 4)
         self.assertLess(counting.largest, STEP_BYTES)
@@ -217,7 +216,7 @@ class SnapshotStalls(Waits):
                     customer.ask(run).done()
 
         longest, _ = self.longest(work)
-        self.assertLess(longest, 1.0)
+        self.assertLess(longest, 1 / 3)
         self.assertGreater(len(self.client.redis.hkeys(ShardKeys(0).snapshots)), 10)
 
 

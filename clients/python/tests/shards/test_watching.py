@@ -20,13 +20,13 @@ from bpfhost import frames
 from bpfhost.shards import metrics, operating
 from bpfhost.shards.metrics import Page, Told
 from tests.common import PROGRAM, HostTest
-from tests.shards.common import CREATE, LOOK_UP, ShardTest, WorkerThread, put
-from tests.shards.gateways import WHY_NOT, customers_file
+from tests.shards.common import CREATE, LOOK_UP, ShardTest, WorkerThread, put, did
+from tests.shards.gateways import UNCOUNTED, customers_file
 from tests.test_command import PACKAGE
 
 DEPLOY = PACKAGE / "deploy"
 # A line of Prometheus's text format.
-_LINE = re.compile(r'(# (HELP|TYPE) [a-z_]+ .+|[a-z_]+(\{[a-z]+="[a-z_]+"\})? [0-9.e+-]+)')
+_LINE = re.compile(r'(# (HELP|TYPE) [a-z_]+ .+|[a-z_]+(\{[a-z]+="[^"]+"(,[a-z]+="[^"]+")*\})? ([0-9.e+-]+|\+Inf))')
 
 
 def read(address: str, page: str) -> tuple[int, str]:
@@ -50,16 +50,22 @@ def numbers(text: str) -> dict[str, float]:
     return found
 
 
+@unittest.skipIf(UNCOUNTED is not None, UNCOUNTED or "")
 class Pages(HostTest):
     def test_pages(self) -> None:
-        told = Told(metrics.GATEWAY, lambda: {"bpfhost_gateway_refusals_total": {"who": 2, "slow": 1}})
-        told.add("bpfhost_gateway_calls_total", 3)
+        told = Told(metrics.GATEWAY, lambda: {"bpfhost_gateway_unknown": 5})
+        told.add("bpfhost_gateway_calls_total", 3, "acme")
+        told.add("bpfhost_gateway_refusals_total", 2, "who")
+        told.saw("bpfhost_gateway_call_seconds", 0.003, "acme")
         well = [True]
         page = Page("127.0.0.1:0", told.text, lambda: (well[0], {"serves": well[0]}))
         self.addCleanup(page.close)
         status, text = read(page.address, "/metrics")
         found = numbers(text)
-        self.assertEqual((status, found["bpfhost_gateway_calls_total"], found['bpfhost_gateway_refusals_total{why="who"}']), (200, 3, 2))
+        self.assertEqual((status, found['bpfhost_gateway_calls_total{customer="acme"}'], found['bpfhost_gateway_refusals_total{why="who"}']), (200, 3, 2))
+        self.assertEqual(found["bpfhost_gateway_unknown"], 5)
+        buckets = [found[f'bpfhost_gateway_call_seconds_bucket{{customer="acme",le="{most}"}}'] for most in (0.0025, 0.005, "+Inf")]
+        self.assertEqual(buckets, [0, 1, 1])
         self.assertGreater(found["process_resident_memory_bytes"], 1 << 20)
         self.assertEqual(read(page.address, "/health"), (200, '{"serves": true}\n'))
         well[0] = False
@@ -70,6 +76,7 @@ class Pages(HostTest):
                 Page(address, told.text, lambda: (True, {}))
 
 
+@unittest.skipIf(UNCOUNTED is not None, UNCOUNTED or "")
 class Numbers(ShardTest):
     def test_a_worker(self) -> None:
         worker = self.shard(0)
@@ -93,7 +100,7 @@ class Numbers(ShardTest):
     def test_what_is_shown_as_json(self) -> None:
         self.shard(0)
         self.client.customer("acme").ask(CREATE)
-        said: dict[str, Any] = json.loads(json.dumps(operating.plain(operating.look(self.client))))
+        said: dict[str, Any] = json.loads(json.dumps(operating.plain(did(self.client, operating.look))))
         self.assertEqual(said["customers"], {"acme": {"shard": 0, "tenant": 0, "generation": 1}})
         shard = said["shards"][0]
         self.assertRegex(shard.pop("served_by"), "process [0-9]+")
@@ -142,7 +149,7 @@ class Processes(ShardTest):
         self.assertEqual(customers[2].ask(LOOK_UP).payload, (29).to_bytes(8, "little"))
         self.assertLess(numbers(second.worker.metrics.text())["bpfhost_worker_replayed_frames_total"], 31)
 
-    @unittest.skipIf(WHY_NOT is not None, WHY_NOT or "")
+    @unittest.skipIf(UNCOUNTED is not None, UNCOUNTED or "")
     def test_a_gateway_in_json(self) -> None:
         file = customers_file(self.scratch, acme="token")
         words = ["--customers", str(file), "--listen", f"unix:{self.scratch}/g", "--log", "json", "--metrics", "127.0.0.1:0"]
@@ -179,10 +186,10 @@ class Processes(ShardTest):
 class Files(unittest.TestCase):
     def test_the_dashboard(self) -> None:
         """Each number that it shows is a metric of a worker, a gateway or a process, and it shows each of these."""
-        told = {*metrics.WORKER, *metrics.GATEWAY, *metrics.PROCESS}
-        shown = set(re.findall(r"(?:bpfhost|process)_[a-z_]+", " ".join(self.expressions())))
+        told = {*metrics.WORKER, *metrics.GATEWAY}
+        shown = {name.removesuffix("_bucket") for name in re.findall(r"bpfhost_[a-z_]+", " ".join(self.expressions()))}
         self.assertEqual(shown - told, set())
-        left = {f"bpfhost_{name}" for name in ("worker_bytes_total", "worker_turns_total", "worker_restore_seconds", "gateway_bytes_total", "gateway_connections_total")}
+        left = {f"bpfhost_{name}" for name in ("worker_bytes_total", "worker_turns_total", "worker_turn_seconds", "worker_restore_seconds", "worker_snapshots_total", "gateway_bytes_total", "gateway_new_connections_total", "gateway_unread_bytes")}
         self.assertEqual(told - shown, left)
 
     def expressions(self) -> list[str]:
@@ -203,7 +210,7 @@ class Files(unittest.TestCase):
         top = PACKAGE.parents[1]
         copied = re.findall(r"^COPY (\S+) ", text, re.M)
         self.assertEqual([source for source in copied if not (top / source).exists()], ["crates/bpfhost/out/bpfhost"] * (not (top / copied[0]).exists()))
-        self.assertIn("python3 python3-redis python3-greenlet", text)
+        self.assertIn("python3 python3-redis python3-hiredis python3-prometheus-client", text)
 
     @unittest.skipIf(shutil.which("systemd-analyze") is None, "systemd-analyze is missing")
     def test_the_units(self) -> None:
@@ -211,6 +218,11 @@ class Files(unittest.TestCase):
             found = subprocess.run(["systemd-analyze", "verify", "--man=no", str(DEPLOY / unit)], capture_output=True, text=True)
             said = [line for line in found.stderr.splitlines() if unit in line]
             self.assertEqual(said, [])
+
+    def test_no_limit_of_starts(self) -> None:
+        """systemd starts a worker and a gateway again however often they have ended."""
+        for unit in ("bpfhost-worker@.service", "bpfhost-gateway.service"):
+            self.assertIn("StartLimitIntervalSec=0", (DEPLOY / unit).read_text().partition("[Service]")[0].splitlines())
 
     def test_the_redis(self) -> None:
         """The file has the commands that a worker uses."""
@@ -240,3 +252,19 @@ class Upgrade(ShardTest):
                 self.assertEqual(customer.ask(LOOK_UP).payload, value.to_bytes(8, "little"))
         self.assertEqual([worker.error for worker in workers], [None, None])
         self.assertEqual(customers[0].ask(frames.close(0, 9)).status, -9)
+
+
+@unittest.skipIf(UNCOUNTED is not None, UNCOUNTED or "")
+class TakenPort(ShardTest):
+    def test_a_second_worker_with_the_same_address(self) -> None:
+        """It serves all the same, and prints a notice."""
+        page = Page("127.0.0.1:0", str, lambda: (True, {}))
+        self.addCleanup(page.close)
+        command = [sys.executable, "-m", "bpfhost.shards", "worker", "0", "--redis", self.server.url, "--bpfhost", PROGRAM, "--metrics", page.address]
+        with subprocess.Popen(command, stderr=subprocess.PIPE, text=True) as worker:
+            assert worker.stderr
+            self.addCleanup(worker.kill)
+            lines = [worker.stderr.readline() for _ in range(2)]
+            worker.terminate()
+        self.assertEqual(lines[0], f"shard 0: metrics can't be read at {page.address}: Address already in use; it is served without\n")
+        self.assertRegex(lines[1], "^shard 0 is served")

@@ -9,17 +9,16 @@ from __future__ import annotations
 import asyncio
 import contextlib
 import ssl
-import time
-from collections.abc import Callable
-from typing import TYPE_CHECKING, TypeVar
+from typing import TYPE_CHECKING
 
-from bpfhost.shards.calls import MOST_FRAMES
-from bpfhost.shards.client import NAMELESS, Customer
+from bpfhost.shards.calls import LONGEST_CALL, MOST_FRAMES
+from bpfhost.shards.client import NAMELESS, AsyncCustomer
 from bpfhost.shards.errors import CallPassed, NoReply, NotDone, NotTaken, ReplyGone, SessionPassed, SetAside, ShardError
-from bpfhost.shards.gateway.bridge import LOOP, in_turns
 from bpfhost.shards.gateway.customers import Known
 from bpfhost.shards.gateway.protocol import LONGEST_HELLO, Incoming, Refusal, Why, Word, hello_size, read_hello, told
+from bpfhost.shards.system import Answer, Work
 from bpfhost.shards.tickets import Ticket
+from bpfhost.state import split
 
 if TYPE_CHECKING:
     from bpfhost.shards.gateway.server import Gateway
@@ -30,34 +29,35 @@ _MOST_UNREAD = 1 << 16
 # The end of a connection takes at most so long, so that its customer can still read the reason.
 _SECONDS_TO_END = 2.0
 
-Answer = TypeVar("Answer")
-
 
 class Connection:
     """A connection, from its first byte to its last."""
 
-    def __init__(self, gateway: Gateway, reader: asyncio.StreamReader, writer: asyncio.StreamWriter) -> None:
-        self._gateway, self._reader, self._writer = gateway, reader, writer
+    def __init__(self, gateway: Gateway, reader: asyncio.StreamReader, writer: asyncio.StreamWriter, address: str = "") -> None:
+        """The address is that of the customer, or empty for a Unix socket."""
+        self._gateway, self._reader, self._writer, self._address = gateway, reader, writer, address
         self._limits = gateway.limits
         self._incoming = Incoming()
         # Events: frames have come, or no more will come; there is room for more.
         self._came, self._room = asyncio.Event(), asyncio.Event()
-        self._known: Known | None = None
-        self._customer: Customer | None = None
+        # Who the customer is, once that is known.
+        self.known: Known | None = None
+        self._customer: AsyncCustomer | None = None
         self._session: str | None = None
         self._has_ended = False
         # How many frames were taken, and how many replies were sent.
         self._taken = self._answered = 0
-        self._task = asyncio.current_task()
+        self._task: asyncio.Task[None] | None = None
         # Why it has to end: at once, or after what came before it.
         self._refusal: Refusal | None = None
         self._wrong: Refusal | None = None
-        self._is_calling = False
+        self._is_calling = self._has_told_end = False
         self._began = 0.0
         writer.transport.set_write_buffer_limits(_MOST_UNREAD)
 
     async def run(self) -> None:
         """Serves the connection until it ends."""
+        self._task = asyncio.current_task()
         try:
             await self._serve()
         except Refusal as refusal:
@@ -69,22 +69,32 @@ class Connection:
         except (ConnectionError, ssl.SSLError, asyncio.IncompleteReadError):
             pass
         finally:
-            self._leave()
-            # If TLS has ended by itself, asyncio has no lower transport any more that could be aborted.
-            with contextlib.suppress(AttributeError):
-                self._writer.transport.abort()
+            self._close()
 
-    def _leave(self) -> None:
-        """Removes the connection from its customer."""
-        if self._known:
-            self._gateway.left(self._known, self._session, self)
-            self._known = None
+    def _close(self) -> None:
+        """Closes the connection, and only then removes it from its customer."""
+        # If TLS has ended by itself, asyncio has no lower transport any more that could be aborted.
+        with contextlib.suppress(AttributeError):
+            self._writer.transport.abort()
+        self._gateway.unread.give(self)
+        if self.known:
+            self._gateway.left(self.known, self._session, self)
+            self.known = None
 
     def refuse(self, refusal: Refusal) -> None:
         """Ends the connection, after the replies to the call in progress."""
         self._refusal = self._refusal or refusal
         self._came.set()
         if not self._is_calling and self._task:
+            self._task.cancel()
+
+    def end(self, refusal: Refusal, at_once: bool = False) -> None:
+        """Ends the connection now, whatever it waits for; `at_once` without a wait for its customer to read the reason."""
+        self._refusal = self._refusal or refusal
+        if at_once:
+            self._told_end(self._refusal)
+            self._close()
+        if self._task:
             self._task.cancel()
 
     def _crowded(self) -> Refusal:
@@ -108,7 +118,7 @@ class Connection:
 
     async def _first(self) -> tuple[bytes, bytes]:
         """The first frame, and what came after it."""
-        held, seconds = bytearray(), self._limits.seconds_for_a_frame
+        held, seconds = bytearray(), self._limits.seconds_silent
         try:
             async with asyncio.timeout(seconds):
                 while (size := hello_size(held)) is None:
@@ -124,28 +134,36 @@ class Connection:
         """Identifies the customer, and sends the replies that a session lacks."""
         token, session, answered = read_hello(first)
         tls = self._writer.get_extra_info("ssl_object")
-        known = self._gateway.customers.of(token, tls.getpeercert() if tls else None)
+        known = self._gateway.who(token, tls.getpeercert() if tls else None, self._address)
         self._gateway.came(known, session, self)
-        self._known, self._session = known, session
-        self._customer = Customer(self._gateway.client, known.name, self._limits.seconds, _own(session))
+        self.known, self._session = known, session
+        client = self._gateway.client
+        own = NAMELESS + client.system.fresh() if session is None else _own(session)
+        self._customer = AsyncCustomer(client, known.name, self._limits.seconds, own)
         self._incoming.acked = answered
-        missing = await self._resume(self._customer, answered) if session else []
+        last = await self._resume(self._customer, answered) if session else None
+        replies = await self._missing(self._customer, last, self._taken - answered) if last else b""
         self._write(told(Word.HELLO, None, customer=known.name, taken=self._taken))
-        self._send(missing)
+        await self._send(last, replies, self._taken - answered)
 
-    async def _resume(self, customer: Customer, answered: int) -> list[bytes]:
-        """Continues a session, and returns the replies that the customer does not have yet."""
-        last = await self._behind(customer.last)
+    async def _resume(self, customer: AsyncCustomer, answered: int) -> Ticket | None:
+        """Continues a session, and returns its last call if the customer does not have all replies to it yet."""
+        last = await self._behind(customer.last())
         self._taken = last.number if last else 0
         self._answered = answered
         if answered > self._taken:
             raise Refusal(Why.WRONG, f"session {self._session} has {self._taken} frames taken, and not {answered} replies")
-        if last is None or answered == self._taken:
-            return []
-        replies = await self._replies(customer, last, self._taken - answered)
-        if len(replies) < self._taken - answered:
-            raise Refusal(Why.GONE, f"of session {self._session} the last {len(replies)} replies are known, and {self._taken - answered} are missing")
-        return replies[len(replies) - (self._taken - answered) :]
+        return last if answered != self._taken else None
+
+    async def _missing(self, customer: AsyncCustomer, last: Ticket, many: int) -> bytes:
+        """The last replies to the last call, which the customer does not have yet."""
+        stream = await self._replies(customer, last, many)
+        if not last.answered:
+            return stream
+        replies = split(stream)
+        if len(replies) < many:
+            raise Refusal(Why.GONE, f"of session {self._session} the last {len(replies)} replies are known, and {many} are missing")
+        return b"".join(replies[len(replies) - many :])
 
     # Frames.
 
@@ -189,18 +207,18 @@ class Connection:
 
     async def _call(self) -> None:
         """Makes calls from the frames, one after another."""
-        assert self._customer and self._known
+        assert self._customer and self.known
         while await self._is_next_there():
-            stream, count, replies = self._incoming.take(MOST_FRAMES)
+            # At most what the customer may send in a second.
+            limits = self.known.limits
+            stream, count = self._incoming.take(int(max(1, min(MOST_FRAMES, limits.frames))), int(min(LONGEST_CALL, limits.bytes)))
             self._room.set()
-            await self._gateway.wait_for_rate(self._known, count, len(stream))
-            size = await self._gateway.room.take(replies)
+            await self._gateway.wait_for_rate(self.known, count, len(stream))
+            self._is_calling = True
             try:
-                self._is_calling = True
                 await self._answer(self._customer, stream, count)
             finally:
                 self._is_calling = False
-                self._gateway.room.give(size)
 
     async def _is_next_there(self) -> bool:
         """Waits for frames of the next call; False if there will be none.
@@ -220,27 +238,27 @@ class Connection:
             self._came.clear()
             await self._came.wait()
 
-    async def _answer(self, customer: Customer, stream: bytes, count: int) -> None:
-        began = time.monotonic()
-        ticket = await self._behind(lambda: customer.post(stream, by=count))
+    async def _answer(self, customer: AsyncCustomer, stream: bytes, count: int) -> None:
+        now = asyncio.get_running_loop().time
+        began = now()
+        ticket = await self._behind(customer.post_checked(stream, count))
         self._taken += count
         replies = await self._replies(customer, ticket, count)
-        self._gateway.counts.note(len(stream), count, time.monotonic() - began)
-        self._send(replies)
-        await self._drain()
+        self._gateway.note(customer.name, len(stream), count, now() - began)
+        await self._send(ticket, replies, count)
 
-    async def _replies(self, customer: Customer, ticket: Ticket, count: int) -> list[bytes]:
-        """The replies to a call; if there are none, as many items that take their place."""
+    async def _replies(self, customer: AsyncCustomer, ticket: Ticket, count: int) -> bytes:
+        """The replies to a call; if there are none, a frame that takes their place."""
         try:
-            return await self._behind(lambda: customer.wait(ticket))
+            return await self._behind(customer.wait_bytes(ticket))
         except (NotDone, ReplyGone) as error:
             why = Why.GONE if isinstance(error, ReplyGone) else Why.NOT_DONE
-            return [told(Word.NO_REPLIES, why, frames=count, why=str(error)), *[b""] * (count - 1)]
+            return told(Word.NO_REPLIES, why, frames=count, why=str(error))
 
-    async def _behind(self, call: Callable[[], Answer]) -> Answer:
+    async def _behind(self, call: Work[Answer]) -> Answer:
         """Calls the shards; raises Refusal if they fail."""
         try:
-            return await in_turns(call)
+            return await call
         except (SessionPassed, CallPassed):
             raise Refusal(Why.PASSED, f"another connection goes on with session {self._session}") from None
         except SetAside as error:
@@ -254,9 +272,15 @@ class Connection:
 
     # Replies.
 
-    def _send(self, replies: list[bytes]) -> None:
-        self._answered += len(replies)
-        self._write(b"".join(replies))
+    async def _send(self, ticket: Ticket | None, replies: bytes, count: int) -> None:
+        """Sends the replies to a call, and waits until the customer has read some of them."""
+        self._answered += count
+        if not replies or not self.known:
+            return
+        self._gateway.unread.take(self, self.known.name, ticket.place.shard if ticket and ticket.place else -1, len(replies))
+        self._write(replies)
+        await self._drain()
+        self._gateway.unread.give(self)
 
     def _write(self, data: bytes) -> None:
         if not self._writer.transport.is_closing():
@@ -270,12 +294,21 @@ class Connection:
         except TimeoutError:
             raise Refusal(Why.SLOW, f"replies were not read for {self._limits.seconds_to_read:g} s") from None
 
+    def _told_end(self, refusal: Refusal) -> None:
+        """Sends the reason why the connection ends, once."""
+        if not self._has_told_end:
+            self._has_told_end = True
+            self._gateway.refused(refusal.why)
+            with contextlib.suppress(ConnectionError, ssl.SSLError, RuntimeError):
+                self._write(told(Word.END, refusal.why, why=str(refusal), taken=self._taken))
+
     async def _end(self, refusal: Refusal) -> None:
         """Sends the reason why the connection ends, if the customer still reads."""
-        self._gateway.counts.refused(refusal.why)
-        self._leave()
+        reads = self._writer.transport.get_write_buffer_size() <= _MOST_UNREAD
+        self._told_end(refusal)
         with contextlib.suppress(ConnectionError, ssl.SSLError, TimeoutError, RuntimeError, asyncio.CancelledError):
-            self._write(told(Word.END, refusal.why, why=str(refusal), taken=self._taken))
+            if not reads:
+                return
             async with asyncio.timeout(_SECONDS_TO_END):
                 if self._writer.can_write_eof():
                     self._writer.write_eof()
@@ -286,8 +319,6 @@ class Connection:
                     pass
 
 
-def _own(session: str | None) -> str:
+def _own(session: str) -> str:
     """The name of a gateway's session; a client without a gateway can't have it."""
-    if session is None:
-        return NAMELESS + LOOP.fresh()
     return f"{NAMELESS if session.startswith(NAMELESS) else ''}gateway {session}"

@@ -33,10 +33,11 @@ _NUMBERS = ("connections", "frames", "bytes")
 
 @dataclass(frozen=True)
 class Known:
-    """A customer that a gateway knows."""
+    """A customer that a gateway knows, with the hash of a token or the name in a certificate by which it is known."""
 
     name: str
     limits: Limits = Limits()
+    by: str = ""
 
 
 def new_token() -> str:
@@ -72,22 +73,27 @@ class Customers:
     def _add(self, name: str, what: object) -> None:
         if not isinstance(what, dict):
             raise ValueError(f"customer {name} is no table")
-        known = Known(name, _limits(name, what))
+        limits = _limits(name, what)
         hashes, certificate = what.get("token-sha256", []), what.get("certificate")
         given: list[object] = hashes if isinstance(hashes, list) else [hashes]
         for one in given:
             if not isinstance(one, str) or not _HASH.fullmatch(one):
                 raise ValueError(f"token-sha256 of customer {name} is 64 digits of 0 to f, or a list of such")
-            _put(self._by_token, one, known)
+            _put(self._by_token, one, Known(name, limits, one))
         if certificate is not None:
             if not isinstance(certificate, str) or not certificate:
                 raise ValueError(f"certificate of customer {name} is a name")
-            _put(self._by_certificate, certificate, known)
+            _put(self._by_certificate, certificate, Known(name, limits, certificate))
         if not hashes and certificate is None:
             raise ValueError(f"customer {name} has neither token-sha256 nor certificate")
 
     def __len__(self) -> int:
-        return len({id(known) for known in (*self._by_token.values(), *self._by_certificate.values())})
+        return len({known.name for known in (*self._by_token.values(), *self._by_certificate.values())})
+
+    def again(self, known: Known) -> Known | None:
+        """A customer that was known by an earlier file, as this file has it; None if it is not known by the same token or certificate."""
+        found = self._by_token.get(known.by) or self._by_certificate.get(known.by)
+        return found if found and found.name == known.name else None
 
     def of(self, token: str | None, certificate: Mapping[str, Any] | None) -> Known:
         """The customer with this token, or with this certificate, which was verified; raises Refusal if there is none."""

@@ -1,12 +1,17 @@
-"""Limits of a gateway and of a customer, and of rates."""
+"""Limits of a gateway and of a customer: of rates, of replies that are not read, and of what comes from one address."""
 
 from __future__ import annotations
 
-import asyncio
 import collections
+import ipaddress
+from collections.abc import Callable, Hashable
 from dataclasses import dataclass
+from typing import Generic, TypeVar
 
 MEBI = 1 << 20
+_MOST_ADDRESSES = 4096
+
+Holder = TypeVar("Holder", bound=Hashable)
 
 
 @dataclass(frozen=True)
@@ -22,19 +27,23 @@ class Limits:
 class GatewayLimits:
     """A gateway's limits.
 
-    These are its connections at once; how many of them may have no known customer yet; new connections per second; the seconds until a
-    frame that has begun is whole, until a customer has read some of its replies, and for which no frame comes; how long a call waits at
-    most for the customer's rate; the bytes of replies that may be in progress; and how long the gateway waits for a call.
+    These are its connections at once; how many of them may have no known customer yet, in all and from one address; new connections per
+    second, in all and from one address; the seconds until a connection has said who the customer is, until a frame that has begun is
+    whole, until a customer has read some of its replies, and for which no frame comes; the bytes of replies that a customer, and all
+    customers of a shard, have not read; and how long the gateway waits for a call.
     """
 
     connections: int = 1000
     unknown: int = 128
+    unknown_of_address: int = 32
     new: float = 200.0
+    new_of_address: float = 100.0
+    seconds_silent: float = 5.0
     seconds_for_a_frame: float = 10.0
     seconds_to_read: float = 30.0
     seconds_idle: float = 600.0
-    seconds_of_delay: float = 5.0
-    bytes_of_replies: int = 256 * MEBI
+    bytes_of_customer: int = 16 * MEBI
+    bytes_of_shard: int = 64 * MEBI
     seconds: float = 60.0
 
 
@@ -42,54 +51,110 @@ class Rate:
     """A rate of so many per second, with those of one second at once."""
 
     def __init__(self, a_second: float, now: float) -> None:
-        self._a_second, self._free, self._then = a_second, a_second, now
+        self.a_second, self._free, self._then = a_second, a_second, now
 
-    def delay(self, many: float, now: float) -> float:
-        """The seconds after which so many more may come; takes nothing."""
-        self._free = min(self._a_second, self._free + (now - self._then) * self._a_second)
+    def _flow(self, now: float) -> None:
+        self._free = min(self.a_second, self._free + (now - self._then) * self.a_second)
         self._then = now
+
+    def change(self, a_second: float, now: float) -> None:
+        """Makes it another rate from now on; what was taken before is still taken."""
+        self._flow(now)
+        self._free, self.a_second = min(self._free, a_second), a_second
+
+    def has_room(self, now: float) -> bool:
+        """Whether another one may come now."""
+        self._flow(now)
+        return self._free >= 1.0
+
+    def is_full(self, now: float) -> bool:
+        """Whether nothing of the last second was taken."""
+        self._flow(now)
+        return self._free >= self.a_second
+
+    def take(self, many: float, now: float) -> float:
+        """Takes so many, and returns the seconds after which they may come."""
+        self._flow(now)
         # A number above that of one second may come when all of a second is free.
-        return max(0.0, (min(many, self._a_second) - self._free) / self._a_second)
-
-    def take(self, many: float) -> None:
-        """Takes so many."""
+        delay = max(0.0, (min(many, self.a_second) - self._free) / self.a_second)
         self._free -= many
+        return delay
 
 
-class Room:
-    """A pool of bytes that are taken and given back, first come, first served."""
+class Unread(Generic[Holder]):
+    """The bytes of replies that customers have not read yet: of each customer, and of all customers of a shard.
 
-    def __init__(self, most: int) -> None:
-        self._most, self._free = most, most
-        self._waiting: collections.deque[tuple[int, asyncio.Future[None]]] = collections.deque()
+    If there are too many of one of them, the connection of those that has waited longest for its customer is ended, and nobody else waits.
+    """
 
-    async def take(self, size: int) -> int:
-        """Waits until so many bytes are free, at most all of them, and takes them; returns how many."""
-        size = min(size, self._most)
-        if self._waiting or self._free < size:
-            turn = asyncio.get_running_loop().create_future()
-            self._waiting.append((size, turn))
-            try:
-                await turn
-            except asyncio.CancelledError:
-                if turn.done() and not turn.cancelled():
-                    self.give(size)
-                else:
-                    self._waiting = collections.deque(one for one in self._waiting if one[1] is not turn)
-                    self._next()
-                raise
-        else:
-            self._free -= size
-        return size
+    def __init__(self, of_customer: int, of_shard: int, end: Callable[[Holder], None]) -> None:
+        self._most, self._end = (of_customer, of_shard), end
+        # The customer, the shard and the bytes of each connection, those first that have waited longest.
+        self._held: dict[Holder, tuple[tuple[str, int], int]] = {}
+        self._sums: tuple[collections.Counter[Hashable], ...] = (collections.Counter(), collections.Counter())
 
-    def give(self, size: int) -> None:
-        """Gives bytes back."""
-        self._free += size
-        self._next()
+    def take(self, holder: Holder, customer: str, shard: int, size: int) -> None:
+        """Takes the bytes of replies that are there."""
+        self._held[holder] = (customer, shard), size
+        for sums, key, most in zip(self._sums, (customer, shard), self._most):
+            sums[key] += size
+            while sums[key] > most and (first := self._first_of(key, holder)) is not None:
+                self.give(first)
+                self._end(first)
 
-    def _next(self) -> None:
-        while self._waiting and self._free >= self._waiting[0][0]:
-            size, turn = self._waiting.popleft()
-            if not turn.done():
-                self._free -= size
-                turn.set_result(None)
+    def _first_of(self, key: Hashable, but: Holder) -> Holder | None:
+        return next((one for one, (keys, _) in self._held.items() if key in keys and one is not but), None)
+
+    def give(self, holder: Holder) -> None:
+        """Gives them back, if that was not done before."""
+        keys, size = self._held.pop(holder, (("", -1), 0))
+        for sums, key in zip(self._sums, keys):
+            sums[key] -= size
+            if not sums[key]:
+                del sums[key]
+
+    def total(self) -> int:
+        """The bytes of all."""
+        return self._sums[0].total()
+
+
+class Addresses:
+    """The new connections of each address, and those of them whose customer is not known yet. IPv6 counts by networks of 64 bits."""
+
+    def __init__(self, limits: GatewayLimits) -> None:
+        self._limits = limits
+        self._rates: dict[str, Rate] = {}
+        self.unknown: collections.Counter[str] = collections.Counter()
+
+    def admit(self, address: str, now: float) -> bool:
+        """Whether another connection may come from an address; a Unix socket has none, and no limit."""
+        if not address:
+            return True
+        if len(self._rates) >= _MOST_ADDRESSES and address not in self._rates:
+            # Those whose rate is not in use are forgotten; or else the oldest.
+            self._rates = {one: rate for one, rate in self._rates.items() if not rate.is_full(now)} or self._rates
+            if len(self._rates) >= _MOST_ADDRESSES:
+                del self._rates[next(iter(self._rates))]
+        rate = self._rates.setdefault(address, Rate(self._limits.new_of_address, now))
+        if self.unknown[address] >= self._limits.unknown_of_address or not rate.has_room(now):
+            return False
+        rate.take(1, now)
+        return True
+
+    def came(self, address: str) -> None:
+        """Notes a connection whose customer is not known yet."""
+        self.unknown[address] += 1
+
+    def known(self, address: str) -> None:
+        """Notes that its customer is known, or it has ended."""
+        self.unknown[address] -= 1
+        if not self.unknown[address]:
+            del self.unknown[address]
+
+
+def network_of(peer: object) -> str:
+    """What counts as one address; empty for a Unix socket."""
+    if not isinstance(peer, tuple):
+        return ""
+    found = ipaddress.ip_address(str(peer[0]).partition("%")[0])
+    return str(found) if found.version == 4 else str(ipaddress.ip_network((found, 64), strict=False))

@@ -12,8 +12,7 @@ import struct
 from collections.abc import Mapping
 from typing import Any
 
-from bpfhost.host import LONGEST_REPLY
-from bpfhost.numbers import REPLY_HEAD, Command
+from bpfhost.numbers import REPLY_HEAD
 from bpfhost.shards.calls import LONGEST_CALL
 from bpfhost.tenancy import BODY, command_of, status_of
 
@@ -22,7 +21,6 @@ GATEWAY = 0xFFFF
 # A customer's first frame has at most so many bytes.
 LONGEST_HELLO = 4096
 _HEAD = struct.Struct("<IHH")
-_LONG_REPLIES = (Command.MAP_LOOKUP_ELEM, Command.MAP_GET_NEXT_KEY)
 
 
 class Word(enum.IntEnum):
@@ -125,9 +123,16 @@ def read_hello(frame: bytes) -> tuple[str | None, str | None, int]:
         raise Refusal(Why.WRONG, "what says who the customer is has no JSON object") from None
     if not all(one is None or isinstance(one, str) for one in (token, session)) or session == "":
         raise Refusal(Why.WRONG, "a token and a session are texts, and not empty")
+    if any(one and not _is_unicode(one) for one in (token, session)):
+        raise Refusal(Why.WRONG, "a token and a session are texts of whole Unicode characters")
     if not (answered is None or isinstance(answered, int) and 0 <= answered < 1 << 53):
         raise Refusal(Why.WRONG, "the number of replies is a whole number")
     return token, session, answered or 0
+
+
+def _is_unicode(text: str) -> bool:
+    """Whether a text has no half of a surrogate pair, which JSON can name and UTF-8 can't."""
+    return not any("\ud800" <= letter <= "\udfff" for letter in text)
 
 
 class Incoming:
@@ -135,10 +140,9 @@ class Incoming:
 
     def __init__(self) -> None:
         self._bytes = bytearray()
-        # The offset of the first frame that is not whole; for each frame before it, its length and the most bytes that its reply may
-        # have.
+        # The offset of the first frame that is not whole, and the length of each frame before it.
         self._whole = 0
-        self._sizes: list[tuple[int, int]] = []
+        self._sizes: list[int] = []
         # The number of replies that the customer has acknowledged.
         self.acked = 0
 
@@ -171,7 +175,7 @@ class Incoming:
                 raise Refusal(Why.LENGTH, f"a frame has at most {LONGEST_CALL} bytes, and not {length + 4}")
             if len(held) - at < 4 + length:
                 return
-            self._sizes.append((4 + length, LONGEST_REPLY if command in _LONG_REPLIES else REPLY_HEAD + 6))
+            self._sizes.append(4 + length)
             self._whole += 4 + length
 
     def _take_ack(self, tenant: int, command: int, length: int) -> bool:
@@ -187,16 +191,15 @@ class Incoming:
         del self._bytes[at : at + 16]
         return True
 
-    def take(self, most: int) -> tuple[bytes, int, int]:
-        """The frames of the next call, at most so many and LONGEST_CALL bytes; how many they are, and how many bytes their replies have
-        at most."""
-        count = size = replies = 0
-        for one, reply in self._sizes[:most]:
-            if size + one > LONGEST_CALL:
+    def take(self, most: int, most_bytes: int) -> tuple[bytes, int]:
+        """The frames of the next call, at most so many and so many bytes, or one frame; and how many they are."""
+        count = size = 0
+        for one in self._sizes[:most]:
+            if count and size + one > most_bytes:
                 break
-            count, size, replies = count + 1, size + one, replies + reply
+            count, size = count + 1, size + one
         stream = bytes(memoryview(self._bytes)[:size])
         del self._bytes[:size]
         del self._sizes[:count]
         self._whole -= size
-        return stream, count, replies
+        return stream, count

@@ -7,11 +7,10 @@ import signal
 from argparse import Namespace
 from collections.abc import Callable
 
-from bpfhost.shards import metrics
 from bpfhost.shards.errors import ShardError
 from bpfhost.shards.gateway.limits import GatewayLimits
 from bpfhost.shards.gateway.server import Gateway, Tls
-from bpfhost.shards.metrics import Page, Told
+from bpfhost.shards.metrics import Page
 
 
 def tls_of(said: Namespace) -> Tls | None:
@@ -32,10 +31,9 @@ async def serve(said: Namespace, tell: Callable[[str], None]) -> None:
         loop.add_signal_handler(number, ended.set)
     loop.add_signal_handler(signal.SIGHUP, gateway.reload)
     looking = asyncio.create_task(gateway.look())
-    told = Told(metrics.GATEWAY, gateway.numbers)
     try:
         if said.metrics:
-            page = Page(said.metrics, told.text, gateway.health)
+            page = Page(said.metrics, gateway.told.text, gateway.health)
             tell(f"metrics are read at {page.address}")
         for address in said.listen or ["127.0.0.1:7443"]:
             is_local = address.startswith(("unix:", "127.", "localhost:", "[::1]:"))

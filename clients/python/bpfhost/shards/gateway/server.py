@@ -8,27 +8,29 @@ import os
 import socket
 import ssl
 import stat
-from collections.abc import Callable
+from collections.abc import Callable, Coroutine, Mapping
 from dataclasses import dataclass
 from pathlib import Path
+from typing import Any
 
-from bpfhost.shards.client import Client
+from bpfhost.shards import metrics
+from bpfhost.shards.client import AsyncClient
 from bpfhost.shards.errors import ShardError
-from bpfhost.shards.gateway.bridge import LOOP, in_turns
 from bpfhost.shards.gateway.connection import Connection
-from bpfhost.shards.gateway.counts import Counts
 from bpfhost.shards.gateway.customers import Customers, Known
-from bpfhost.shards.gateway.limits import GatewayLimits, Rate, Room
+from bpfhost.shards.gateway.limits import Addresses, GatewayLimits, Rate, Unread, network_of
 from bpfhost.shards.gateway.protocol import Refusal, Why
-from bpfhost.shards.metrics import Numbers
+from bpfhost.shards.link import MACHINE
+from bpfhost.shards.metrics import Numbers, Told
 from bpfhost.shards.names import PREFIX
+from bpfhost.shards.system import System
 
 # So many connections wait in the system until the gateway accepts them.
 _BACKLOG = 1024
 _READ_LIMIT = 1 << 16
 # At its end the gateway waits so long for calls in progress.
 SECONDS_TO_DRAIN = 30.0
-_PAUSE, _SECONDS_TO_LOOK = 0.05, 5.0
+_PAUSE, _SECONDS_TO_LOOK, _SECONDS_TO_TELL = 0.05, 5.0, 10.0
 
 
 @dataclass(frozen=True)
@@ -64,19 +66,24 @@ class Gateway:
         limits: GatewayLimits = GatewayLimits(),
         prefix: str = PREFIX,
         tell: Callable[[str], None] = print,
+        system: System = MACHINE,
     ) -> None:
         """The directory's Redis, by its URL, and the file of customers."""
         self.limits, self._file, self._tell = limits, customers, tell
         self.customers = Customers(customers)
-        self.client = Client(url, prefix, LOOP)
-        self.room = Room(limits.bytes_of_replies)
-        self.counts = Counts()
+        self.client = AsyncClient(url, prefix, system)
+        self.told = Told(metrics.GATEWAY, self._numbers)
+        self.unread: Unread[Connection] = Unread(limits.bytes_of_customer, limits.bytes_of_shard, self._end_unread)
+        self.addresses = Addresses(limits)
         self.connections: dict[Connection, str] = {}
         self._of: dict[str, int] = {}
         self._sessions: dict[tuple[str, str], Connection] = {}
-        self._rates: dict[str, tuple[Known, Rate, Rate]] = {}
+        # The rates of frames and of bytes of each customer, whichever connections it has.
+        self._rates: dict[str, tuple[Rate, Rate]] = {}
+        # Of whom it was last reported, and when, that no customer is known by what it says; and how many were not reported since.
+        self._strangers: dict[str, tuple[float, int]] = {}
         # Connections whose customer is not known yet, the oldest first.
-        self._unknown: dict[asyncio.Task[None], None] = {}
+        self._unknown: dict[asyncio.Task[None], str] = {}
         self._tasks: set[asyncio.Task[None]] = set()
         self._listening: list[asyncio.Task[None]] = []
         self._new: Rate | None = None
@@ -102,44 +109,80 @@ class Gateway:
         self._new = self._new or Rate(self.limits.new, loop.time())
         with listening:
             while True:
-                await asyncio.sleep(self._new.delay(1, loop.time()))
                 try:
-                    made, _ = await loop.sock_accept(listening)
+                    made, peer = await loop.sock_accept(listening)
                 except OSError as error:
                     # No descriptor is free, or the customer has closed the connection already.
                     self._tell(f"the gateway can't take a connection: {error.strerror or error}")
                     await asyncio.sleep(_PAUSE)
                     continue
-                self._new.take(1)
-                self.counts.connections += 1
-                task = asyncio.create_task(self._serve(made, tls))
-                self._tasks.add(task)
-                self._unknown[task] = None
-                task.add_done_callback(self._done)
-                if len(self._unknown) > self.limits.unknown:
-                    first = next(iter(self._unknown))
-                    del self._unknown[first]
-                    first.cancel()
+                address = network_of(peer)
+                if not self.admit(address):
+                    made.close()
+                    continue
+                self.begin(self._serve(made, tls, address), address)
+                await asyncio.sleep(self._new.take(1, loop.time()))
+
+    def admit(self, address: str) -> bool:
+        """Whether another connection may come from an address."""
+        admits = self.addresses.admit(address, self.client.system.now())
+        if not admits:
+            self.told.add("bpfhost_gateway_refusals_total", label="address")
+        return admits
+
+    def begin(self, serves: Coroutine[Any, Any, None], address: str) -> asyncio.Task[None]:
+        """Begins to serve a connection from an address; if there are too many whose customer is not known, the oldest of them is ended."""
+        self.told.add("bpfhost_gateway_new_connections_total")
+        task = asyncio.create_task(serves)
+        self._tasks.add(task)
+        self._unknown[task] = address
+        self.addresses.came(address)
+        task.add_done_callback(self._done)
+        if len(self._unknown) > self.limits.unknown:
+            first = next(iter(self._unknown))
+            self._is_known(first)
+            first.cancel()
+        return task
+
+    def _is_known(self, task: asyncio.Task[Any] | None) -> None:
+        """Notes that the customer of a connection is known, or that it ends."""
+        if task in self._unknown:
+            self.addresses.known(self._unknown.pop(task))
 
     def _done(self, task: asyncio.Task[None]) -> None:
         self._tasks.discard(task)
-        self._unknown.pop(task, None)
+        self._is_known(task)
         if not task.cancelled() and (error := task.exception()):
             self._tell(f"the gateway ended a connection: {error!r}")
 
-    async def _serve(self, made: socket.socket, tls: ssl.SSLContext | None) -> None:
+    async def _serve(self, made: socket.socket, tls: ssl.SSLContext | None, address: str) -> None:
         loop = asyncio.get_running_loop()
         reader = asyncio.StreamReader(limit=_READ_LIMIT)
         protocol = asyncio.StreamReaderProtocol(reader)
-        seconds = self.limits.seconds_for_a_frame if tls else None
+        seconds = self.limits.seconds_silent if tls else None
         try:
             transport, _ = await loop.connect_accepted_socket(lambda: protocol, made, ssl=tls, ssl_handshake_timeout=seconds)
         except (OSError, ssl.SSLError, asyncio.CancelledError):
             made.close()
             return
-        await Connection(self, reader, asyncio.StreamWriter(transport, protocol, reader, loop)).run()
+        await Connection(self, reader, asyncio.StreamWriter(transport, protocol, reader, loop), address).run()
 
     # Connections.
+
+    def who(self, token: str | None, certificate: Mapping[str, Any] | None, address: str) -> Known:
+        """The customer with a token or a certificate; raises Refusal if there is none, which is logged with the address."""
+        try:
+            return self.customers.of(token, certificate)
+        except Refusal as refusal:
+            now = self.client.system.now()
+            then, many = self._strangers.get(address, (now - _SECONDS_TO_TELL, 0))
+            if now >= then + _SECONDS_TO_TELL:
+                more = f", and {many} times since that was said last" if many else ""
+                self._tell(f"the gateway refuses a connection from {address or 'a Unix socket'}: {refusal}{more}")
+                then, many = now, -1
+                self._strangers = {one: said for one, said in self._strangers.items() if said[0] > now - _SECONDS_TO_TELL}
+            self._strangers[address] = then, many + 1
+            raise
 
     def came(self, known: Known, session: str | None, connection: Connection) -> None:
         """Notes a customer's connection; raises Refusal if there are too many."""
@@ -149,16 +192,16 @@ class Gateway:
             raise Refusal(Why.AGAIN, f"the gateway has {self.limits.connections} connections, and takes no more")
         before = self._sessions.get((known.name, session)) if session else None
         if before:
-            before.refuse(Refusal(Why.PASSED, f"another connection goes on with session {session}"))
-        elif self._of.get(known.name, 0) >= known.limits.connections:
+            # The one before counts until it is closed: that is now, if there is no room for both.
+            is_full = self._of[known.name] >= known.limits.connections
+            before.end(Refusal(Why.PASSED, f"another connection goes on with session {session}"), at_once=is_full)
+        if self._of.get(known.name, 0) >= known.limits.connections:
             raise Refusal(Why.AGAIN, f"customer {known.name} has {known.limits.connections} connections, and may have no more")
         self.connections[connection] = known.name
         self._of[known.name] = self._of.get(known.name, 0) + 1
         if session:
             self._sessions[known.name, session] = connection
-        task = asyncio.current_task()
-        if task:
-            self._unknown.pop(task, None)
+        self._is_known(asyncio.current_task())
 
     def left(self, known: Known, session: str | None, connection: Connection) -> None:
         """Notes that a connection has ended."""
@@ -170,26 +213,38 @@ class Gateway:
             del self._sessions[known.name, session]
 
     async def wait_for_rate(self, known: Known, frames: int, size: int) -> None:
-        """Waits until a customer may send so much; raises Refusal if that takes long."""
-        now = asyncio.get_running_loop().time()
-        if known.name not in self._rates or self._rates[known.name][0] != known:
-            self._rates[known.name] = known, Rate(known.limits.frames, now), Rate(known.limits.bytes, now)
-        _, of_frames, of_bytes = self._rates[known.name]
-        for rate, most, many, what in ((of_frames, known.limits.frames, frames, "frames"), (of_bytes, known.limits.bytes, size, "bytes")):
-            delay = rate.delay(many, now)
-            if delay > self.limits.seconds_of_delay:
-                raise Refusal(Why.AGAIN, f"customer {known.name} sends more than {most:g} {what} a second")
-        delay = max(of_frames.delay(frames, now), of_bytes.delay(size, now))
-        of_frames.take(frames)
-        of_bytes.take(size)
+        """Waits until a customer may send so much, by all its connections together."""
+        now, limits = self.client.system.now(), known.limits
+        if known.name not in self._rates:
+            self._rates[known.name] = Rate(limits.frames, now), Rate(limits.bytes, now)
+        of_frames, of_bytes = self._rates[known.name]
+        delay = max(of_frames.take(frames, now), of_bytes.take(size, now))
         if delay:
             await asyncio.sleep(delay)
 
+    def _end_unread(self, connection: Connection) -> None:
+        connection.end(Refusal(Why.SLOW, "replies were not read, and their room is needed for others"), at_once=True)
+
     # Metrics.
 
-    def numbers(self) -> Numbers:
-        """The metrics."""
-        return self.counts.numbers(len(self.connections), len(self._unknown))
+    def note(self, customer: str, size: int, frames: int, seconds: float) -> None:
+        """Counts a call of a customer, which took so many seconds."""
+        self.told.add("bpfhost_gateway_calls_total", 1, customer)
+        self.told.add("bpfhost_gateway_frames_total", frames, customer)
+        self.told.add("bpfhost_gateway_bytes_total", size, customer)
+        self.told.saw("bpfhost_gateway_call_seconds", seconds, customer)
+
+    def refused(self, why: Why) -> None:
+        """Counts a connection that is ended."""
+        self.told.add("bpfhost_gateway_refusals_total", label=why.name.lower())
+
+    def _numbers(self) -> Numbers:
+        """Metrics that are computed when they are read."""
+        return {
+            "bpfhost_gateway_connections": len(self.connections),
+            "bpfhost_gateway_unknown": len(self._unknown),
+            "bpfhost_gateway_unread_bytes": self.unread.total(),
+        }
 
     def health(self) -> tuple[bool, dict[str, object]]:
         """Whether it accepts customers, and the directory's Redis replies."""
@@ -200,14 +255,14 @@ class Gateway:
         """Checks now and then whether the directory's Redis replies."""
         while True:
             try:
-                await in_turns(self._ping)
+                await self._ping()
                 self._redis_says = "answers"
             except ShardError as error:
                 self._redis_says = str(error)
             await asyncio.sleep(_SECONDS_TO_LOOK)
 
-    def _ping(self) -> None:
-        self.client.redis.until(LOOP.now() + _SECONDS_TO_LOOK).call("PING")
+    async def _ping(self) -> None:
+        await self.client.redis.until(self.client.system.now() + _SECONDS_TO_LOOK).call("PING")
 
     # Changes, and the end.
 
@@ -215,9 +270,20 @@ class Gateway:
         """Reads the file of customers again; a wrong file changes nothing, and its error is reported."""
         try:
             self.customers = Customers(self._file)
-            self._tell(f"the gateway knows {len(self.customers)} customers")
         except ShardError as error:
             self._tell(f"the gateway's customers stay as they were: {error}")
+            return
+        self._tell(f"the gateway knows {len(self.customers)} customers")
+        now = self.client.system.now()
+        for connection in list(self.connections):
+            known = connection.known and self.customers.again(connection.known)
+            if known is None:
+                connection.end(Refusal(Why.WHO, "the customer is not known by this token or certificate any more"))
+                continue
+            connection.known = known
+            if rates := self._rates.get(known.name):
+                rates[0].change(known.limits.frames, now)
+                rates[1].change(known.limits.bytes, now)
 
     async def end(self) -> None:
         """Accepts nothing more; calls in progress get their replies, and then all connections end."""
@@ -234,7 +300,7 @@ class Gateway:
             task.cancel()
         with contextlib.suppress(asyncio.CancelledError):
             await asyncio.gather(*self._listening, *self._tasks, return_exceptions=True)
-        self.client.close()
+        await self.client.close()
 
 
 def _bound(address: str) -> socket.socket:

@@ -2,18 +2,18 @@
 
 from __future__ import annotations
 
+import asyncio
+import contextlib
 from collections.abc import Callable, Sequence
 from dataclasses import dataclass
 from typing import Any
 
 from bpfhost.program import Program
 from bpfhost.shards.errors import Away, RedisError
-from bpfhost.shards.system import Asked, Beside, Link, Pending, Word
+from bpfhost.shards.system import Asked, Link, Word
 from tests.shards.simulator.host import FakeHost
 from tests.shards.simulator.server import Scripts, Store
-from tests.shards.simulator.world import Actor, Process, World
-
-_FOR_EVER = 1e9
+from tests.shards.simulator.world import World
 
 
 @dataclass
@@ -37,12 +37,25 @@ class Server:
         # How often a replica took over: each time connections are cut, and the server reports another history.
         self.failovers = 0
         self.jumped = 0.0
-        self.waiting: list[Actor] = []
+        # Those who wait for a write.
+        self._waiting: dict[asyncio.Future[None], None] = {}
         self.store.on_write = self._wake
 
     def _wake(self) -> None:
-        for actor in self.waiting:
-            actor.wakes = min(actor.wakes, self._world.now)
+        for one in list(self._waiting):
+            if not one.done():
+                one.set_result(None)
+
+    async def written(self, seconds: float) -> None:
+        """Waits for the next write, at most so many seconds."""
+        waits = asyncio.get_running_loop().create_future()
+        self._waiting[waits] = None
+        try:
+            with contextlib.suppress(TimeoutError):
+                async with asyncio.timeout(seconds):
+                    await waits
+        finally:
+            del self._waiting[waits]
 
     def do(self, words: Sequence[Word]) -> Any:
         """The server's reply; raises Away if it is away."""
@@ -79,87 +92,15 @@ class Network:
         return self.servers[url]
 
 
-class SimulatedPending:
-    """A command in progress while its process goes on; the server runs it after those that were begun before it."""
-
-    def __init__(self, link: SimulatedLink, process: Process, words: Sequence[Word], seconds: float) -> None:
-        self._link, self._words, self._seconds, self._before = link, words, seconds, link.last
-        self._answer: Any = None
-        self._error: Exception | None = None
-        # Whether the server has done it, and whether its reply is there.
-        self.has_come = self.is_done = False
-        self._waiting: list[Actor] = []
-        self.world = link.network.world
-        self.world.start(process, self._call)
-
-    def _call(self) -> None:
-        before, self._before = self._before, None
-        try:
-            self._answer = self._link.go(self._words, self._seconds, lambda: before.wait() if before else None, self._came)
-        except RedisError as error:
-            self._error = error
-        self.is_done = True
-        self._came()
-
-    def _came(self) -> None:
-        self.has_come = True
-        for actor in self._waiting:
-            actor.wakes = min(actor.wakes, self.world.now)
-
-    @property
-    def first(self) -> Pending:
-        return self
-
-    def is_answered(self) -> bool:
-        return self.is_done
-
-    def wait(self) -> None:
-        """Waits until the server has run it, or never will."""
-        wait_until(lambda: self.has_come, [self], self.world, _FOR_EVER)
-
-    def notify(self, actor: Actor) -> None:
-        """Lets an actor continue when its state changes."""
-        self._waiting.append(actor)
-
-    def forget(self, actor: Actor) -> None:
-        """Ends that."""
-        self._waiting.remove(actor)
-
-    def answer(self) -> Any:
-        """Its reply."""
-        while not self.is_done:
-            wait_until(lambda: self.is_done, [self], self.world, _FOR_EVER)
-        if self._error:
-            raise self._error
-        return self._answer
-
-
-def wait_until(holds: Callable[[], bool], pending: Sequence[SimulatedPending], world: World, seconds: float) -> None:
-    """Lets the running actor wait until something holds of these, at most so many seconds."""
-    actor, until = world.running, world.now + seconds
-    assert actor is not None
-    for one in pending:
-        one.notify(actor)
-    try:
-        while not holds():
-            world.sleep(until - world.now)
-            if world.now >= until:
-                return
-    finally:
-        for one in pending:
-            one.forget(actor)
-
-
 class SimulatedLink:
-    """A connection of a process."""
+    """A connection of a process. The server runs commands in the order in which they were begun."""
 
-    def __init__(self, network: Network, process: Process, url: str) -> None:
-        self.network, self._process, self._server = network, process, network.server(url)
-        # The command that was begun last.
-        self.last: SimulatedPending | None = None
+    def __init__(self, network: Network, url: str) -> None:
+        self.network, self._server = network, network.server(url)
         self._failovers = self._server.failovers
         # How much the server had written after this connection's last write: what WAIT waits for.
         self._written = 0
+        self._order = asyncio.Lock()
 
     def _do(self, words: Sequence[Word]) -> Any:
         store = self._server.store
@@ -177,38 +118,32 @@ class SimulatedLink:
             self._failovers, self._written = self._server.failovers, 0
             raise Away("the connection was cut, as another server took over")
 
-    def close(self) -> None:
+    def cut(self) -> None:
         """Ends it: what is begun next waits for nothing that was begun before."""
-        self.last = None
+        self._order = asyncio.Lock()
 
-    def call(self, words: Sequence[Word], seconds: float) -> Any:
+    async def close(self) -> None:
+        """The same."""
+        self.cut()
+
+    async def call(self, words: Sequence[Word], seconds: float) -> Any:
         """The reply to a command, or the error if it fails."""
-        return self.go(words, seconds, lambda: None, lambda: None)
-
-    def begin(self, words: Sequence[Word], seconds: float) -> Pending:
-        """The same, while its process goes on. The server runs it after what was begun before."""
-        self.last = SimulatedPending(self, self._process, words, seconds)
-        return self.last
-
-    def go(self, words: Sequence[Word], seconds: float, turn: Callable[[], None], has_come: Callable[[], None]) -> Any:
-        """The same, which waits for its turn at the server, and calls `has_come` when it has come there."""
         world, weather, draw = self.network.world, self.network.weather, self.network.world.draw
         deadline, chance = world.now + seconds, draw.random()
-        world.sleep(draw.random() * weather.seconds)
-        turn()
-        self._demand_connection()
-        if chance < weather.lost:
-            raise Away("the connection was cut")
-        if chance < weather.lost + weather.late:
-            # It was in transit when the connection was cut, and the server gets it later.
-            failovers = self._server.failovers
-            world.later(draw.random() * weather.seconds_late, lambda: self._late(words, failovers))
-            raise Away("the connection was cut, and the call comes late")
-        answer = self._block(words, deadline) if "BLOCK" in words else self._do(words)
-        has_come()
+        async with self._order:
+            await asyncio.sleep(draw.random() * weather.seconds)
+            self._demand_connection()
+            if chance < weather.lost:
+                raise Away("the connection was cut")
+            if chance < weather.lost + weather.late:
+                # It was in transit when the connection was cut, and the server gets it later.
+                failovers = self._server.failovers
+                world.later(draw.random() * weather.seconds_late, lambda: self._late(words, failovers))
+                raise Away("the connection was cut, and the call comes late")
+            answer = await self._block(words, deadline) if "BLOCK" in words else self._do(words)
         if chance < weather.lost + weather.late + weather.unanswered:
             raise Away("the answer was lost")
-        world.sleep(draw.random() * weather.seconds)
+        await asyncio.sleep(draw.random() * weather.seconds)
         self._demand_connection()
         return answer
 
@@ -220,7 +155,7 @@ class SimulatedLink:
         except RedisError:
             pass
 
-    def _block(self, words: Sequence[Word], deadline: float) -> Any:
+    async def _block(self, words: Sequence[Word], deadline: float) -> Any:
         """Repeats the call until there is something, like a server that blocks."""
         world, server = self.network.world, self._server
         at = list(words).index("BLOCK")
@@ -231,42 +166,26 @@ class SimulatedLink:
             found = server.do(asked)
             if found or world.now >= until:
                 return found
-            actor = world.running
-            assert actor is not None
-            server.waiting.append(actor)
-            try:
-                world.sleep(until - world.now)
-            finally:
-                server.waiting.remove(actor)
+            await server.written(until - world.now)
 
 
 class Simulated:
     """The machine of a process: its clock began at another time than those of others."""
 
-    def __init__(self, network: Network, process: Process) -> None:
-        self._network, self._world, self._process = network, network.world, process
-        self._began = self._world.draw.random() * 1000
+    def __init__(self, network: Network) -> None:
+        self._network, self.world = network, network.world
+        self._began = self.world.draw.random() * 1000
         self.hosts: list[FakeHost] = []
 
     def now(self) -> float:
-        return self._world.now + self._began
-
-    def sleep(self, seconds: float) -> None:
-        self._world.sleep(seconds)
-
-    def beside(self, run: Callable[[], None]) -> Beside:
-        return self._world.start(self._process, run)
+        return self.world.now + self._began
 
     def link(self, url: str) -> Link:
-        return SimulatedLink(self._network, self._process, url)
+        return SimulatedLink(self._network, url)
 
-    def any_of(self, pending: Sequence[Pending], seconds: float) -> None:
-        simulated = [one for one in (each.first for each in pending) if isinstance(one, SimulatedPending)]
-        wait_until(lambda: any(one.is_answered() for one in pending), simulated, self._world, seconds)
-
-    def host(self, _program: Program, _tenants: int) -> Asked:
+    def host(self, program: Program, tenants: int) -> Asked:
         self.hosts.append(FakeHost())
         return self.hosts[-1]
 
     def fresh(self) -> str:
-        return self._world.fresh()
+        return self.world.fresh()

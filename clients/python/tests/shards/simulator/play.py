@@ -11,15 +11,17 @@ A run is determined by its seed: the same seed plays the same run again.
 from __future__ import annotations
 
 import argparse
+import asyncio
 import random
 import sys
 from collections import Counter
-from collections.abc import Callable
+from collections.abc import Callable, Coroutine
+from typing import Any
 
 from bpfhost import MapType, frames
 from bpfhost.shards import (
-    Client,
-    Customer,
+    AsyncClient,
+    AsyncCustomer,
     LeaseHeld,
     LeaseLost,
     MoveError,
@@ -31,14 +33,14 @@ from bpfhost.shards import (
     ShardError,
     ShardKeys,
     Worker,
-    abort_move,
-    move,
+    moving,
 )
 from bpfhost.shards.aside import Aside
 from bpfhost.shards.cluster import Place
 from bpfhost.shards.connection import Redis
 from bpfhost.shards.errors import RedisError
 from bpfhost.shards.operating import say
+from bpfhost.shards.system import Work
 from bpfhost.shards.tickets import Ticket
 from tests.shards.simulator.host import POISON, FakeHost
 from tests.shards.simulator.network import Network, Server, Simulated, Weather
@@ -115,6 +117,7 @@ class Play:
         self.customers = [Said(f"customer-{number}", str(seed), number == 0) for number in range(CUSTOMERS)]
         self._workers: list[tuple[int, Process, Simulated]] = []
         self._asking: dict[str, Process] = {}
+        self._keeping: list[asyncio.Task[None]] = []
         self._is_ending = False
         # In every other run the servers have a replica each, which takes over now and then.
         self._replicas = "?replicas=1" if seed % 2 else ""
@@ -124,11 +127,10 @@ class Play:
         try:
             keeper = Process("supervisor")
             for shard in range(SHARDS):
-                self.world.start(keeper, lambda shard=shard: self._supervise(shard))  # type: ignore[misc]
-            for said in self.customers:
-                self.world.start(keeper, lambda said=said: self._keep_asking(said))  # type: ignore[misc]
+                self.world.start(keeper, self._supervise(shard))
+            self._keeping = [self.world.start(keeper, self._keep_asking(said)) for said in self.customers]
             for run in (self._operate, self._move, self._do_faults):
-                self.world.start(keeper, run)
+                self.world.start(keeper, run())
             self.world.run(self._seconds)
             self._is_ending = True
             self.network.weather = Weather()
@@ -136,6 +138,12 @@ class Play:
             self._compare()
         finally:
             self.world.end()
+
+    async def _until_ended(self, process: Process, work: Coroutine[Any, Any, None]) -> None:
+        """Begins work of a process, and waits until it has ended, or its process was killed."""
+        task = self.world.start(process, work)
+        while not self.world.has_ended(process, task):
+            await asyncio.sleep(0.1)
 
     def _url(self, shard: int) -> str:
         return (f"redis://shard-{shard}" if shard else DIRECTORY) + self._replicas
@@ -145,76 +153,72 @@ class Play:
 
     # Workers, which are started again when they end.
 
-    def _supervise(self, shard: int) -> None:
+    async def _supervise(self, shard: int) -> None:
         while True:
             process = Process(f"worker {shard}")
-            machine = Simulated(self.network, process)
+            machine = Simulated(self.network)
             self._workers.append((shard, process, machine))
-            actor = self.world.start(process, lambda: self._work(shard, machine))
-            while not actor.has_ended:
-                self.world.sleep(0.1)
+            await self._until_ended(process, self._work(shard, machine))
             process.is_killed = True
             self._workers.remove((shard, process, machine))
             self.counts["workers"] += 1
-            self.world.sleep(0.2)
+            await asyncio.sleep(0.2)
 
-    def _work(self, shard: int, machine: Simulated) -> None:
+    async def _work(self, shard: int, machine: Simulated) -> None:
         redis = Redis(self._url(shard), machine)
         directory = Redis(self._url(0), machine) if shard else None
         try:
-            Worker(redis, ShardKeys(shard), "none", SETTINGS, lambda said: self.world.tell(f"worker: {said}"), directory).run()
+            await Worker(redis, ShardKeys(shard), "none", SETTINGS, lambda said: self.world.tell(f"worker: {said}"), directory).serve()
         except (LeaseHeld, LeaseLost, RedisError) as error:
             self.world.tell(f"worker {shard} ends: {error}")
 
     # Customers, each in a process that dies now and then and is started again.
 
-    def _keep_asking(self, said: Said) -> None:
+    async def _keep_asking(self, said: Said) -> None:
         while True:
             process = self._asking[said.name] = Process(said.name)
-            actor = self.world.start(process, lambda: self._ask(said, Simulated(self.network, process)))
-            while not actor.has_ended:
-                self.world.sleep(0.1)
+            await self._until_ended(process, self._ask(said, Simulated(self.network)))
             self.counts["customers"] += 1
             if self._is_ending and not process.is_killed:
                 return
 
-    def _ask(self, said: Said, machine: Simulated) -> None:
-        with Client(self._url(0), system=machine) as client:
+    async def _ask(self, said: Said, machine: Simulated) -> None:
+        async with AsyncClient(self._url(0), system=machine) as client:
             customer = client.customer(said.name, 30.0, session="calls")
-            self._resume(said, self._last(customer), customer.wait)
+            await self._resume(said, await self._last(customer), customer.wait)
             while not self._is_ending:
-                machine.sleep(machine._world.draw.random() * 0.2)
-                ticket = self._posted(customer, said)
+                await asyncio.sleep(self.world.draw.random() * 0.2)
+                ticket = await self._posted(customer, said)
                 if ticket:
-                    self._wait(said, ticket, customer.wait)
+                    await self._wait(said, ticket, customer.wait)
                 else:
                     self.counts["not taken"] += 1
 
-    def _posted(self, customer: Customer, said: Said) -> Ticket | None:
+    async def _posted(self, customer: AsyncCustomer, said: Said) -> Ticket | None:
         """Sends the next call; None if it is not taken, but the ticket if it is not known whether it was."""
         try:
-            return customer.post(b"".join(said.next))
+            return await customer.post(b"".join(said.next))
         except NoReply as error:
             return error.ticket
         except NotTaken:
             return None
 
-    def _resume(self, said: Said, last: Ticket | None, wait: Callable[[Ticket], list[bytes]]) -> None:
+    async def _resume(self, said: Said, last: Ticket | None, wait: Callable[[Ticket], Work[list[bytes]]]) -> None:
         """Continues after the last process died: the call after those with replies was taken, or is sent again."""
         number = last.number if last else 0
         if number not in (said.taken, said.taken + 1):
             raise Differs(f"{said.name} has {number} calls taken, and was answered {said.taken}")
         if last and number == said.taken + 1:
             self.counts["resumed"] += 1
-            self._wait(said, last, wait)
+            await self._wait(said, last, wait)
         else:
             # What the last process sent is not taken any more, so this one may send something else.
             said.change()
 
-    def _wait(self, said: Said, ticket: Ticket, wait: Callable[[Ticket], list[bytes]]) -> None:
+    async def _wait(self, said: Said, ticket: Ticket, wait: Callable[[Ticket], Work[list[bytes]]]) -> None:
         while True:
             try:
-                said.answered(wait(ticket))
+                said.answered(await wait(ticket))
                 return
             except NotTaken:
                 return
@@ -226,71 +230,70 @@ class Play:
                 return
             except SetAside:
                 self.counts["set aside"] += 1
-                self.world.sleep(1.0)
+                await asyncio.sleep(1.0)
             except NoReply:
                 self.counts["no reply"] += 1
 
-    def _last(self, customer: Customer) -> Ticket | None:
+    async def _last(self, customer: AsyncCustomer) -> Ticket | None:
         while True:
             try:
-                return customer.last()
+                return await customer.last()
             except (NotTaken, RedisError):
-                self.world.sleep(0.5)
+                await asyncio.sleep(0.5)
 
     # An operator, who decides on what is set aside, and moves customers.
 
-    def _operate(self) -> None:
-        with Client(self._url(0), system=Simulated(self.network, Process("operator"))) as client:
+    async def _operate(self) -> None:
+        async with AsyncClient(self._url(0), system=Simulated(self.network)) as client:
             while True:
-                self.world.sleep(2.0)
+                await asyncio.sleep(2.0)
                 for said in self.customers:
                     try:
-                        self._decide(client, said)
+                        await self._decide(client, said)
                     except ShardError as error:
                         self.world.tell(f"operator: {error}")
 
-    def _decide(self, client: Client, said: Said) -> None:
-        seat = client.directory.seat(said.name)
+    async def _decide(self, client: AsyncClient, said: Said) -> None:
+        seat = await client.directory.seat(said.name)
         if seat is None:
             return
-        redis, keys = client.shard(seat.shard)
-        kept = redis.hget(keys.aside, seat.tenant)
+        redis, keys = await client.shard(seat.shard)
+        kept = await redis.hget(keys.aside, seat.tenant)
         if kept is None:
             return
         if Aside.read(kept).kind != "entry":
             raise Differs(f"{said.name} is set aside: {Aside.read(kept).why}")
-        say(client, said.name, "skip" if said.is_poison() else "retry", 20.0)
+        await say(client, said.name, "skip" if said.is_poison() else "retry", 20.0)
 
-    def _move(self) -> None:
+    async def _move(self) -> None:
         while True:
-            self.world.sleep(self._draw.random() * 6)
+            await asyncio.sleep(self._draw.random() * 6)
             process = Process("mover")
-            machine = Simulated(self.network, process)
-            actor = self.world.start(process, lambda: self._move_one(machine))
+            task = self.world.start(process, self._move_one(Simulated(self.network)))
             if self._draw.random() < 0.4:
-                self.world.sleep(self._draw.random() * 0.3)
+                await asyncio.sleep(self._draw.random() * 0.3)
                 self.world.kill(process)
                 self.counts["movers killed"] += 1
-            while not actor.has_ended:
-                self.world.sleep(0.1)
+            while not self.world.has_ended(process, task):
+                await asyncio.sleep(0.1)
             if self._is_ending:
                 return
 
-    def _move_one(self, machine: Simulated) -> None:
+    async def _move_one(self, machine: Simulated) -> None:
         name = self._draw.choice(self.customers).name
-        with Client(self._url(0), system=machine) as client:
+        async with AsyncClient(self._url(0), system=machine) as client:
             try:
                 if self._draw.random() < 0.2:
-                    abort_move(client, name, 20.0)
+                    await moving.abort_move(client, name, 20.0)
                 else:
-                    move(client, name, None, 20.0)
+                    await moving.move(client, name, None, 20.0)
                 self.counts["moved"] += 1
             except (MoveError, NoReply, RedisError) as error:
                 self.world.tell(f"mover: {error}")
 
     # Faults.
 
-    def _do_faults(self) -> None:
+    async def _do_faults(self) -> None:
         kinds: dict[Callable[[], None], int] = {
             self._kill_worker: 6,
             self._pause_worker: 2,
@@ -302,7 +305,7 @@ class Play:
         if self._replicas:
             kinds[self._fail_over] = 3
         while not self._is_ending:
-            self.world.sleep(self._draw.random() * 3)
+            await asyncio.sleep(self._draw.random() * 3)
             self._draw.choices(list(kinds), list(kinds.values()))[0]()
 
     def _kill_worker(self) -> None:
@@ -314,16 +317,14 @@ class Play:
         shard, process, _ = self._draw.choice(self._workers)
         process.paused_until = self.world.now + 1 + self._draw.random() * 4
         second = Process(f"second worker {shard}")
-        machine = Simulated(self.network, second)
+        machine = Simulated(self.network)
         self._workers.append((shard, second, machine))
 
-        def work() -> None:
-            try:
-                self._work(shard, machine)
-            finally:
-                self._workers.remove((shard, second, machine))
+        async def work() -> None:
+            await self._until_ended(second, self._work(shard, machine))
+            self._workers.remove((shard, second, machine))
 
-        self.world.start(second, work)
+        self.world.start(Process("supervisor"), work())
         self.counts["pauses"] += 1
 
     def _kill_host(self) -> None:
@@ -355,7 +356,7 @@ class Play:
         """All calls have replies, each entry has one, and no move is in progress."""
         for said in self.customers:
             self.counts["calls"] += said.calls
-        if any(self._asking[said.name] in [actor.process for actor in self.world.actors] for said in self.customers):
+        if not all(task.done() for task in self._keeping):
             raise Differs("a customer waits for ever")
         moves = self._server(0).store.keys.get(b"bpfhost:{directory}:moves", {})
         if moves:

@@ -27,6 +27,8 @@ class Store:
     """The keys of a server, and its commands. It does not know of scripts, and its clock is set from outside."""
 
     def __init__(self) -> None:
+        # What it uses, and the most that it may use.
+        self.memory = 1, 0
         self.keys: dict[bytes, Value] = {}
         self.milliseconds = 1_000_000
         self.has_memory = True
@@ -85,7 +87,7 @@ class Store:
         return [name, {b"appendonly": b"yes", b"appendfsync": b"always"}.get(name, b"noeviction")]
 
     def _info(self, _section: bytes) -> bytes:
-        said = {"redis_version": "7.0.15", "used_memory": 1, "maxmemory": 0, "maxmemory_policy": "noeviction", "aof_enabled": 1}
+        said = {"redis_version": "7.0.15", "used_memory": self.memory[0], "maxmemory": self.memory[1], "maxmemory_policy": "noeviction", "aof_enabled": 1}
         return "".join(f"{name}:{value}\r\n" for name, value in said.items()).encode()
 
     # Texts.

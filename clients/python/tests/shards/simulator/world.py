@@ -1,22 +1,23 @@
-"""A world with one clock, in which one actor runs at a time; only a seed decides what they do.
+"""A world with one clock and one event loop, on which all processes run; only a seed decides what they do.
 
-An actor is a thread that runs until it sleeps; then the one that wakes first runs. Actors belong to processes, which can be killed and
-paused at any wait.
+A process is the tasks that it has begun. It can be killed: then nothing of it runs any more; or paused, for a while.
 """
 
 from __future__ import annotations
 
+import asyncio
+import contextvars
 import random
-import threading
-from collections.abc import Callable
+from collections.abc import Callable, Coroutine
+from dataclasses import dataclass
+from typing import Any
 
-
-class Killed(BaseException):
-    """The process of this actor was killed: its further actions have no effect."""
+# The process that runs.
+_RUNS: contextvars.ContextVar[Process | None] = contextvars.ContextVar("process", default=None)
 
 
 class Process:
-    """Actors that are killed and paused together."""
+    """Tasks that are killed and paused together."""
 
     def __init__(self, name: str) -> None:
         self.name = name
@@ -24,66 +25,90 @@ class Process:
         self.paused_until = 0.0
 
 
-class Actor:
-    """What runs in a process."""
+class _NoSelector:
+    """In place of what waits for files: the clock goes on by the time that the loop would wait."""
 
-    def __init__(self, world: World, process: Process, run: Callable[[], None]) -> None:
-        self.world, self.process, self._run = world, process, run
-        self.wakes = world.now
-        self.order = world.draw.random()
-        self.has_ended = False
-        self.error: BaseException | None = None
-        self._go = threading.Semaphore(0)
-        self._thread = threading.Thread(target=self._main, daemon=True)
-        self._thread.start()
+    def __init__(self, loop: Loop) -> None:
+        self._loop = loop
 
-    def _main(self) -> None:
-        self._go.acquire()
-        try:
-            if not self.process.is_killed:
-                self._run()
-        except Killed:
-            pass
-        except BaseException as error:
-            self.error = error
-        self.has_ended = True
-        self.world.back.release()
+    def select(self, seconds: float | None) -> list[object]:
+        if seconds is None:
+            raise RuntimeError("the world waits for ever")
+        self._loop.now += max(0.0, seconds)
+        return []
 
-    def resume(self) -> None:
-        """Lets it run until it waits or ends."""
-        self._go.release()
-        self.world.back.acquire()
 
-    def wait(self, wakes: float) -> None:
-        """Sleeps until a time; raises Killed if the process was killed meanwhile."""
-        if self.process.is_killed:
-            raise Killed
-        self.wakes, self.order = wakes, self.world.draw.random()
-        self.world.back.release()
-        self._go.acquire()
-        if self.process.is_killed:
-            raise Killed
+@dataclass
+class _Planned:
+    """What the loop does next, or at a time."""
 
-    def join(self, seconds: float) -> None:
-        """Waits for its end, from another actor of the same process."""
-        until = self.world.now + seconds
-        while not self.has_ended and self.world.now < until:
-            self.world.sleep(0.05)
+    callback: Any
+    args: tuple[Any, ...]
+    context: contextvars.Context
+    handle: asyncio.Handle | None = None
+
+
+class Loop(asyncio.BaseEventLoop):
+    """An event loop without files, whose clock is the world's: it goes on when nothing is left to do."""
+
+    def __init__(self) -> None:
+        super().__init__()
+        self.now = 0.0
+        # What killed processes would have done next.
+        self.left: list[_Planned] = []
+        self._selector = _NoSelector(self)
+        # A time that comes later by less than this comes at the same time.
+        self._clock_resolution = 1e-9
+
+    def time(self) -> float:
+        return self.now
+
+    def _process_events(self, _events: object) -> None:
+        """There are none."""
+
+    def _write_to_self(self) -> None:
+        """Nobody calls from another thread."""
+
+    def call_soon(self, callback: Any, *args: Any, context: contextvars.Context | None = None) -> asyncio.Handle:
+        planned = _Planned(callback, args, context or contextvars.copy_context())
+        planned.handle = super().call_soon(self._do, planned, context=planned.context)
+        return planned.handle
+
+    def call_at(self, when: float, callback: Any, *args: Any, context: contextvars.Context | None = None) -> asyncio.TimerHandle:
+        planned = _Planned(callback, args, context or contextvars.copy_context())
+        planned.handle = handle = super().call_at(when, self._do, planned, context=planned.context)
+        return handle
+
+    def _do(self, planned: _Planned) -> None:
+        process = planned.context.get(_RUNS)
+        if planned.handle and planned.handle.cancelled():
+            return
+        if process and process.is_killed:
+            self.left.append(planned)
+        elif process and self.now < process.paused_until:
+            super().call_at(process.paused_until, self._do, planned, context=planned.context)
+        else:
+            planned.callback(*planned.args)
 
 
 class World:
-    """The clock and the actors."""
+    """The clock, the loop and the processes."""
 
     def __init__(self, seed: int | str) -> None:
-        self.draw = random.Random(seed)
-        self.now = 0.0
-        self.back = threading.Semaphore(0)
-        self.actors: list[Actor] = []
-        self.running: Actor | None = None
-        self._later: list[tuple[float, float, Callable[[], object]]] = []
+        self.draw, self.loop = random.Random(seed), Loop()
+        self._tasks: set[asyncio.Task[None]] = set()
+        self._processes: set[Process] = set()
+        self._error: BaseException | None = None
         self._named = 0
         # The events, by their times.
         self.told: list[str] = []
+        # What a task does not end with is an error of the test, which `run` raises.
+        self.loop.set_exception_handler(lambda _loop, said: self._fail(said.get("exception") or RuntimeError(said["message"])))
+
+    @property
+    def now(self) -> float:
+        """The time."""
+        return self.loop.now
 
     def tell(self, sentence: str) -> None:
         """Notes an event."""
@@ -94,65 +119,60 @@ class World:
         self._named += 1
         return f"{self._named:08x}"
 
-    def start(self, process: Process, run: Callable[[], None]) -> Actor:
-        """A new actor of a process."""
-        actor = Actor(self, process, run)
-        self.actors.append(actor)
-        return actor
+    def _fail(self, error: BaseException) -> None:
+        self._error = self._error or error
+
+    def start(self, process: Process, work: Coroutine[Any, Any, None]) -> asyncio.Task[None]:
+        """Begins work of a process. Its error is one of the test."""
+        self._processes.add(process)
+        context = contextvars.copy_context()
+        context.run(_RUNS.set, process)
+        task = self.loop.create_task(work, context=context)
+        self._tasks.add(task)
+        task.add_done_callback(self._ended, context=contextvars.copy_context())
+        return task
+
+    def _ended(self, task: asyncio.Task[None]) -> None:
+        self._tasks.discard(task)
+        if not task.cancelled() and (error := task.exception()):
+            self._fail(error)
 
     def later(self, seconds: float, run: Callable[[], object]) -> None:
-        """Does something after so many seconds."""
-        self._later.append((self.now + seconds, self.draw.random(), run))
+        """Does something after so many seconds, whatever becomes of the process that runs."""
+        context = contextvars.copy_context()
+        context.run(_RUNS.set, None)
+        self.loop.call_later(seconds, run, context=context)
 
-    def sleep(self, seconds: float) -> None:
-        """Lets the running actor wait."""
-        assert self.running is not None
-        self.running.wait(self.now + max(0.0, seconds))
+    def has_ended(self, process: Process, task: asyncio.Task[None]) -> bool:
+        """Whether work has ended, or its process was killed."""
+        return task.done() or process.is_killed
 
     def run(self, until: float) -> None:
-        """Lets all run up to a time; an actor's unexpected error is raised here."""
-        while True:
-            actor = min((one for one in self.actors if not one.has_ended), key=_when, default=None)
-            event = min(self._later, default=None)
-            if event and (actor is None or event[0] <= _when(actor)[0]):
-                if event[0] > until:
-                    break
-                self._later.remove(event)
-                self.now = max(self.now, event[0])
-                event[2]()
-            elif actor is None or _when(actor)[0] > until:
-                break
-            else:
-                self._resume(actor)
-        self.now = max(self.now, until)
+        """Lets all run up to a time; an unexpected error is raised here."""
 
-    def _resume(self, actor: Actor) -> None:
-        self.now = max(self.now, _when(actor)[0])
-        self.running = actor
-        actor.resume()
-        self.running = None
-        if actor.has_ended:
-            self.actors.remove(actor)
-        if actor.error is not None:
-            raise actor.error
+        async def wait() -> None:
+            while self.now < until and self._error is None:
+                await asyncio.sleep(min(0.05, until - self.now))
+
+        self.loop.run_until_complete(wait())
+        if self._error is not None:
+            raise self._error
 
     def kill(self, process: Process) -> None:
-        """Kills a process: its actors end at their next step."""
+        """Kills a process: nothing of it runs any more."""
         process.is_killed = True
-        for actor in self.actors:
-            if actor.process is process:
-                actor.wakes = self.now
 
     def end(self) -> None:
-        """Ends all actors."""
-        for actor in list(self.actors):
-            actor.process.is_killed = True
-            actor.process.paused_until = 0.0
-        while self.actors:
-            self._resume(self.actors[0])
-
-
-def _when(actor: Actor) -> tuple[float, float]:
-    """When an actor continues."""
-    wakes = actor.wakes if actor.process.is_killed else max(actor.wakes, actor.process.paused_until)
-    return wakes, actor.order
+        """Ends all: what killed processes have left ends too, now that nobody looks at it."""
+        self.loop.set_exception_handler(lambda _loop, _said: None)
+        tasks = asyncio.all_tasks(self.loop)
+        for task in tasks:
+            task.cancel()
+        for planned in self.loop.left:
+            planned.context.run(_RUNS.set, None)
+            self.loop.call_soon(planned.callback, *planned.args, context=planned.context)
+        for process in self._processes:
+            process.is_killed, process.paused_until = False, 0.0
+        if tasks:
+            self.loop.run_until_complete(asyncio.wait(tasks, timeout=1000.0))
+        self.loop.close()

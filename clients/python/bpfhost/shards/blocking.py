@@ -1,0 +1,259 @@
+"""The client of shards for callers without asyncio: the same calls, each of which returns when it is done, on an event loop of its own."""
+
+from __future__ import annotations
+
+import asyncio
+import functools
+import threading
+from collections.abc import Callable, Coroutine, Iterable, Iterator
+from typing import Any, Concatenate, Generic, ParamSpec, TypeVar, cast
+
+from bpfhost import frames as make
+from bpfhost.frames import NO_CONTEXT, Context
+from bpfhost.host import Host
+from bpfhost.packets import Packets
+from bpfhost.parts import in_parts
+from bpfhost.replies import Reply, read_replies
+from bpfhost.shards import connection, directory, moving
+from bpfhost.shards.calls import LONGEST_CALL, MOST_FRAMES
+from bpfhost.shards.client import SECONDS, AsyncClient, AsyncCustomer
+from bpfhost.shards.directory import Seat
+from bpfhost.shards.link import MACHINE
+from bpfhost.shards.loop import new_loop
+from bpfhost.shards.names import PREFIX, ShardKeys
+from bpfhost.shards.system import Answer, System, Word, Work
+from bpfhost.shards.tickets import Part, Ticket
+from bpfhost.tenant import Tenant
+
+Given = ParamSpec("Given")
+Inner = TypeVar("Inner")
+
+
+class Loop:
+    """An event loop that runs only while somebody waits for something. Threads may share it: one of those that wait runs it for all."""
+
+    def __init__(self) -> None:
+        self._loop = new_loop()
+        # Held by the thread that runs it; how many others wait.
+        self._runs, self._others = threading.Lock(), 0
+        self._changed = threading.Condition()
+
+    def run(self, work: Work[Answer]) -> Answer:
+        """The result of work."""
+        if self._runs.acquire(blocking=False):
+            return self._run(work)
+        task = asyncio.run_coroutine_threadsafe(work, self._loop)
+        task.add_done_callback(self._note)
+        with self._changed:
+            self._others += 1
+            while not (has := self._runs.acquire(blocking=False)) and not task.done():
+                self._changed.wait()
+            self._others -= 1
+        return self._run(asyncio.wrap_future(task, loop=self._loop)) if has else task.result()
+
+    def _run(self, work: Work[Answer] | asyncio.Future[Answer]) -> Answer:
+        try:
+            return self._loop.run_until_complete(work)
+        finally:
+            self._runs.release()
+            if self._others:
+                self._note(None)
+
+    def _note(self, _task: object) -> None:
+        with self._changed:
+            self._changed.notify_all()
+
+    def __del__(self) -> None:
+        self._loop.close()
+
+
+class _Blocking(Generic[Inner]):
+    """What has the calls of something for asyncio (`aio`), and waits for each."""
+
+    def __init__(self, aio: Inner, loop: Loop) -> None:
+        self.aio, self.loop = aio, loop
+
+
+def _waits(
+    method: Callable[Concatenate[Inner, Given], Coroutine[Any, Any, Answer]]
+) -> Callable[Concatenate[_Blocking[Inner], Given], Answer]:
+    @functools.wraps(method)
+    def call(self: _Blocking[Inner], /, *args: Given.args, **words: Given.kwargs) -> Answer:
+        return self.loop.run(method(self.aio, *args, **words))
+
+    return call
+
+
+class Redis(_Blocking[connection.Redis]):
+    """A server (`connection.Redis`)."""
+
+    call = _waits(connection.Redis.call)
+    hget = _waits(connection.Redis.hget)
+    hset = _waits(connection.Redis.hset)
+    hdel = _waits(connection.Redis.hdel)
+    hgetall = _waits(connection.Redis.hgetall)
+    hkeys = _waits(connection.Redis.hkeys)
+    get = _waits(connection.Redis.get)
+    delete = _waits(connection.Redis.delete)
+    xlen = _waits(connection.Redis.xlen)
+    xrange = _waits(connection.Redis.xrange)
+    xread = _waits(connection.Redis.xread)
+    stream = _waits(connection.Redis.stream)
+    last_id = _waits(connection.Redis.last_id)
+    dropped_id = _waits(connection.Redis.dropped_id)
+    close = _waits(connection.Redis.close)
+
+    def until(self, deadline: float) -> Redis:
+        """The same server, whose calls end at a time of the system's clock."""
+        return Redis(self.aio.until(deadline), self.loop)
+
+    def run(self, script: connection.Script, keys: list[str], arguments: list[Word]) -> Any:
+        """The result of a script."""
+        return self.loop.run(script(self.aio, keys, arguments))
+
+
+class Directory(_Blocking[directory.Directory]):
+    """The directory (`directory.Directory`)."""
+
+    register = _waits(directory.Directory.register)
+    incarnation = _waits(directory.Directory.incarnation)
+    beat = _waits(directory.Directory.beat)
+    withdraw = _waits(directory.Directory.withdraw)
+    beats = _waits(directory.Directory.beats)
+    drain = _waits(directory.Directory.drain)
+    drained = _waits(directory.Directory.drained)
+    remove_shard = _waits(directory.Directory.remove_shard)
+    server = _waits(directory.Directory.server)
+    loads = _waits(directory.Directory.loads)
+    place = _waits(directory.Directory.place)
+    seat = _waits(directory.Directory.seat)
+    customers = _waits(directory.Directory.customers)
+    moves = _waits(directory.Directory.moves)
+    begin_move = _waits(directory.Directory.begin_move)
+    end_move = _waits(directory.Directory.end_move)
+    turn_move = _waits(directory.Directory.turn_move)
+
+
+class Client(_Blocking[AsyncClient]):
+    """A client that knows the directory and the shards. It is a context manager, which closes its connections."""
+
+    def __init__(self, url: str | None = None, prefix: str = PREFIX, system: System = MACHINE) -> None:
+        """The directory's Redis, by its URL (`redis_url`)."""
+        super().__init__(AsyncClient(url, prefix, system), Loop())
+        self.redis, self.directory = Redis(self.aio.redis, self.loop), Directory(self.aio.directory, self.loop)
+        self.prefix, self.system = prefix, system
+
+    def __enter__(self) -> Client:
+        return self
+
+    def __exit__(self, *_error: object) -> None:
+        self.close()
+
+    def close(self) -> None:
+        """Closes the connections."""
+        self.loop.run(self.aio.close())
+
+    def customer(self, name: str, seconds: float = SECONDS, session: str | None = None) -> Customer:
+        """A customer by its name, which waits for so many seconds at most.
+
+        The next process can continue a session with a name (`Customer.resume`); from then on calls of the previous process are refused.
+        """
+        return Customer(self.aio.customer(name, seconds, session), self.loop)
+
+    def shard(self, number: int, deadline: float | None = None) -> tuple[Redis, ShardKeys]:
+        """The Redis of a shard, and its keys."""
+        redis, keys = self.loop.run(self.aio.shard(number, deadline))
+        return Redis(redis, self.loop), keys
+
+
+class Customer(_Blocking[AsyncCustomer]):
+    """Sends the calls of one customer (`AsyncCustomer`); only one thread may use it."""
+
+    resume = _waits(AsyncCustomer.resume)
+    last = _waits(AsyncCustomer.last)
+    post = _waits(AsyncCustomer.post)
+    flush = _waits(AsyncCustomer.flush)
+    settle = _waits(AsyncCustomer.settle)
+
+    @property
+    def name(self) -> str:
+        """The customer's name."""
+        return self.aio.name
+
+    @property
+    def session(self) -> str:
+        """The name of the session."""
+        return self.aio.session
+
+    @property
+    def seconds(self) -> float:
+        """For how long a call waits."""
+        return self.aio.seconds
+
+    @seconds.setter
+    def seconds(self, seconds: float) -> None:
+        self.aio.seconds = seconds
+
+    def ask(self, frame: bytes) -> Reply:
+        """Sends a frame and waits for its reply."""
+        return next(self.ask_all([frame]))
+
+    def ask_all(self, frames: Iterable[bytes]) -> Iterator[Reply]:
+        """Sends frames, many at once, and yields their replies in order."""
+        for reply in self.ask_bytes(frames):
+            yield from read_replies(reply)
+
+    def ask_bytes(self, frames: Iterable[bytes]) -> Iterator[bytes]:
+        """The same, with each reply as the bytes that the host wrote."""
+        for call in in_parts(frames, len, LONGEST_CALL, MOST_FRAMES):
+            yield from self.loop.run(self.aio.ask_call(b"".join(call)))
+
+    def tenant(self) -> Tenant:
+        """The commands by their names, and maps as mappings."""
+        return CustomersTenant(cast(Host, self), 0)
+
+    def send(self, stream: bytes) -> Part:
+        """Adds frames to others in one call (`AsyncCustomer.send`)."""
+        return self.aio.gather(stream) or self.loop.run(self.aio.send(stream))
+
+    def receive(self, part: Part, seconds: float | None = None) -> list[bytes]:
+        """Waits for the replies to frames that were sent (`AsyncCustomer.receive`)."""
+        if part.call.ticket and part.call.ticket.answered:
+            return part.call.ticket.replies[part.first : part.end]
+        return self.loop.run(self.aio.receive(part, seconds))
+
+    def wait(self, ticket: Ticket, seconds: float | None = None) -> list[bytes]:
+        """Waits for the replies to a call, one for each frame (`AsyncCustomer.wait_bytes`)."""
+        return ticket.replies if ticket.answered else self.loop.run(self.aio.wait(ticket, seconds))
+
+
+class CustomersTenant(Tenant):
+    """A tenant whose host is one of the shards' hosts."""
+
+    def prog_test_runs(
+        self, descriptor: int, pieces: Iterable[Packets], context: Context = NO_CONTEXT
+    ) -> Iterator[tuple[int, ...]]:
+        """Runs a program on many packets, and returns the results in order."""
+        for piece in pieces:
+            replies = self.host.ask_all(make.prog_test_run(0, descriptor, packet, context) for packet in piece)
+            yield tuple(reply.result() for reply in replies if not reply.done())
+
+
+def connect(url: str | None = None) -> Redis:
+    """The Redis of a URL (`redis_url`), on an event loop of its own."""
+    return Redis(connection.Redis(url), Loop())
+
+
+def move(client: Client, name: str, shard: int | None = None, seconds: float = moving.SECONDS) -> Seat:
+    """Moves a customer to a shard, or to the least loaded other one, and returns its new seat (`moving.move`)."""
+    return client.loop.run(moving.move(client.aio, name, shard, seconds))
+
+
+def remove(client: Client, name: str, seconds: float = moving.SECONDS) -> None:
+    """Removes a customer, with all its data."""
+    client.loop.run(moving.remove(client.aio, name, seconds))
+
+
+def abort_move(client: Client, name: str, seconds: float = moving.SECONDS) -> Seat:
+    """Takes back a move that was begun, or a removal, and returns the seat that the customer then has (`moving.abort_move`)."""
+    return client.loop.run(moving.abort_move(client.aio, name, seconds))

@@ -1,0 +1,129 @@
+"""Connections to Redis: replies come in the order of the commands; one that is cut, or too slow, gives nobody another one's reply."""
+
+from __future__ import annotations
+
+import asyncio
+import unittest
+from pathlib import Path
+from unittest import mock
+
+from bpfhost.shards import connection
+from bpfhost.shards.connection import Redis, forgotten
+from bpfhost.shards.errors import Away, NoScript, OutOfMemory, RedisError
+from bpfhost.shards.link import RedisLink
+from tests.common import TimedTest
+from tests.shards.common import ShardTest
+
+
+class Commands(ShardTest, unittest.IsolatedAsyncioTestCase):
+    async def asyncSetUp(self) -> None:
+        self.redis = Redis(self.server.url)
+        self.addAsyncCleanup(self.redis.close)
+
+    async def test_many_at_once(self) -> None:
+        """Replies come in the order of the commands, also those that nobody waits for."""
+        line = self.redis.line()
+        tasks = [line.begin("ECHO", number) for number in range(50)]
+        self.assertEqual(await tasks[7], b"7")
+        blocked = line.begin_xread({"none": b"0-0"}, 1, 0.05)
+        last = line.begin("ECHO", "last")
+        self.assertEqual(await asyncio.gather(*tasks[40:], blocked), [*(b"%d" % number for number in range(40, 50)), None])
+        self.assertEqual(await last, b"last")
+
+    async def test_what_is_refused(self) -> None:
+        """A command that is refused leaves the connection as it is."""
+        line = self.redis.line()
+        asked = [line.begin(*words) for words in (("NONSENSE",), ("EVALSHA", "0" * 40, 0), ("ECHO", 1), ("HGET", "x"))]
+        for task, error in zip(asked, (RedisError, NoScript, None, RedisError)):
+            if error:
+                with self.assertRaises(error):
+                    await task
+            else:
+                self.assertEqual(await task, b"1")
+        await self.redis.call("CONFIG", "SET", "maxmemory", 1)
+        with self.assertRaises(OutOfMemory):
+            await line.begin("SET", "a", "b")
+
+    async def test_a_line_that_is_cut(self) -> None:
+        """None of the sent commands has a reply, and the next command has a new connection."""
+        line = self.redis.line()
+        self.assertEqual(await line.begin("ECHO", 0), b"0")
+        waits, behind = line.begin_xread({"none": b"0-0"}, 1, 60.0), line.begin("ECHO", 1)
+        await asyncio.wait([waits], timeout=0.05)
+        self.assertFalse(waits.done())
+        line.cut()
+        for task in (waits, behind):
+            with self.assertRaisesRegex(Away, "Redis can't be reached: .+"):
+                await task
+        self.assertEqual(await line.begin("ECHO", 2), b"2")
+
+    async def test_a_call_that_is_cancelled(self) -> None:
+        """Its reply, which comes later, is no other command's: neither of one that was sent after it, nor of the next one."""
+        line = self.redis.line()
+        for late in (line.begin_xread({"none": b"0-0"}, 1, 0.2), line.begin("ECHO", "late")):
+            behind = line.begin("ECHO", "behind")
+            await asyncio.sleep(0)
+            forgotten(late)
+            self.assertIn(await asyncio.gather(behind, return_exceptions=True), ([b"behind"], [mock.ANY]))
+            for number in range(20):
+                self.assertEqual(await line.begin("ECHO", number), b"%d" % number)
+
+    async def test_connections_that_nobody_uses(self) -> None:
+        """They end after a while."""
+        with mock.patch.object(connection, "SECONDS_IDLE", 0.2):
+            await asyncio.gather(*(self.redis.call("BLPOP", f"none-{number}", 0.1, wait=0.1) for number in range(40)))
+            clients = len(bytes(await self.redis.call("CLIENT", "LIST")).splitlines())
+            self.assertGreaterEqual(clients, 40)
+            while len(bytes(await self.redis.call("CLIENT", "LIST")).splitlines()) > 3:
+                await asyncio.sleep(0.05)
+
+
+class Silent(TimedTest, unittest.IsolatedAsyncioTestCase):
+    async def test_no_answer_in_time(self) -> None:
+        """A server that replies once, and then says nothing."""
+
+        async def replies_once(reader: asyncio.StreamReader, writer: asyncio.StreamWriter) -> None:
+            await reader.read(100)
+            writer.write(b"+PONG\r\n")
+            await asyncio.sleep(60)
+
+        path = str(Path(self.scratch) / "s")
+        server = await asyncio.start_unix_server(replies_once, path)
+        link = RedisLink(f"unix://{path}")
+        self.assertEqual(await link.call(["PING"], 60.0), b"PONG")
+        asked = [asyncio.create_task(link.call(["PING"], seconds)) for seconds in (0.1, 60.0)]
+        with self.assertRaisesRegex(Away, "^Redis can't be reached: it does not answer in time$"):
+            await asked[0]
+        with self.assertRaisesRegex(Away, "^Redis can't be reached: .+"):
+            await asked[1]
+        await link.close()
+        server.close()
+        with self.assertRaisesRegex(Away, "^Redis can't be reached: .+"):
+            await RedisLink(f"unix://{path}none").call(["PING"], 1.0)
+
+    async def test_a_connection_that_breaks(self) -> None:
+        """An error of the system is one of a server that is away, also on a Unix socket, for which the library has no host to name."""
+        path = str(Path(self.scratch) / "s")
+        server = await asyncio.start_unix_server(lambda reader, writer: asyncio.sleep(60), path)
+        link = RedisLink(f"unix://{path}")
+        with mock.patch("asyncio.StreamReader.read", side_effect=ConnectionResetError(104, "Connection reset by peer")):
+            with self.assertRaisesRegex(Away, "^Redis can't be reached: .*Connection reset by peer$"):
+                await link.call(["PING"], 5.0)
+        await link.close()
+        server.close()
+
+    async def test_what_is_no_redis(self) -> None:
+        async def says(reader: asyncio.StreamReader, writer: asyncio.StreamWriter) -> None:
+            writer.write(b"HTTP/1.1 400 Bad Request\r\n\r\n")
+
+        path = str(Path(self.scratch) / "s")
+        server = await asyncio.start_unix_server(says, path)
+        link = RedisLink(f"unix://{path}")
+        with self.assertRaises(Away):
+            await link.call(["PING"], 5.0)
+        await link.close()
+        server.close()
+
+
+if __name__ == "__main__":
+    unittest.main()

@@ -1,0 +1,221 @@
+"""Slow words of plain_words.py in names of code, and `place` as a word of its own in crates/: how often each folder may have them."""
+
+from __future__ import annotations
+
+import io
+import re
+import tokenize
+from collections import Counter
+from collections.abc import Callable, Iterable
+
+from plain_comments import COMMENT, folder, rounded
+
+# Each word with its forms, and with what to write instead.
+WORDS = {
+    "told": ("told|tells|telling", "returned, reported, or what happens: refused, accepted"),
+    "behind": ("behind", "after"),
+    "answer": ("answers?|answered|answering", "reply, result"),
+}
+WORD = re.compile("|".join(f"(?P<{word}>{forms})" for word, (forms, _) in WORDS.items()), re.I)
+# The words of a name, as in `IsToldAlone`, `told_of` and `FRAMES_TOLD`.
+PART = re.compile(r"[A-Z]+(?![a-z])|[A-Z]?[a-z]+")
+NAME = re.compile(r"[A-Za-z_]\w*")
+STRING = re.compile(r'"(?:[^"\\\n]|\\.)*"')
+# What the toolchain names: the file with the proofs of a function, as other files cite it.
+OF_TOOLCHAIN = re.compile(r"\bproofs(?:\.\w+)*\.Answers\b")
+PLACE = re.compile(r"\bplace\b")
+# The most of these words in the names of a folder, each as often as it occurs. A folder that is not listed may have none. They only fall.
+MOST_IN_NAMES: dict[str, int] = {
+    "bench": 30,
+    "bench/map_costs": 10,
+    "clients/c/include": 20,
+    "clients/python": 4,
+    "clients/python/bench": 3,
+    "clients/python/bpfhost": 60,
+    "clients/python/bpfhost/captures": 3,
+    "clients/python/bpfhost/classic": 50,
+    "clients/python/bpfhost/command": 22,
+    "clients/python/bpfhost/lowering": 30,
+    "clients/python/bpfhost/objects": 20,
+    "clients/python/bpfhost/shards": 220,
+    "clients/python/tests": 170,
+    "clients/python/tests/classic": 48,
+    "clients/python/tests/lowering": 30,
+    "clients/python/tests/objects": 60,
+    "clients/python/tests/shards": 200,
+    "clients/rust/bpfhost-sys": 5,
+    "clients/rust/tests": 4,
+    "crates/arena": 1,
+    "crates/bpf_helpers": 40,
+    "crates/bpf_helpers/proofs": 180,
+    "crates/bpf_helpers/specs/inside": 40,
+    "crates/bpf_maps": 20,
+    "crates/bpf_maps/proofs": 200,
+    "crates/bpf_text": 1,
+    "crates/bpf_text/proofs": 60,
+    "crates/bpfhost_c": 1,
+    "crates/bpfhost_c/proofs": 7,
+    "crates/cases": 4,
+    "crates/cases_commands": 2,
+    "crates/cases_frames": 2,
+    "crates/cases_texts": 20,
+    "crates/command_frames": 20,
+    "crates/command_frames/proofs": 50,
+    "crates/fd_table": 8,
+    "crates/fd_table/proofs": 50,
+    "crates/flat_machine": 7,
+    "crates/flat_machine/proofs": 200,
+    "crates/flat_machine/specs/inside": 6,
+    "crates/host": 6,
+    "crates/host/proofs": 30,
+    "crates/host_core": 50,
+    "crates/host_core/proofs": 300,
+    "crates/insn_codec": 1,
+    "crates/insn_codec/proofs": 60,
+    "crates/insn_set": 1,
+    "crates/interval": 1,
+    "crates/interval/proofs": 2,
+    "crates/log_facts": 5,
+    "crates/log_listing": 15,
+    "crates/log_text": 20,
+    "crates/ordered_keys": 10,
+    "crates/ordered_keys/proofs": 30,
+    "crates/reg_kinds": 1,
+    "crates/reg_kinds/proofs": 20,
+    "crates/saving": 90,
+    "crates/saving/proofs": 610,
+    "crates/saving/specs/inside": 20,
+    "crates/seeded_hash": 1,
+    "crates/tagged_model": 20,
+    "crates/tagged_model/proofs": 60,
+    "crates/tenant": 150,
+    "crates/tenant/proofs": 430,
+    "crates/text_line/proofs": 20,
+    "crates/transfer": 5,
+    "crates/transfer/proofs": 80,
+    "crates/verifier": 103,
+    "crates/verifier/proofs": 210,
+    "crates/verifier/specs/inside": 10,
+    "crates/words": 4,
+    "examples/capture": 2,
+    "examples/expression": 2,
+    "examples/filters": 20,
+    "examples/packet_path": 20,
+    "examples/text_to_run": 3,
+    "examples/two_tenants": 9,
+    "tests": 70,
+    "tests/conformance": 20,
+    "tests/library": 30,
+    "tools": 20,
+    "tools/definitions": 2,
+    "tools/tests": 20,
+}
+# The most of `place` in the files of a folder, code and comments. What is meant is a handle, an element, an entry, a slot, an offset, ..
+# (docs/GUIDE.md, "Nouns"). `FdTable::place` is an interface of the specification.
+MOST_PLACES: dict[str, int] = {
+    "crates/arena": 40,
+    "crates/arena/proofs": 20,
+    "crates/bpf_helpers": 70,
+    "crates/bpf_helpers/proofs": 280,
+    "crates/bpf_helpers/specs/inside": 20,
+    "crates/bpf_maps": 260,
+    "crates/bpf_maps/proofs": 260,
+    "crates/bpf_text": 20,
+    "crates/bpf_text/proofs": 30,
+    "crates/bpf_text/specs/inside": 20,
+    "crates/cases": 1,
+    "crates/cases_commands": 30,
+    "crates/cases_frames": 10,
+    "crates/cases_maps": 40,
+    "crates/cases_texts": 2,
+    "crates/cases_verdicts": 4,
+    "crates/command_frames": 2,
+    "crates/fd_table": 50,
+    "crates/fd_table/proofs": 90,
+    "crates/flat_machine": 30,
+    "crates/flat_machine/proofs": 90,
+    "crates/flat_machine/specs/inside": 6,
+    "crates/host_core/proofs": 1,
+    "crates/insn_codec": 6,
+    "crates/insn_codec/proofs": 1,
+    "crates/insn_set": 3,
+    "crates/log_facts": 2,
+    "crates/log_listing": 17,
+    "crates/log_reasons": 4,
+    "crates/log_text": 10,
+    "crates/ordered_keys": 100,
+    "crates/ordered_keys/proofs": 120,
+    "crates/ordered_keys/specs/inside": 9,
+    "crates/reg_kinds": 80,
+    "crates/reg_kinds/proofs": 50,
+    "crates/saving": 40,
+    "crates/saving/proofs": 1140,
+    "crates/saving/specs/inside": 2,
+    "crates/seeded_hash": 2,
+    "crates/tagged_model": 20,
+    "crates/tagged_model/proofs": 40,
+    "crates/tenant": 160,
+    "crates/tenant/proofs": 751,
+    "crates/tenant/specs/inside": 30,
+    "crates/text_line": 2,
+    "crates/text_line/proofs": 1,
+    "crates/transfer": 1,
+    "crates/transfer/proofs": 20,
+    "crates/verifier": 20,
+    "crates/verifier/proofs": 2,
+    "crates/words": 210,
+    "crates/words/proofs": 2,
+}
+
+
+def names(name: str, text: str) -> list[str]:
+    """The names in the code of a file, each as often as it occurs; none if the file is of another language."""
+    script = text.partition("\n")[0] if text.startswith("#!") else ""
+    suffix = name.rpartition("/")[2].rpartition(".")[2]
+    if suffix == "py" or "python" in script:
+        tokens = tokenize.generate_tokens(io.StringIO(text).readline)
+        return [token.string for token in tokens if token.type == tokenize.NAME]
+    if suffix not in COMMENT:
+        return []
+    code = text if suffix == "antt" else STRING.sub("", text)
+    return NAME.findall(OF_TOOLCHAIN.sub("", COMMENT[suffix].sub("", code)))
+
+
+def slow_words(name: str, text: str) -> Counter[str]:
+    """How often the names of a file have each of the words."""
+    found = (WORD.fullmatch(part) for each in names(name, text) for part in PART.findall(each))
+    return Counter(match.lastgroup for match in found if match and match.lastgroup)
+
+
+def places(name: str, text: str) -> Counter[str]:
+    return Counter({"place": len(PLACE.findall(text))} if name.startswith("crates/") else {})
+
+
+def by_folder(files: Iterable[tuple[str, str]], count: Callable[[str, str], Counter[str]]) -> dict[str, Counter[str]]:
+    found: dict[str, Counter[str]] = {}
+    for name, text in files:
+        if not name.endswith(".md"):
+            found.setdefault(folder(name), Counter()).update(count(name, text))
+    return dict(sorted(found.items()))
+
+
+def bounds(files: Iterable[tuple[str, str]]) -> str:
+    """The lines of both tables for files with these names and texts, as they are now."""
+    listed, lines = list(files), ""
+    for table, count in (("MOST_IN_NAMES", slow_words), ("MOST_PLACES", places)):
+        totals = ((where, words.total()) for where, words in by_folder(listed, count).items())
+        lines += f"{table}:\n" + "".join(f'    "{where}": {rounded(total)},\n' for where, total in totals if total)
+    return lines
+
+
+def too_many(files: Iterable[tuple[str, str]]) -> list[str]:
+    """The faults of folders that have more of these words than they may have."""
+    listed, wrong = list(files), []
+    for where, words in by_folder(listed, slow_words).items():
+        if words.total() > (most := MOST_IN_NAMES.get(where, 0)):
+            shown = ", ".join(f"{number} '{word}' ({WORDS[word][1]})" for word, number in words.most_common())
+            wrong.append(f"{where}: {words.total()} slow words in names, and {most} are the most: {shown}")
+    for where, words in by_folder(listed, places).items():
+        if words.total() > (most := MOST_PLACES.get(where, 0)):
+            wrong.append(f"{where}: {words.total()} times 'place', and {most} are the most: name what it is (docs/GUIDE.md, \"Nouns\")")
+    return wrong

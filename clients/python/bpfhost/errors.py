@@ -105,6 +105,7 @@ PACKAGES = {
     "elftools": "python3-pyelftools",
     "rich": "python3-rich",
     "redis": "python3-redis",
+    "hiredis": "python3-hiredis",
     "prometheus_client": "python3-prometheus-client",
 }
 

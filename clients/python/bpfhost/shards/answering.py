@@ -37,7 +37,7 @@ class Played(NamedTuple):
 
 class _Batch(NamedTuple):
     played: Sequence[Played]
-    task: asyncio.Task[int]
+    task: asyncio.Future[int]
 
 
 class Answering:
@@ -76,7 +76,7 @@ class Answering:
         """Whether no more batches can be sent at the moment."""
         return len(self._batches) >= _MOST_ON_THEIR_WAY
 
-    def first(self) -> list[asyncio.Task[int]]:
+    def first(self) -> list[asyncio.Future[int]]:
         """The batch that Redis replies to next, if one is in progress."""
         return [self._batches[0].task] if self._batches else []
 

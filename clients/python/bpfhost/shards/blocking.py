@@ -49,15 +49,32 @@ class Loop:
             while not (has := self._runs.acquire(blocking=False)) and not task.done():
                 self._changed.wait()
             self._others -= 1
-        return self._run(asyncio.wrap_future(task, loop=self._loop)) if has else task.result()
+        return self._run(_result(asyncio.wrap_future(task, loop=self._loop))) if has else task.result()
 
-    def _run(self, work: Work[Answer] | asyncio.Future[Answer]) -> Answer:
+    def _run(self, work: Work[Answer]) -> Answer:
+        """Takes the steps of work itself, and lets the loop run until the work may go on: a task would cost as much as a call of Redis."""
+        loop, is_in = self._loop, asyncio._set_running_loop
         try:
-            return self._loop.run_until_complete(work)
+            while True:
+                is_in(loop)
+                waits = work.send(None)
+                is_in(None)
+                if waits is None:
+                    loop.call_soon(loop.stop)
+                else:
+                    waits.add_done_callback(self._stop)
+                loop.run_forever()
+        except StopIteration as ended:
+            return cast(Answer, ended.value)
         finally:
+            is_in(None)
+            work.close()
             self._runs.release()
             if self._others:
                 self._note(None)
+
+    def _stop(self, _waits: object) -> None:
+        self._loop.stop()
 
     def _note(self, _task: object) -> None:
         with self._changed:
@@ -65,6 +82,10 @@ class Loop:
 
     def __del__(self) -> None:
         self._loop.close()
+
+
+async def _result(waits: asyncio.Future[Answer]) -> Answer:
+    return await waits
 
 
 class _Blocking(Generic[Inner]):

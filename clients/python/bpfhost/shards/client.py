@@ -174,7 +174,8 @@ class AsyncCustomer:
 
     async def _post(self, stream: bytes, alike: int, seconds: float | None = None, by: int = 1) -> Ticket:
         """Does what `post` does, with the length of each frame if they are known to be alike, and 0 otherwise."""
-        await self.settle(seconds)
+        if self._open:
+            await self.settle(seconds)
         runs = packed(stream, alike)
         self._open = ticket = Ticket(runs or stream, self.session, self._number + by, self._given_up, bool(runs))
         await self.settle(seconds)

@@ -171,10 +171,10 @@ class NodesLink:
         if is_watched and node not in self._seen:
             await self._look(node, link, seconds)
         if not self._place.replicas or words[0] not in _WRITES:
-            return [await link.call(words, seconds)]
+            return [await link.begin(words, seconds)]
         limit = max(0.001, min(seconds, _SECONDS_FOR_REPLICAS))
-        waits = link.call(["WAIT", self._place.replicas, int(limit * 1000)], seconds + limit)
-        found: list[Any] = await asyncio.gather(link.call(words, seconds), waits, return_exceptions=True)
+        begun = link.begin(words, seconds), link.begin(["WAIT", self._place.replicas, int(limit * 1000)], seconds + limit)
+        found: list[Any] = await asyncio.gather(*begun, return_exceptions=True)
         for one in found:
             if isinstance(one, BaseException):
                 raise one
@@ -187,7 +187,7 @@ class NodesLink:
 
     async def _look(self, node: str, link: Link, seconds: float) -> None:
         """Checks which history a node reports: a node that was away may report another one."""
-        said = bytes(await link.call(["INFO", "replication"], seconds)).decode()
+        said = bytes(await link.begin(["INFO", "replication"], seconds)).decode()
         history = next((line.partition(":")[2] for line in said.splitlines() if line.startswith("master_replid:")), "")
         self._seen.add(node)
         if self._nodes.tells(node, history):
@@ -197,8 +197,3 @@ class NodesLink:
         """Ends the connections; the next command makes new ones."""
         for link in self._links.values():
             link.cut()
-
-    async def close(self) -> None:
-        """The same, and waits for the end."""
-        for link in self._links.values():
-            await link.close()

@@ -75,7 +75,8 @@ class _Links:
         self._idle.append((system.now(), self._made()))
 
     def _made(self) -> Link | NodesLink:
-        made = NodesLink(self._place, self.nodes, self._system.link) if self.nodes else self._system.link(self._place.url)
+        link = self._system.link
+        made: Link | NodesLink = NodesLink(self._place, self.nodes, link) if self.nodes else link(self._place.url)
         self._all.add(made)
         return made
 
@@ -103,7 +104,9 @@ class _Links:
         if self._timer:
             self._timer.cancel()
         for link in links:
-            await link.close()
+            link.cut()
+        # The event loop ends them in its next round.
+        await asyncio.sleep(0)
 
 
 class Line:
@@ -112,11 +115,11 @@ class Line:
     def __init__(self, redis: Redis, links: _Links) -> None:
         self._redis, self._link = redis, links.taken()
 
-    def begin(self, *words: Word, wait: float = 0.0) -> asyncio.Task[Any]:
-        """Begins a command, which may block for so many seconds. The task raises Away if no reply comes."""
-        return asyncio.create_task(self._redis.sent(self._link, words, wait))
+    def begin(self, *words: Word, wait: float = 0.0) -> asyncio.Future[Any]:
+        """Begins a command, which may block for so many seconds. The wait for it raises Away if no reply comes."""
+        return self._redis.begin(self._link, words, wait)
 
-    def begin_xread(self, places: Mapping[str, bytes], many: int, wait: float) -> asyncio.Task[Any]:
+    def begin_xread(self, places: Mapping[str, bytes], many: int, wait: float) -> asyncio.Future[Any]:
         """Begins what `Redis.xread` does; `entries_of` reads the reply."""
         return self.begin(*_reading(places, many, wait), wait=wait)
 
@@ -125,8 +128,8 @@ class Line:
         self._link.cut()
 
 
-def forgotten(task: asyncio.Task[Any]) -> None:
-    """Ends a task whose result nobody needs any more."""
+def forgotten(task: asyncio.Future[Any]) -> None:
+    """Ends something whose result nobody needs any more."""
     task.cancel()
     task.add_done_callback(lambda ended: ended.cancelled() or ended.exception())
 
@@ -183,30 +186,40 @@ class Redis:
 
     async def call(self, *words: Word, wait: float = 0.0) -> Any:
         """The reply to a command, which may block for so many seconds. Raises Away if the server can't be reached in time."""
-        until = self.system.now() + self._patience
+        until = self.system.now() + self._patience if self._patience else 0.0
         while True:
-            link = self._links.taken()
             try:
-                return await self.sent(link, words, wait)
+                return await self.once(words, self._deadline, wait)
             except Away:
                 if self.system.now() >= until or self.has_changed():
                     raise
-            finally:
-                self._links.give_back(link)
             await asyncio.sleep(_PAUSE)
+
+    async def once(self, words: Sequence[Word], deadline: float | None, wait: float = 0.0) -> Any:
+        """The same, of one try, until a time of the system's clock."""
+        link = self._links.taken()
+        try:
+            return await self.begin(link, words, wait, deadline)
+        except (asyncio.CancelledError, GeneratorExit):
+            # The next command does not wait for the reply to this one.
+            link.cut()
+            raise
+        finally:
+            self._links.give_back(link)
 
     def line(self) -> Line:
         """A connection of its own."""
         return Line(self, self._links)
 
-    def sent(self, link: Link | NodesLink, words: Sequence[Word], wait: float) -> Work[Any]:
-        """The reply to a command that is sent on a connection, within the time that a call may take."""
+    def begin(self, link: Link | NodesLink, words: Sequence[Word], wait: float, deadline: float | None = None) -> asyncio.Future[Any]:
+        """Begins a command on a connection, which replies within the time that a call may take."""
         seconds = wait + _SECONDS_TO_ANSWER
-        if self._deadline is not None:
-            seconds = max(_LEAST_SECONDS, min(seconds, self._deadline - self.system.now()))
+        if deadline is not None:
+            seconds = max(_LEAST_SECONDS, min(seconds, deadline - self.system.now()))
         if isinstance(link, NodesLink):
-            return link.call(words, seconds, self._near, self._known_changes[0] if self._known_changes else None)
-        return link.call(words, seconds)
+            known = self._known_changes[0] if self._known_changes else None
+            return asyncio.create_task(link.call(words, seconds, self._near, known))
+        return link.begin(words, seconds)
 
     async def patiently(
         self, call: Callable[[Redis], Work[Answer]], deadline: float, give_up: Callable[[Away], Exception] | None = None
@@ -309,14 +322,15 @@ class Script:
         self.touching = f"{head}redis.call('SET', KEYS[1] .. ':touched', '')\n{text}"
         self._names = {text: hashlib.sha1(text.encode()).hexdigest() for text in (self.text, self.touching)}
 
-    async def __call__(self, redis: Redis, keys: Sequence[str], arguments: Sequence[Word]) -> Any:
-        """The result of the script. A server that has just started does not know the script yet."""
+    async def __call__(self, redis: Redis, keys: Sequence[str], arguments: Sequence[Word], deadline: float | None = None) -> Any:
+        """The result of the script; with a deadline, that of one try. A server that has just started does not know the script yet."""
+        words = self._words(redis, keys, arguments)
         try:
-            return await redis.call(*self._words(redis, keys, arguments))
+            return await (redis.call(*words) if deadline is None else redis.once(words, deadline))
         except NoScript:
             return await redis.call("EVAL", self._text(redis), len(keys), *keys, *arguments)
 
-    def begin(self, redis: Redis, line: Line, keys: Sequence[str], arguments: Sequence[Word]) -> asyncio.Task[Any]:
+    def begin(self, redis: Redis, line: Line, keys: Sequence[str], arguments: Sequence[Word]) -> asyncio.Future[Any]:
         """Begins the script on a line of a server. If its reply is a NoScript, the script is called once more."""
         return line.begin(*self._words(redis, keys, arguments))
 
@@ -336,7 +350,10 @@ class Script:
     ) -> Any:
         """The same, repeated while Redis is away (`Redis.patiently`)."""
 
-        return await redis.patiently(lambda limited: self(limited, keys, arguments), deadline, give_up)
+        try:
+            return await self(redis, keys, arguments, deadline)
+        except Away:
+            return await redis.patiently(lambda limited: self(limited, keys, arguments), deadline, give_up)
 
 
 async def told_by(redis: Redis, section: str) -> dict[str, str]:

@@ -1,4 +1,4 @@
-"""A connection to a Redis by its URL. Only this module uses the library redis (of Debian: python3-redis, with python3-hiredis)."""
+"""A connection to a Redis by its URL, of the library redis (of Debian: python3-redis). hiredis parses the replies (python3-hiredis)."""
 
 from __future__ import annotations
 
@@ -7,70 +7,63 @@ import functools
 import importlib
 import math
 import socket
-from collections.abc import Sequence
-from typing import Any
+from collections import deque
+from collections.abc import Iterable, Sequence
+from typing import Any, cast
 
 from bpfhost.errors import PACKAGES, MissingPackage
 from bpfhost.shards.errors import Away, Moved, NoScript, NotAllowed, OutOfMemory, RedisError
 from bpfhost.shards.system import Machine, Word
 
-_SECONDS_TO_CONNECT, _SECONDS_TO_END = 5.0, 0.5
+_SECONDS_TO_CONNECT = 5.0
+# A read of the system allocates nothing: for the 256 KiB that asyncio asks for by itself it would map memory each time.
+_READ_AT_ONCE = 1 << 16
 # How errors begin if a server, or its cluster, can't run a command now, and has run nothing of it.
-_AWAY = ("NOREPLICAS", "UNBLOCKED", "CLUSTERDOWN", "MASTERDOWN", "TRYAGAIN", "ASK ")
+_AWAY = ("NOREPLICAS", "UNBLOCKED", "CLUSTERDOWN", "MASTERDOWN", "TRYAGAIN", "ASK", "LOADING", "READONLY")
 # A connection over a network that is gone ends by itself: if probes, or what was sent, are not acknowledged for some seconds. Linux's
 # TCP_USER_TIMEOUT has no name in the types of the standard library.
 _WATCHED = {"TCP_KEEPIDLE": 4, "TCP_KEEPINTVL": 2, "TCP_KEEPCNT": 3, "TCP_USER_TIMEOUT": 10_000}
-_LONGEST_NAME, _SHORT = 64, 1 << 15
+_LONGEST_NAME, _SILENT = 64, "it does not answer in time"
 
 
 @functools.cache
-def _library() -> Any:
+def _library(name: str) -> Any:
     # By its name: the types that mypy may find of it are not those of Debian's version.
     try:
-        return importlib.import_module("redis.asyncio")
+        return importlib.import_module(name)
     except ModuleNotFoundError:
-        raise MissingPackage("redis", PACKAGES["redis"]) from None
+        package = name.partition(".")[0]
+        raise MissingPackage(package, PACKAGES[package]) from None
 
 
 def _connections(url: str) -> Any:
     """What makes connections to a URL; raises RedisError if it is no URL. With TLS, the name in the server's certificate is checked."""
-    options: dict[str, object] = {"socket_connect_timeout": _SECONDS_TO_CONNECT}
-    if not url.startswith("unix:"):
-        watched = {getattr(socket, name): value for name, value in _WATCHED.items() if hasattr(socket, name)}
-        options.update(socket_keepalive=True, socket_keepalive_options=watched)
-    if url.startswith("rediss:"):
-        options.update(ssl_check_hostname=True)
     try:
-        return _library().ConnectionPool.from_url(url, **options)
+        made = _library("redis.asyncio").ConnectionPool.from_url(url, **({"ssl_check_hostname": True} if url.startswith("rediss:") else {}))
     except ValueError as error:
         raise RedisError(f"{url} is no URL of a Redis: {error}") from None
+    made.connection_class = _direct(made.connection_class)
+    return made
 
 
-def _own(error: Exception) -> Exception:
-    """This package's own error for one of the library, or of the system."""
-    if isinstance(error, AttributeError) and isinstance(error.__context__, OSError):
-        # redis-py 4.3.4 looks for the host of a Unix socket to name it in the error.
-        error = error.__context__
-    kinds, said = {kind.__name__ for kind in type(error).__mro__}, str(error)
-    if kinds & {"AuthenticationError", "AuthorizationError"}:
-        return RedisError(f"Redis does not know this user, or not by this password: {said}")
-    if kinds & {"ConnectionError", "TimeoutError", "OSError", "InvalidResponse"}:
-        return Away(f"Redis can't be reached: {said or 'it does not answer in time'}")
-    if "RedisError" not in kinds or isinstance(error, RedisError):
-        return error
-    if "NoScriptError" in kinds:
+def _error(said: str) -> RedisError:
+    """An error that Redis replies."""
+    code, _, rest = said.partition(" ")
+    if code == "MOVED":
+        return Moved(rest.split()[1])
+    if code == "NOSCRIPT":
         return NoScript("Redis does not have the script yet")
-    if said.startswith("MOVED "):
-        return Moved(said.split()[2])
-    if "ReadOnlyError" in kinds or said.startswith(_AWAY):
+    if code in _AWAY:
         return Away(f"Redis can't do it just now: {said}")
-    if "NoPermissionError" in kinds:
-        return NotAllowed(f"Redis refuses a command to this user: {said}")
+    if code in ("NOAUTH", "WRONGPASS") or "AUTH" in rest:
+        return RedisError(f"Redis does not know this user, or not by this password: {rest}")
+    if code == "NOPERM":
+        return NotAllowed(f"Redis refuses a command to this user: {rest}")
     if "user executing the script can't" in said:
         return NotAllowed(f"Redis refuses a script to this user: {said}")
     if "OOM" in said or "allow-oom" in said:
         return OutOfMemory(f"Redis has no memory: {said}")
-    return RedisError(f"Redis refuses a command: {said}")
+    return RedisError(f"Redis refuses a command: {rest if code == 'ERR' else said}")
 
 
 def packed(words: Sequence[Word]) -> bytes:
@@ -88,102 +81,140 @@ def _bulk(word: Word) -> bytes:
 _name = functools.lru_cache(4096)(_bulk)
 
 
+class _Direct(asyncio.BufferedProtocol):
+    """What a class of connections of the library is mixed with: bytes go straight to hiredis, and each reply to who waits for it, in order."""
+
+    transport: asyncio.Transport
+    is_over = False
+
+    def open(self) -> None:
+        """Begins to connect; commands that begin meanwhile are sent when the library has logged in."""
+        self._replies, self._read = _library("hiredis").Reader(protocolError=RedisError, replyError=_error), bytearray(_READ_AT_ONCE)
+        # Who waits, and until when; what looks whether one waits for too long; and what is sent when the connection is open.
+        self._waiting: deque[tuple[asyncio.Future[Any], float]] = deque()
+        self._timer: asyncio.TimerHandle | None = None
+        self._unsent: list[bytes] | None = []
+        self._loop = asyncio.get_running_loop()
+        self._opening = asyncio.create_task(self._open())
+
+    async def _open(self: Any) -> None:
+        try:
+            async with asyncio.timeout(_SECONDS_TO_CONNECT):
+                if path := getattr(self, "path", None):
+                    await self._loop.create_unix_connection(lambda: self, path)
+                else:
+                    await self._loop.create_connection(lambda: self, self.host, self.port, ssl=self.ssl_context and self.ssl_context.get())
+                await self.on_connect()
+        except Exception as error:
+            self.end(error)
+        else:
+            self.transport.write(b"".join(self._unsent))
+            self._unsent = None
+
+    async def send_packed_command(self, command: Iterable[bytes], **_options: object) -> None:
+        """Sends what the library sends to log in."""
+        self.transport.write(b"".join(command))
+
+    async def read_response(self, **_options: object) -> Any:
+        """The reply to that, which comes before all others."""
+        reply = self._loop.create_future()
+        self._waiting.appendleft((reply, math.inf))
+        return await reply
+
+    def begin(self, command: bytes, seconds: float) -> asyncio.Future[Any]:
+        """Sends a command. Its reply comes within so many seconds, or the connection ends, and so no reply comes for another command."""
+        reply, until = self._loop.create_future(), self._loop.time() + seconds
+        self._waiting.append((reply, until))
+        if self._unsent is None:
+            self.transport.write(command)
+        else:
+            self._unsent.append(command)
+        if self._timer is None or until < self._timer.when():
+            self._look_at(until)
+        return reply
+
+    def _look_at(self, when: float) -> None:
+        if self._timer:
+            self._timer.cancel()
+        self._timer = self._loop.call_at(when, self._look) if when < math.inf else None
+
+    def _look(self) -> None:
+        first = min((until for reply, until in self._waiting if not reply.done()), default=math.inf)
+        if first <= self._loop.time():
+            self.end(TimeoutError())
+        else:
+            self._look_at(first)
+
+    def end(self, error: Exception) -> None:
+        """Ends the connection: no more replies come to what was sent."""
+        self.is_over = True
+        self._look_at(math.inf)
+        self._opening.cancel()
+        if hasattr(self, "transport"):
+            self.transport.abort()
+        for reply, _ in self._waiting:
+            if not reply.done():
+                reply.set_exception(error if isinstance(error, RedisError) else Away(f"Redis can't be reached: {str(error) or _SILENT}"))
+                # Perhaps nobody waits any more.
+                reply.exception()
+        self._waiting.clear()
+
+    # What the event loop calls.
+
+    def connection_made(self, transport: asyncio.BaseTransport) -> None:
+        self.transport = cast(asyncio.Transport, transport)
+        made = transport.get_extra_info("socket")
+        if made.family != socket.AF_UNIX:
+            made.setsockopt(socket.SOL_SOCKET, socket.SO_KEEPALIVE, 1)
+            for name, value in _WATCHED.items():
+                if hasattr(socket, name):
+                    made.setsockopt(socket.IPPROTO_TCP, getattr(socket, name), value)
+
+    def get_buffer(self, sizehint: int) -> bytearray:
+        return self._read
+
+    def buffer_updated(self, nbytes: int) -> None:
+        replies = self._replies
+        try:
+            replies.feed(self._read, 0, nbytes)
+            while (reply := replies.gets()) is not False:
+                waits, _ = self._waiting.popleft()
+                if isinstance(reply, RedisError) and not waits.done():
+                    waits.set_exception(reply)
+                elif not waits.done():
+                    waits.set_result(reply)
+        except (RedisError, IndexError):
+            self.end(OSError("what answers is no Redis"))
+
+    def connection_lost(self, error: Exception | None) -> None:
+        if not self.is_over:
+            self.end(error or OSError("the connection was ended"))
+
+
+@functools.cache
+def _direct(kind: type) -> type:
+    return type("Direct", (_Direct, kind), {})
+
+
 class RedisLink:
-    """A connection, made by the library, and made anew if it broke. Redis replies in order to commands sent one after another."""
+    """A connection, which is made anew if it broke. Redis replies in order to commands sent one after another."""
 
     def __init__(self, url: str) -> None:
         """Raises RedisError if the URL is none."""
-        self._connections, self._sending = _connections(url), asyncio.Lock()
-        self._refused = _library().ResponseError
-        # The connection, and one that was ended since no reply came in time.
-        self._connection: Any = None
-        self._late: Any = None
-        # How many commands wait; until when the only one may wait, and what looks whether it does.
-        self._waiting, self._until = 0, math.inf
-        self._timer: asyncio.TimerHandle | None = None
-        self._ending: set[asyncio.Task[None]] = set()
+        self._connections, self._connection = _connections(url), cast(_Direct | None, None)
 
-    async def call(self, words: Sequence[Word], seconds: float) -> Any:
-        """The reply to a command, within so many seconds. Without a reply the connection ends, and so no reply comes for another command."""
-        command = packed(words)
-        self._waiting += 1
-        try:
-            # A timer for each command would cost as much as the command: most have a connection that nobody else uses.
-            if self._connection and self._waiting == 1 and len(command) <= _SHORT:
-                self._watch(seconds)
-                return await self._called(command)
-            async with asyncio.timeout(seconds):
-                return await self._called(command)
-        except TimeoutError as error:
-            raise _own(error) from error
-        finally:
-            self._waiting -= 1
-            self._until = math.inf
-
-    async def _called(self, command: bytes) -> Any:
-        connection = None
-        try:
-            async with self._sending:
-                connection = self._connection or await self._connected()
-                await connection.send_packed_command([command], check_health=False)
-            # Those who read have the order of those who sent.
-            return await connection.read_response()
-        except self._refused as error:
-            raise _own(error) from None
-        except BaseException as error:
-            if connection is self._connection:
-                self.cut()
-            if connection and connection is self._late:
-                raise _own(TimeoutError()) from error
-            if isinstance(error, Exception):
-                raise _own(error) from error
-            raise
-
-    def _watch(self, seconds: float) -> None:
-        """Ends the connection if the only command waits for longer than so many seconds."""
-        loop = asyncio.get_running_loop()
-        self._until = loop.time() + seconds
-        if self._timer is None or self._timer.when() > self._until:
-            if self._timer:
-                self._timer.cancel()
-            self._timer = loop.call_at(self._until, self._look)
-
-    def _look(self) -> None:
-        loop, self._timer = asyncio.get_running_loop(), None
-        if self._until <= loop.time():
-            self._late = self._connection
-            self.cut()
-        elif self._until < math.inf:
-            self._timer = loop.call_at(self._until, self._look)
-
-    async def _connected(self) -> Any:
-        connection = self._connections.make_connection()
-        await connection.connect()
-        # From now on this is only how long the end of the connection may take.
-        connection.socket_connect_timeout = _SECONDS_TO_END
-        self._connection = connection
-        return connection
+    def begin(self, words: Sequence[Word], seconds: float) -> asyncio.Future[Any]:
+        """The reply to a command, within so many seconds."""
+        connection = self._connection
+        if connection is None or connection.is_over:
+            connection = self._connection = cast(_Direct, self._connections.make_connection())
+            connection.open()
+        return connection.begin(packed(words), seconds)
 
     def cut(self) -> None:
         """Ends the connection: no more replies come to what was sent, and the next command makes a new connection."""
-        connection, self._connection = self._connection, None
-        if connection:
-            task = asyncio.create_task(connection.disconnect())
-            self._ending.add(task)
-            task.add_done_callback(self._has_ended)
-
-    def _has_ended(self, task: asyncio.Task[None]) -> None:
-        self._ending.discard(task)
-        # Nobody needs to know how it went.
-        task.cancelled() or task.exception()
-
-    async def close(self) -> None:
-        """The same, and waits for the end."""
-        self.cut()
-        if self._timer:
-            self._timer.cancel()
-        if self._ending:
-            await asyncio.wait(self._ending)
+        if self._connection and not self._connection.is_over:
+            self._connection.end(OSError("the connection was cut"))
 
 
 MACHINE = Machine(RedisLink)

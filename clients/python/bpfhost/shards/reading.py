@@ -31,7 +31,7 @@ class _Asked:
     """What a lane reads: its streams with the ids after which they are read, and the pending reply."""
 
     places: dict[str, bytes]
-    task: asyncio.Task[Any]
+    task: asyncio.Future[Any]
 
 
 class _Lane:
@@ -86,7 +86,7 @@ class Reading:
 
     # Lanes.
 
-    def ask(self) -> list[asyncio.Task[Any]]:
+    def ask(self) -> list[asyncio.Future[Any]]:
         """Lets all lanes wait for entries, and returns the pending replies."""
         for lane in self._lanes:
             if not lane.asked:

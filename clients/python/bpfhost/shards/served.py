@@ -66,7 +66,7 @@ class Served:
         self.is_stopped: Callable[[], bool] = lambda: False
         self._told_at = -_SECONDS_TO_TELL
 
-    def wakes(self, task: asyncio.Task[Answer]) -> asyncio.Task[Answer]:
+    def wakes(self, task: asyncio.Future[Answer]) -> asyncio.Future[Answer]:
         """Lets the worker go on when a task is done."""
         task.add_done_callback(lambda _: self.came.set())
         return task

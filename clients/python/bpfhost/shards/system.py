@@ -5,6 +5,7 @@ All of the package uses a `System`, so that tests can replace the machine by a d
 
 from __future__ import annotations
 
+import asyncio
 import time
 import uuid
 from collections.abc import Callable, Coroutine, Iterable, Iterator, Sequence
@@ -23,14 +24,11 @@ Work = Coroutine[Any, Any, Answer]
 class Link(Protocol):
     """A connection to a Redis. Raises Away if the server can't be reached, and RedisError if the server refuses a command."""
 
-    async def call(self, words: Sequence[Word], seconds: float) -> Any:
+    def begin(self, words: Sequence[Word], seconds: float) -> asyncio.Future[Any]:
         """The reply to a command, within so many seconds. Commands that begin before it has come are sent after it, in order."""
 
     def cut(self) -> None:
         """Ends the connection: no more replies come to what was sent, and the next command makes a new connection."""
-
-    async def close(self) -> None:
-        """The same, and waits for the end."""
 
 
 class Asked(Protocol):

@@ -69,25 +69,29 @@ class Turns:
         await self._jobs.do_some()
 
     async def _wait(self) -> None:
-        """Waits until something has come, or is written; does not wait if a job has steps to do."""
+        """Waits until something has come; does not wait if a job has steps to do. What is written meanwhile is noted."""
         shard, asked = self._shard, self._reading.ask()
         wait = 0.0 if shard.jobs else min(shard.settings.lease_seconds / 4, SECONDS_TO_LOOK)
         if not asked:
             await self.settle()
             await asyncio.sleep(min(wait, 0.05))
-        else:
+            return
+        until = shard.system.now() + wait
+        timer = asyncio.get_running_loop().call_later(wait, shard.came.set)
+        while True:
             # If no more batches can be sent, what comes meanwhile is taken together.
-            await self._until_one(self._answering.first() if self._answering.is_full() else [*asked, *self._answering.first()], wait)
-        await self._answering.look()
+            await self._until_one(self._answering.first() if self._answering.is_full() else [*asked, *self._answering.first()], until)
+            await self._answering.look()
+            if any(task.done() for task in asked) or shard.system.now() >= until or self._upkeep.is_due():
+                break
+        timer.cancel()
 
-    async def _until_one(self, tasks: Sequence[asyncio.Task[Any]], seconds: float) -> None:
-        """Waits until one of these is done, at most so many seconds."""
-        came, until = self._shard.came, self._shard.system.now() + seconds
-        timer = asyncio.get_running_loop().call_later(seconds, came.set)
+    async def _until_one(self, tasks: Sequence[asyncio.Future[Any]], until: float) -> None:
+        """Waits until one of these is done, or until a time, at which the worker is woken."""
+        came = self._shard.came
         while not any(task.done() for task in tasks) and self._shard.system.now() < until:
             came.clear()
             await came.wait()
-        timer.cancel()
 
     async def _play(self, calls: Sequence[Call | NoCall]) -> None:
         """Plays calls, and writes their replies; one at a time if one of them may have ended a host."""

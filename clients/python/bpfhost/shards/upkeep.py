@@ -72,6 +72,11 @@ class Upkeep:
 
     # Snapshots.
 
+    def is_due(self) -> bool:
+        """Whether a snapshot, or another host, is to be begun now."""
+        shard = self._shard
+        return shard.serving.asked >= shard.settings.most_asked or shard.keeping.due(shard.logs, shard.busy) is not None
+
     async def look_at_snapshots(self) -> None:
         """Begins a snapshot of the tenant that has most to play again, if there is too much of that."""
         shard, keeping = self._shard, self._shard.keeping

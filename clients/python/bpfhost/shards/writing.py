@@ -48,12 +48,12 @@ class Writing:
         """Writes replies of tenants, those of each in order."""
         await self._do(scripts.WRITE, *self._words(written, {}))
 
-    def begin(self, line: Line, written: Sequence[Written], behind: Mapping[int, bytes]) -> asyncio.Task[int]:
+    def begin(self, line: Line, written: Sequence[Written], behind: Mapping[int, bytes]) -> asyncio.Future[int]:
         """Begins to write replies on a line, after earlier replies of some tenants up to these ids, which are still being written."""
         keys, words = self._words(written, behind)
         return scripts.WRITE.begin(self.redis, line, [self.keys.lease, *keys], [self.lease.token, *words])
 
-    async def end(self, task: asyncio.Task[int]) -> bool:
+    async def end(self, task: asyncio.Future[int]) -> bool:
         """Whether replies whose write was begun are written; if not, write them again. Raises OutOfMemory if they have no room."""
         try:
             done = await task

@@ -20,7 +20,7 @@ def missing() -> str | None:
     """What tests of shards lack on this machine, as a word, or None."""
     if SERVER is None:
         return "redis-server is missing"
-    return None if importlib.util.find_spec("redis") else "python3-redis is missing"
+    return next((f"python3-{name} is missing" for name in ("redis", "hiredis") if not importlib.util.find_spec(name)), None)
 
 
 class RedisServer:

@@ -149,7 +149,7 @@ class Words(unittest.TestCase):
     @unittest.skipIf(_WHY is not None, _WHY or "")
     def test_commands(self) -> None:
         """A command's bytes are those that the library would send."""
-        connection = _library().ConnectionPool.from_url("unix:///nothing").make_connection()
+        connection = _library("redis.asyncio").ConnectionPool.from_url("unix:///nothing").make_connection()
         cases: tuple[list[object], ...] = (
             ["GET", "a"],
             ["XREAD", "COUNT", 64, "STREAMS", "bpfhost:{0}:frames:0", b"1-0"],

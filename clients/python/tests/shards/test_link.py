@@ -90,26 +90,26 @@ class Silent(TimedTest, unittest.IsolatedAsyncioTestCase):
         path = str(Path(self.scratch) / "s")
         server = await asyncio.start_unix_server(replies_once, path)
         link = RedisLink(f"unix://{path}")
-        self.assertEqual(await link.call(["PING"], 60.0), b"PONG")
-        asked = [asyncio.create_task(link.call(["PING"], seconds)) for seconds in (0.1, 60.0)]
+        self.assertEqual(await link.begin(["PING"], 60.0), b"PONG")
+        asked = [link.begin(["PING"], seconds) for seconds in (0.1, 60.0)]
         with self.assertRaisesRegex(Away, "^Redis can't be reached: it does not answer in time$"):
             await asked[0]
         with self.assertRaisesRegex(Away, "^Redis can't be reached: .+"):
             await asked[1]
-        await link.close()
+        link.cut()
         server.close()
         with self.assertRaisesRegex(Away, "^Redis can't be reached: .+"):
-            await RedisLink(f"unix://{path}none").call(["PING"], 1.0)
+            await RedisLink(f"unix://{path}none").begin(["PING"], 1.0)
 
     async def test_a_connection_that_breaks(self) -> None:
         """An error of the system is one of a server that is away, also on a Unix socket, for which the library has no host to name."""
         path = str(Path(self.scratch) / "s")
-        server = await asyncio.start_unix_server(lambda reader, writer: asyncio.sleep(60), path)
+        server = await asyncio.start_unix_server(lambda reader, writer: writer.write(b"+"), path)
         link = RedisLink(f"unix://{path}")
-        with mock.patch("asyncio.StreamReader.read", side_effect=ConnectionResetError(104, "Connection reset by peer")):
+        with mock.patch("socket.socket.recv_into", create=True, side_effect=ConnectionResetError(104, "Connection reset by peer")):
             with self.assertRaisesRegex(Away, "^Redis can't be reached: .*Connection reset by peer$"):
-                await link.call(["PING"], 5.0)
-        await link.close()
+                await link.begin(["PING"], 5.0)
+        link.cut()
         server.close()
 
     async def test_what_is_no_redis(self) -> None:
@@ -120,8 +120,8 @@ class Silent(TimedTest, unittest.IsolatedAsyncioTestCase):
         server = await asyncio.start_unix_server(says, path)
         link = RedisLink(f"unix://{path}")
         with self.assertRaises(Away):
-            await link.call(["PING"], 5.0)
-        await link.close()
+            await link.begin(["PING"], 5.0)
+        link.cut()
         server.close()
 
 

@@ -18,14 +18,13 @@ class MovedLink:
     def __init__(self, node: str) -> None:
         self._node = node
 
-    async def call(self, words: Sequence[Word], seconds: float) -> Any:
-        raise Moved(self._node)
+    def begin(self, words: Sequence[Word], seconds: float) -> asyncio.Future[Any]:
+        reply = asyncio.get_running_loop().create_future()
+        reply.set_exception(Moved(self._node))
+        return reply
 
     def cut(self) -> None:
         """There is nothing to cut."""
-
-    async def close(self) -> None:
-        """There is nothing to close."""
 
 
 class SlotThatMoved(unittest.IsolatedAsyncioTestCase):

@@ -2,10 +2,13 @@
 
 from __future__ import annotations
 
+import asyncio
 import socket
 import threading
 import time
 from collections.abc import Callable, Iterator, Sequence
+
+from typing import Any
 
 from bpfhost import MapType, frames
 from bpfhost.shards import Settings, ShardKeys, Worker, operating
@@ -88,11 +91,18 @@ class _CountingLink(RedisLink):
         super().__init__(url)
         self._counting = counting
 
-    async def call(self, words: Sequence[Word], seconds: float) -> object:
-        answer = await super().call(words, seconds)
-        sizes = sum(len(word) for word in words if isinstance(word, bytes)), len(answer) if isinstance(answer, bytes) else 0
-        self._counting.largest = max(self._counting.largest, *sizes)
-        return answer
+    def begin(self, words: Sequence[Word], seconds: float) -> asyncio.Future[Any]:
+        reply = super().begin(words, seconds)
+        self._note(sum(len(word) for word in words if isinstance(word, bytes)))
+        reply.add_done_callback(self._came)
+        return reply
+
+    def _came(self, reply: asyncio.Future[Any]) -> None:
+        if not reply.cancelled() and not reply.exception() and isinstance(reply.result(), bytes):
+            self._note(len(reply.result()))
+
+    def _note(self, size: int) -> None:
+        self._counting.largest = max(self._counting.largest, size)
 
 
 class Waits(ShardTest):

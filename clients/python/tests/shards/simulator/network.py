@@ -122,12 +122,11 @@ class SimulatedLink:
         """Ends it: what is begun next waits for nothing that was begun before."""
         self._order = asyncio.Lock()
 
-    async def close(self) -> None:
-        """The same."""
-        self.cut()
-
-    async def call(self, words: Sequence[Word], seconds: float) -> Any:
+    def begin(self, words: Sequence[Word], seconds: float) -> asyncio.Future[Any]:
         """The reply to a command, or the error if it fails."""
+        return asyncio.create_task(self._call(words, seconds))
+
+    async def _call(self, words: Sequence[Word], seconds: float) -> Any:
         world, weather, draw = self.network.world, self.network.weather, self.network.world.draw
         deadline, chance = world.now + seconds, draw.random()
         async with self._order:

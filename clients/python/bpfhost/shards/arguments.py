@@ -94,6 +94,8 @@ def _add_worker(words: argparse._SubParsersAction[Parser]) -> None:
     parser.add_argument(
         "--keep-bytes", metavar="N", type=_bytes, default=usual.reply_bytes, help="of so many bytes replies stay at most (1073741824)"
     )
+    own = usual.reply_bytes_of_customer
+    parser.add_argument("--keep-bytes-of-customer", metavar="N", type=_bytes, default=own, help="the same of one customer (268435456)")
     parser.add_argument("--drain", metavar="S", type=_drain, default=10.0, help="how long snapshots are taken at the end (10)")
     parser.add_argument("--volatile", action="store_true", help="also on a Redis that may lose what it has answered")
 

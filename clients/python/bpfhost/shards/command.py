@@ -88,6 +88,7 @@ def run_worker(said: Namespace) -> None:
         snapshot_entries=said.snapshot_entries,
         reply_seconds=said.keep_replies,
         reply_bytes=said.keep_bytes,
+        reply_bytes_of_customer=said.keep_bytes_of_customer,
         demand_durable=not said.volatile,
         drain_seconds=said.drain,
     )

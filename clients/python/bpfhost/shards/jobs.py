@@ -3,7 +3,7 @@
 from __future__ import annotations
 
 from bpfhost.errors import HostError, ReplyError, StateError
-from bpfhost.shards.aside import STATE, Aside
+from bpfhost.shards.aside import ENTRY, STATE, Aside
 from bpfhost.shards.calls import Arrives, Leaves
 from bpfhost.shards.errors import (
     Away,
@@ -89,23 +89,31 @@ class Jobs:
                 return
             shard.serving.empty(item.tenant)
             await shard.writing.write_left(log, item, manifest, shard.keeping.empty(item.entry))
-        else:
-            await self._arrive(log, item)
+        elif not await self._arrive(log, item):
+            return
         log.place, log.since = item.entry, Since()
         for one in old:
             await shard.keeping.forget_old(log, one)
 
-    async def _arrive(self, log: Log, item: Arrives) -> None:
-        """Restores an arriving state; if it can't be restored, it is refused, and the tenant is then empty."""
+    async def _arrive(self, log: Log, item: Arrives) -> bool:
+        """Restores an arriving state; if it can't be restored, it is refused, and the tenant is then empty.
+
+        An entry that no move has written is set aside: then nobody has arrived, and the result is False.
+        """
         shard = self._shard
         try:
-            self._suspects.demand_hope(log)
             manifest = Manifest.read(item.manifest)
+        except SnapshotDamaged as error:
+            await shard.set_aside(log, Aside(ENTRY, item.entry.decode(), f"what arrives is no state: {error}"))
+            return False
+        try:
+            self._suspects.demand_hope(log)
             stream = await log.stream_of(manifest)
             await in_steps(shard.serving.make(item.tenant, stream))
         except (SnapshotDamaged, StateRefused, ValueError) as error:
             shard.serving.empty(item.tenant)
             sentence = f"what arrives at shard {shard.keys.number} is refused: {error}"
             await shard.writing.write([Written(item.tenant, item.entry, FAULT, sentence.encode())])
-            return
-        await shard.writing.write_arrived(log, item, manifest.at(item.entry))
+        else:
+            await shard.writing.write_arrived(log, item, manifest.at(item.entry))
+        return True

@@ -159,20 +159,25 @@ class Keeping:
                 await begin(log.tenant, self.drop_old(log))
 
     async def look_at_bytes(self, logs: Sequence[Log], begin: Callable[[int, Work[None]], Work[None]], busy: set[int]) -> None:
-        """Marks the place of each tenant once per so many bytes of replies; if all together have more than they may, drops the oldest."""
-        most = self._settings.reply_bytes
-        if self.came < most // _MARKS:
+        """Marks the place of each tenant once per so many bytes of replies; if one, or all together, have more than they may, drops the oldest."""
+        most, own = self._settings.reply_bytes, self._settings.reply_bytes_of_customer
+        if self.came < min(most, own) // _MARKS:
             return
         self.came = 0
         for log in logs:
             if log.tenant not in busy and log.place != START:
                 await begin(log.tenant, self.drop_old(log))
+            self._drop_oldest([log], own)
+        self._drop_oldest(logs, most)
+
+    def _drop_oldest(self, logs: Sequence[Log], most: int) -> None:
+        """Notes which replies of some tenants are to be dropped, so that they have at most so many bytes."""
         too_many = sum(log.kept_size() for log in logs) - most
-        for one, log in sorted(((one, log) for log in logs for one in log.marks), key=_age):
+        for one, log in sorted(((one, log) for log in logs for one in log.marks), key=_age) if too_many > 0 else ():
             if too_many <= 0:
                 break
             too_many -= one.size
-            self._drop_by_bytes[log.tenant] = one.place
+            self._drop_by_bytes[log.tenant] = max(self._drop_by_bytes.get(log.tenant, START), one.place, key=order)
 
     def is_due_to_look(self) -> bool:
         """Whether it is time to check what waits, and the server's memory."""

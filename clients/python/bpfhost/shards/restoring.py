@@ -10,7 +10,7 @@ from bpfhost.shards.calls import Arrives, Call, Item, Leaves, NoCall, item_of, s
 from bpfhost.shards.errors import RepliesDiffer, SnapshotDamaged, StateRefused
 from bpfhost.shards.log import Log, Replies, Since
 from bpfhost.shards.manifest import Manifest
-from bpfhost.shards.names import START, after, order
+from bpfhost.shards.names import FAULT, START, after, order
 from bpfhost.shards.serving import Serving
 from bpfhost.shards.steps import in_steps, step
 
@@ -99,7 +99,9 @@ async def _played(
         for entry in entries:
             item = item_of(log.tenant, entry)
             if isinstance(item, (Leaves, Arrives)):
-                await _play_control(serving, log, item)
+                # One with a fault changed nothing: nobody has arrived.
+                if FAULT not in replies.get(item.entry, {}):
+                    await _play_control(serving, log, item)
             else:
                 _play(serving, log, item, replies, accepts)
             log.since.entries += 1
@@ -122,7 +124,7 @@ def _play(serving: Serving, log: Log, item: Item, replies: Replies, accepts: boo
     was = replies.get(item.entry)
     if not isinstance(item, (Call, NoCall)):
         return
-    if was is not None and b"e" in was:
+    if was is not None and FAULT in was:
         # It was skipped, or is no call.
         return
     log.since.frames += item.count if isinstance(item, Call) else 0

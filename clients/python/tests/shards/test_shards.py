@@ -303,6 +303,24 @@ class Calls(ShardTest):
         self.assertLess(sum(log.kept_size() for log in worker.worker.logs), 80_000)
         self.assertTrue(redis.hget(keys.marks, 0))
 
+    def test_what_one_customer_may_hold(self) -> None:
+        """The replies of one that has too many are dropped, the oldest first, and no other one's."""
+        self.shard(0, Settings(SECONDS, snapshot_entries=1, reply_bytes_of_customer=10_000))
+        redis, keys = self.client.shard(0)
+        other, greedy = self.client.customer("other"), self.client.customer("greedy")
+        unread = other.post(CREATE)
+        tickets = [greedy.post(CREATE)]
+        for value in range(40):
+            other.wait(other.post(put(value)))
+            tickets.append(greedy.post(LOOK_UP * 100))
+            greedy.wait(tickets[-1])
+        seats = {name: self.client.directory.place(name).tenant for name in ("other", "greedy")}
+        self.until(lambda: redis.dropped_id(keys.replies(seats["greedy"])) >= (tickets[-20].entry or b""))
+        with self.assertRaisesRegex(ReplyGone, "nobody read them in time"):
+            greedy.wait(tickets[0])
+        self.assertEqual(len(other.wait(unread)), 1)
+        self.assertEqual(redis.xlen(keys.replies(seats["other"])), 41)
+
     def test_calls_that_were_dropped_undone(self) -> None:
         redis, keys = self.empty_shard(0)
         customer = self.client.customer("acme")
@@ -478,10 +496,29 @@ class Workers(ShardTest):
         worker = self.shard(0)
         redis, keys = self.client.shard(0)
         for tenant in (0, 1):
-            for fields in (("x", "y"), ("f", b"\1\2\3"), ("arrive", b"\1\2"), ("arrive", "{}"), ("leave", "7")):
+            for fields in (("x", "y"), ("f", b"\1\2\3"), ("leave", "7")):
                 redis.call("XADD", keys.frames(tenant), "*", *fields)
         for name in ("arrives", "leaves", "name:", "7", "closed:"):
             self.assertEqual(self.client.customer(name).ask(CREATE).status, 3)
+        self.assertIsNone(worker.error)
+
+    def test_arrivals_of_others(self) -> None:
+        """An entry that says of an arrival what no move writes is set aside, by each worker; an operator skips it, and its customer goes on."""
+        worker = self.shard(0)
+        redis, keys = self.client.shard(0)
+        customer = self.client.customer("acme")
+        self.assertEqual(customer.ask(CREATE).status, 3)
+        for manifest in (b"\1\2", b"{}", b"[" * 100_000):
+            redis.call("XADD", keys.frames(0), "*", "arrive", manifest)
+            for _ in range(2):
+                with self.assertRaisesRegex(SetAside, "customer acme is set aside .*: what arrives is no state: "):
+                    customer.ask(LOOK_UP)
+                self.assertEqual(self.client.customer("other").ask(CREATE).status >= 3, True)
+                self.assertIsNone(worker.error)
+                worker.stop()
+                worker = self.shard(0)
+            did(self.client, operating.say, "acme", "skip", 20)
+            self.assertEqual(customer.ask(put(1)).status, 0)
         self.assertIsNone(worker.error)
 
     def test_a_host_that_was_asked_often(self) -> None:

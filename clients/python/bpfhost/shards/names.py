@@ -140,6 +140,11 @@ class DirectoryKeys:
         return self.all[6]
 
     @property
+    def gateways(self) -> str:
+        """A hash from gateways to what each reports of its customers (`gateway/sharing.py`)."""
+        return self._key("gateways")
+
+    @property
     def servers(self) -> str:
         """A hash from shards to the URL of their Redis, if that is not the directory's."""
         return self._key("servers")

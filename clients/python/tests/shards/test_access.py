@@ -18,6 +18,7 @@ from bpfhost.shards.blocking import connect
 from bpfhost.shards.connection import Redis, as_in, without_secrets
 from bpfhost.shards.errors import Away, NotAllowed
 from bpfhost.shards.gateway.limits import GatewayLimits
+from bpfhost.shards.gateway.sharing import Sharing
 from bpfhost.shards.link import _library, packed
 from tests.common import PROGRAM, HostTest
 from tests.shards.certificates import OPENSSL, authority, signed
@@ -90,6 +91,9 @@ class Users(HostTest):
                     self.assertEqual(list(customer.ask_bytes(asked[150:])), wanted[150:])
                 self.assertEqual(operator.redis.hgetall("bpfhost:{directory}:servers"), {b"4": f"unix://{two}/s".encode()})
                 remove(operator, "customer-0")
+                sharing = Sharing(client.aio)
+                client.loop.run(sharing.exchange({"customer-1": 1}))
+                client.loop.run(sharing.end())
                 self.assertRegex("\n".join(did(operator, operating.show)), r"shard 4: \d customers, 0 KiB of calls wait, served by ")
             self.assertEqual([worker.error for worker in workers], [None, None])
             for worker in workers:

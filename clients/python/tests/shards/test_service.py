@@ -29,9 +29,9 @@ LATER = 0.1
 
 @unittest.skipIf(_WHY is not None, _WHY or "")
 class ServiceTest(TimedTest):
-    def service(self, text: str, shards: int = 1, limits: GatewayLimits = GatewayLimits()) -> Service:
+    def service(self, text: str, shards: int = 1, limits: GatewayLimits = GatewayLimits(), gateways: int = 1) -> Service:
         """A service whose shards are served."""
-        made = Service(self.scratch, shards, limits, text)
+        made = Service(self.scratch, shards, limits, text, gateways)
         self.addCleanup(made.end)
         made.world.run(5.0)
         return made
@@ -51,9 +51,9 @@ class ServiceTest(TimedTest):
         service.do(look_up)
         return max(found)
 
-    def called(self, service: Service, name: str, made: bytes = CREATE + put(1)) -> Caller:
+    def called(self, service: Service, name: str, made: bytes = CREATE + put(1), gateway: int = 0) -> Caller:
         """A connection of a customer that has made a map."""
-        caller = service.connect()
+        caller = service.connect(gateway=gateway)
 
         async def begin() -> None:
             await caller.greet(name)
@@ -171,6 +171,51 @@ class Limits(ServiceTest):
         before = answered[0]
         service.world.run(service.world.now + 20.0)
         self.assertAlmostEqual(answered[0] - before, 200 * 20, delta=120)
+
+    def test_one_rate_at_two_gateways(self) -> None:
+        """Two gateways share a customer's rate while it sends to both; the one that is left has all of it."""
+        service = self.service(customers("acme", more="frames = 200\n"), gateways=2)
+        answered = [0, 0]
+
+        async def ask(caller: Caller, at: int) -> None:
+            while True:
+                await caller.ask(LOOK_UP * 10, 10)
+                answered[at] += 10
+
+        def rates(seconds: float) -> list[float]:
+            before = list(answered)
+            service.world.run(service.world.now + seconds)
+            return [(now - then) / seconds for now, then in zip(answered, before)]
+
+        callers = [self.called(service, "acme", gateway=at % 2) for at in range(4)]
+        for at in (0, 1, 3):
+            self.beside(service, lambda at=at: ask(callers[at], at % 2))  # type: ignore[misc]
+        service.world.run(service.world.now + 4)
+        for rate in rates(30):
+            self.assertAlmostEqual(rate, 100, delta=10)
+        callers[0].end.abort()
+        service.world.run(service.world.now + 5)
+        self.assertAlmostEqual(rates(30)[1], 200, delta=20)
+
+    def test_connections_at_two_gateways(self) -> None:
+        """They count together; those of a gateway that is gone do not."""
+        service = self.service(customers("acme", more="connections = 3\n"), gateways=2)
+        for gateway in (0, 1, 0):
+            self.called(service, "acme", gateway=gateway)
+            service.world.run(service.world.now + 2)
+
+        async def refused() -> None:
+            for gateway in (0, 1):
+                with self.assertRaisesRegex(Ended, "customer acme has 3 connections, and may have no more"):
+                    await service.connect(gateway=gateway).greet("acme")
+
+        service.do(refused)
+        service.network.server("redis://directory").store.keys[b"bpfhost:{directory}:gateways"][b"gone"] = b'[1, {"acme": 3}, ["acme"]]'
+        service.world.run(service.world.now + 2)
+        self.assertEqual([one.sharing.connections["acme"] for one in service.gateways], [4, 5])
+        service.world.run(service.world.now + 70)
+        self.assertEqual([one.sharing.connections["acme"] for one in service.gateways], [1, 2])
+        self.assertNotIn(b"gone", service.network.server("redis://directory").store.keys[b"bpfhost:{directory}:gateways"])
 
     def test_a_customer_that_is_not_in_the_file_any_more(self) -> None:
         """It is revoked within a second; so is one whose token is another one now. Others go on."""

@@ -210,8 +210,8 @@ class Connection:
         assert self._customer and self.known
         while await self._is_next_there():
             # At most what the customer may send in a second.
-            limits = self.known.limits
-            stream, count = self._incoming.take(int(max(1, min(MOST_FRAMES, limits.frames))), int(min(LONGEST_CALL, limits.bytes)))
+            frames, size = self._gateway.rates(self.known)
+            stream, count = self._incoming.take(int(max(1, min(MOST_FRAMES, frames))), int(min(LONGEST_CALL, size)))
             self._room.set()
             await self._gateway.wait_for_rate(self.known, count, len(stream))
             self._is_calling = True

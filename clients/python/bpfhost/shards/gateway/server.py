@@ -20,6 +20,7 @@ from bpfhost.shards.gateway.connection import Connection
 from bpfhost.shards.gateway.customers import Customers, Known
 from bpfhost.shards.gateway.limits import Addresses, GatewayLimits, Rate, Unread, network_of
 from bpfhost.shards.gateway.protocol import Refusal, Why
+from bpfhost.shards.gateway.sharing import SECONDS, Sharing
 from bpfhost.shards.link import MACHINE
 from bpfhost.shards.metrics import Numbers, Told
 from bpfhost.shards.names import PREFIX
@@ -30,7 +31,7 @@ _BACKLOG = 1024
 _READ_LIMIT = 1 << 16
 # At its end the gateway waits so long for calls in progress.
 SECONDS_TO_DRAIN = 30.0
-_PAUSE, _SECONDS_TO_LOOK, _SECONDS_TO_TELL = 0.05, 5.0, 10.0
+_PAUSE, _SECONDS_TO_TELL = 0.05, 10.0
 
 
 @dataclass(frozen=True)
@@ -74,7 +75,7 @@ class Gateway:
         self.client = AsyncClient(url, prefix, system)
         self.told = Told(metrics.GATEWAY, self._numbers)
         self.unread: Unread[Connection] = Unread(limits.bytes_of_customer, limits.bytes_of_shard, self._end_unread)
-        self.addresses = Addresses(limits)
+        self.addresses, self.sharing = Addresses(limits), Sharing(self.client)
         self.connections: dict[Connection, str] = {}
         self._of: dict[str, int] = {}
         self._sessions: dict[tuple[str, str], Connection] = {}
@@ -193,9 +194,9 @@ class Gateway:
         before = self._sessions.get((known.name, session)) if session else None
         if before:
             # The one before counts until it is closed: that is now, if there is no room for both.
-            is_full = self._of[known.name] >= known.limits.connections
+            is_full = self._of[known.name] + self.sharing.connections[known.name] >= known.limits.connections
             before.end(Refusal(Why.PASSED, f"another connection goes on with session {session}"), at_once=is_full)
-        if self._of.get(known.name, 0) >= known.limits.connections:
+        if self._of.get(known.name, 0) + self.sharing.connections[known.name] >= known.limits.connections:
             raise Refusal(Why.AGAIN, f"customer {known.name} has {known.limits.connections} connections, and may have no more")
         self.connections[connection] = known.name
         self._of[known.name] = self._of.get(known.name, 0) + 1
@@ -212,11 +213,17 @@ class Gateway:
         if session and self._sessions.get((known.name, session)) is connection:
             del self._sessions[known.name, session]
 
+    def rates(self, known: Known) -> tuple[float, float]:
+        """The frames and the bytes that a customer may send to this gateway in a second."""
+        part = self.sharing.part(known.name)
+        return known.limits.frames * part, known.limits.bytes * part
+
     async def wait_for_rate(self, known: Known, frames: int, size: int) -> None:
         """Waits until a customer may send so much, by all its connections together."""
-        now, limits = self.client.system.now(), known.limits
+        now, (most_frames, most_bytes) = self.client.system.now(), self.rates(known)
+        self.sharing.sends(known.name)
         if known.name not in self._rates:
-            self._rates[known.name] = Rate(limits.frames, now), Rate(limits.bytes, now)
+            self._rates[known.name] = Rate(most_frames, now), Rate(most_bytes, now)
         of_frames, of_bytes = self._rates[known.name]
         delay = max(of_frames.take(frames, now), of_bytes.take(size, now))
         if delay:
@@ -252,17 +259,21 @@ class Gateway:
         return not self.is_ending and self._redis_says == "answers", said
 
     async def look(self) -> None:
-        """Checks now and then whether the directory's Redis replies."""
+        """Shares the customers' limits with other gateways, and so knows whether the directory's Redis replies."""
         while True:
             try:
-                await self._ping()
+                await self.sharing.exchange(self._of)
                 self._redis_says = "answers"
+                self._change_rates()
             except ShardError as error:
                 self._redis_says = str(error)
-            await asyncio.sleep(_SECONDS_TO_LOOK)
+            await asyncio.sleep(SECONDS)
 
-    async def _ping(self) -> None:
-        await self.client.redis.until(self.client.system.now() + _SECONDS_TO_LOOK).call("PING")
+    def _change_rates(self) -> None:
+        now = self.client.system.now()
+        for known in {one.known.name: one.known for one in self.connections if one.known}.values():
+            for rate, a_second in zip(self._rates.get(known.name, ()), self.rates(known)):
+                rate.change(a_second, now)
 
     # Changes, and the end.
 
@@ -274,16 +285,13 @@ class Gateway:
             self._tell(f"the gateway's customers stay as they were: {error}")
             return
         self._tell(f"the gateway knows {len(self.customers)} customers")
-        now = self.client.system.now()
         for connection in list(self.connections):
             known = connection.known and self.customers.again(connection.known)
             if known is None:
                 connection.end(Refusal(Why.WHO, "the customer is not known by this token or certificate any more"))
                 continue
             connection.known = known
-            if rates := self._rates.get(known.name):
-                rates[0].change(known.limits.frames, now)
-                rates[1].change(known.limits.bytes, now)
+        self._change_rates()
 
     async def end(self) -> None:
         """Accepts nothing more; calls in progress get their replies, and then all connections end."""
@@ -300,6 +308,8 @@ class Gateway:
             task.cancel()
         with contextlib.suppress(asyncio.CancelledError):
             await asyncio.gather(*self._listening, *self._tasks, return_exceptions=True)
+        with contextlib.suppress(ShardError):
+            await self.sharing.end()
         await self.client.close()
 
 

@@ -27,8 +27,8 @@ LEASE = 5.0
 class Service:
     """Shards with their workers, and a gateway, all on one clock."""
 
-    def __init__(self, folder: Path, shards: int = 1, limits: GatewayLimits = GatewayLimits(), text: str = "") -> None:
-        """The text of the file of customers."""
+    def __init__(self, folder: Path, shards: int = 1, limits: GatewayLimits = GatewayLimits(), text: str = "", gateways: int = 1) -> None:
+        """The text of the file of customers; and how many gateways there are."""
         self.world = World(1)
         self.network = Network(self.world, Weather(seconds=0.0005))
         self.workers: dict[int, tuple[Process, Worker]] = {}
@@ -37,8 +37,13 @@ class Service:
         for shard in range(shards):
             self.begin_worker(shard)
         self._own = Process("gateway")
-        self.gateway = Gateway(DIRECTORY, self.file, limits, tell=self.told.append, system=Simulated(self.network))
-        self.customers = Process("customers")
+        self.gateways = [self._gateway(limits) for _ in range(gateways)]
+        self.gateway, self.customers = self.gateways[0], Process("customers")
+
+    def _gateway(self, limits: GatewayLimits) -> Gateway:
+        made = Gateway(DIRECTORY, self.file, limits, tell=self.told.append, system=Simulated(self.network))
+        self.world.start(self._own, made.look())
+        return made
 
     def url(self, shard: int) -> str:
         """The Redis of a shard."""
@@ -66,17 +71,17 @@ class Service:
             assert self.world.now < until, "it is never done"
             self.world.run(self.world.now + 0.05)
 
-    def connect(self, address: str = "10.0.0.1") -> Caller:
+    def connect(self, address: str = "10.0.0.1", gateway: int = 0) -> Caller:
         """A connection of a customer; closed at once if the gateway does not admit it."""
         own, others = connected(self.world.loop)
-        if self.gateway.admit(address):
-            self.world.start(self._own, self._serve(others, address))
+        if self.gateways[gateway].admit(address):
+            self.world.start(self._own, self._serve(self.gateways[gateway], others, address))
         else:
             others.abort()
         return Caller(own, others)
 
-    async def _serve(self, end: End, address: str) -> None:
-        self.gateway.begin(Connection(self.gateway, end.reader, end.writer, address).run(), address)
+    async def _serve(self, gateway: Gateway, end: End, address: str) -> None:
+        gateway.begin(Connection(gateway, end.reader, end.writer, address).run(), address)
 
     def end(self) -> None:
         """Ends all."""

@@ -32,6 +32,8 @@ class Call:
     count: int
     alike: int = 0
     is_packed: bool = False
+    # The frames, if they are not alike: they were split to look at each.
+    each: tuple[bytes, ...] = ()
 
     @property
     def stream(self) -> bytes:
@@ -46,7 +48,7 @@ class Call:
     @property
     def frames(self) -> list[bytes]:
         """The frames, one by one."""
-        return split(self.stream)
+        return list(self.each) or split(self.stream)
 
     @property
     def size(self) -> int:
@@ -95,7 +97,8 @@ def item_of(tenant: int, entry: Entry) -> Item:
     is_packed = RUNS in fields
     stored = fields[RUNS] if is_packed else fields.get(FRAMES, b"")
     try:
-        return Call(name, tenant, stored, *(_count_of_packed(stored) if is_packed else count_of(stored)), is_packed)
+        count, alike, each = (*_count_of_packed(stored), ()) if is_packed else _looked_at(stored)
+        return Call(name, tenant, stored, count, alike, is_packed, tuple(each))
     except ValueError as error:
         return NoCall(name, tenant, f"no call: {error}", len(stored))
 
@@ -107,6 +110,11 @@ def size_of(fields: Mapping[bytes, bytes]) -> int:
 
 def count_of(stream: bytes) -> tuple[int, int]:
     """The number of frames of a call, and the length of each if they are alike; raises ValueError if the bytes are no call."""
+    return _looked_at(stream)[:2]
+
+
+def _looked_at(stream: bytes) -> tuple[int, int, list[bytes]]:
+    """The same, and the frames if they are not alike."""
     alike = size_of_alike(stream)
     frames = [] if alike else split(stream)
     count = len(stream) // alike if alike else len(frames)
@@ -116,7 +124,7 @@ def count_of(stream: bytes) -> tuple[int, int]:
         raise ValueError(f"a call has {limits}, and not {count} of {len(stream)}")
     if stream[4:6] != _TENANT or any(len(frame) < BODY or frame[4:6] != _TENANT for frame in frames):
         raise ValueError("a frame of a call has a head, and names tenant 0")
-    return count, alike
+    return count, alike, frames
 
 
 def _count_of_packed(runs: bytes) -> tuple[int, int]:
@@ -131,5 +139,4 @@ def _count_of_packed(runs: bytes) -> tuple[int, int]:
 
 def whole_frames(stream: bytes) -> list[bytes]:
     """The frames of a call; raises ValueError if the bytes are no frames, or there are too many."""
-    count_of(stream)
-    return split(stream)
+    return _looked_at(stream)[2] or split(stream)

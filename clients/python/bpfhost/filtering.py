@@ -4,7 +4,7 @@ from __future__ import annotations
 
 import enum
 from collections import Counter
-from collections.abc import Callable, Iterable, Iterator, Sequence
+from collections.abc import Callable, Iterable, Iterator, Mapping, Sequence
 from dataclasses import dataclass, field, replace
 from itertools import compress
 from typing import TYPE_CHECKING
@@ -65,18 +65,24 @@ class Counts:
     def add(self, packets: Packets, results: Results) -> None:
         """Counts the results of packets."""
         self.packets += len(results)
-        lengths = packets.lengths
-        if min(filter(None, results), default=0) >= max(lengths, default=0):
+        lengths, found = packets.lengths, _counted(results)
+        if min(filter(None, found), default=0) >= packets.longest:
             # What is kept is kept in full, as by most filters.
-            self.bytes_kept += sum(compress(lengths, results))
+            self.bytes_kept += sum(lengths if 0 not in found else compress(lengths, results))
         else:
             self.bytes_kept += sum([result if result < length else length for result, length in zip(results, lengths)])
-        self.results.update(results)
+        self.results.update(found)
 
     @property
     def accepted(self) -> int:
         """How many packets are kept, in whole or in part."""
         return self.packets - self.results[0]
+
+
+def _counted(results: Results) -> Mapping[int, int]:
+    """How often there is each result."""
+    is_one = results and results.count(results[0]) == len(results)
+    return {results[0]: len(results)} if is_one else Counter(results)
 
 
 @dataclass
@@ -168,18 +174,27 @@ def _wires(piece: Piece) -> Sequence[int]:
 
 @dataclass(frozen=True)
 class Loaded:
-    """A filter that is loaded for one or more tenants, with the runs of each; `timed` is the number in their word, if they have one."""
+    """A filter that is loaded for one or more tenants, with the runs of each.
+
+    `timed` is the number in the word that runs have for each packet, if they have one. With `reach`, the filter is known to have the same
+    result for a packet of which only so many first bytes are there.
+    """
 
     runs: Sequence[TestRuns]
     timed: Timed = Timed.TIME
+    reach: int | None = None
 
 
 @dataclass(frozen=True)
 class _Turn:
-    """A piece of a capture, its packets as they are run, and the runs of one tenant: that of this number of the filter of this number."""
+    """A piece of a capture, its packets as they are run, and the runs of one tenant: that of this number of the filter of this number.
+
+    `sent` has what the host gets of the packets: the bytes that may decide a result.
+    """
 
     piece: Piece
     packets: Packets
+    sent: Packets
     filter: int
     tenant: int
     runs: TestRuns
@@ -203,6 +218,8 @@ class Filters:
         self._host = filters[0].runs[0].host
         self._treatment = treatment
         self._most = min(runs.most for each in filters for runs in each.runs)
+        reaches = [each.reach for each in filters if each.reach is not None]
+        self._reach = max(reaches) if len(reaches) == len(filters) else None
 
     def run(
         self,
@@ -225,6 +242,7 @@ class Filters:
             raise ValueError("there are several filters, and the number of kept packets is that of one")
         outcome = Outcome([Counts() for _ in self._filters])
         stopping = stopping or Stopping()
+        capture.reach = self._reach
         before, left = self._host.processor_time(), most_kept
         found = stopping.items(pieces or capture.pieces(self._most))
         for turn, results in self._results(self._pieces(capture, found, limit, outcome)):
@@ -309,10 +327,11 @@ class Filters:
         numbers_of = [each.timed.numbers() if each.runs[0].timed else None for each in self._filters]
         for piece in pieces:
             packets, short = self._packets(piece)
+            sent = packets if self._reach is None else piece.beginnings(self._reach)
             for number, each in enumerate(self._filters):
                 find = numbers_of[number]
                 numbers = find(piece) if find else None
-                yield from (_Turn(piece, packets, number, tenant, runs, numbers, short) for tenant, runs in enumerate(each.runs))
+                yield from (_Turn(piece, packets, sent, number, tenant, runs, numbers, short) for tenant, runs in enumerate(each.runs))
 
 
 class Filter(Filters):
@@ -330,8 +349,8 @@ def _end_of(results: Results, many: int) -> int:
 
 
 def _send(turn: _Turn) -> None:
-    turn.runs.send(turn.packets, turn.numbers)
+    turn.runs.send(turn.sent, turn.numbers)
 
 
 def _receive(turn: _Turn) -> tuple[_Turn, Results]:
-    return turn, turn.runs.receive(turn.packets)
+    return turn, turn.runs.receive(turn.sent)

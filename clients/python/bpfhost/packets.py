@@ -5,6 +5,7 @@ from __future__ import annotations
 import struct
 from collections.abc import Iterable, Iterator, Sequence
 from dataclasses import dataclass, replace
+from functools import cached_property
 from itertools import accumulate
 from typing import TypeVar
 
@@ -23,7 +24,7 @@ class Packets:
     """Packet i has `lengths[i]` bytes of `data`, from `starts[i]` on. All have one link type, with the numbers that captures use.
 
     `types[i]`, if the reader of the packets sets it, is the little-endian number of bytes 12 and 13 of packet i, in which an Ethernet
-    header has its type. It has no meaning if the packet is shorter.
+    header has its type. It has no meaning if the packet is shorter. `bodies[i]` is packet i, if the reader of the packets has split them.
     """
 
     data: bytes
@@ -31,6 +32,7 @@ class Packets:
     lengths: list[int]
     link_type: int = ETHERNET
     types: list[int] | None = None
+    bodies: list[bytes] | None = None
 
     @classmethod
     def of(cls, packets: Iterable[bytes], link_type: int = ETHERNET) -> Packets:
@@ -43,7 +45,7 @@ class Packets:
         """The type in each packet's Ethernet header, as the number that `types` has; None for a packet without such a header."""
         if self.link_type != ETHERNET:
             return [None] * len(self)
-        is_long = min(self.lengths, default=0) >= LEAST_WITH_TYPE
+        is_long = self.shortest >= LEAST_WITH_TYPE
         if self.types is not None and is_long:
             return self.types
         if is_long:
@@ -51,6 +53,23 @@ class Packets:
             return [read(self.data, start + 12)[0] for start in self.starts]
         data, places = self.data, zip(self.starts, self.lengths)
         return [int.from_bytes(data[start + 12 : start + 14], "little") if length >= LEAST_WITH_TYPE else None for start, length in places]
+
+    @cached_property
+    def longest(self) -> int:
+        """The length of the longest packet; 0 if there is none."""
+        return max(self.lengths, default=0)
+
+    @cached_property
+    def shortest(self) -> int:
+        """The length of the shortest packet; 0 if there is none."""
+        return min(self.lengths, default=0)
+
+    def split_bodies(self) -> list[bytes]:
+        """The bytes of each packet."""
+        if self.bodies is not None:
+            return self.bodies
+        data = self.data
+        return [data[start : start + length] for start, length in zip(self.starts, self.lengths)]
 
     def __len__(self) -> int:
         return len(self.starts)

@@ -23,12 +23,15 @@ from bpfhost.captures import open_capture
 from bpfhost.captures.piece import Stamp
 from bpfhost.command import main as command
 from tests.capture_bytes import NANO, RAW_IP, block, enhanced, interface, old, pcap, pcapng, section, simple
+from tests.common import without_notice
 from tests.damaging import Original, Trial, limit
 
 OBJECT = Path(__file__).resolve().parents[3] / "examples/capture/counter.o"
 # Lengths near those of an Ethernet header, of a word, and of the padding of a block.
 _LENGTHS = (0, 1, 5, 13, 14, 15, 16, 60, 61, 62, 63, 200)
 _PIECES = (1, 2, 3, 1024)
+# How many first bytes of each packet are wanted.
+_REACHES = (0, 1, 14, 62, 300)
 
 Told = tuple[list[tuple[bytes, int, Stamp]], str]
 
@@ -60,13 +63,16 @@ def _all_kinds(chance: random.Random) -> bytes:
     return b"".join(blocks)
 
 
-def told_of(path: Path | str, most: int) -> Told:
+def told_of(path: Path | str, most: int, reach: int | None = None) -> Told:
     """The packets of a capture with their link types and timestamps, read in pieces of so many, and the fault after them."""
     packets: list[tuple[bytes, int, Stamp]] = []
     try:
         with open_capture(path) as capture:
+            capture.reach = reach
             for piece in capture.pieces(most):
                 packets += [(piece[at], piece.link_type, piece.stamp(at)) for at in range(len(piece))]
+                if reach is not None:
+                    assert piece.beginnings(reach).split_bodies() == [packet[:reach] for packet in piece], reach
     except CaptureError as error:
         sentence = str(error)
         assert sentence.startswith(f"{path}: ") and len(sentence.splitlines()) == 1, sentence
@@ -95,6 +101,7 @@ def outcome_of(path: Path) -> str:
     """The outcome of reading a capture: `read` to its end, or `refused`, at once or after some packet."""
     with limit():
         told = [told_of(path, most) for most in _PIECES]
+        told += [told_of(path, _PIECES[-1], reach) for reach in _REACHES]
         told.append(told_through_pipe(path.read_bytes(), _PIECES[-1]))
     assert all(each == told[0] for each in told), [(len(packets), fault) for packets, fault in told]
     return "refused" if told[0][1] else "read"
@@ -105,7 +112,7 @@ def outcome_of_run(path: Path, program: str) -> str:
     written, errors = io.StringIO(), io.StringIO()
     with limit(), contextlib.redirect_stdout(written), contextlib.redirect_stderr(errors):
         status = command(["run", "--bpfhost", program, "--json", str(OBJECT), str(path)])
-    lines = errors.getvalue().splitlines()
+    lines = without_notice(errors.getvalue().encode()).decode().splitlines()
     faults = [line for line in lines if not any(note in line for note in _NOTES)]
     assert status in (0, 1) and len(faults) == status, (status, lines)
     assert all(line.startswith("bpfhost: ") for line in lines), lines

@@ -68,6 +68,27 @@ class Pcap(CaptureTest):
         for most in (1, 3, 199, 200, 201):
             self.assertEqual(self.read(pcap(records), most), records)
 
+    def test_the_first_bytes_of_packets(self) -> None:
+        """Read along with the headers or afterwards, in all forms of headers; many packets are shorter, and the last ones are at the end."""
+        draw = random.Random(2)
+        records = [(draw.randbytes(draw.choice((0, 13, 14, 60, 300, 1500))), Stamp(at, 0, 1500 + at % 2)) for at in range(3000)]
+        longer = [struct.pack("<IIII", at, 0, len(packet), 1500) + bytes(8) + packet for at, (packet, _) in enumerate(records)]
+        modified = struct.pack("<IHHiIII", 0xA1B2CD34, 2, 4, 0, 0, 65_536, 1) + b"".join(longer)
+        for content in (pcap(records), pcap(records, ">", NANO), pcapng(records), modified):
+            for reach in (0, 14, 60, 256, 257, 2000):
+                with open_capture(self.written(content)) as capture:
+                    capture.reach = reach
+                    found = [body for piece in capture.pieces() for body in piece.beginnings(reach).split_bodies()]
+                self.assertEqual(found, [packet[:reach] for packet, _ in records])
+
+    def test_the_first_bytes_of_some_packets(self) -> None:
+        records = [(bytes([at]) * at, Stamp(at, 0, at)) for at in range(200)]
+        with open_capture(self.written(pcap(records))) as capture:
+            capture.reach = 50
+            pieces = [few for piece in capture.pieces() for few in piece.within(40).split(7)]
+        found = [body for piece in pieces for body in piece.first(5).beginnings(50).split_bodies()]
+        self.assertEqual(found, [packet[:40] for at, (packet, _) in enumerate(records) if at % 7 < 5 or at > 195])
+
     def test_packets_over_the_ends_of_what_is_read_at_once(self) -> None:
         draw = random.Random(1)
         records = [(draw.randbytes(draw.choice((0, 60, 1500, 65_536))), Stamp(number, 0, 70_000)) for number in range(100)]

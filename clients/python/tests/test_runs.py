@@ -23,6 +23,18 @@ class Frames(TimedTest):
             told = runs.frames(Packets.of(packets, RAW_IP))
             self.assertEqual(told, b"".join(frames.prog_test_run(7, 9, packet, context) for packet in packets))
 
+    def test_packets_of_one_length_and_of_several(self) -> None:
+        """Of a program that reads no type; also if the packets come as a list of their bytes."""
+        with Host(self.pretender("read()")) as host:
+            runs, by_number = (TestRuns(host, 7, 9, timed=word, reads_protocol=False) for word in (None, "mark"))
+            for packets in ([b"abc"], [b"abc", b"def"], [b"", b""], [b"a", b"bc", b"", b"defg"], [bytes(1500)] * 3):
+                several = Packets.of(packets)
+                for given in (several, Packets(several.data, several.starts, several.lengths, bodies=packets)):
+                    self.assertEqual(runs.frames(given), b"".join(frames.prog_test_run(7, 9, packet) for packet in packets))
+                numbers = list(range(len(packets)))
+                marked = [frames.prog_test_run(7, 9, packet, Context(mark=mark)) for mark, packet in enumerate(packets)]
+                self.assertEqual(by_number.frames(several, numbers), b"".join(marked))
+
     def test_protocol_is_the_type_of_ethernet(self) -> None:
         # As in the kernel: ETH_P_IP is in network byte order; a length (IEEE 802.3) is ETH_P_802_2; 0 if no header fits.
         wanted = {

@@ -4,10 +4,11 @@ from __future__ import annotations
 
 import contextlib
 import struct
-from collections.abc import Sequence
+from collections.abc import Callable, Sequence
 from dataclasses import dataclass, field
 from io import BufferedReader
-from typing import TYPE_CHECKING
+from itertools import repeat
+from typing import TYPE_CHECKING, Any
 
 from bpfhost.captures.piece import LONGEST_CAPTURED, Capture, Piece, Stamp
 from bpfhost.numbers import LONGEST_PACKET
@@ -38,6 +39,8 @@ _KINDS = {
     bytes.fromhex("a1b2cd34"): _Kind(">", _LONGER_HEAD),
     bytes.fromhex("34cdb2a1"): _Kind("<", _LONGER_HEAD),
 }
+# The most first bytes of a packet that are read along with its header: for more, the packets at the end of the bytes would be many.
+_MOST_BEGUN = 256
 # The highest six bits of the link type's word have other things, as the length of a frame check sequence.
 _LINK_TYPE = 0x03FF_FFFF
 
@@ -60,7 +63,7 @@ class _PcapPiece(Piece):
         seconds, parts, length = self.layout.times.unpack_from(self.data, self.starts[at] - self.layout.head)
         return Stamp(seconds, parts * self.layout.part, length)
 
-    def records(self, kept: Sequence[int], has_nanoseconds: bool) -> bytes | None:
+    def records(self, kept: Sequence[int], has_nanoseconds: bool) -> bytes | memoryview | None:
         """These packets with their headers, as a little-endian pcap file with timestamps of this precision has them.
 
         None if the capture has other headers, or if this piece has not all that the capture has of a packet.
@@ -70,6 +73,9 @@ class _PcapPiece(Piece):
         if not is_same or self.is_cut or self.whole is not None:
             return None
         data, starts, lengths = self.data, self.starts, self.lengths
+        if len(kept) == len(self):
+            # In the capture, these records follow one another.
+            return memoryview(data)[starts[0] - _HEAD : starts[-1] + lengths[-1]]
         return b"".join([data[starts[at] - _HEAD : starts[at] + lengths[at]] for at in kept])
 
 
@@ -94,31 +100,50 @@ class PcapCapture(Capture):
         self._link_type = self.link_type = link_type & _LINK_TYPE
         self.link_type_bits = link_type & ~_LINK_TYPE
         self.savefile = header
+        self._order = order
         self._length = struct.Struct(f"{order}8xII").unpack_from
+        self._begun_by: dict[int, Callable[[bytes, int], tuple[Any, ...]]] = {}
         self._layout = _Layout(kind.head, struct.Struct(f"{order}II4xI"), 1 if self.has_nanoseconds else 1000, order == "<")
 
     def _next_piece(self, data: bytes, at: int, most: int) -> tuple[Piece | None, int]:
+        reach = self.reach if self.reach is not None and self.reach <= _MOST_BEGUN else 0
+        found = self._packets_with(reach, data, at, most)
+        if found is None and reach:
+            # The bytes end soon: the first bytes of the last packets are read with what follows.
+            found = self._packets_with(0, data, at, most)
+        return self._last_packet(data, at) if found is None else (found, found.starts[-1] + found.lengths[-1])
+
+    def _packets_with(self, reach: int, data: bytes, at: int, most: int) -> Piece | None:
+        """The whole packets from `at` on, each with so many first bytes, up to a number of packets; None if there are none."""
         starts: list[int] = []
         lengths: list[int] = []
-        begun, is_short = at, False
-        head, unpack, add_start, add_length = self._layout.head, self._length, starts.append, lengths.append
+        begun: list[bytes] = []
+        is_short, head, unpack = False, self._layout.head, self._with_begun(reach)
+        add_start, add_length, add_begun = starts.append, lengths.append, begun.append
         with contextlib.suppress(struct.error):
-            # If the bytes end before the next header, there is nothing to unpack.
-            for _ in range(most):
-                length, wire = unpack(data, at)
+            # If the bytes end before the next header and the first bytes of its packet, there is nothing to unpack.
+            for _ in repeat(None, most):
+                length, wire, first = unpack(data, at)
                 at += head
                 add_start(at)
                 add_length(length)
+                add_begun(first)
                 if wire != length:
                     is_short = True
                 at += length
         many = self._whole_ones(data, starts, lengths)
         if not many:
-            return self._last_packet(data, begun)
-        del starts[many:], lengths[many:]
+            return None
+        del starts[many:], lengths[many:], begun[many:]
         # Most captures have whole packets; then the lengths on the wire are the same list.
         wires = self._wires(data, starts) if is_short else lengths
-        return self._piece(data, starts, lengths, wires), starts[-1] + lengths[-1]
+        return self._piece(data, starts, lengths, wires, begun=begun if reach else None)
+
+    def _with_begun(self, reach: int) -> Callable[[bytes, int], tuple[Any, ...]]:
+        """What unpacks the lengths in a packet's header, and so many of the packet's first bytes."""
+        if reach not in self._begun_by:
+            self._begun_by[reach] = struct.Struct(f"{self._order}8xII{self._layout.head - _HEAD}x{reach}s").unpack_from
+        return self._begun_by[reach]
 
     @staticmethod
     def _whole_ones(data: bytes, starts: list[int], lengths: list[int]) -> int:
@@ -147,5 +172,13 @@ class PcapCapture(Capture):
         whole = length if length > LONGEST_PACKET else None
         return self._piece(data, [start], [min(length, LONGEST_PACKET)], [wire], whole), end
 
-    def _piece(self, data: bytes, starts: list[int], lengths: list[int], wires: list[int], whole: int | None = None) -> Piece:
-        return _PcapPiece(data, starts, lengths, self._link_type, wires=wires, whole=whole, layout=self._layout)
+    def _piece(
+        self,
+        data: bytes,
+        starts: list[int],
+        lengths: list[int],
+        wires: list[int],
+        whole: int | None = None,
+        begun: list[bytes] | None = None,
+    ) -> Piece:
+        return _PcapPiece(data, starts, lengths, self._link_type, wires=wires, whole=whole, begun=begun, layout=self._layout)

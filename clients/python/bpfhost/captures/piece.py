@@ -21,12 +21,11 @@ from bpfhost.packets import LEAST_WITH_TYPE, Packets
 if TYPE_CHECKING:
     from gzip import GzipFile
 
-# How many bytes of a capture are read at once: enough to make the cost of a piece small compared with that of its packets, and few enough
-# to stay in the processor's cache until they are sent.
-_CHUNK = 1 << 17
+# How many bytes of a capture are read at once: enough for a piece of packets of usual lengths, so that its own cost is small compared
+# with theirs, and few enough to stay in the processor's cache until they are sent.
+_CHUNK = 1 << 19
 # The most packets of a piece.
 MOST_PACKETS = 1024
-
 
 # A greater length is rejected as damaged: no capture of network packets has one (MAXIMUM_SNAPLEN of libpcap).
 LONGEST_CAPTURED = 262_144
@@ -49,13 +48,15 @@ class Piece(Packets, ABC):
     """Packets of a capture.
 
     `wires[i]` is the length of packet i on the wire, according to the capture; it is `lengths` if all packets are whole. `is_cut` says that
-    the capture has more bytes of some packets. `whole` is for a packet that is longer than test runs take: the bytes that the capture has of it. Such a packet is a piece of its own, and `lengths` has
-    the length that a test run takes.
+    the capture has more bytes of some packets. `whole` is for a packet that is longer than test runs take: the bytes that the capture has
+    of it. Such a packet is a piece of its own, and `lengths` has the length that a test run takes. `begun[i]` has the first bytes of packet
+    i, equally many of each, if they were read along with its header; if the packet is shorter, other bytes of the capture follow.
     """
 
     wires: list[int] = field(kw_only=True)
     whole: int | None = field(kw_only=True, default=None)
     is_cut: bool = field(kw_only=True, default=False)
+    begun: list[bytes] | None = field(kw_only=True, default=None)
 
     @abstractmethod
     def stamp(self, at: int) -> Stamp:
@@ -81,14 +82,29 @@ class Piece(Packets, ABC):
         types = self.types if min(self.lengths) >= LEAST_WITH_TYPE else None
         return Packets(joined, list(accumulate(lengths, initial=0))[: len(lengths)], lengths, self.link_type, types)
 
+    def beginnings(self, reach: int) -> Packets:
+        """The packets without what follows the first bytes of each, up to a number."""
+        if self.longest <= reach:
+            return self
+        lengths = [reach] * len(self)
+        if self.begun and len(self.begun[0]) == reach:
+            bodies = list(self.begun)
+        else:
+            bodies = [self.data[start : start + reach] for start in self.starts]
+        if self.shortest < reach:
+            for at in [at for at, length in enumerate(self.lengths) if length < reach]:
+                lengths[at] = self.lengths[at]
+                bodies[at] = bodies[at][: lengths[at]]
+        return Packets(self.data, self.starts, lengths, self.link_type, self.types, bodies)
+
     def within(self: SomePiece, longest: int) -> SomePiece:
         """The packets, of each the first bytes up to a number."""
-        if max(self.lengths if self.whole is None else [self.whole], default=0) <= longest:
+        if (self.longest if self.whole is None else self.whole) <= longest:
             return self
         whole = None if self.whole is None or longest <= LONGEST_PACKET else longest
         return replace(self, lengths=[min(length, longest) for length in self.lengths], whole=whole, is_cut=True)
 
-    def records(self, kept: Sequence[int], has_nanoseconds: bool) -> bytes | None:
+    def records(self, kept: Sequence[int], has_nanoseconds: bool) -> bytes | memoryview | None:
         """The packets of these numbers as a pcap file has them, if the capture has them in the same bytes."""
         return None
 
@@ -99,7 +115,8 @@ class Piece(Packets, ABC):
 
     def _some(self: SomePiece, at: int, end: int) -> SomePiece:
         some = super()._some(at, end)
-        return replace(some, wires=some.lengths if self.wires is self.lengths else self.wires[at:end])
+        begun = None if self.begun is None else self.begun[at:end]
+        return replace(some, wires=some.lengths if self.wires is self.lengths else self.wires[at:end], begun=begun)
 
 
 def low_first(types: list[int], order: str) -> list[int]:
@@ -126,6 +143,8 @@ class Capture(ABC):
     """
 
     seconds: float | None = None
+    # How many of the first bytes of each packet the reader wants, if it wants no others until the packet is kept.
+    reach: int | None = None
     # Whether timestamps are finer than microseconds.
     has_nanoseconds = False
     # The first link type of the capture, once it is read, with the bits above it, and its snapshot length in bytes.

@@ -8,6 +8,7 @@ import struct
 from abc import ABC, abstractmethod
 from collections import Counter
 from collections.abc import Iterator, Sequence
+from itertools import compress
 from types import TracebackType
 from typing import BinaryIO
 
@@ -41,8 +42,7 @@ class _Format(ABC):
     def record(self, piece: Piece, at: int, longest: int) -> bytes:
         """A packet, of which at most `longest` bytes are kept. Raises struct.error if its time does not fit."""
 
-
-    def records(self, piece: Piece, kept: Sequence[int]) -> bytes | None:
+    def records(self, piece: Piece, kept: Sequence[int]) -> bytes | memoryview | None:
         """Packets in full, if the piece has them in this format already."""
         return None
 
@@ -61,7 +61,7 @@ class _Pcap(_Format):
     def has_room(self, link_type: int) -> bool:
         return link_type == self._link_type
 
-    def records(self, piece: Piece, kept: Sequence[int]) -> bytes | None:
+    def records(self, piece: Piece, kept: Sequence[int]) -> bytes | memoryview | None:
         return piece.records(kept, self._part == 1)
 
     def record(self, piece: Piece, at: int, longest: int) -> bytes:
@@ -188,10 +188,10 @@ class CaptureWriter:
 
     def write_all(self, piece: Piece, results: Sequence[int]) -> None:
         """Writes the packets of a piece that are kept, of each at most as many bytes as its result says."""
-        kept = [at for at, result in enumerate(results) if result]
+        kept = list(compress(range(len(results)), results))
         if not kept:
             return
-        if min(map(results.__getitem__, kept)) >= max(piece.lengths) and self._format.has_room(piece.link_type):
+        if min(filter(None, results)) >= piece.longest and self._format.has_room(piece.link_type):
             records = self._format.records(piece, kept)
             if records is not None:
                 self._write(records)
@@ -216,7 +216,7 @@ class CaptureWriter:
         self._has_begun = True
         return self._format.begun(link_type, self._comments)
 
-    def _write(self, written: bytes) -> None:
+    def _write(self, written: bytes | memoryview) -> None:
         if self._failed is None:
             with self._faults():
                 self._file.write(written)

@@ -5,6 +5,7 @@ from __future__ import annotations
 from collections.abc import Mapping
 from dataclasses import dataclass
 
+from bpfhost.classic.ancillary import LENGTH
 from bpfhost.classic.instructions import Operator, Test
 from bpfhost.classic.steps import (
     CONTEXT,
@@ -26,6 +27,7 @@ from bpfhost.classic.steps import (
     Step,
     Storage,
     StoreScratch,
+    TestLength,
     reads,
     written,
 )
@@ -147,6 +149,22 @@ def _greatest_result(operator: Operator, a: int, b: int, is_number: bool) -> int
         case _:
             return _WORD
     return found if found <= _WORD else _WORD
+
+
+def reach(graph: Graph, order: list[Place], known: Mapping[Place, Known]) -> int | None:
+    """How many of a packet's first bytes decide the result; None if it depends on the length of the packet in another way."""
+    farthest = 0
+    for place in order:
+        match graph.steps[place]:
+            case LoadContext(word=word) if word == LENGTH:
+                return None
+            case TestLength(least=least):
+                farthest = max(farthest, least)
+            case Fetch(headers=headers):
+                farthest = max(farthest, headers.end)
+            case LoadPacket(offset=offset, size=size, is_behind_x=is_behind_x):
+                farthest = max(farthest, offset + size + (known[place][Register.X] if is_behind_x else 0))
+    return farthest
 
 
 def in_packet_order(graph: Graph, order: list[Place], needed: Live) -> dict[Place, int]:

@@ -30,12 +30,14 @@ class Translation:
     """The slots of a program, and whether they read headers from the stack.
 
     `lines` has the slots at which others of the classic instructions begin, each with the instruction's number; -1 is the end that a load
-    out of the packet leads to.
+    out of the packet leads to. A packet of which only the first `reach` bytes are there has the same result as the whole packet; if this is
+    None, the result depends on the packet's length.
     """
 
     slots: bytes
     lines: tuple[tuple[int, int], ...]
     is_fast: bool
+    reach: int | None
 
     @property
     def count(self) -> int:
@@ -57,7 +59,7 @@ def translate(instructions: Sequence[Instruction], meaning: Meaning = Meaning(),
             continue
         written = written_slots(with_few_tests(with_tests_moved(graph)))
         if written.slots is not None:
-            return Translation(written.slots, written.lines, plan != _PLAIN)
+            return Translation(written.slots, written.lines, plan != _PLAIN, written.reach)
         count = written.count
     raise ClassicError(f"its {len(instructions):,} instructions take {count:,} slots, and {MOST_SLOTS:,} are the most")
 

@@ -10,7 +10,7 @@ from dataclasses import dataclass
 
 from bpfhost.classic import slots_writer as op
 from bpfhost.classic.instructions import Test
-from bpfhost.classic.knowledge import after_calls, behind_calls_that_went_well, greatest, in_packet_order, live, uses_context
+from bpfhost.classic.knowledge import after_calls, behind_calls_that_went_well, greatest, in_packet_order, live, reach, uses_context
 from bpfhost.classic.slots_writer import SlotsWriter
 from bpfhost.classic.stack import Layout
 from bpfhost.classic.step_slots import CONTEXT, NUMBERS, StepSlots
@@ -32,12 +32,13 @@ class Written:
     """How many slots there are, and what they are, if a program may have so many.
 
     `lines` has the slots at which other instructions begin: pairs of a slot and the instruction that it comes from, -1 for the end that a
-    load out of the packet leads to.
+    load out of the packet leads to. `reach` is how many of a packet's first bytes decide the result, if its length does not.
     """
 
     count: int
     slots: bytes | None
     lines: tuple[tuple[int, int], ...]
+    reach: int | None
 
 
 def written_slots(graph: Graph) -> Written:
@@ -71,7 +72,8 @@ class _Writing:
                 self._mark(place)
                 reached = self._write(place, following)
         count = len(self._writer)
-        return Written(count, self._writer.slots() if count <= MOST_SLOTS else None, tuple(self._lines))
+        slots = self._writer.slots() if count <= MOST_SLOTS else None
+        return Written(count, slots, tuple(self._lines), reach(self._graph, self._order, self._greatest))
 
     def _mark(self, place: Place) -> None:
         """Notes the instruction that the next slot comes from."""

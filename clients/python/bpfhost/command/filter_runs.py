@@ -9,13 +9,13 @@ from typing import TYPE_CHECKING
 
 from bpfhost.classic import ClassicProgram, Semantics
 from bpfhost.classic.libpcap import SNAPSHOT, is_there, written_header
-from bpfhost.classic.loading import loaded_runs
+from bpfhost.classic.loading import loaded_filter
 from bpfhost.command.filter_tables import FilterReport
 from bpfhost.command.filters import files_of, read_filters
 from bpfhost.command.live import Shown
 from bpfhost.command.run import Subject, packets
 from bpfhost.errors import InputError
-from bpfhost.filtering import Loaded, Outcome, Timed, Treatment
+from bpfhost.filtering import Loaded, Outcome, Treatment
 from bpfhost.host import Host
 from bpfhost.numbers import LONGEST_PACKET, MOST_TENANTS
 from bpfhost.packets import ETHERNET
@@ -68,7 +68,7 @@ class FilterRun(Subject):
         said, each = self._said, range(self._said.tenants)
         semantics = Semantics(said.semantics)
         loaded = [
-            Loaded([loaded_runs(host.tenant(number * len(each) + at), program, semantics) for at in each], Timed.WIRE)
+            loaded_filter([host.tenant(number * len(each) + at) for at in each], program, semantics)
             for number, program in enumerate(self._programs)
         ]
         report = FilterReport(said.interface or said.capture, self._link_type, said.filters, self._programs, said.tenants)

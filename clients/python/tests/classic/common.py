@@ -37,6 +37,11 @@ def on_host(tenant: Tenant, slots: bytes, packets: Packets, context: Context = C
     return found
 
 
+def cut(packets: Sequence[bytes], translation: Translation) -> list[bytes]:
+    """The packets, of each the bytes that may decide the result."""
+    return [packet[: translation.reach] for packet in packets]
+
+
 class BpfFilter:
     """libpcap's interpreter on a program: `bpf_filter` of its library."""
 

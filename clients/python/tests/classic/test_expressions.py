@@ -10,7 +10,7 @@ from pathlib import Path
 
 from bpfhost import Context, Host, Packets
 from bpfhost.classic import ClassicError, ClassicProgram, ExpressionError, Instruction, Length
-from tests.classic.common import MANY, BpfFilter, needs_libpcap, on_host
+from tests.classic.common import MANY, BpfFilter, cut, needs_libpcap, on_host
 from tests.classic.traffic import ethernet, of_link
 from tests.common import PROGRAM, HostTest
 
@@ -43,13 +43,15 @@ class Expressions(HostTest):
         self.tenant = host.tenant()
 
     def same(self, program: ClassicProgram, packets: list[bytes]) -> None:
-        """This host has libpcap's result on each packet, with and without headers on the stack."""
+        """This host has libpcap's result on each packet, whole or cut, with and without headers on the stack."""
         reference = BpfFilter(program.instructions)
-        wanted = [reference.run(packet) for packet in packets]
+        wanted = [reference.run(packet) for packet in packets] * 2
         for fast in (True, False):
-            found = on_host(self.tenant, program.translated(fast=fast).slots, Packets.of(packets, 0))
+            translation = program.translated(fast=fast)
+            tried = [*packets, *cut(packets, translation)]
+            found = on_host(self.tenant, translation.slots, Packets.of(tried, 0))
             differs = next((at for at, pair in enumerate(zip(found, wanted)) if pair[0] != pair[1]), None)
-            self.assertIsNone(differs, f"{program.name}, fast {fast}, packet {differs}: {packets[differs or 0].hex()}")
+            self.assertIsNone(differs, f"{program.name}, fast {fast}, packet {differs}: {tried[differs or 0].hex()}")
 
     def test_on_ethernet(self) -> None:
         programs = list(compiled([*EXPRESSIONS, HOSTS]))
@@ -96,6 +98,18 @@ class Expressions(HostTest):
             for length in (0, 99, 499, 501, 1514):
                 wanted = [reference.run(packet, length) for packet in packets]
                 self.assertEqual(on_host(self.tenant, slots, Packets.of(packets), Context(priority=length)), wanted, expression)
+
+
+@needs_libpcap
+class Reach(HostTest):
+    def test_how_far_a_filter_reads(self) -> None:
+        """The first 14 bytes have the type, headers of IPv4 have 60 bytes at most, and a filter of the length reads no byte."""
+        offsets = {"ip": 14, "udp port 53": 14 + 60 + 4, "tcp[((tcp[12] & 0xf0) >> 2):4] = 5": 14 + 60 + 60 + 4, "ether[3000] = 1": 3001}
+        for expression, reach in {**offsets, "ip[ip[0]] > 3": 14 + 255 + 1, "less 0": None, "ip and len > 60": None}.items():
+            self.assertEqual(ClassicProgram.of_expression(expression).translated().reach, reach, expression)
+        for expression in ("less 0", "ip and len > 60"):
+            reach = ClassicProgram.of_expression(expression).translated(length=Length.WIRE).reach
+            self.assertEqual(reach, {"less 0": 0, "ip and len > 60": 14}[expression])
 
 
 @needs_libpcap

@@ -6,7 +6,7 @@ from bpfhost import Context, Host, Packets
 from bpfhost.classic import ClassicError, ClassicProgram, Instruction, Length, Semantics
 from bpfhost.classic.checking import check
 from bpfhost.classic.instructions import FORMS
-from tests.classic.common import MANY, BpfFilter, KernelFilter, needs_kernel, needs_libpcap, on_host
+from tests.classic.common import MANY, BpfFilter, KernelFilter, cut, needs_kernel, needs_libpcap, on_host
 from tests.classic.generator import Generator
 from tests.classic.interpreter import run
 from tests.common import PROGRAM, HostTest
@@ -41,11 +41,12 @@ class RandomPrograms(HostTest):
             for semantics in Semantics:
                 for fast in (True, False):
                     length = Length.WIRE if number % 2 else Length.PACKET
-                    slots = program.translated(semantics, length, fast=fast).slots
-                    found = on_host(self.tenant, slots, Packets.of(packets, 0), Context(**WORDS))
+                    translation = program.translated(semantics, length, fast=fast)
+                    tried = [*packets, *cut(packets, translation)]
+                    found = on_host(self.tenant, translation.slots, Packets.of(tried, 0), Context(**WORDS))
                     wire = WORDS["priority"] if length is Length.WIRE else None
                     wanted = [run(program.instructions, each, length=wire, semantics=semantics, words=WORDS) for each in packets]
-                    self.assertEqual(found, wanted, (semantics, fast, program.listing()))
+                    self.assertEqual(found, wanted * 2, (semantics, fast, program.listing()))
 
     def test_numbers_in_the_order_of_the_packet(self) -> None:
         """Tests for equality and common bits, also with numbers that have more bytes than are loaded."""
@@ -119,8 +120,9 @@ class RandomPrograms(HostTest):
             wanted = [reference.run(each) for each in packets]
             self.assertEqual([run(program.instructions, each) for each in packets[:20]], wanted[:20], program.listing())
             for fast in (True, False):
-                found = on_host(self.tenant, program.translated(fast=fast).slots, Packets.of(packets))
-                self.assertEqual(found, wanted, (fast, program.listing()))
+                translation = program.translated(fast=fast)
+                found = on_host(self.tenant, translation.slots, Packets.of([*packets, *cut(packets, translation)]))
+                self.assertEqual(found, wanted * 2, (fast, program.listing()))
 
     @needs_kernel
     def test_beside_the_kernel(self) -> None:

@@ -20,6 +20,7 @@ from bpfhost.command import main as command
 from bpfhost.lowering import LoweringError, WrongForm, lower
 from bpfhost.objects import ObjectError, ObjectFile, ObjectProgram, load_object
 from bpfhost.objects.elf import read_elf
+from tests.common import without_notice
 from tests.damaging import Original, Trial, limit
 from tests.objects.btf_builder import BtfBuilder
 from tests.objects.common import SOURCES, clang, compile_object
@@ -115,8 +116,9 @@ def outcome_of_check(path: Path, program: str) -> str:
     written, errors = io.StringIO(), io.StringIO()
     with limit(), contextlib.redirect_stdout(written), contextlib.redirect_stderr(errors):
         status = command(["check", "--bpfhost", program, str(path)])
-    assert status in (0, 1), (status, errors.getvalue())
-    assert len(errors.getvalue().splitlines()) <= 1 and "Traceback" not in errors.getvalue(), errors.getvalue()
+    told = without_notice(errors.getvalue().encode()).decode()
+    assert status in (0, 1), (status, told)
+    assert len(told.splitlines()) <= 1 and "Traceback" not in told, told
     return f"check with status {status}"
 
 

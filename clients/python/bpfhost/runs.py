@@ -25,6 +25,8 @@ if TYPE_CHECKING:
 # The reply to a successful run has four words: its length, the tenant and the command, the status, and the result.
 _REPLY_SIZE = REPLY_HEAD + 4
 _STATUS, _RESULT = slice(8, REPLY_HEAD), slice(REPLY_HEAD, _REPLY_SIZE)
+# A number of a packet in its context.
+_NUMBER = struct.Struct("<I")
 # Bytes of a frame's length field, and the offset of the context's word `protocol` after it.
 _LENGTH, _PROTOCOL = 4, slice(20, 24)
 # A lower number is not a type but an IEEE 802.3 length; the kernel uses ETH_P_802_2 for it (linux/if_ether.h).
@@ -134,8 +136,8 @@ class TestRuns:
     def _joined(self, packets: Packets, types: Sequence[int | None] | None, numbers: Sequence[int] | None) -> bytes:
         """The frames, in as few steps as possible. Raises IndexError or KeyError if `learn` was not given a length or a type."""
         lengths, heads = packets.lengths, self._heads.of_type
-        if types is None and numbers is None and lengths.count(lengths[0]) == len(lengths):
-            return heads[None][lengths[0]].join([b"", *packets.split_bodies()])
+        if types is None and lengths.count(lengths[0]) == len(lengths):
+            return self._alike(heads[None][lengths[0]], packets.split_bodies(), numbers)
         parts = [b""] * (2 * len(lengths))
         if types is None:
             parts[::2] = map(heads[None].__getitem__, lengths)
@@ -147,6 +149,15 @@ class TestRuns:
                 head[:word] + number.to_bytes(4, "little") + head[word + 4 :] for head, number in zip(parts[::2], numbers, strict=True)
             ]
         parts[1::2] = packets.split_bodies()
+        return b"".join(parts)
+
+    def _alike(self, head: bytes, bodies: list[bytes], numbers: Sequence[int] | None) -> bytes:
+        """The frames of packets that have the same head except for their numbers."""
+        if numbers is None:
+            return head.join([b"", *bodies])
+        parts = [head[: self._word], b"", head[self._word + 4 :], b""] * len(bodies)
+        parts[1::4] = map(_NUMBER.pack, numbers)
+        parts[3::4] = bodies
         return b"".join(parts)
 
     def receive(self, packets: Packets) -> tuple[int, ...]:

@@ -2,7 +2,7 @@
 """Compiles the filters of this folder in many ways, lowers them, and runs them. usage: forms.py BPFHOST [--write]
 
 It compares the results with table.md, or writes that page with --write. A filter is compiled by each installed clang, with each of -O1, -O2
-and -Os and for each BPF processor that the compiler knows. What is accepted runs on two captures, as incoming and as outgoing packets: as
+and -Os and for each BPF processor that the compiler knows; those of ONE_WAY with -O2 for one processor. What is accepted runs on two captures, as incoming and as outgoing packets: as
 it was compiled, lowered, and in topological order if it needs no lowering. All forms of a filter have to return the same and to leave the
 same in their maps. If a compiler is missing, its columns are not checked, and a notice is printed.
 """
@@ -38,7 +38,11 @@ LEVELS = ("-O1", "-O2", "-Os")
 PROCESSORS = ("v1", "v2", "v3", "v4")
 # The constants of linux/if_packet.h for an incoming and an outgoing packet.
 CONTEXTS = (Context(pkt_type=0), Context(pkt_type=4))
-STEPS = ("maps", "calls", "loops", "order", "copies")
+STEPS = ("maps", "calls", "packet", "fetch", "exchange", "compare", "loops", "order", "copies")
+# Filters that each compiler compiles in one way, for a processor with atomic operations that fetch: their instructions are what they are for.
+ONE_WAY = frozenset(
+    "old_protocols old_flows old_bypass numbered first_protocol last_length last_sender greatest owner".split()
+)
 PASSED, DIFFERS = 0, 1
 
 
@@ -89,8 +93,9 @@ def processors(version: str) -> tuple[str, ...]:
 
 def compiled(source: Path, version: str, scratch: Path) -> Iterator[Path]:
     """The objects that a compiler makes of a source."""
-    for level in LEVELS:
-        for processor in processors(version):
+    is_one = source.stem in ONE_WAY
+    for level in ("-O2",) if is_one else LEVELS:
+        for processor in ("v3",) if is_one else processors(version):
             made = scratch / f"{source.stem}{level}-{version}-{processor}.o"
             words = [clang(version) or "clang", level, "-g", "-Wall", "-Wno-unused-function", "-target", "bpf", f"-mcpu={processor}"]
             ended = subprocess.run([*words, "-c", source.name, "-o", str(made)], capture_output=True, text=True, check=False, cwd=HERE)

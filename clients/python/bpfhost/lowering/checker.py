@@ -1,16 +1,18 @@
-"""The checker of a form: each path of it is a path of the original program, with the same instructions.
+"""The checker of a form: each path of it is a path of the original program, with the same instructions, or with what they may become.
 
 It takes from the steps that wrote the form only what they state: where each slot of the form comes from, and how each inlined call renames
 its registers and its stack (`Frame`). It decodes the form again, and reads it from the first slot on, in the order of the slots, since all
 jumps have to go forward. At the same time it follows the original program, at the place that each slot names:
 
-- Each instruction of the form is the instruction at that place, renamed for its frame.
+- Each instruction of the form is the instruction at that place, renamed for its frame; or a part of the sequence that it becomes
+  (`sequences`), which the form has in order.
 - Each edge of the form leads to a slot that names the place at which the program continues. In between, the program may pass what has no
   slots in the form: jumps, calls and exits of inlined functions for which nothing is saved, and comparisons that are decided by the numbers
   known on this edge (`values`).
 
 A frame is right if its registers are other names of the same registers, if its stack and its saved registers are below its caller's stack,
-and if each of the registers 6 to 9 that it writes and its caller reads later is saved before it and restored after it.
+and if each of the registers 6 to 9 that it writes and its caller reads later is saved before it and restored after it. A sequence is right
+if the register that it uses besides is not read later, or is saved, and if its word of the stack is below what the function uses.
 """
 
 from __future__ import annotations
@@ -23,6 +25,7 @@ from bpfhost.lowering.errors import LoweringError
 from bpfhost.lowering.frames import Frame, Frames
 from bpfhost.lowering.graph import Origin
 from bpfhost.lowering.instructions import CALLEE_SAVED, FRAME_POINTER, Instruction, decoded
+from bpfhost.lowering.sequences import EXIT, Stated, stated
 from bpfhost.lowering.values import STACK_SIZE, State, edges
 from bpfhost.numbers import MOST_SLOTS, SLOT_SIZE
 
@@ -55,6 +58,8 @@ class _Program:
             raise WrongForm("a frame has no function")
         self.functions = [functions[frame.function] for frame in frames]
         self.inner = {(frame.caller, frame.call): number for number, frame in enumerate(frames)}
+        self._parts: dict[tuple[int, int], tuple[Instruction, ...]] = {}
+        self._sequences: dict[tuple[int, int], Stated] = {}
 
     def check_frames(self) -> None:
         """Frame 0 is the program itself, and the stack of each other frame is below its caller's."""
@@ -64,6 +69,21 @@ class _Program:
             if frame.caller is None or not 0 <= frame.caller < number:
                 raise WrongForm(f"frame {number} has no caller before it")
             self._check_frame(number, frame, self.frames[frame.caller])
+        for number in range(len(self.frames)):
+            self._check_sequences(number)
+
+    def _check_sequences(self, number: int) -> None:
+        """A sequence uses a register that is read no more, or saves it; and a word that nothing else uses."""
+        function, frame = self.functions[number], self.frames[number]
+        for slot, spare in function.spares.items():
+            found = function.instructions[slot]
+            if spare is not None and (spare in (*op.reads(found), *CALLEE_SAVED) or _is_read(function, function.after(slot), spare)):
+                raise WrongForm(f"the sequence of slot {slot} writes register {spare}, which is read later")
+            names = frame.registers
+            named = found._replace(dst=names[op.PACKET_CONTEXT if found.reads_packet else found.dst], src=names[found.src])
+            ending = tuple(Instruction(op.LOAD_64, register, FRAME_POINTER, at, 0) for register, at in frame.saved)
+            ending = (Instruction(op.EXIT, 0, 0, 0, 0),) if frame.caller is None else ending
+            self._sequences[number, slot] = stated(named, spare, -frame.depth - function.stack, ending)
 
     def _check_frame(self, number: int, frame: Frame, caller: Frame) -> None:
         function = self.functions[frame.caller or 0]
@@ -97,6 +117,12 @@ class _Program:
 
     def becomes(self, place: Origin) -> tuple[Instruction, ...]:
         """What the instruction at a place becomes in a form: nothing for a jump; for calls and exits, the instructions that save registers."""
+        at = place.frame, place.slot
+        if at not in self._parts:
+            self._parts[at] = self._sequences[at].parts if at in self._sequences else self._become(place)
+        return self._parts[at]
+
+    def _become(self, place: Origin) -> tuple[Instruction, ...]:
         found, frame = self.instruction(place), self.frames[place.frame]
         if found.is_goto:
             return ()
@@ -107,29 +133,49 @@ class _Program:
             return tuple(Instruction(op.LOAD_64, register, FRAME_POINTER, at, 0) for register, at in frame.saved)
         return _named(found, frame)
 
-    def behind(self, place: Origin, is_taken: bool) -> Origin | None:
-        """The next place, if a comparison is true or false; None after the program's exit."""
-        found, function, frame = self.instruction(place), self.functions[place.frame], self.frames[place.frame]
+    def following(self, place: Origin, is_taken: bool) -> Origin | None:
+        """The next place or part, if a comparison is true or false; None after the program's exit."""
+        sequence = self._sequences.get((place.frame, place.slot))
+        if sequence is not None:
+            part = sequence.following(place.part, is_taken)
+            if part >= 0:
+                return place._replace(part=part)
+            return self._left(place.frame) if part == EXIT else self._after(place)
+        return place._replace(part=place.part + 1) if place.part + 1 < len(self.becomes(place)) else self._behind(place, is_taken)
+
+    def _behind(self, place: Origin, is_taken: bool) -> Origin | None:
+        """The place after an instruction that becomes no sequence."""
+        found, function = self.instruction(place), self.functions[place.frame]
         if found.calls_function:
             return Origin(self._called(place), 0)
         if found.is_exit:
-            return None if frame.caller is None else Origin(frame.caller, self.functions[frame.caller].after(frame.call))
-        return Origin(place.frame, function.target(place.slot) if found.is_goto or is_taken else function.after(place.slot))
+            return self._left(place.frame)
+        return Origin(place.frame, function.target(place.slot)) if found.is_goto or is_taken else self._after(place)
+
+    def _after(self, place: Origin) -> Origin:
+        return Origin(place.frame, self.functions[place.frame].after(place.slot))
+
+    def _left(self, number: int) -> Origin | None:
+        """The place after a frame's exit."""
+        frame = self.frames[number]
+        return None if frame.caller is None else Origin(frame.caller, self.functions[frame.caller].after(frame.call))
 
     def leads(self, place: Origin | None, state: State, goal: Origin) -> bool:
         """Whether the program gets from one place to another without an instruction of the form, given what is known."""
         passed = set()
         while place is not None and place != goal:
-            if place in passed or self.becomes(place) and not self.instruction(place).is_comparison:
+            parts = self.becomes(place)
+            is_comparison = bool(parts) and parts[place.part].is_comparison
+            if place in passed or parts and not is_comparison:
                 return False
             passed.add(place)
             is_taken = False
-            if self.instruction(place).is_comparison:
-                taken, fallen = edges(state, self.becomes(place)[0])
+            if is_comparison:
+                taken, fallen = edges(state, parts[place.part])
                 if taken is not None and fallen is not None:
                     return False
                 is_taken = fallen is None
-            place = self.behind(place, is_taken)
+            place = self.following(place, is_taken)
         return place == goal
 
 
@@ -185,7 +231,7 @@ class _Walk:
             return
         if found != parts[place.part]:
             raise WrongForm(f"slot {slot} is another instruction than that of {place}")
-        behind = place._replace(part=place.part + 1) if place.part + 1 < len(parts) else self._program.behind(place, False)
+        behind = self._program.following(place, False)
         if behind is not None:
             state.apply(found)
             self._go(slot + found.slots, slot, behind, state)
@@ -197,7 +243,7 @@ class _Walk:
         if found.jumping(0) != ((wanted.opposite() or wanted) if is_opposite else wanted).jumping(0):
             raise WrongForm(f"slot {slot} is another comparison than that of {place}")
         for is_jump, known in zip((True, False), edges(state, found)):
-            behind = self._program.behind(place, is_jump != is_opposite)
+            behind = self._program.following(place, is_jump != is_opposite)
             target = slot + 1 + (found.offset if is_jump else 0)
             self._go(target, slot, behind, known or state.copy())
 

@@ -7,9 +7,12 @@ from dataclasses import dataclass
 from functools import cached_property
 
 from bpfhost.lowering.errors import LoweringError
-from bpfhost.lowering.instructions import CALLEE_SAVED, Instruction, decoded, is_known, reads, writes
-from bpfhost.lowering.values import stack_used
+from bpfhost.lowering.instructions import CALLEE_SAVED, FRAME_POINTER, Instruction, decoded, is_known, reads, writes
+from bpfhost.lowering.sequences import kind_of, needs_room, spare_of
+from bpfhost.lowering.values import STACK_SIZE, stack_used
 from bpfhost.objects.model import ObjectFile, ObjectProgram
+
+_WORD = 8
 
 
 @dataclass(frozen=True)
@@ -53,15 +56,29 @@ class Function:
 
     @cached_property
     def stack(self) -> int:
-        """How many bytes of the stack it uses."""
+        """How many bytes of the stack it uses; the lowest word is for sequences, if they need one."""
         used = stack_used(self.instructions, self.successors)
-        if used is None:
-            raise LoweringError(f"function {self.declared.name} uses more of the stack than a program has, 512 bytes")
-        return used
+        has_room = any(needs_room(self.instructions[slot], spare) for slot, spare in self.spares.items())
+        if used is None or used + _WORD * has_room > STACK_SIZE:
+            raise LoweringError(f"function {self.declared.name} uses more of the stack than a program has, {STACK_SIZE} bytes")
+        return used + _WORD * has_room
+
+    @cached_property
+    def spares(self) -> Mapping[int, int | None]:
+        """The instructions that become sequences, by their slots: with a register that is not needed later, or None if each one is."""
+        slots = [slot for slot, found in self.instructions.items() if kind_of(found) is not None]
+        if not slots:
+            return {}
+        needed = self._live(frozenset(range(FRAME_POINTER)))
+        return {slot: spare_of(self.instructions[slot], needed.get(self.after(slot), frozenset())) for slot in slots}
 
     @cached_property
     def live(self) -> Mapping[int, frozenset[int]]:
         """For each instruction, the callee-saved registers that are live before it."""
+        return self._live(frozenset(CALLEE_SAVED))
+
+    def _live(self, registers: frozenset[int]) -> Mapping[int, frozenset[int]]:
+        """For each instruction, those of some registers that are live before it."""
         found: dict[int, frozenset[int]] = {slot: frozenset() for slot in self.instructions}
         before: dict[int, list[int]] = {slot: [] for slot in self.instructions}
         for slot, following in self.successors.items():
@@ -71,7 +88,7 @@ class Function:
         while waiting:
             slot = waiting.pop()
             behind = frozenset().union(*(found[each] for each in self.successors[slot]))
-            live = (behind - set(writes(self.instructions[slot]))) | set(reads(self.instructions[slot])) & set(CALLEE_SAVED)
+            live = (behind - set(writes(self.instructions[slot]))) | set(reads(self.instructions[slot])) & registers
             if live != found[slot]:
                 found[slot] = live
                 waiting.extend(before[slot])

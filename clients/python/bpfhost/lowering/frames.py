@@ -53,6 +53,11 @@ def moved(found: Instruction, frame: Frame) -> tuple[Instruction, ...]:
     return (renamed._replace(offset=renamed.offset - frame.depth),) if base == FRAME_POINTER else (renamed,)
 
 
+def ending(frame: Frame) -> tuple[Instruction, ...]:
+    """What ends a frame's function early: the program's exit, or what restores its caller's registers."""
+    return (Instruction(op.EXIT, 0, 0, 0, 0),) if frame.caller is None else restoring(frame)
+
+
 def _is_odd(found: Instruction) -> bool:
     """Whether an instruction uses the frame pointer other than in an address or as the source of a copy: no compiler writes that."""
     if found.kind == op.STX:

@@ -30,6 +30,12 @@ _MOVE_MODES = {LDX: (0x60, 0x80), ST: (0x60,), STX: (0x60, 0xC0)}
 SIZES = {0x00: 4, 0x08: 2, 0x10: 1, 0x18: 8}
 ATOMIC = 0xC0
 SIGNED_LOAD = 0x80
+# Modes of LD that read the packet, at a constant and at a register plus a constant; the context is in register 6.
+ABS, IND = 0x20, 0x40
+PACKET_CONTEXT = 6
+# Atomic operations that return the old value; in the first four the bit FETCH is set.
+FETCH, EXCHANGE, COMPARE_EXCHANGE = 0x01, 0xE1, 0xF1
+_FETCHING = (0x01, 0x41, 0x51, 0xA1, EXCHANGE, COMPARE_EXCHANGE)
 
 
 class Instruction(NamedTuple):
@@ -94,6 +100,16 @@ class Instruction(NamedTuple):
         return bool(self.opcode & _FROM_REGISTER)
 
     @property
+    def reads_packet(self) -> bool:
+        """Whether it is a legacy load of the packet (ABS, IND)."""
+        return self.kind == LD and self.opcode & 0xE0 in (ABS, IND) and self.size < 8
+
+    @property
+    def fetches(self) -> bool:
+        """Whether it is an atomic operation that returns the old value."""
+        return self.kind == STX and self.opcode & 0xE0 == ATOMIC and self.size >= 4 and self.constant in _FETCHING
+
+    @property
     def size(self) -> int:
         """How many bytes a load or a store accesses."""
         return SIZES[self.opcode & 0x18]
@@ -132,7 +148,7 @@ def is_known(found: Instruction) -> bool:
     if kind in (JMP, JMP32):
         return found.opcode in (GOTO, GOTO_LONG, CALL, EXIT) or code in _COMPARISONS
     if kind == LD:
-        return found.opcode == WIDE_LOAD and len(found.second) == SLOT_SIZE
+        return found.reads_packet or found.opcode == WIDE_LOAD and len(found.second) == SLOT_SIZE
     return found.opcode & 0xE0 in _MOVE_MODES[kind]
 
 
@@ -142,12 +158,15 @@ def reads(found: Instruction) -> tuple[int, ...]:
         case 4 | 7:
             source = (found.src,) if _has_source(found) else ()
             return source if found.code == MOV else (found.dst, *source)
+        case 0 if found.reads_packet:
+            return (PACKET_CONTEXT, found.src) if found.opcode & 0xE0 == IND else (PACKET_CONTEXT,)
         case 1:
             return (found.src,)
         case 2:
             return (found.dst,)
         case 3:
-            return (found.dst, found.src)
+            is_compared = found.fetches and found.constant == COMPARE_EXCHANGE
+            return (found.dst, found.src, 0) if is_compared else (found.dst, found.src)
         case 5 | 6 if found.is_comparison:
             return (found.dst, found.src) if found.from_register else (found.dst,)
     if found.opcode == CALL:
@@ -156,10 +175,14 @@ def reads(found: Instruction) -> tuple[int, ...]:
 
 
 def writes(found: Instruction) -> tuple[int, ...]:
-    """The registers that an instruction writes; a call invalidates those for arguments."""
+    """The registers that an instruction writes; a call, or a legacy load of the packet, invalidates those for arguments."""
+    if found.opcode == CALL or found.reads_packet:
+        return (0, 1, 2, 3, 4, 5)
     if found.kind in (LD, LDX, ALU, ALU64):
         return (found.dst,)
-    return (0, 1, 2, 3, 4, 5) if found.opcode == CALL else ()
+    if found.fetches:
+        return (0 if found.constant == COMPARE_EXCHANGE else found.src,)
+    return ()
 
 
 def _has_source(found: Instruction) -> bool:
@@ -168,9 +191,14 @@ def _has_source(found: Instruction) -> bool:
 
 
 def renamed(found: Instruction, names: Sequence[int]) -> Instruction:
-    """The same instruction with other registers: register r is `names[r]`."""
+    """The same instruction with other registers: register r is `names[r]`.
+
+    A legacy load of the packet gets the name of register 6, its context, in the field `dst`, which it does not use.
+    """
     if found.opcode in (GOTO, GOTO_LONG, CALL, EXIT):
         return found
+    if found.reads_packet:
+        return found._replace(dst=names[PACKET_CONTEXT], src=names[found.src])
     if found.kind == LD:
         return found._replace(dst=names[found.dst])
     of_source = found.kind in (LDX, STX) or found.kind in (ALU, ALU64) and _has_source(found)

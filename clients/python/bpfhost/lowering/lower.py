@@ -16,12 +16,24 @@ from bpfhost.lowering.graph import Block, Origin, Written, in_order, without_emp
 from bpfhost.lowering.inlining import inlined
 from bpfhost.lowering.instructions import decoded
 from bpfhost.lowering.loops import unrolled
+from bpfhost.lowering.sequences import COMPARED, EXCHANGED, FETCHED, PACKET, has_sequences, kind_of
 from bpfhost.numbers import MOST_SLOTS
 from bpfhost.objects.model import MapSlot, ObjectFile, ObjectProgram, SourceLine
 from bpfhost.slots import WIDE_LOAD
 
 Refusal = tuple[int, int]
 Ask = Callable[[ObjectProgram], Refusal | None]
+
+# The words for the sequences of each kind.
+_NO_OTHER = "since runs follow one another"
+_SEQUENCES = {
+    PACKET: ("legacy load of the packet is a call", "legacy loads of the packet are calls", "of bpf_skb_load_bytes"),
+    FETCHED: ("atomic operation that fetches is", "atomic operations that fetch are", f"a load, the operation and a store, {_NO_OTHER}"),
+    EXCHANGED: ("atomic exchange is", "atomic exchanges are", f"a load and a store, {_NO_OTHER}"),
+    COMPARED: (
+        "atomic compare-and-exchange is", "atomic compare-and-exchanges are", f"a load, a comparison and a store, {_NO_OTHER}",
+    ),
+}  # fmt: skip
 
 # A jump to an earlier slot, and an unreachable instruction.
 _BACKWARD, _UNREACHED = 2, 4
@@ -98,7 +110,7 @@ def lower(object_file: ObjectFile, program: ObjectProgram, ask: Ask) -> Lowered:
     unrolled, or if a jump leads out of the program.
     """
     refused = None
-    if not program.calls:
+    if not program.calls and not has_sequences(program.slots):
         refused = ask(program)
         if refused is None or refused[1] not in _CURABLE:
             return as_is(program, refused)
@@ -121,6 +133,7 @@ class _Lowering:
         """The form, after the steps in their order."""
         graph = without_empty(inlined(self._functions, self._frames))
         self._tell_calls()
+        self._tell_sequences()
         graph = self._without_loops(graph)
         plain = written(graph)
         if len(plain.origins) > MOST_SLOTS:
@@ -155,6 +168,16 @@ class _Lowering:
             saved = sum(len(frame.saved) for frame in self._frames)
             what = f", which save {_counted(saved, 'register', 'registers')}" if saved else ""
             self._changes["calls"] = f"{_counted(count, 'call is', 'calls are')} inlined, of {', '.join(names)}{what}"
+
+    def _tell_sequences(self) -> None:
+        counts = Counter(kind_of(function.instructions[slot]) for function in self._in_frames() for slot in function.spares)
+        for kind, (one, several, what) in _SEQUENCES.items():
+            if counts[kind]:
+                self._changes[kind] = f"{_counted(counts[kind], one, several)} {what}"
+
+    def _in_frames(self) -> list[Function]:
+        """The functions that the program consists of, each once."""
+        return [self._functions[number] for number in sorted({frame.function for frame in self._frames})]
 
     def _refusal(self, plain: Written, refused: Refusal) -> Lowered:
         """The refusal to report for a program without an accepted form: that of the original, unless it is about the order of blocks."""

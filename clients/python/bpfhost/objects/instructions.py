@@ -22,6 +22,10 @@ _FETCH = {
 }
 # LD with the modes ABS and IND, of 4, 2 and 1 bytes.
 _PACKET_ACCESS = (0x20, 0x28, 0x30, 0x40, 0x48, 0x50)
+# A place before the packet counts from the network header or from the link's (SKF_NET_OFF and SKF_LL_OFF of linux/filter.h), or from up to
+# so many bytes after it. A smaller negative constant may be part of a sum.
+_BEFORE_PACKET = -0x100000 + 0xFFFF
+_ABSOLUTE = 0x20
 
 
 def is_wide_load(slots: bytes | bytearray, slot: int) -> bool:
@@ -40,24 +44,29 @@ def calls_of(slots: bytes | bytearray) -> dict[int, int]:
     return found
 
 
-def check_instructions(slots: bytes, place: Place) -> None:
-    """Raises ObjectError for the first instruction that needs what the host does not have; calls of functions are not checked here."""
+def check_instructions(slots: bytes, place: Place, is_lowered: bool) -> None:
+    """Raises ObjectError for the first instruction that needs what the host does not have; calls of functions are not checked here.
+
+    If programs are lowered, some of these instructions become others (`bpfhost.lowering.sequences`).
+    """
     for slot in first_slots(slots):
-        lacks = _lacks(slots[SLOT_SIZE * slot : SLOT_SIZE * (slot + 1)])
+        lacks = _lacks(slots[SLOT_SIZE * slot : SLOT_SIZE * (slot + 1)], is_lowered)
         if lacks:
             raise place.refused(slot, lacks)
 
 
-def _lacks(instruction: bytes) -> str | None:
+def _lacks(instruction: bytes, is_lowered: bool) -> str | None:
     opcode, source = instruction[0], instruction[1] >> 4
     constant = int.from_bytes(instruction[4:], "little", signed=True)
     if opcode == _CALL:
         return _lacks_call(source, constant)
     if opcode == _CALL_REGISTER:
         return "calls a function by its address, and the host has no such calls"
-    if opcode in _ATOMIC and constant not in ATOMIC_OPERATIONS:
+    if opcode in _ATOMIC and constant not in ATOMIC_OPERATIONS and not (is_lowered and constant in _FETCH):
         return f"has {_FETCH.get(constant, f'an atomic operation {constant:#x}')}, which the host does not have"
-    if opcode in _PACKET_ACCESS:
+    if opcode in _PACKET_ACCESS and (constant <= _BEFORE_PACKET or opcode & 0xE0 == _ABSOLUTE and constant < 0):
+        return f"reads the packet from a header on ({constant:#x}), which the host does not know: count from the packet's first byte"
+    if opcode in _PACKET_ACCESS and not is_lowered:
         return "reads the packet by a legacy load (ABS or IND), which the host does not have: bpf_skb_load_bytes reads it"
     return None
 

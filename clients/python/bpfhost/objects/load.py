@@ -20,8 +20,9 @@ def load_object(path: str | os.PathLike[str], form: Form = Form.LOWERED) -> Obje
     """Reads an ELF object of machine BPF in a form, and rejects what the host does not have.
 
     Raises ObjectError, whose text begins with the path, if the file can't be read, is not such an object or is damaged; or if it needs what
-    the host does not have: other helpers or kinds of maps, atomic operations that fetch, addresses in variables, CO-RE relocations of other
-    types than the context's, more than the limits of docs/PROTOCOL.md; and, if programs are taken as they are, calls between functions.
+    the host does not have: other helpers or kinds of maps, addresses in variables, CO-RE relocations of other types than the context's, more
+    than the limits of docs/PROTOCOL.md; and, if programs are taken as they are, calls between functions, legacy loads of the packet, and
+    atomic operations that fetch.
     Raises MissingPackage without pyelftools.
     """
     name = os.fsdecode(path)
@@ -36,7 +37,7 @@ def _read(name: str, elf: ElfObject, form: Form) -> ObjectFile:
     changes = MapChanges(form is not Form.LOWERED)
     maps = [*defined_maps(elf, btf, changes), *variable_maps(elf, btf)]
     check_maps([each.map for each in maps])
-    programs, functions = read_programs(elf, maps, (btf, btf_ext), has_calls=form is not Form.AS_IS)
+    programs, functions = read_programs(elf, maps, (btf, btf_ext), is_lowered=form is not Form.AS_IS)
     types = Types(btf) if btf else None
     return ObjectFile(name, programs, tuple(each.map for each in maps), types, functions, tuple(changes.told), form)
 

@@ -31,16 +31,16 @@ _Row = TypeVar("_Row")
 
 
 def read_programs(
-    elf: ElfObject, maps: Sequence[DefinedMap], types: tuple[Btf | None, BtfExt], has_calls: bool = True
+    elf: ElfObject, maps: Sequence[DefinedMap], types: tuple[Btf | None, BtfExt], is_lowered: bool = True
 ) -> tuple[tuple[ObjectProgram, ...], tuple[ObjectProgram, ...]]:
     """All programs, in the order of the sections and of the functions in them, and the functions that they call.
 
-    Raises ObjectError if the host does not take one; a call between functions is one such reason if `has_calls` is false.
+    Raises ObjectError if the host does not take one; a call between functions, or a legacy load, is one such reason if `is_lowered` is false.
     """
     sections = [section for section in elf.sections if _has_programs(section)]
     if not sections:
         raise ObjectError(_nothing(elf))
-    reader = _Reader(elf, Linker(elf, maps), types, has_calls)
+    reader = _Reader(elf, Linker(elf, maps), types, is_lowered)
     named = [(section, function) for section in sections for function in reader.section(section).functions]
     if len(named) > MOST_PROGRAMS:
         raise ObjectError(f"the object has {len(named):,} functions with a section, and at most {MOST_PROGRAMS} are read")
@@ -51,11 +51,11 @@ def read_programs(
 class _Reader:
     """Reads functions, and those that they call, each once."""
 
-    def __init__(self, elf: ElfObject, linker: Linker, types: tuple[Btf | None, BtfExt], has_calls: bool) -> None:
+    def __init__(self, elf: ElfObject, linker: Linker, types: tuple[Btf | None, BtfExt], is_lowered: bool) -> None:
         self._elf = elf
         self._linker = linker
         self._btf, self._btf_ext = types
-        self._has_calls = has_calls
+        self._is_lowered = is_lowered
         self._sections: dict[int, _Section] = {}
         # The called functions in the order in which they were found, by section and first byte.
         self._callees: dict[tuple[int, int], Callee] = {}
@@ -68,7 +68,7 @@ class _Reader:
 
     def function(self, section: Section, function: Symbol) -> ObjectProgram:
         """A function, with the numbers of the functions that it calls."""
-        place, program, callees = self.section(section).program(function, self._linker)
+        place, program, callees = self.section(section).program(function, self._linker, self._is_lowered)
         calls = tuple(CallSlot(slot, self._number(place, callees[slot])) for slot in sorted(callees))
         return replace(program, calls=calls)
 
@@ -81,7 +81,7 @@ class _Reader:
         return tuple(found)
 
     def _number(self, place: Place, callee: Callee) -> int:
-        if not self._has_calls:
+        if not self._is_lowered:
             called = f"calls function {callee.function.name} in section {callee.section.name}"
             raise place.refused(callee.slot, f"{called}, and calls between functions are not supported")
         key = callee.section.index, callee.function.value
@@ -131,7 +131,7 @@ class _Section:
         core = btf_ext.relocated.get(section.name, ())
         return cls(section, functions, elf.data(section), relocations, btf_ext.lines.get(section.name, ()), core, btf)
 
-    def program(self, function: Symbol, linker: Linker) -> tuple[Place, ObjectProgram, dict[int, Callee]]:
+    def program(self, function: Symbol, linker: Linker, is_lowered: bool) -> tuple[Place, ObjectProgram, dict[int, Callee]]:
         """The program of a function, with its place, and the functions that it calls, by the slots of the calls."""
         place = Place(self.section, function, self._lines(function))
         self._check_range(place)
@@ -139,7 +139,7 @@ class _Section:
         for relocation in _between(self.core, place.begin, place.end, _core_byte):
             relocate(place, slots, self.btf, relocation)
         map_slots, callees = linker.link(place, slots, _between(self.relocations, place.begin, place.end, _relocated_byte))
-        check_instructions(bytes(slots), place)
+        check_instructions(bytes(slots), place, is_lowered)
         return place, ObjectProgram(self.section.name, function.name, bytes(slots), map_slots, place.lines), callees
 
     def _check_range(self, place: Place) -> None:

@@ -14,12 +14,16 @@ from tests.common import PROGRAM, HostTest
 # The number of a helper that does not exist; it marks a call of a function until its slot is written.
 _FIRST_CALL = 1000
 _CALL = re.compile(r"call (\w*[a-z]\w*)")
+# A slot by its hex digits, and what is written in its place at first.
+_SLOT = re.compile(r"slot ([0-9a-f]{16})")
+_A_SLOT = "call 999"
 
 
 def object_of(maps: tuple[ObjectMap, ...] = (), **functions: str) -> ObjectFile:
     """An object with functions by their names: the first one is its program, and calls name the others, as `call inner`.
 
-    Each instruction has a line of the source of its own, whose text is that of the instruction.
+    Each instruction has a line of the source of its own, whose text is that of the instruction. A line `slot 2800000000000c00` is a slot by
+    its hex digits, for an instruction that has no text.
     """
     names = list(functions)[1:]
     program, *called = (_function(name, text, names) for name, text in functions.items())
@@ -27,11 +31,13 @@ def object_of(maps: tuple[ObjectMap, ...] = (), **functions: str) -> ObjectFile:
 
 
 def _function(name: str, text: str, names: list[str]) -> ObjectProgram:
-    numbered = _CALL.sub(lambda match: f"call {_FIRST_CALL + names.index(match[1])}", text)
+    numbered = _CALL.sub(lambda match: f"call {_FIRST_CALL + names.index(match[1])}", _SLOT.sub(_A_SLOT, text))
     slots = bytearray(assemble(PROGRAM, numbered))
-    calls = []
+    calls, written = [], iter(_SLOT.findall(text))
     for slot in range(len(slots) // 8):
         number = int.from_bytes(slots[8 * slot + 4 : 8 * slot + 8], "little") - _FIRST_CALL
+        if slots[8 * slot] == 0x85 and number == -1:
+            slots[8 * slot : 8 * slot + 8] = bytes.fromhex(next(written))
         if slots[8 * slot] == 0x85 and number >= 0:
             slots[8 * slot + 1], slots[8 * slot + 4 : 8 * slot + 8] = 0x10, bytes(4)
             calls.append(CallSlot(slot, number))

@@ -94,16 +94,21 @@ class Lacking(ClangTest):
             ("__sync_val_compare_and_swap(&number, 3, 1)", "an atomic comparison with exchange (CMPXCHG)"),
         ):
             with self.subTest(name):
-                told = self.refusal(f'int number; SEC("socket") int f(struct __sk_buff *skb) {{ return {call}; }}', "-mcpu=v3")
+                text = f'int number; SEC("socket") int f(struct __sk_buff *skb) {{ return {call}; }}'
+                told = self.refusal(text, "-mcpu=v3", form=Form.AS_IS)
                 self.assertIn(f"function f in section socket has {name}, which the host does not have, at slot ", told)
                 self.assertIn(" (filter.c:2: ", told)
+                self.assertEqual(len(self.text(text, "-mcpu=v3").programs), 1)
 
     def test_legacy_packet_access(self) -> None:
-        told = self.refusal(
-            'unsigned long long load(void *skb, unsigned long long at) asm("llvm.bpf.load.half");\n'
-            'SEC("socket") int f(struct __sk_buff *skb) { return load(skb, 12); }'
-        )
-        self.assertIn("f in section socket reads the packet by a legacy load (ABS or IND), which the host does not have", told)
+        declared = 'unsigned long long load(void *skb, unsigned long long at) asm("llvm.bpf.load.half");\n'
+        text = declared + 'SEC("socket") int f(struct __sk_buff *skb) { return load(skb, 12); }'
+        refused = self.refusal(text, form=Form.AS_IS)
+        self.assertIn("f in section socket reads the packet by a legacy load (ABS or IND), which the host does not have", refused)
+        self.assertEqual(len(self.text(text).programs), 1)
+        for place, number in (("-0x100000 + 9", "-0xffff7"), ("-0x200000 + 12", "-0x1ffff4")):
+            refused = self.refusal(text.replace("12", place))
+            self.assertIn(f"reads the packet from a header on ({number}), which the host does not know", refused)
 
     def test_core_relocations(self) -> None:
         told = self.refusal(

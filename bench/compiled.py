@@ -59,7 +59,7 @@ def has_bpf(clang: str, folder: Path, *words: str) -> bool:
 def built(clang: str, bpfhost: str, source: Path, folder: Path, *words: str) -> Path:
     """The file of a built program (clients/python, "Built programs") in this folder, compiled with these words."""
     compiled_file, made = folder / f"{source.stem}.o", folder / f"{source.stem}.json"
-    subprocess.run([clang, "-O2", "-g", "-target", "bpf", *words, "-c", str(source), "-o", str(compiled_file)], check=True)
+    subprocess.run([clang, "-O2", "-g", "-target", "bpf", f"-I{_TOP}/clients/c/include", *words, "-c", str(source), "-o", str(compiled_file)], check=True)
     build = [_python(), "-m", "bpfhost", "build", str(compiled_file), "-o", str(made)]
     environment = {**os.environ, "PYTHONPATH": str(_TOP / "clients" / "python"), "BPFHOST": os.path.abspath(bpfhost)}
     done = subprocess.run(build, env=environment, stderr=subprocess.PIPE, text=True, check=False)

@@ -11,6 +11,7 @@ import tempfile
 from pathlib import Path
 
 HERE = Path(__file__).resolve().parent
+INCLUDE = HERE.parents[1] / "clients/c/include"
 sys.dont_write_bytecode = True
 sys.path.insert(0, str(HERE.parents[1] / "clients/python"))
 
@@ -37,7 +38,7 @@ def compiled(clang, objcopy):
     """The slots of filter.c: section "socket" of clang's object."""
     with tempfile.TemporaryDirectory() as scratch:
         made, cut_out = Path(scratch, "filter.o"), Path(scratch, "filter.bin")
-        tool(clang, "-O2", "-target", "bpf", "-c", HERE / "filter.c", "-o", made)
+        tool(clang, "-O2", "-target", "bpf", f"-I{INCLUDE}", "-c", HERE / "filter.c", "-o", made)
         tool(objcopy, "-O", "binary", "--only-section=socket", made, cut_out)
         return cut_out.read_bytes()
 

@@ -1,7 +1,7 @@
 /* Keeps DNS queries: UDP over IPv4 over Ethernet, to port 53. A socket filter returns how many bytes of the packet to keep, so
  * the result is the packet's length for these and 0 for all others. The map of descriptor 3 counts those that are kept. */
 
-#include "bpfhost.h"
+#include <bpfhost/filter.h>
 
 struct ethernet {
     unsigned char destination[6], source[6];

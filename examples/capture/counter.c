@@ -1,7 +1,7 @@
 /* Counts packets and bytes in global variables by atomic additions, notes the longest packet, and keeps the first bytes
  * of each. */
 
-#include "../c_filter/bpfhost.h"
+#include <bpfhost/filter.h>
 
 /* So many bytes are kept of a packet. A loader may write another number here before the filter runs. */
 const volatile unsigned int kept = 64;

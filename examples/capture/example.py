@@ -19,6 +19,8 @@ from typing import Any
 HERE = Path(__file__).resolve().parent
 PACKAGE = HERE.parents[1] / "clients/python"
 NAMES = ("flows", "counter", "refused")
+# How clang compiles a filter.
+WORDS = ("-O2", "-g", "-fdebug-compilation-dir=.", "-target", "bpf", f"-I{os.path.relpath(HERE.parents[1] / 'clients/c/include', HERE)}")
 # The version of clang that made the objects of this folder; another one may compile the same C to other objects.
 CLANG_OF_OBJECTS = "version 14."
 # What flows.c keeps, as an expression of pcap-filter(7).
@@ -58,7 +60,7 @@ def make_objects(scratch: Path, clang: str | None) -> None:
         if clang is None:
             shutil.copy(HERE / f"{name}.o", scratch)
         else:
-            called(clang, "-O2", "-g", "-fdebug-compilation-dir=.", "-target", "bpf", "-c", f"{name}.c", "-o", scratch / f"{name}.o")
+            called(clang, *WORDS, "-c", f"{name}.c", "-o", scratch / f"{name}.o")
     shutil.copy(HERE / "sample.pcap", scratch)
     if clang is not None and CLANG_OF_OBJECTS in called(clang, "--version").decode():
         compare_objects(scratch)

@@ -1,7 +1,7 @@
 /* Keeps TCP and UDP over IPv4 and IPv6, after one VLAN tag or none. Counts packets and bytes by protocol, and of IPv4
  * by flow, and has the ten busiest flows in a map of their own. */
 
-#include "../c_filter/bpfhost.h"
+#include <bpfhost/filter.h>
 
 /* A number of 16 bits as packets have it, the highest byte first. */
 #define NETWORK(number) __builtin_bswap16(number)

@@ -1,7 +1,7 @@
 /* Is refused: `class` is a byte of the packet, so it may be above 15, and table[class] is not in the map's value then.
  * With `if (class < 16)` before it the filter is accepted. */
 
-#include "../c_filter/bpfhost.h"
+#include <bpfhost/filter.h>
 
 unsigned int table[16];
 

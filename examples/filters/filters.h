@@ -1,7 +1,7 @@
 /* What the filters of this folder share: the host's header, numbers of protocols by the names that linux/if_ether.h and linux/in.h
  * give them, and the fields of headers that they read. */
 
-#include "../c_filter/bpfhost.h"
+#include <bpfhost/filter.h>
 
 enum { BPF_MAP_TYPE_PERCPU_HASH = 5, BPF_MAP_TYPE_PERCPU_ARRAY = 6 };
 enum { BPF_F_NO_PREALLOC = 1, LIBBPF_PIN_BY_NAME = 1 };

@@ -23,6 +23,7 @@ from dataclasses import dataclass, field
 from pathlib import Path
 
 HERE = Path(__file__).resolve().parent
+INCLUDE = HERE.parents[1] / "clients/c/include"
 sys.path.insert(0, str(HERE.parents[1] / "clients/python"))
 
 from bpfhost import Context, Host, verify  # noqa: E402
@@ -97,7 +98,7 @@ def compiled(source: Path, version: str, scratch: Path) -> Iterator[Path]:
     for level in ("-O2",) if is_one else LEVELS:
         for processor in ("v3",) if is_one else processors(version):
             made = scratch / f"{source.stem}{level}-{version}-{processor}.o"
-            words = [clang(version) or "clang", level, "-g", "-Wall", "-Wno-unused-function", "-target", "bpf", f"-mcpu={processor}"]
+            words = [clang(version) or "clang", level, "-g", "-Wall", "-Wno-unused-function", "-target", "bpf", f"-I{INCLUDE}", f"-mcpu={processor}"]
             ended = subprocess.run([*words, "-c", source.name, "-o", str(made)], capture_output=True, text=True, check=False, cwd=HERE)
             if ended.returncode or ended.stderr:
                 sys.exit(f"filters: {made.name}: {ended.stderr}")

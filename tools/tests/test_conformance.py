@@ -54,7 +54,7 @@ class Instructions(unittest.TestCase):
         """The client, the header for filters in C and the verifier's log have the helpers of the crate."""
         helpers = [int(number) for number in re.findall(r"Helper::\w+ => (\d+),", (TOP / "crates/tagged_model/src/helper.rt").read_text())]
         self.assertEqual(list(HELPERS), helpers)
-        declared = re.findall(r"= \(void \*\)(\d+);", (TOP / "examples/c_filter/bpfhost.h").read_text())
+        declared = re.findall(r"= BPFHOST_HELPER\((\d+), ", (TOP / "clients/c/include/bpfhost/filter.h").read_text())
         self.assertEqual([int(number) for number in declared], helpers)
         listed = re.search(r"there is no helper \{id\}, and those are (.*) and (\d+)", (TOP / "crates/log_reasons/src/needs/shape.rt").read_text())
         self.assertIsNotNone(listed)

@@ -37,6 +37,7 @@ class Pages(HostTest):
         """What a command writes, on both outputs, in the scratch folder."""
         path = f"{self.scratch}/bin:{os.environ['PATH']}"
         environment = {**os.environ, "PATH": path, "PYTHONPATH": str(PACKAGE), "BPFHOST": f"{self.scratch}/bin/bpfhost", "COLUMNS": "80"}
+        environment["C_INCLUDE_PATH"] = str(PACKAGE.parent / "c/include")
         # The pages show verdicts without the log, which adds lines if there is a program verifier_log.
         environment["VERIFIER_LOG"] = ""
         call = ["bash", "-c", command]
@@ -59,8 +60,7 @@ class Pages(HostTest):
         page = TUTORIAL.read_text()
         for name, text in zip(("flows.c", "labels.c", "bucket.c"), blocks(page, "c"), strict=True):
             (self.scratch / name).write_text(text)
-        for file in (EXAMPLE.parent / "c_filter/bpfhost.h", EXAMPLE / "sample.pcap"):
-            shutil.copy(file, self.scratch)
+        shutil.copy(EXAMPLE / "sample.pcap", self.scratch)
         for block in blocks(page, "console"):
             told = "".join(f"$ {command}\n{self.shell(command)}" for command in re.findall(r"^\$ (.*)$", block, re.M))
             self.assertEqual(TIME.sub("", told), TIME.sub("", block))

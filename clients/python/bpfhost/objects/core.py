@@ -22,7 +22,7 @@ _WORD = 4
 _OFFSET, _SIZE, _EXISTS, _SIGNED = 0, 1, 2, 3
 # A type with this name, three underscores and a suffix is a flavor of it.
 _FLAVOR = "___"
-_INSTEAD = "include bpfhost.h, not vmlinux.h, which has the types of one kernel"
+_INSTEAD = "include bpfhost/filter.h, not vmlinux.h, which has the types of one kernel"
 _LOADS_AND_STORES, _ALU = (1, 2, 3), (4, 7)
 
 

@@ -15,6 +15,7 @@ from bpfhost.objects import Form, ObjectError, ObjectFile, load_object
 from tests.common import TimedTest
 
 SOURCES = Path(__file__).resolve().parent / "sources"
+HEADERS = Path(__file__).resolve().parents[3] / "c/include"
 HAS_ELFTOOLS = importlib.util.find_spec("elftools") is not None
 
 needs_elftools = unittest.skipUnless(HAS_ELFTOOLS, "python3-pyelftools is missing")
@@ -36,7 +37,7 @@ def clang() -> str | None:
 
 def compile_object(source: Path, made: Path, *flags: str) -> Path:
     """Compiles a source for BPF with types and lines; the test fails if that fails."""
-    words = [clang() or "clang", "-O2", "-g", "-target", "bpf", f"-I{SOURCES}", *flags, "-c", str(source), "-o", str(made)]
+    words = [clang() or "clang", "-O2", "-g", "-target", "bpf", f"-I{SOURCES}", f"-I{HEADERS}", *flags, "-c", str(source), "-o", str(made)]
     ended = subprocess.run(words, capture_output=True, text=True, check=False)
     if ended.returncode:
         raise AssertionError(f"{' '.join(words)} failed:\n{ended.stderr}")

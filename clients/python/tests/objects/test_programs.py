@@ -115,7 +115,7 @@ class Lacking(ClangTest):
             "struct wide { int a, b; } __attribute__((preserve_access_index));\n"
             'SEC("socket") int f(struct wide *wide) { return wide->b; }'
         )
-        instead = "and the host has no kernel's types: include bpfhost.h, not vmlinux.h, which has the types of one kernel"
+        instead = "and the host has no kernel's types: include bpfhost/filter.h, not vmlinux.h, which has the types of one kernel"
         self.assertIn(f"function f in section socket has a CO-RE relocation of type struct wide, {instead}, at slot 0 (filter.c:3", told)
 
     def test_core_relocations_of_the_context(self) -> None:

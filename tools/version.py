@@ -38,6 +38,8 @@ PLACES = [
     *(Place(HEADER, rf"^#define BPFHOST_VERSION_{name} (\S+)$", form) for name, form in (("MAJOR", "{0}"), ("MINOR", "{1}"), ("PATCH", "{2}"))),
     Place(HEADER, r'^#define BPFHOST_VERSION "(.*)"$'),
     Place(HEADER, r'^/\* The version as text: "(.*)"\. \*/$'),
+    *(Place("crates/bpfhost_c/src/version.rt", rf"^const {name}: u32 = (\d+);$", form) for name, form in (("MAJOR", "{0}"), ("MINOR", "{1}"), ("PATCH", "{2}"))),
+    Place("clients/python/bpfhost/library.py", r'^VERSION = "(.*)"$', "{0}.{1}"),
     Place("clients/python/bpfhost/__init__.py", r'^__version__ = "(.*)"$'),
     Place("clients/rust/Cargo.toml", r'^version = "(.*)"$'),
     Place("clients/rust/Cargo.toml", r'^bpfhost-sys = .*version = "=(.*)" }$'),

@@ -232,16 +232,28 @@ int32_t bpfhost_c_handle_lent(bpfhost *handle, const uint8_t *frame, size_t fram
     return code;
 }
 
-int32_t bpfhost_c_run_packets(bpfhost *handle, uint16_t tenant, uint32_t fd, const bpfhost_context *contexts, size_t context_count,
-                              const uint8_t *bytes, size_t byte_count, const size_t *ends, size_t packets, uint32_t *results,
-                              size_t room, int32_t *status)
+uint32_t bpfhost_c_version(void)
 {
-    const struct piece pieces[] = {{handle, BPFHOST_HANDLE_SIZE, true},     {contexts, context_count * sizeof *contexts, false},
+    return BPFHOST_VERSION_NUMBER;
+}
+
+/* The library is one for this header or not. */
+uint32_t bpfhost_c_abi(void)
+{
+    return nondet_uint8_t();
+}
+
+int32_t bpfhost_c_run_packets(bpfhost *handle, uint16_t tenant, uint32_t fd, const uint32_t *contexts, size_t word_count,
+                              size_t context_words, const uint8_t *bytes, size_t byte_count, const size_t *ends, size_t packets,
+                              uint32_t *results, size_t room, int32_t *status)
+{
+    const struct piece pieces[] = {{handle, BPFHOST_HANDLE_SIZE, true},     {contexts, word_count * sizeof *contexts, false},
                                    {bytes, byte_count, false},              {ends, packets * sizeof *ends, false},
                                    {results, room * sizeof *results, true}, {status, sizeof *status, true}};
     (void)tenant, (void)fd;
     __CPROVER_assert(room == packets && packets <= PTRDIFF_MAX / sizeof *ends, "there are as many results as packets");
-    __CPROVER_assert(context_count <= PTRDIFF_MAX / sizeof *contexts, "there are no more contexts than an object has");
+    __CPROVER_assert(word_count <= PTRDIFF_MAX / sizeof *contexts, "there are no more contexts than an object has");
+    __CPROVER_assert(context_words != 0 && word_count % context_words == 0, "contexts are whole");
     return ask(pieces, 6);
 }
 

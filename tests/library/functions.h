@@ -1,11 +1,12 @@
 /* The functions of bpfhost.h that may write something: their objects, how they are called, and what a call has to do.
  *
  * Not here, since they write nothing: bpfhost_pair_code, bpfhost_bytes_at, bpfhost_frame_code, bpfhost_may_empty,
- * bpfhost_context_at, bpfhost_packets_code, bpfhost_written_code, bpfhost_run_code, bpfhost_scattered_run_code,
- * bpfhost_scattered_code, bpfhost_span_code, bpfhost_scattered_status, bpfhost_may_copy, bpfhost_code_text, bpfhost_reason_text,
- * bpfhost_version, bpfhost_get16, bpfhost_get32, bpfhost_frame_of_tenant. Since they test nothing: bpfhost_put16, bpfhost_put32,
+ * bpfhost_context_at, bpfhost_contexts_code, bpfhost_packets_code, bpfhost_written_code, bpfhost_run_code,
+ * bpfhost_scattered_run_code, bpfhost_scattered_code, bpfhost_span_code, bpfhost_scattered_status, bpfhost_may_copy,
+ * bpfhost_code_text, bpfhost_reason_text, bpfhost_version, bpfhost_library_version, bpfhost_get16, bpfhost_get32, bpfhost_frame_of_tenant. Since they test nothing: bpfhost_put16, bpfhost_put32,
  * bpfhost_put_bytes. In objects.c: bpfhost_are_apart, bpfhost_free. In saves.c, since it calls bpfhost_save_part again and again:
- * bpfhost_save. In scattered.c, since their packets lie anywhere: bpfhost_gather, bpfhost_run_some, bpfhost_run_scattered. */
+ * bpfhost_save. In scattered.c, since their packets lie anywhere: bpfhost_gather, bpfhost_run_some, bpfhost_run_scattered, and
+ * bpfhost_run_given, which tests nothing. */
 #ifndef FUNCTIONS_H
 #define FUNCTIONS_H
 
@@ -148,6 +149,47 @@ static bool holds_ask(const struct given *given, int code)
         && (code != BPFHOST_DONE || is_read((const bpfhost_reply *)given->at[2], lent_reply));
 }
 
+/* Replies of another version of the header: without their last field, and with one more. */
+#define SHORTER_REPLY offsetof(bpfhost_reply, slot)
+#define LONGER_REPLY (sizeof(bpfhost_reply) + 8)
+
+/* Whether a reply of a size has the bytes of another one, as far as it reaches, and zeros after them. */
+static bool is_part_of(const uint8_t *sized, size_t size, const bpfhost_reply *whole)
+{
+    size_t known = size < sizeof *whole ? size : sizeof *whole;
+    for (size_t i = known; i < size; i++)
+        if (sized[i] != 0)
+            return false;
+    return memcmp(sized, whole, offsetof(bpfhost_reply, slot) < known ? offsetof(bpfhost_reply, slot) : known) == 0
+        && (size < sizeof *whole || (((const bpfhost_reply *)(const void *)sized)->slot == whole->slot
+                                     && ((const bpfhost_reply *)(const void *)sized)->reason == whole->reason));
+}
+
+static int call_ask_sized(const struct given *given)
+{
+    return bpfhost_ask_sized((bpfhost *)given->at[0], given->at[1], given->counts[0], given->at[2], LONGER_REPLY);
+}
+
+static bool holds_ask_sized(const struct given *given, int code)
+{
+    bpfhost_reply whole;
+    return is_asked(given, given->counts[0], code) && asked.numbers[0] == given->counts[0]
+        && bpfhost_read_reply(lent_reply, sizeof lent_reply, &whole) == BPFHOST_DONE
+        && (code != BPFHOST_DONE || is_part_of((const uint8_t *)given->at[2], LONGER_REPLY, &whole));
+}
+
+static int call_read_reply_sized(const struct given *given)
+{
+    return bpfhost_read_reply_sized(given->at[0], given->counts[0], given->at[1], SHORTER_REPLY);
+}
+
+static bool holds_read_reply_sized(const struct given *given, int code)
+{
+    bpfhost_reply whole;
+    return code == BPFHOST_DONE && bpfhost_read_reply(given->at[0], given->counts[0], &whole) == BPFHOST_DONE
+        && is_part_of((const uint8_t *)given->at[1], SHORTER_REPLY, &whole);
+}
+
 static int call_read_reply(const struct given *given)
 {
     return bpfhost_read_reply(given->at[0], given->counts[0], (bpfhost_reply *)given->at[1]);
@@ -187,7 +229,7 @@ static bool ran_packets(const struct given *given, const void *context, size_t c
 {
     size_t packets = given->counts[1];
     return is_asked(given, 0, code) && asked.numbers[0] == 258 && asked.numbers[1] == 4 && asked.numbers[2] == given->counts[0]
-        && asked.numbers[3] == packets && asked.numbers[4] == packets && asked.numbers[5] == contexts
+        && asked.numbers[3] == packets && asked.numbers[4] == packets && asked.numbers[5] == contexts && asked.context_words == 10
         && are_words_of(&asked.context, context) && (context == NULL || asked.at[1] == context)
         && (given->counts[0] == 0 || asked.at[2] == given->at[2])
         && (packets == 0 || (asked.at[3] == given->at[3] && asked.at[4] == given->at[4]))
@@ -212,6 +254,24 @@ static bool holds_run_packets_with(const struct given *given, int code)
 {
     size_t contexts = given->counts[2];
     return ran_packets(given, contexts == 0 ? NULL : given->at[1], contexts == 0 ? 1 : contexts, code);
+}
+
+/* Contexts of another version of the header, with one word more. */
+#define LONGER_CONTEXT (sizeof(bpfhost_context) + sizeof(uint32_t))
+
+static int call_run_packets_sized(const struct given *given)
+{
+    return bpfhost_run_packets_sized((bpfhost *)given->at[0], 258, 4, given->at[1], LONGER_CONTEXT, given->counts[2], given->at[2],
+                                     given->counts[0], (const size_t *)given->at[3], given->counts[1], (uint32_t *)given->at[4],
+                                     (int32_t *)given->at[5]);
+}
+
+static bool holds_run_packets_sized(const struct given *given, int code)
+{
+    size_t contexts = given->counts[2], words = asked.context_words;
+    asked.context_words = 10;
+    return words == (contexts == 0 ? 10 : 11)
+        && ran_packets(given, contexts == 0 ? NULL : given->at[1], contexts == 0 ? 1 : contexts, code);
 }
 
 static int call_save_part(const struct given *given)
@@ -378,6 +438,10 @@ static const struct function functions[] = {
     {"bpfhost_ask", call_ask, holds_ask, false, 0, 3, 1, {HOST, FRAME, ONE("reply", bpfhost_reply, WRITTEN)}},
     {"bpfhost_read_reply", call_read_reply, holds_read_reply, false, sizeof lent_reply, 2, 1,
      {{"bytes", 1, sizeof lent_reply, 1, 0, READ, lent_reply}, ONE("reply", bpfhost_reply, WRITTEN)}},
+    {"bpfhost_ask_sized", call_ask_sized, holds_ask_sized, false, 0, 3, 1,
+     {HOST, FRAME, {"reply", LONGER_REPLY, 1, alignof(bpfhost_reply), UNCOUNTED, WRITTEN, NULL}}},
+    {"bpfhost_read_reply_sized", call_read_reply_sized, holds_read_reply_sized, false, sizeof lent_reply, 2, 1,
+     {{"bytes", 1, sizeof lent_reply, 1, 0, READ, lent_reply}, {"reply", SHORTER_REPLY, 1, alignof(bpfhost_reply), UNCOUNTED, WRITTEN, NULL}}},
     {"bpfhost_context_words", call_context_words, holds_context_words, false, 0, 2, 0,
      {CONTEXT, {"words", 4, 10, alignof(uint32_t), UNCOUNTED, WRITTEN, NULL}}},
     {"bpfhost_run_packets", call_run_packets, holds_run_packets, false, 0, 6, 2,
@@ -386,6 +450,10 @@ static const struct function functions[] = {
       {"results", sizeof(uint32_t), 3, alignof(uint32_t), 1, WRITTEN | NULL_IF_EMPTY, NULL}, ONE("status", int32_t, WRITTEN)}},
     {"bpfhost_run_packets_with", call_run_packets_with, holds_run_packets_with, false, 0, 6, 3,
      {HOST, {"contexts", sizeof(bpfhost_context), 2, alignof(bpfhost_context), 2, READ | NULL_IF_EMPTY, NULL},
+      BYTES("bytes", 11, 0, READ | NULL_IF_EMPTY), {"ends", sizeof(size_t), 3, alignof(size_t), 1, READ | NULL_IF_EMPTY, NULL},
+      {"results", sizeof(uint32_t), 3, alignof(uint32_t), 1, WRITTEN | NULL_IF_EMPTY, NULL}, ONE("status", int32_t, WRITTEN)}},
+    {"bpfhost_run_packets_sized", call_run_packets_sized, holds_run_packets_sized, false, 0, 6, 3,
+     {HOST, {"contexts", LONGER_CONTEXT, 2, alignof(bpfhost_context), 2, READ | NULL_IF_EMPTY, NULL},
       BYTES("bytes", 11, 0, READ | NULL_IF_EMPTY), {"ends", sizeof(size_t), 3, alignof(size_t), 1, READ | NULL_IF_EMPTY, NULL},
       {"results", sizeof(uint32_t), 3, alignof(uint32_t), 1, WRITTEN | NULL_IF_EMPTY, NULL}, ONE("status", int32_t, WRITTEN)}},
     {"bpfhost_save_part", call_save_part, holds_save_part, false, 0, 2, 0, {HOST, ONE("frames", bpfhost_bytes, WRITTEN)}},

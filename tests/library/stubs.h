@@ -17,7 +17,11 @@ static struct {
     const void *at[MOST_ASKED];
     size_t numbers[MOST_ASKED];
     bpfhost_context context; /* the first one */
+    size_t context_words;
 } asked;
+
+/* The binary interface of the library. */
+static uint32_t abi_of_library = BPFHOST_ABI;
 
 /* Reports what the header does wrong, and ends the test. */
 static void fails(const char *what);
@@ -71,6 +75,16 @@ static int32_t answer(const struct piece *pieces, size_t count)
     return asked.code;
 }
 
+uint32_t bpfhost_c_version(void)
+{
+    return BPFHOST_VERSION_NUMBER;
+}
+
+uint32_t bpfhost_c_abi(void)
+{
+    return abi_of_library;
+}
+
 int32_t bpfhost_c_new(bpfhost *handle, size_t tenants, uint64_t first, uint64_t second)
 {
     static const uint8_t empty[BPFHOST_HANDLE_SIZE] = {0};
@@ -113,24 +127,27 @@ int32_t bpfhost_c_handle_lent(bpfhost *handle, const uint8_t *frame, size_t fram
     return asked.code;
 }
 
-int32_t bpfhost_c_run_packets(bpfhost *handle, uint16_t tenant, uint32_t fd, const bpfhost_context *contexts, size_t context_count,
-                              const uint8_t *bytes, size_t byte_count, const size_t *ends, size_t packets, uint32_t *results,
-                              size_t room, int32_t *status)
+int32_t bpfhost_c_run_packets(bpfhost *handle, uint16_t tenant, uint32_t fd, const uint32_t *contexts, size_t word_count,
+                              size_t context_words, const uint8_t *bytes, size_t byte_count, const size_t *ends, size_t packets,
+                              uint32_t *results, size_t room, int32_t *status)
 {
-    const struct piece pieces[] = {{handle, BPFHOST_HANDLE_SIZE, true},     {contexts, context_count * sizeof *contexts, false},
+    const struct piece pieces[] = {{handle, BPFHOST_HANDLE_SIZE, true},     {contexts, word_count * sizeof *contexts, false},
                                    {bytes, byte_count, false},              {ends, packets * sizeof *ends, false},
                                    {results, room * sizeof *results, true}, {status, sizeof *status, true}};
-    if (packets > PTRDIFF_MAX / sizeof *ends || room > PTRDIFF_MAX / sizeof *results || context_count > PTRDIFF_MAX / sizeof *contexts)
+    if (packets > PTRDIFF_MAX / sizeof *ends || room > PTRDIFF_MAX / sizeof *results || word_count > PTRDIFF_MAX / sizeof *contexts)
         fails("a proved function is given more elements than an object has");
+    if (context_words == 0 || word_count % context_words != 0)
+        fails("a proved function is given contexts that are not whole");
     record(pieces, 6);
     asked.numbers[0] = tenant;
     asked.numbers[1] = fd;
     asked.numbers[2] = byte_count;
     asked.numbers[3] = packets;
     asked.numbers[4] = room;
-    asked.numbers[5] = context_count;
-    if (context_count != 0)
-        asked.context = *contexts;
+    asked.numbers[5] = word_count / context_words;
+    asked.context_words = context_words;
+    if (word_count * sizeof *contexts >= sizeof asked.context)
+        memcpy(&asked.context, contexts, sizeof asked.context);
     return answer(pieces, 6);
 }
 

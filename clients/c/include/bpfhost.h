@@ -1,4 +1,5 @@
-/* bpfhost.h: bpfhost as a library for C11 and C++11. A host of 1 to 64 tenants; a frame in, a reply out.
+/* bpfhost.h: bpfhost as a library for C11 and C++11. A host of 1 to 64 tenants; a frame in, a reply out. What a filter in C includes is
+ * another header, bpfhost/filter.h.
  *
  * The functions bpfhost_c_* are Rattle, proved in crates/bpfhost_c. All else here is C, which nobody proves: it tests what a
  * proved function can't be asked about, as a null pointer, builds frames and reads replies. docs/PROTOCOL.md has the commands,
@@ -36,19 +37,38 @@
 
 #ifdef __cplusplus
 extern "C" {
+/* These functions are C, and C has no other casts. */
+#ifdef __GNUC__
+#pragma GCC diagnostic push
+#pragma GCC diagnostic ignored "-Wold-style-cast"
+#endif
 #endif
 
-/* ---- version: that of this header, and of the library that it came with. docs/RELEASING.md says what may change in which version. */
+/* ---- version: that of this header, with which a caller is compiled. docs/RELEASING.md says what may change in which version. The functions
+ * in this file become part of the caller, so the library that it meets when it runs may be another one: bpfhost_library_version asks it. */
 
 #define BPFHOST_VERSION_MAJOR 0
-#define BPFHOST_VERSION_MINOR 1
+#define BPFHOST_VERSION_MINOR 2
 #define BPFHOST_VERSION_PATCH 0
-#define BPFHOST_VERSION "0.1.0"
+#define BPFHOST_VERSION "0.2.0"
 
-/* The version as text: "0.1.0". */
+/* The version as one number: its three numbers in eight bits each, as bpfhost_library_version has them. */
+#define BPFHOST_VERSION_NUMBER (BPFHOST_VERSION_MAJOR * 65536 + BPFHOST_VERSION_MINOR * 256 + BPFHOST_VERSION_PATCH)
+
+/* The version as text: "0.2.0". */
 static inline const char *bpfhost_version(void)
 {
     return BPFHOST_VERSION;
+}
+
+/* Proved: the version of the library, and the number of its binary interface. They may be called before anything else. */
+uint32_t bpfhost_c_version(void);
+uint32_t bpfhost_c_abi(void);
+
+/* The version of the library that is linked, in the form of BPFHOST_VERSION_NUMBER. */
+static inline uint32_t bpfhost_library_version(void)
+{
+    return bpfhost_c_version();
 }
 
 /* ---- limits: docs/PROTOCOL.md has the others. */
@@ -61,6 +81,7 @@ static inline const char *bpfhost_version(void)
 #define BPFHOST_LONGEST_PAYLOAD 4096 /* the most bytes of a reply's payload */
 #define BPFHOST_TEST_RUN_HEAD 48 /* the bytes of a PROG_TEST_RUN frame before its packet */
 #define BPFHOST_LONGEST_PART 2244648 /* the most bytes of a part of a save: a full map with the longest keys */
+#define BPFHOST_ABI 2 /* the number of the library's binary interface, which changes with its soname */
 /* end of limits */
 
 /* ---- codes of calls. Each call returns one; a status in a reply is another thing. ERR_NO_HOST and ERR_HAS_HOST come only from
@@ -75,6 +96,8 @@ enum bpfhost_code {
     BPFHOST_ERR_NO_MEMORY = -4,        /* out of memory for the host */
     BPFHOST_ERR_BUFFER_TOO_SMALL = -5, /* the buffer is smaller than the longest reply */
     BPFHOST_ERR_NO_PART = -6,          /* the tenant has no such part, or is not served */
+    BPFHOST_ERR_TOO_BIG = -7,          /* a struct has a word that the library does not know, and that is not 0 */
+    BPFHOST_ERR_SIZE = -8,             /* a struct has no size, or one of no whole words */
     /* only of this header; if more than one of them holds, the call returns one that does */
     BPFHOST_ERR_NULL = -16,            /* a pointer is null */
     BPFHOST_ERR_LENGTH = -17,          /* a length is above PTRDIFF_MAX */
@@ -82,7 +105,8 @@ enum bpfhost_code {
     BPFHOST_ERR_NO_REPLY = -19,        /* the bytes are not one whole reply */
     BPFHOST_ERR_STOPPED = -20,         /* the sink stopped the save */
     BPFHOST_ERR_REFUSED = -21,         /* a frame that restores the tenant is refused */
-    BPFHOST_ERR_BAD_FRAMES = -22       /* the bytes are not whole frames of this tenant */
+    BPFHOST_ERR_BAD_FRAMES = -22,      /* the bytes are not whole frames of this tenant */
+    BPFHOST_ERR_VERSION = -23          /* the library is of another binary interface than the header */
     /* end of codes */
 };
 
@@ -106,7 +130,10 @@ typedef struct bpfhost_seed {
     uint64_t words[2];
 } bpfhost_seed;
 
-/* What a run finds in its context after the packet's length: the fields of the kernel's __sk_buff, with any values. */
+/* What a run finds in its context after the packet's length: the fields of the kernel's __sk_buff, with any values. A later version may
+ * have more words after these. So each call has the size of a context, as one of bpf(2) has that of its attributes: a word
+ * that a caller does not have counts as 0, and one that the library does not know has to be 0 (ERR_TOO_BIG). Bytes, a packet and a seed
+ * stay as they are. */
 typedef struct bpfhost_context {
     uint32_t pkt_type, mark, queue_mapping, protocol, vlan_present, vlan_tci, vlan_proto, priority, ingress_ifindex, ifindex;
 } bpfhost_context;
@@ -118,15 +145,15 @@ typedef struct bpfhost_packet {
 } bpfhost_packet;
 
 /* The proved functions. No pointer is null, no length is above PTRDIFF_MAX, what they may write overlaps nothing else that they
- * are given, `*refused` is false or true, and `reply->at` leads to `reply->length` bytes, as `frames->at` does. Call those below in their
- * place. */
+ * are given, `*refused` is false or true, and `reply->at` leads to `reply->length` bytes, as `frames->at` does. The contexts of
+ * bpfhost_c_run_packets are `word_count` words, and each context has `context_words` of them. Call those below in their place. */
 int32_t bpfhost_c_new(bpfhost *handle, size_t tenants, uint64_t first, uint64_t second);
 int32_t bpfhost_c_handle(bpfhost *handle, const uint8_t *frame, size_t frame_length, uint8_t *room, size_t room_length,
                          size_t *written);
 int32_t bpfhost_c_handle_lent(bpfhost *handle, const uint8_t *frame, size_t frame_length, bpfhost_bytes *reply);
-int32_t bpfhost_c_run_packets(bpfhost *handle, uint16_t tenant, uint32_t fd, const bpfhost_context *contexts, size_t context_count,
-                              const uint8_t *bytes, size_t byte_count, const size_t *ends, size_t packets, uint32_t *results,
-                              size_t room, int32_t *status);
+int32_t bpfhost_c_run_packets(bpfhost *handle, uint16_t tenant, uint32_t fd, const uint32_t *contexts, size_t word_count,
+                              size_t context_words, const uint8_t *bytes, size_t byte_count, const size_t *ends, size_t packets,
+                              uint32_t *results, size_t room, int32_t *status);
 int32_t bpfhost_c_save(bpfhost *handle, uint16_t tenant, size_t part, bpfhost_bytes *frames);
 int32_t bpfhost_c_memory_refused(bpfhost *handle, uint16_t tenant, bool *refused);
 void bpfhost_c_free(bpfhost *handle);
@@ -172,11 +199,14 @@ static inline bool bpfhost_random_seed(bpfhost_seed *seed)
 }
 
 /* Makes a host for so many tenants, numbered from 0, with the seed of its hash maps; `*host` leads to it then. It takes some 260 KiB
- * for each tenant, which bpfhost_free gives back. ERR_TENANT_COUNT, ERR_NO_MEMORY, ERR_NULL, ERR_OVERLAP: nothing is written. */
+ * for each tenant, which bpfhost_free gives back. ERR_TENANT_COUNT, ERR_NO_MEMORY, ERR_NULL, ERR_OVERLAP: nothing is written. Nor is
+ * it with ERR_VERSION: the library is of another binary interface than this header. */
 static inline int bpfhost_new(bpfhost **host, size_t tenants, const bpfhost_seed *seed)
 {
     bpfhost *made;
     int code = bpfhost_pair_code(host, sizeof *host, seed, sizeof *seed);
+    if (code == BPFHOST_DONE && bpfhost_c_abi() != BPFHOST_ABI)
+        code = BPFHOST_ERR_VERSION;
     if (code != BPFHOST_DONE)
         return code;
     made = (bpfhost *)calloc(1, BPFHOST_HANDLE_SIZE);
@@ -267,11 +297,25 @@ static inline int bpfhost_context_words(const bpfhost_context *context, uint32_t
     return BPFHOST_DONE;
 }
 
-/* What is wrong with what a run of many packets reads, together with an object that it may write, or DONE. */
-static inline int bpfhost_packets_code(const void *out, size_t out_length, const bpfhost_context *contexts, size_t context_count,
-                                       const uint8_t *bytes, size_t byte_count, const size_t *ends, size_t packets)
+/* Contexts of any version, one after another: their address, the bytes of each, and how many there are. */
+typedef struct bpfhost_contexts {
+    const void *at;
+    size_t size, count;
+} bpfhost_contexts;
+
+/* What is wrong with contexts by themselves, or DONE. */
+static inline int bpfhost_contexts_code(bpfhost_contexts contexts)
 {
-    int code = bpfhost_pair_code(out, out_length, contexts, context_count * sizeof *contexts);
+    if (contexts.size == 0 || contexts.size % sizeof(uint32_t) != 0)
+        return BPFHOST_ERR_SIZE;
+    return contexts.count > PTRDIFF_MAX / contexts.size ? BPFHOST_ERR_LENGTH : BPFHOST_DONE;
+}
+
+/* What is wrong with what a run of many packets reads, together with an object that it may write, or DONE. */
+static inline int bpfhost_packets_code(const void *out, size_t out_length, bpfhost_contexts contexts, const uint8_t *bytes,
+                                       size_t byte_count, const size_t *ends, size_t packets)
+{
+    int code = bpfhost_pair_code(out, out_length, contexts.at, contexts.count * contexts.size);
     if (code == BPFHOST_DONE)
         code = bpfhost_pair_code(out, out_length, bytes, byte_count);
     if (code == BPFHOST_DONE)
@@ -291,47 +335,66 @@ static inline int bpfhost_written_code(const bpfhost *host, const uint32_t *resu
 }
 
 /* What is wrong with the objects of a run of many packets, or DONE. */
-static inline int bpfhost_run_code(const bpfhost *host, const bpfhost_context *contexts, size_t context_count, const uint8_t *bytes,
-                                   size_t byte_count, const size_t *ends, size_t packets, const uint32_t *results,
-                                   const int32_t *status)
+static inline int bpfhost_run_code(const bpfhost *host, bpfhost_contexts contexts, const uint8_t *bytes, size_t byte_count,
+                                   const size_t *ends, size_t packets, const uint32_t *results, const int32_t *status)
 {
-    int code;
-    if (packets > PTRDIFF_MAX / sizeof *ends || context_count > PTRDIFF_MAX / sizeof *contexts)
-        return BPFHOST_ERR_LENGTH;
-    code = bpfhost_packets_code(host, BPFHOST_HANDLE_SIZE, contexts, context_count, bytes, byte_count, ends, packets);
+    int code = packets > PTRDIFF_MAX / sizeof *ends ? (int)BPFHOST_ERR_LENGTH : bpfhost_contexts_code(contexts);
     if (code == BPFHOST_DONE)
-        code = bpfhost_packets_code(results, packets * sizeof *results, contexts, context_count, bytes, byte_count, ends, packets);
+        code = bpfhost_packets_code(host, BPFHOST_HANDLE_SIZE, contexts, bytes, byte_count, ends, packets);
     if (code == BPFHOST_DONE)
-        code = bpfhost_packets_code(status, sizeof *status, contexts, context_count, bytes, byte_count, ends, packets);
+        code = bpfhost_packets_code(results, packets * sizeof *results, contexts, bytes, byte_count, ends, packets);
+    if (code == BPFHOST_DONE)
+        code = bpfhost_packets_code(status, sizeof *status, contexts, bytes, byte_count, ends, packets);
     return code == BPFHOST_DONE ? bpfhost_written_code(host, results, packets, status) : code;
+}
+
+/* The proved run of many packets, with contexts that were tested. */
+static inline int bpfhost_run_given(bpfhost *host, uint16_t tenant, uint32_t fd, bpfhost_contexts contexts, const uint8_t *bytes,
+                                    size_t byte_count, const size_t *ends, size_t packets, uint32_t *results, int32_t *status)
+{
+    size_t words = contexts.size / sizeof(uint32_t);
+    return (int)bpfhost_c_run_packets(host, tenant, fd, (const uint32_t *)contexts.at, contexts.count * words, words, bytes,
+                                      byte_count, ends, packets, results, packets, status);
 }
 
 /* Runs a program of a tenant on many packets, one after another, as PROG_TEST_RUN does on each, without frames and replies. The
  * packets lie one after another in `bytes`, and packet i ends before byte ends[i]. With one context it is that of all packets, with as
  * many contexts as packets each has its own, and with none, whose address may be null, all have zeros; the packet's length is always
- * its own. `results` has room for as many results as packets, and `status` gets 0. What PROG_TEST_RUN would refuse is refused before
+ * its own. A context has `context_size` bytes, whole words: fewer than bpfhost_context has if the caller is older, more if it is newer.
+ * `results` has room for as many results as packets, and `status` gets 0. What PROG_TEST_RUN would refuse is refused before
  * the first packet, and `status` gets its error: -1 for a tenant that is not served, -9 and -22 for a descriptor that is not open or
  * names a map, -7 for a packet of more than 65,536 bytes; -22 too for another number of contexts, and for ends that are out of order
- * or outside the bytes. Then no packet was run, and `results` is as it was. ERR_NO_HOST, ERR_NULL, ERR_LENGTH, ERR_OVERLAP: nothing is
- * written, and no tenant's state has changed. */
-static inline int bpfhost_run_packets_with(bpfhost *host, uint16_t tenant, uint32_t fd, const bpfhost_context *contexts,
-                                           size_t context_count, const void *bytes, size_t byte_count, const size_t *ends,
-                                           size_t packets, uint32_t *results, int32_t *status)
+ * or outside the bytes. Then no packet was run, and `results` is as it was. ERR_NULL, ERR_LENGTH, ERR_OVERLAP; ERR_SIZE for a context of
+ * no whole words; ERR_TOO_BIG for one with a word that the library does not know and that is not 0; ERR_NO_MEMORY for contexts of another
+ * size than the library's: nothing is written, and no tenant's state has changed. */
+static inline int bpfhost_run_packets_sized(bpfhost *host, uint16_t tenant, uint32_t fd, const void *contexts,
+                                            size_t context_size, size_t context_count, const void *bytes, size_t byte_count,
+                                            const size_t *ends, size_t packets, uint32_t *results, int32_t *status)
 {
     static const size_t no_ends[1] = {0};
     uint32_t no_results[1] = {0};
-    const bpfhost_context *c = context_count == 0 ? bpfhost_context_at(NULL) : contexts;
-    size_t given = context_count == 0 ? 1 : context_count;
+    const bpfhost_contexts none = {bpfhost_context_at(NULL), sizeof(bpfhost_context), 1};
+    const bpfhost_contexts some = {contexts, context_size, context_count};
+    const bpfhost_contexts given = context_count == 0 ? none : some;
     const uint8_t *at = bpfhost_bytes_at(bytes, byte_count);
     const size_t *stops = packets == 0 ? no_ends : ends;
     uint32_t *room = packets == 0 ? no_results : results;
     int32_t told = 0;
-    int code = bpfhost_run_code(host, c, given, at, byte_count, stops, packets, room, status);
+    int code = bpfhost_run_code(host, given, at, byte_count, stops, packets, room, status);
     if (code == BPFHOST_DONE)
-        code = (int)bpfhost_c_run_packets(host, tenant, fd, c, given, at, byte_count, stops, packets, room, packets, &told);
+        code = bpfhost_run_given(host, tenant, fd, given, at, byte_count, stops, packets, room, &told);
     if (code == BPFHOST_DONE)
         *status = told;
     return code;
+}
+
+/* The same with contexts of this header. */
+static inline int bpfhost_run_packets_with(bpfhost *host, uint16_t tenant, uint32_t fd, const bpfhost_context *contexts,
+                                           size_t context_count, const void *bytes, size_t byte_count, const size_t *ends,
+                                           size_t packets, uint32_t *results, int32_t *status)
+{
+    return bpfhost_run_packets_sized(host, tenant, fd, contexts, sizeof *contexts, context_count, bytes, byte_count, ends, packets,
+                                     results, status);
 }
 
 /* The same with one context for all packets, which may be null for zeros. */
@@ -456,8 +519,8 @@ static inline int bpfhost_run_some(bpfhost *host, uint16_t tenant, uint32_t fd, 
         gathered.ends[0] = packets->length;
     }
     *done = many;
-    return (int)bpfhost_c_run_packets(host, tenant, fd, contexts, is_shared ? 1 : many, at, gathered.ends[many - 1], gathered.ends,
-                                      many, results, many, status);
+    const bpfhost_contexts given = {contexts, sizeof *contexts, is_shared ? 1 : many};
+    return bpfhost_run_given(host, tenant, fd, given, at, gathered.ends[many - 1], gathered.ends, many, results, status);
 }
 
 /* Runs a program of a tenant on packets that lie anywhere, as recvmmsg, the rings of packet(7) and DPDK's mbufs have them. It does what
@@ -479,14 +542,19 @@ static inline int bpfhost_run_scattered(bpfhost *host, uint16_t tenant, uint32_t
     uint8_t *room = buffer_length == 0 ? no_bytes : (uint8_t *)buffer;
     uint32_t *out = count == 0 ? no_results : results;
     size_t given = context_count == 0 ? 1 : context_count, done = 0, some = 0;
+    const bpfhost_contexts first = {c, sizeof *c, 1}, all = {c, sizeof *c, given};
     int32_t wrong, told = 0;
     int code = bpfhost_scattered_run_code(host, c, given, p, count, room, buffer_length, out, status);
     if (code != BPFHOST_DONE)
         return code;
     wrong = bpfhost_scattered_status(given, p, count);
+    /* A library of another version may not know a word of a context: it reads all of them before the first packet. */
+    if (given != 1 && bpfhost_library_version() != BPFHOST_VERSION_NUMBER)
+        code = bpfhost_run_given(host, tenant, fd, all, no_bytes, 0, no_ends, 0, no_results, &told);
+    told = 0;
     /* The errors of no packets, those of the tenant and the descriptor, come before those of packets. */
-    if (wrong != 0 || count == 0)
-        code = (int)bpfhost_c_run_packets(host, tenant, fd, c, 1, no_bytes, 0, no_ends, 0, no_results, 0, &told);
+    if (code == BPFHOST_DONE && (wrong != 0 || count == 0))
+        code = bpfhost_run_given(host, tenant, fd, first, no_bytes, 0, no_ends, 0, no_results, &told);
     told = told == 0 ? wrong : told;
     while (code == BPFHOST_DONE && told == 0 && done < count) {
         const bpfhost_context *own = given == 1 ? c : c + done;
@@ -738,6 +806,7 @@ static inline size_t bpfhost_frame_close(void *frame, size_t room, uint16_t tena
 
 /* ---- replies */
 
+/* A later version may have more fields after these: bpfhost_read_reply_sized and bpfhost_ask_sized take the size. */
 typedef struct bpfhost_reply {
     uint16_t tenant;
     uint16_t command;
@@ -775,6 +844,21 @@ static inline int bpfhost_read_reply(const void *bytes, size_t length, bpfhost_r
     return BPFHOST_DONE;
 }
 
+/* The same for a reply of `size` bytes, that of another version of this header: it gets as many of its bytes as this header knows, and
+ * zeros after them. ERR_SIZE: it has no byte. */
+static inline int bpfhost_read_reply_sized(const void *bytes, size_t length, void *reply, size_t size)
+{
+    bpfhost_reply known;
+    int code = bpfhost_pair_code(bytes, length, reply, size);
+    if (code == BPFHOST_DONE)
+        code = size == 0 ? (int)BPFHOST_ERR_SIZE : bpfhost_read_reply(bytes, length, &known);
+    if (code == BPFHOST_DONE) {
+        memset(reply, 0, size);
+        memcpy(reply, &known, size < sizeof known ? size : sizeof known);
+    }
+    return code;
+}
+
 /* Handles a frame and reads the reply, whose payload is lent until the next call on this host. ERR_NO_HOST, ERR_NULL,
  * ERR_LENGTH, ERR_OVERLAP: nothing is written, and no tenant's state has changed. */
 static inline int bpfhost_ask(bpfhost *host, const void *frame, size_t frame_length, bpfhost_reply *reply)
@@ -785,6 +869,17 @@ static inline int bpfhost_ask(bpfhost *host, const void *frame, size_t frame_len
     if (code == BPFHOST_DONE)
         code = (int)bpfhost_c_handle_lent(host, at, frame_length, &lent);
     return code == BPFHOST_DONE ? bpfhost_read_reply(lent.at, lent.length, reply) : code;
+}
+
+/* The same for a reply of `size` bytes, as bpfhost_read_reply_sized has it. ERR_SIZE: it has no byte, and no tenant's state has changed. */
+static inline int bpfhost_ask_sized(bpfhost *host, const void *frame, size_t frame_length, void *reply, size_t size)
+{
+    const uint8_t *at = bpfhost_bytes_at(frame, frame_length);
+    bpfhost_bytes lent = {bpfhost_bytes_at(NULL, 0), 0};
+    int code = bpfhost_frame_code(host, at, frame_length, reply, size);
+    if (code == BPFHOST_DONE)
+        code = size == 0 ? (int)BPFHOST_ERR_SIZE : (int)bpfhost_c_handle_lent(host, at, frame_length, &lent);
+    return code == BPFHOST_DONE ? bpfhost_read_reply_sized(lent.at, lent.length, reply, size) : code;
 }
 
 /* The length of the frame at the front of bytes, after its length field, if the frame is whole and this tenant's; else 0. */
@@ -835,6 +930,8 @@ static inline const char *bpfhost_code_text(int code)
     case BPFHOST_ERR_NO_MEMORY: return "out of memory for the host";
     case BPFHOST_ERR_BUFFER_TOO_SMALL: return "the buffer is smaller than the longest reply";
     case BPFHOST_ERR_NO_PART: return "the tenant has no such part, or is not served";
+    case BPFHOST_ERR_TOO_BIG: return "a struct has a word that the library does not know, and that is not 0";
+    case BPFHOST_ERR_SIZE: return "a struct has no size, or one of no whole words";
     case BPFHOST_ERR_NULL: return "a pointer is null";
     case BPFHOST_ERR_LENGTH: return "a length is above PTRDIFF_MAX";
     case BPFHOST_ERR_OVERLAP: return "an object that the call may write, the handle included, overlaps another one";
@@ -842,6 +939,7 @@ static inline const char *bpfhost_code_text(int code)
     case BPFHOST_ERR_STOPPED: return "the sink stopped the save";
     case BPFHOST_ERR_REFUSED: return "a frame that restores the tenant is refused";
     case BPFHOST_ERR_BAD_FRAMES: return "the bytes are not whole frames of this tenant";
+    case BPFHOST_ERR_VERSION: return "the library is of another binary interface than the header";
     /* end of texts of codes */
     default: return "no code of bpfhost";
     }
@@ -893,6 +991,9 @@ static inline const char *bpfhost_reason_text(uint16_t reason)
 }
 
 #ifdef __cplusplus
+#ifdef __GNUC__
+#pragma GCC diagnostic pop
+#endif
 }
 #endif
 

@@ -9,13 +9,18 @@ import ctypes
 from dataclasses import dataclass
 from typing import Any
 
-# Codes of a save: there is no memory for the part, or there are no more parts.
-NO_MEMORY, NO_PART = -4, -6
+# Codes: there is no memory for a host, for a part of a save or for contexts; there are no more parts; the library does not know a word of a
+# context.
+NO_MEMORY, NO_PART, TOO_BIG = -4, -6, -7
+# The number of the binary interface with these functions, and the words of a context.
+ABI, CONTEXT_WORDS = 2, 10
 _AT, _SIZE = ctypes.c_void_p, ctypes.c_size_t
 _PARAMETERS: dict[str, tuple[Any, ...]] = {
+    "version": (),
+    "abi": (),
     "new": (_AT, _SIZE, ctypes.c_uint64, ctypes.c_uint64),
     "handle": (_AT, _AT, _SIZE, _AT, _SIZE, _AT),
-    "run_packets": (_AT, ctypes.c_uint16, ctypes.c_uint32, _AT, _SIZE, _AT, _SIZE, _AT, _SIZE, _AT, _SIZE, _AT),
+    "run_packets": (_AT, ctypes.c_uint16, ctypes.c_uint32, _AT, _SIZE, _SIZE, _AT, _SIZE, _AT, _SIZE, _AT, _SIZE, _AT),
     "save": (_AT, ctypes.c_uint16, _SIZE, _AT),
     "memory_refused": (_AT, ctypes.c_uint16, _AT),
     "free": (_AT,),
@@ -24,8 +29,10 @@ _PARAMETERS: dict[str, tuple[Any, ...]] = {
 
 @dataclass
 class Functions:
-    """The functions of an opened library. Each returns a code, 0 if it is done; only `free` returns nothing."""
+    """The functions of an opened library. Each returns a code, 0 if it is done; but `version` and `abi` return numbers, and `free` nothing."""
 
+    version: Any
+    abi: Any
     new: Any
     handle: Any
     run_packets: Any
@@ -41,13 +48,16 @@ class Functions:
 
 
 def functions_of(path: str, keeps_lock: bool = False) -> Functions:
-    """Opens a library. Raises OSError if it is no shared object, and AttributeError if one of the functions is missing.
+    """Opens a library. Raises OSError if it is no shared object, and AttributeError if one of the functions is missing, or if they are
+    those of another binary interface.
 
     A call releases Python's global interpreter lock. With `keeps_lock` only a run of packets does: that is better for one thread, and short
     calls.
     """
     long = ctypes.CDLL(path)
     short = ctypes.PyDLL(path) if keeps_lock else long
+    if (abi := _function(short, "abi")()) != ABI:
+        raise AttributeError(f"its functions are of the binary interface {abi}, and this client calls those of {ABI}")
     return Functions(**{name: _function(long if name == "run_packets" else short, name) for name in _PARAMETERS})
 
 
@@ -55,5 +65,12 @@ def _function(opened: ctypes.CDLL, name: str) -> Any:
     function = getattr(opened, f"bpfhost_c_{name}", None)
     if function is None:
         raise AttributeError(f"it has no bpfhost_c_{name}")
-    function.argtypes, function.restype = _PARAMETERS[name], None if name == "free" else ctypes.c_int32
+    function.argtypes = _PARAMETERS[name]
+    function.restype = None if name == "free" else ctypes.c_uint32 if name in ("version", "abi") else ctypes.c_int32
     return function
+
+
+def version_text(functions: Functions) -> str:
+    """The version of a library, as it is written."""
+    number = functions.version()
+    return f"{number >> 16}.{number >> 8 & 255}.{number & 255}"

@@ -22,20 +22,24 @@ from types import TracebackType
 from bpfhost import frames
 from bpfhost.errors import BpfhostError
 from bpfhost.frames import NO_CONTEXT, Context
-from bpfhost.functions import NO_PART, functions_of
+from bpfhost.functions import CONTEXT_WORDS, NO_MEMORY, NO_PART, TOO_BIG, functions_of, version_text
 from bpfhost.numbers import LONGEST_PACKET, LONGEST_PAYLOAD, MOST_TENANTS, REPLY_HEAD, Command, Errno
 from bpfhost.packets import Packets
 from bpfhost.replies import Reply, read_replies
 from bpfhost.state import split
 
 # The versions that have the functions below, as in the name of an installed library (docs/RELEASING.md, "The library's binary interface").
-VERSION = "0.1"
+VERSION = "0.2"
 _NAME = re.compile(r"libbpfhost\.so\.(\d+\.\d+)")
 _LENGTH_FIELD = 4
 _LONGEST_REPLY = REPLY_HEAD + LONGEST_PAYLOAD
 # The address of empty packets and results: not null, and aligned.
 _ANYWHERE = 8
-_CODES = {-1: "its host is closed", -4: "there is no memory for a host, or for a part of a save"}
+_CODES = {
+    -1: "its host is closed",
+    NO_MEMORY: "there is no memory for a host, for a part of a save, or for contexts",
+    TOO_BIG: "it does not know a word of a context, which is not 0",
+}
 
 
 class LibraryError(BpfhostError):
@@ -62,6 +66,10 @@ class Library:
 
     def __repr__(self) -> str:
         return f"<Library {self.path}>"
+
+    def version(self) -> str:
+        """The version of the library, as 0.2.0."""
+        return version_text(self.functions)
 
     def demand_done(self, code: int) -> None:
         """Raises LibraryError if a function returned a code other than 0."""
@@ -234,13 +242,13 @@ def _words_of(context: Context) -> bytes:
     return context.to_bytes()
 
 
-def _contexts_of(context: Context | Sequence[Context], packets: int) -> tuple[bytes, int]:
-    """The words of contexts, and how many contexts there are: one for all packets, or one for each."""
+def _contexts_of(context: Context | Sequence[Context], packets: int) -> tuple[bytes, int, int]:
+    """The words of contexts, how many words there are, and how many a context has: one for all packets, or one for each."""
     if isinstance(context, Context):
-        return _words_of(context), 1
+        return _words_of(context), CONTEXT_WORDS, CONTEXT_WORDS
     if len(context) != packets:
         raise ValueError(f"there are {len(context):,} contexts for {packets:,} packets")
-    return b"".join(map(_words_of, context)), len(context)
+    return b"".join(map(_words_of, context)), len(context) * CONTEXT_WORDS, CONTEXT_WORDS
 
 
 def _in_one_piece(packets: Packets | Iterable[bytes]) -> tuple[bytes, array[int]]:

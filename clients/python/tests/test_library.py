@@ -61,14 +61,14 @@ class Files(TimedTest):
         found = sorted(Path("/lib").glob("*/libm.so.6")) or sorted(Path("/usr/lib").glob("*/libm.so.6"))
         if not found:
             self.skipTest("there is no libm.so.6")
-        self.refused(found[0], ".*/libm.so.6 is no library of bpfhost 0.1: it has no bpfhost_c_new")
+        self.refused(found[0], ".*/libm.so.6 is no library of bpfhost 0.2: it has no bpfhost_c_abi")
 
     def test_another_version(self) -> None:
-        path = self.scratch / "libbpfhost.so.0.2.7"
+        path = self.scratch / "libbpfhost.so.0.3.7"
         path.write_bytes(b"")
         link = self.scratch / "libbpfhost.so"
         link.symlink_to(path)
-        self.refused(link, ".*/libbpfhost.so is of version 0.2, and this client is for 0.1")
+        self.refused(link, ".*/libbpfhost.so is of version 0.3, and this client is for 0.2")
 
 
 @unittest.skipUnless(IS_THERE, "there is no library: BPFHOST_LIBRARY names none, and no libbpfhost.a is beside the program")

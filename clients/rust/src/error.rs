@@ -13,6 +13,9 @@ pub enum Error {
     },
     /// There is no memory for a host, or for a part of a save.
     NoMemory,
+    /// The library that is linked is of another binary interface than this crate ([`library_version`](crate::library_version) has its
+    /// version).
+    Version,
     /// The bytes of a save end inside a frame, or have a frame of another tenant.
     BadFrames,
     /// There is room for fewer results than there are packets.
@@ -38,7 +41,7 @@ impl Error {
     pub fn errno(&self) -> Option<Errno> {
         match *self {
             Error::Status(errno) | Error::Refused { errno, .. } => Some(errno),
-            Error::Tenants { .. } | Error::NoMemory | Error::BadFrames | Error::Room { .. } => None,
+            Error::Tenants { .. } | Error::NoMemory | Error::Version | Error::BadFrames | Error::Room { .. } => None,
         }
     }
 }
@@ -48,6 +51,7 @@ impl fmt::Display for Error {
         match *self {
             Error::Tenants { asked } => write!(f, "a host has 1 to {MOST_TENANTS} tenants, not {asked}"),
             Error::NoMemory => f.write_str("out of memory for the host"),
+            Error::Version => f.write_str("the library is of another binary interface than this crate"),
             Error::BadFrames => f.write_str("the bytes are not whole frames of this tenant"),
             Error::Room { results } => write!(f, "there is room for {results} results, and there are more packets"),
             Error::Status(errno) => errno.fmt(f),

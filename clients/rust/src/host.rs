@@ -1,5 +1,5 @@
 use crate::batch::Batch;
-use crate::library::{Handle, unexpected};
+use crate::library::{ERR_VERSION, Handle, unexpected};
 use crate::{Context, Errno, Error, Reply, Tenant};
 use bpfhost_sys::{ERR_NO_MEMORY, ERR_NO_PART, ERR_TENANT_COUNT, LONGEST_FRAME};
 use std::collections::hash_map::RandomState;
@@ -37,12 +37,13 @@ impl Host {
     ///
     /// # Errors
     ///
-    /// [`Error::Tenants`] if their number is not 1 to [`MOST_TENANTS`](crate::MOST_TENANTS), [`Error::NoMemory`].
+    /// [`Error::Tenants`] if their number is not 1 to [`MOST_TENANTS`](crate::MOST_TENANTS), [`Error::NoMemory`], [`Error::Version`].
     pub fn new(tenants: usize) -> Result<Host, Error> {
         match Handle::new(tenants, [random_word(), random_word()]) {
             Ok(handle) => Ok(Host { handle, frame: Vec::new(), batch: Batch::default() }),
             Err(ERR_TENANT_COUNT) => Err(Error::Tenants { asked: tenants }),
             Err(ERR_NO_MEMORY) => Err(Error::NoMemory),
+            Err(ERR_VERSION) => Err(Error::Version),
             Err(code) => panic!("{}", unexpected(code)),
         }
     }

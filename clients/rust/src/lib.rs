@@ -15,8 +15,14 @@ mod reply;
 mod save;
 mod tenant;
 
-/// The version of this crate, which is the library's too.
+/// The version of this crate.
 pub const VERSION: &str = env!("CARGO_PKG_VERSION");
+
+/// The version of the library that is linked: its three numbers. A host is refused ([`Error::Version`]) if it is of another binary interface.
+pub fn library_version() -> [u32; 3] {
+    let number = bpfhost_sys::bpfhost_c_version();
+    [number >> 16, number >> 8 & 255, number & 255]
+}
 
 pub use bpfhost_sys::{
     LONGEST_FRAME, LONGEST_PACKET, LONGEST_PART, LONGEST_PAYLOAD, LONGEST_REPLY, MOST_TENANTS, TEST_RUN_HEAD,

@@ -3,15 +3,19 @@
 //! No contract of the library's functions has a `requires`, so all that a call owes are its parameters' types (crates/bpfhost_c). A `&mut`
 //! and a slice are not null, are aligned, lead to a whole value, and outlive the call; what a `&mut` leads to overlaps no other parameter.
 
-use crate::Context;
+use crate::{Context, Errno};
 use bpfhost_sys::{
-    DONE, bpfhost, bpfhost_bytes, bpfhost_c_free, bpfhost_c_handle_lent, bpfhost_c_memory_refused, bpfhost_c_new,
-    bpfhost_c_run_packets, bpfhost_c_save,
+    ABI, DONE, ERR_NO_MEMORY, ERR_TOO_BIG, bpfhost, bpfhost_bytes, bpfhost_c_abi, bpfhost_c_free, bpfhost_c_handle_lent,
+    bpfhost_c_memory_refused, bpfhost_c_new, bpfhost_c_run_packets, bpfhost_c_save,
 };
 use std::ptr::{NonNull, null_mut};
 
-// What the library takes as ten words.
-const _: () = assert!(size_of::<Context>() == size_of::<[u32; 10]>());
+/// The words of a context, which each call names: the library may be of a version with more or fewer.
+const CONTEXT_WORDS: usize = size_of::<Context>() / size_of::<u32>();
+const _: () = assert!(size_of::<Context>() % size_of::<u32>() == 0);
+
+/// The library that is linked is of another binary interface; the header for C has the same code.
+pub(crate) const ERR_VERSION: i32 = -23;
 
 /// A handle with a host, from its first moment to its last.
 pub(crate) struct Handle(bpfhost);
@@ -23,6 +27,9 @@ unsafe impl Send for Handle {}
 impl Handle {
     /// Makes a host with a seed of two words, or returns a code that says why not.
     pub(crate) fn new(tenants: usize, seed: [u64; 2]) -> Result<Handle, i32> {
+        if bpfhost_c_abi() as usize != ABI {
+            return Err(ERR_VERSION);
+        }
         let mut handle = Handle(bpfhost { at: null_mut() });
         // SAFETY: the handle is empty, as the library requires, and is passed as a `&mut`.
         match unsafe { bpfhost_c_new(&mut handle.0, tenants, seed[0], seed[1]) } {
@@ -42,7 +49,8 @@ impl Handle {
     }
 
     /// Runs a program of a tenant on packets that lie one after another in `bytes`, and end before the bytes of `ends`, with one context for
-    /// all or one for each. Returns the status.
+    /// all or one for each. Returns the status; E2BIG too if a library of another version does not know a word of a context, and ENOMEM if
+    /// it has no memory to bring contexts to its own size.
     ///
     /// # Panics
     ///
@@ -58,15 +66,16 @@ impl Handle {
     ) -> i32 {
         assert!(ends.len() <= results.len(), "there is a result for each packet");
         let mut status = 0;
-        // SAFETY: each address with its length is that of a slice; a context is its ten words, one after another (`repr(C)`, and its size).
+        // SAFETY: each address with its length is that of a slice; a context is its words, one after another (`repr(C)`, and its size).
         // What may be written is the handle, `results` and `status`, each passed as a `&mut`.
-        done(unsafe {
+        let code = unsafe {
             bpfhost_c_run_packets(
                 &mut self.0,
                 tenant,
                 prog,
                 contexts.as_ptr().cast(),
-                contexts.len(),
+                contexts.len() * CONTEXT_WORDS,
+                CONTEXT_WORDS,
                 bytes.as_ptr(),
                 bytes.len(),
                 ends.as_ptr(),
@@ -75,8 +84,15 @@ impl Handle {
                 results.len(),
                 &mut status,
             )
-        });
-        status
+        };
+        match code {
+            ERR_TOO_BIG => -(Errno::E2BIG as i32),
+            ERR_NO_MEMORY => -(Errno::ENOMEM as i32),
+            code => {
+                done(code);
+                status
+            }
+        }
     }
 
     /// The frames of a part of a tenant, lent until the next call; else the code.

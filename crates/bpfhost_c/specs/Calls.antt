@@ -10,6 +10,7 @@ use Rattle.host_core.specs.Limits.{most_tenants}
 use Rattle.bpfhost_c.specs.declared.codes.TheConstants.{DONE, ERR_NO_HOST, ERR_HAS_HOST}
 use Rattle.bpfhost_c.specs.declared.codes.TheConstants.{ERR_TENANT_COUNT, ERR_BUFFER_TOO_SMALL, ERR_NO_PART}
 use Rattle.bpfhost_c.specs.declared.session.Session.{Session}
+use Rattle.bpfhost_c.specs.Contexts.{contexts_code}
 
 -- the host of a handle; an empty handle has no tenants
 abbrev pub host_of : Option Session → HostState
@@ -52,3 +53,7 @@ room_code before room = if nat_lt room longest_reply then ERR_BUFFER_TOO_SMALL e
 abbrev pub save_code : Option Session → ℕ → ℕ → ℤ
 save_code before tenant part =
     if is_none before then ERR_NO_HOST else (if is_none (saved_part (host_of before) tenant part) then ERR_NO_PART else DONE)
+
+-- the code of a call with contexts of `size` words, unless it is out of memory
+abbrev pub run_code : Option Session → ℕ → List ℕ → ℤ
+run_code before size words = if is_none before then ERR_NO_HOST else contexts_code size words

@@ -20,3 +20,9 @@ pub(crate) const ERR_BUFFER_TOO_SMALL: i32 = -5;
 
 /// The tenant has no such part, or is not served.
 pub(crate) const ERR_NO_PART: i32 = -6;
+
+/// A context has a word that no run is given, and that is not zero: E2BIG of bpf(2).
+pub(crate) const ERR_TOO_BIG: i32 = -7;
+
+/// The size of a context is 0, or the words are not whole contexts.
+pub(crate) const ERR_SIZE: i32 = -8;

@@ -1,4 +1,4 @@
-//! The host as a library for C: seven functions, and a handle that is one pointer. The header is `clients/c/include/bpfhost.h`.
+//! The host as a library for C: nine functions, and a handle that is one pointer. The header is `clients/c/include/bpfhost.h`.
 //!
 //! A session (`Session`) is a host with its last reply and the last part of a save; a `Handle` owns one or is empty, and contracts see which. The header
 //! declares these functions and adds others in C, which are tested and not proved; so is the crate for Rust, `clients/rust`.
@@ -18,8 +18,10 @@
 //! - Many packets are run as `Host::run_packets` promises (`RunsPackets`): the status is 0 and the results are at the front of
 //!   the room, or the status is that of the rejection, and states and room are unchanged. No other tenant changes: `done` of
 //!   `bpfhost_c_run_packets`.
-//! - The code says whether the handle is empty; then host, room and status are unchanged: `code`, `otherwise`, `results`,
-//!   `status` of `bpfhost_c_run_packets`.
+//! - Contexts of any size are brought to the words that a run is given (`contexts_of`): `done` of `bpfhost_c_run_packets`. The code
+//!   says whether the handle is empty, and whether a context is of no size or has a word that is not known and not zero
+//!   (`run_code`); then, or out of memory, host, room and status are unchanged: `code`, `memory`, `otherwise`, `results`, `status`
+//!   of `bpfhost_c_run_packets`.
 //! - The result of asking whether memory was refused to a tenant is that of the headline (`IsUnrefused`), and nothing changes:
 //!   `refused`, `unrefused`, `code`, `host`, `otherwise` of `bpfhost_c_memory_refused`.
 //! - The frames of a part of a tenant are those of `Host::save`, and are at the returned address, with the returned length; the
@@ -29,6 +31,7 @@
 //!   a host do (`Call`), or nothing: `call` of `bpfhost_c_handle`, `call` of `bpfhost_c_handle_lent`, `call` of
 //!   `bpfhost_c_run_packets`.
 //! - A host that is freed leaves an empty handle: `bpfhost_c_free`.
+//! - The version and the number of the binary interface are the constants of this crate: `bpfhost_c_version`, `bpfhost_c_abi`.
 //! - A handle may be sent from thread to thread: `Send` for `Handle`.
 //!
 //! From `Handles` of each call and `calls_are_told_alone` of `host_core` follows what the headline says of a stream;
@@ -68,8 +71,13 @@
 //!   is neither one context nor one for each packet (-22); then packet by packet, its end is before the previous one or after the
 //!   bytes (-22), or it is too long (-7). An empty batch of what is no program is rejected too.
 //! - Packets are consecutive in one buffer, and each has its end, a number of machine size, since a batch may have more than 4
-//!   GiB. All have the same ten words of context, or each its own, as many arrays of words as packets; the length is that of each
-//!   packet. A shared context is an array of one, and no second function.
+//!   GiB. All have the same context, or each its own, one after another; the length is that of each packet. A shared context is one
+//!   of one, and no second function.
+//! - Contexts have a size, in words and once for all of a call, as attributes have one in bpf(2): a program that was compiled for
+//!   fewer or more words runs with this library. Those of as many words as a run is given are not copied; others are
+//!   copied. Bytes, packets and the seed never grow, and have no size.
+//! - The version and the number of the binary interface are functions, since a header is compiled into its caller and can't know which
+//!   library it meets. The header makes no host if the numbers differ.
 //! - Whether memory was refused is a call of its own, for each tenant, and no part of each reply: replies are those of the
 //!   protocol, and the flag is never cleared.
 //! - Codes are the library's, statuses the protocol's: the code says whether there is a reply, the status in the reply is the
@@ -80,9 +88,11 @@
 #![tactic(auto)]
 
 mod codes;
+mod contexts;
 mod handle;
 mod raw_box;
 mod session;
+mod version;
 
 ghost use Rattle.std.specs.Prelude.{◌≡◌, ◌≢◌, ◌≤◌, ℕ, List, ◌++◌, length, drop, slice_get, true, false, Some, None};
 ghost use Rattle.host_core.specs.Frame.{longest_reply};
@@ -90,18 +100,21 @@ ghost use Rattle.host_core.specs.Handled.{Handles};
 ghost use Rattle.host_core.specs.Saving.{Call, AreRestored, saved_part};
 ghost use Rattle.host_core.specs.Served.{IsUnrefused};
 ghost use Rattle.host_core.specs.States.{new_host};
-ghost use Rattle.bpfhost_c.specs.Calls.{states, host_of, StandsAt, SavedAt, new_code, host_code, room_code, save_code};
+ghost use Rattle.bpfhost_c.specs.Calls.{states, host_of, StandsAt, SavedAt, new_code, host_code, room_code, run_code, save_code};
+ghost use Rattle.bpfhost_c.specs.Contexts.{contexts_of};
 ghost use Rattle.bpfhost_c.specs.Packets.{RunsPackets};
 ghost use Rattle.bpfhost_c.specs.declared.codes.TheConstants.{DONE, ERR_NO_HOST, ERR_NO_MEMORY};
+ghost use Rattle.bpfhost_c.specs.declared.version.TheConstants.{VERSION, ABI};
 
 use codes::{
     DONE, ERR_BUFFER_TOO_SMALL, ERR_HAS_HOST, ERR_NO_HOST, ERR_NO_MEMORY, ERR_NO_PART,
     ERR_TENANT_COUNT,
 };
 use handle::Handle;
-use host_core::{GIVEN_WORDS, HashSeed, LONGEST_REPLY, MOST_TENANTS};
+use host_core::{HashSeed, LONGEST_REPLY, MOST_TENANTS};
 use session::Session;
 use std::alloc::Global;
+use version::{ABI, VERSION};
 
 /// The address of a reply, and its length in bytes.
 #[derive(Drop)]
@@ -220,26 +233,31 @@ pub extern "C" fn bpfhost_c_handle_lent(
 }
 
 /// Runs the program at a descriptor of a tenant on many packets, one after another. The packets lie one after another in `bytes`, and
-/// each ends at its number in `ends`. `contexts` has the ten words of context that all packets get, or those of each. Writes the
-/// result of each to the front of `results`, and 0 to `status`; or, if the batch is rejected, the status of the error that its
-/// frames would get, and then no packet was run.
+/// each ends at its number in `ends`. `contexts` has the context that all packets get, or that of each, each of `size` words: one that
+/// is not there counts as 0, and one that no run is given has to be 0. Writes the result of each to the front of `results`, and 0 to
+/// `status`; or, if the batch is rejected, the status of the error that its frames would get, and then no packet was run.
 ///
-/// Returns `DONE`; else `ERR_NO_HOST`, and the host, `results` and `status` are unchanged.
+/// Returns `DONE`; else `ERR_NO_HOST`, `ERR_SIZE`, `ERR_TOO_BIG` or `ERR_NO_MEMORY`, and the host, `results` and `status` are
+/// unchanged. With contexts of as many words as a run is given it takes no memory.
 #[unsafe(no_mangle)]
 pub extern "C" fn bpfhost_c_run_packets(
     alloc: Global,
     handle: &mut Handle,
     tenant: u16,
     fd: u32,
-    contexts: &[[u32; GIVEN_WORDS]],
+    contexts: &[u32],
+    size: usize,
     bytes: &[u8],
     ends: &[usize],
     results: &mut [u32],
     status: &mut i32,
 ) -> i32
-    ensures done { result ≡ DONE → RunsPackets tenant fd contexts.now bytes.now ends.now
-        results.old results.new status.new (states handle.old.session) (states handle.new.session) }
-    ensures code { result ≡ host_code handle.old.session }
+    ensures done { result ≡ DONE → RunsPackets tenant fd (contexts_of size contexts.now) bytes.now
+        ends.now results.old results.new status.new (states handle.old.session) (states handle.new.session) }
+    ensures code { result ≢ ERR_NO_MEMORY
+        → result ≡ run_code handle.old.session size contexts.now }
+    ensures memory { result ≡ ERR_NO_MEMORY
+        → run_code handle.old.session size contexts.now ≡ DONE }
     ensures call { Call (host_of handle.old.session) (host_of handle.new.session) }
     ensures otherwise { result ≢ DONE → handle.new.session ≡ handle.old.session }
     ensures results { result ≢ DONE → results.new ≡ results.old }
@@ -248,9 +266,10 @@ pub extern "C" fn bpfhost_c_run_packets(
     let Some(mut session) = handle.take(alloc) else {
         return ERR_NO_HOST;
     };
-    *status = session.run_packets(usize::from(tenant), fd, contexts, bytes, ends, results);
+    let tenant = usize::from(tenant);
+    let code = session.run_sized(tenant, fd, contexts, size, bytes, ends, results, status);
     handle.put(session);
-    DONE
+    code
 }
 
 /// Saves a part of a tenant: writes the address and the length of its frames, each of which has its length before it, to `lent`. They
@@ -330,4 +349,21 @@ pub extern "C" fn bpfhost_c_free(alloc: Global, handle: &mut Handle)
     ensures { handle.new.session ≡ None }
 {
     *handle = Handle::empty(alloc);
+}
+
+/// The version of the library: its three numbers, each in eight bits, the first in the highest of 24.
+#[unsafe(no_mangle)]
+pub extern "C" fn bpfhost_c_version() -> u32
+    ensures { result ≡ VERSION }
+{
+    VERSION
+}
+
+/// The number of the library's binary interface, which changes with the soname: a caller that was compiled for another one must not
+/// call any other function.
+#[unsafe(no_mangle)]
+pub extern "C" fn bpfhost_c_abi() -> u32
+    ensures { result ≡ ABI }
+{
+    ABI
 }

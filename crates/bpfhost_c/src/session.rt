@@ -1,13 +1,17 @@
 //! A host with its last reply.
 
-ghost use Rattle.std.specs.Prelude.{◌≡◌, ◌≤◌, length, vec_capacity, IfOk, Some, None, if◌then◌else◌};
+ghost use Rattle.std.specs.Prelude.{◌≡◌, ◌≢◌, ◌≤◌, length, vec_capacity, IfOk, Some, None, if◌then◌else◌};
 ghost use Rattle.host_core.specs.Frame.{longest_reply};
 ghost use Rattle.host_core.specs.Handled.{Handles};
 ghost use Rattle.host_core.specs.Saving.{Records, AreRestored, saved_part};
 ghost use Rattle.host_core.specs.States.{new_host};
 ghost use Rattle.host_core.specs.Limits.{most_tenants};
+ghost use Rattle.bpfhost_c.specs.Contexts.{contexts_of, contexts_code};
 ghost use Rattle.bpfhost_c.specs.Packets.{RunsPackets};
+ghost use Rattle.bpfhost_c.specs.declared.codes.TheConstants.{DONE, ERR_NO_MEMORY};
 
+use crate::codes::{DONE, ERR_NO_MEMORY, ERR_SIZE, ERR_TOO_BIG};
+use crate::contexts::{are_known, as_given, fit_all};
 use host_core::{GIVEN_WORDS, HashSeed, Host, LONGEST_REPLY, MOST_TENANTS, ReplyBuf};
 use std::alloc::{AllocError, Global};
 use std::mem::replace;
@@ -102,5 +106,47 @@ impl Session {
             Ok(()) => 0,
             Err(errno) => errno.status(),
         }
+    }
+    /// The same with contexts of `size` words, one after another in `words`; the status is written. Returns `DONE`; else `ERR_SIZE`,
+    /// `ERR_TOO_BIG` or `ERR_NO_MEMORY`, and nothing is changed.
+    pub(crate) fn run_sized(
+        &mut self,
+        tenant: usize,
+        fd: u32,
+        words: &[u32],
+        size: usize,
+        bytes: &[u8],
+        ends: &[usize],
+        results: &mut [u32],
+        status: &mut i32,
+    ) -> i32
+        ensures done { result ≡ DONE → RunsPackets tenant fd (contexts_of size words.now) bytes.now
+            ends.now results.old results.new status.new self.old.host.states self.new.host.states }
+        ensures code { result ≢ ERR_NO_MEMORY → result ≡ contexts_code size words.now }
+        ensures memory { result ≡ ERR_NO_MEMORY → contexts_code size words.now ≡ DONE }
+        ensures births { self.new.host.births ≡ self.old.host.births }
+        ensures session { result ≢ DONE → self.new ≡ self.old }
+        ensures results { result ≢ DONE → results.new ≡ results.old }
+        ensures status { result ≢ DONE → status.new ≡ status.old }
+    {
+        if size == GIVEN_WORDS {
+            let Some(contexts) = as_given(words) else {
+                return ERR_SIZE;
+            };
+            *status = self.run_packets(tenant, fd, contexts, bytes, ends, results);
+            return DONE;
+        }
+        if size == 0 || words.len() % size != 0 {
+            return ERR_SIZE;
+        }
+        let count = words.len() / size;
+        if !are_known(words, size, count) {
+            return ERR_TOO_BIG;
+        }
+        let Ok(contexts) = fit_all(self.alloc, words, size, count) else {
+            return ERR_NO_MEMORY;
+        };
+        *status = self.run_packets(tenant, fd, &contexts, bytes, ends, results);
+        DONE
     }
 }

@@ -27,7 +27,7 @@ fn program<'a>(alloc: Global) -> Command<'a> {
         .about(
             "Reads a program, hex lines or text, and writes what the verifier knows before each instruction, and the verdict",
         )
-        .version("0.1.0")
+        .version("0.2.0")
         .no_binary_name(true)
 }
 

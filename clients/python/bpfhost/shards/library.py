@@ -18,7 +18,7 @@ from pathlib import Path
 import bpfhost
 from bpfhost.alike import BEFORE_PACKET, packed, size_of_packet
 from bpfhost.errors import HostError
-from bpfhost.functions import NO_MEMORY, NO_PART, functions_of
+from bpfhost.functions import CONTEXT_WORDS, NO_MEMORY, NO_PART, functions_of
 from bpfhost.host import LONGEST_REPLY
 from bpfhost.numbers import REPLY_HEAD, Command
 from bpfhost.program import Program
@@ -76,7 +76,10 @@ def find_library(named: str | None, program: Program) -> Library | None:
         return None
     if not named:
         folder = Path(shutil.which(program) or program).absolute().parent
-        named = next((str(one / SONAME) for one in (folder, folder.parent / "lib") if (one / SONAME).is_file()), None)
+        libraries = folder.parent / "lib"
+        # Debian has the libraries of an architecture in a folder of their own.
+        folders = (folder, libraries, *sorted(libraries.glob("*-linux-gnu")))
+        named = next((str(one / SONAME) for one in folders if (one / SONAME).is_file()), None)
     if not named:
         return None
     library = Library(named)
@@ -193,8 +196,9 @@ class LibraryHost:
         size, packets = size_of_packet(runs), runs[BEFORE_PACKET:]
         many = len(packets) // size
         results = array("I", bytes(4 * many))
+        context = (runs[12:BEFORE_PACKET], CONTEXT_WORDS, CONTEXT_WORDS)
         code = self._functions.run_packets(
-            *(self._at, tenant, int.from_bytes(runs[8:12], "little"), runs[12:BEFORE_PACKET], 1, packets, len(packets)),
+            *(self._at, tenant, int.from_bytes(runs[8:12], "little"), *context, packets, len(packets)),
             *(self._ends_of(size, many).buffer_info()[0], many, results.buffer_info()[0], many),
             ctypes.addressof(self._status),
         )

@@ -49,14 +49,21 @@ unsafe extern "C" {
         reply: *mut bpfhost_bytes,
     ) -> i32;
 
-    /// Runs a program of a tenant on many packets, with the ten words of one context for all of them, or those of one for each; packet i ends
-    /// before byte `ends[i]`. `status` gets 0, or why no packet was run. Returns a code.
+    /// The version of the library: its three numbers, in eight bits each.
+    pub safe fn bpfhost_c_version() -> u32;
+
+    /// The number of the library's binary interface: no other function may be called if it is not [`ABI`].
+    pub safe fn bpfhost_c_abi() -> u32;
+
+    /// Runs a program of a tenant on many packets, with one context for all of them, or one for each; a context has `context_words` words, and
+    /// all together are `word_count` words. Packet i ends before byte `ends[i]`. `status` gets 0, or why no packet was run. Returns a code.
     pub fn bpfhost_c_run_packets(
         handle: *mut bpfhost,
         tenant: u16,
         fd: u32,
-        contexts: *const [u32; 10],
-        context_count: usize,
+        contexts: *const u32,
+        word_count: usize,
+        context_words: usize,
         bytes: *const u8,
         byte_count: usize,
         ends: *const usize,

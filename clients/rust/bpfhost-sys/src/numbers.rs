@@ -15,6 +15,8 @@ pub const LONGEST_PAYLOAD: usize = 4096;
 pub const TEST_RUN_HEAD: usize = 48;
 /// The most bytes of a part of a save: a full map with the longest keys.
 pub const LONGEST_PART: usize = 2_244_648;
+/// The number of the library's binary interface, which changes with its soname.
+pub const ABI: usize = 2;
 // end of limits
 
 // codes: written by tools/generate
@@ -32,6 +34,10 @@ pub const ERR_NO_MEMORY: i32 = -4;
 pub const ERR_BUFFER_TOO_SMALL: i32 = -5;
 /// A code: the tenant has no such part, or is not served.
 pub const ERR_NO_PART: i32 = -6;
+/// A code: a struct has a word that the library does not know, and that is not 0.
+pub const ERR_TOO_BIG: i32 = -7;
+/// A code: a struct has no size, or one of no whole words.
+pub const ERR_SIZE: i32 = -8;
 // end of codes
 
 // commands: written by tools/generate

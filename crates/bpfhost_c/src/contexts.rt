@@ -1,0 +1,90 @@
+//! Contexts from C, which have any number of words, as the words that a run is given.
+//!
+//! A caller may be older or newer than the library: as with the attributes of bpf(2), a word that it does not have is zero, and one that the
+//! library does not know has to be zero.
+
+ghost use Rattle.std.specs.Prelude.{◌≡◌, ◌*◌, ◌/◌, ◌%◌, ◌≤◌, length, true, is_some, nat_eq, IfOk, IfSome};
+ghost use Rattle.words.specs.Context.{given_words};
+ghost use Rattle.bpfhost_c.specs.Contexts.{fitted, fitted_all, has_known_words, have_known_words};
+
+use host_core::GIVEN_WORDS;
+use std::alloc::{AllocError, Global};
+
+/// Contexts of as many words as a run is given, as they are; `None` if the last one is cut off.
+#[tactic(auto, using(crate::proofs::Given::as_given, crate::proofs::Given::all_known))]
+pub(crate) fn as_given(words: &[u32]) -> Option<&[[u32; GIVEN_WORDS]]>
+    ensures some { is_some result ≡ nat_eq (length words.now % given_words) 0 }
+    ensures contexts { IfSome result (λ contexts. contexts.now
+        ≡ fitted_all given_words (length words.now / given_words) words.now) }
+    ensures known { have_known_words given_words (length words.now / given_words) words.now ≡ true }
+{
+    let (contexts, rest) = words.as_chunks::<GIVEN_WORDS>();
+    if !rest.is_empty() {
+        return None;
+    }
+    Some(contexts)
+}
+
+/// The words that a run is given of a context.
+fn fit(words: &[u32]) -> [u32; GIVEN_WORDS]
+    ensures { result ≡ fitted words.now }
+{
+    let mut context = [0; GIVEN_WORDS];
+    let count = words.len().min(GIVEN_WORDS);
+    context[..count].copy_from_slice(&words[..count]);
+    context
+}
+
+/// The first `count` contexts, each of `size` words, as a run is given them. `AllocError`: out of memory.
+#[tactic(auto, using(crate::proofs::Loops::fitted_more, crate::proofs::Loops::room_step))]
+pub(crate) fn fit_all(
+    alloc: Global,
+    words: &[u32],
+    size: usize,
+    count: usize,
+) -> Result<Vec<[u32; GIVEN_WORDS]>, AllocError>
+    requires { count * size ≤ length words.now }
+    ensures { IfOk result (λ contexts. contexts.items ≡ fitted_all size count words.now) }
+{
+    let mut contexts = Vec::with_capacity(alloc, count)?;
+    let mut rest = words;
+    for _ in 0..count {
+        let (context, after) = rest.split_at(size);
+        contexts.push(fit(context))?;
+        rest = after;
+    }
+    Ok(contexts)
+}
+
+/// Whether each word after those that a run is given is zero.
+fn is_known(words: &[u32]) -> bool
+    ensures { result ≡ has_known_words words.now }
+{
+    if words.len() <= GIVEN_WORDS {
+        return true;
+    }
+    let more = &words[GIVEN_WORDS..];
+    for word in more {
+        if *word != 0 {
+            return false;
+        }
+    }
+    true
+}
+
+/// Whether each of the first `count` contexts, of `size` words, has zeros after the words that a run is given.
+#[tactic(auto, using(crate::proofs::Loops::known_step, crate::proofs::Loops::room_step))]
+pub(crate) fn are_known(words: &[u32], size: usize, count: usize) -> bool
+    requires { count * size ≤ length words.now }
+    ensures { result ≡ have_known_words size count words.now }
+{
+    let mut rest = words;
+    for _ in 0..count {
+        let (context, after) = rest.split_at(size);
+        if !is_known(context) {
+            return false;
+        }
+        rest = after;
+    }
+    true
+}

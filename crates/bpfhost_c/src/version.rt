@@ -1,0 +1,13 @@
+//! The version of the library. `tools/version` writes its three numbers.
+
+const MAJOR: u32 = 0;
+
+const MINOR: u32 = 2;
+
+const PATCH: u32 = 0;
+
+/// The three numbers, each in eight bits, the first in the highest of 24.
+pub(crate) const VERSION: u32 = MAJOR * 65_536 + MINOR * 256 + PATCH;
+
+/// The number of the binary interface: it changes whenever the soname does.
+pub(crate) const ABI: u32 = 2;

@@ -1,14 +1,15 @@
 #!/usr/bin/env python3
 """Measures the cost of a filter's run on a capture for the client, compared with the cost for the host.
 
-usage: packets.py [BPFHOST] [--packets N] [--rounds N] [--filter EXPRESSION]
+usage: packets.py [BPFHOST] [--packets N] [--longest N] [--rounds N] [--filter EXPRESSION]
 
-It makes captures of packets of 64 to 1,500 bytes in a temporary folder, one in each format, and runs a filter of two instructions on
-them in turn, as `python3 -m bpfhost run` does. It prints the processor time for each packet, of this process and of the host. A busy
-machine makes both longer: so it prints all rounds, and the one that cost the client least.
+It makes captures of packets of 64 to 1,500 bytes, or up to another length, in a temporary folder, one in each format, and runs a filter of
+two instructions on them in turn, as `python3 -m bpfhost run` does. It prints the processor time for each packet, of this process and of
+the host. A busy machine makes both longer: so it prints all rounds, and the one that cost the client least.
 
 With --filter it runs the command `run --filter EXPRESSION` instead, client and host together, in turn with `tcpdump -w`: on a capture
-without packets, and on one in the format pcap, without and with `--accepted`. It prints the processor time of each, and compares the files.
+without packets, and on one in the format pcap, without and with `--accepted`. It prints the processor time of each and the medians of the
+rounds, and compares the files.
 """
 
 from __future__ import annotations
@@ -18,6 +19,7 @@ import os
 import random
 import resource
 import shutil
+import statistics
 import struct
 import subprocess
 import sys
@@ -107,9 +109,10 @@ def measure_filter(said: argparse.Namespace, lengths: list[int], scratch: str) -
             print(f"{name}: {measured[name][-1]:.2f} s")
     if "tcpdump -w" in calls and Path(scratch, "ours").read_bytes() != Path(scratch, "theirs").read_bytes():
         sys.exit("packets: the files of run --accepted and of tcpdump -w differ")
-    least = {name: min(rounds) for name, rounds in measured.items()}
+    middle = {name: statistics.median(rounds) for name, rounds in measured.items()}
+    print(", ".join(f"{name}: {seconds:.2f} s" for name, seconds in middle.items()))
     for name in ("run", "run --accepted"):
-        print(f"{name}: {least[name] - least['no packets']:.2f} s more than without packets, for {said.packets:,} packets")
+        print(f"{name}: {middle[name] - middle['no packets']:.2f} s more than without packets, for {said.packets:,} packets")
 
 
 WRITERS = {"pcap": write_pcap, "pcapng": write_pcapng}
@@ -120,11 +123,12 @@ def main() -> None:
     parser = argparse.ArgumentParser(description="Measures what a run on a capture costs the client.")
     parser.add_argument("bpfhost", nargs="?")
     parser.add_argument("--packets", type=int, default=1_000_000)
+    parser.add_argument("--longest", type=int, default=LONGEST)
     parser.add_argument("--rounds", type=int, default=3)
     parser.add_argument("--filter", metavar="EXPRESSION", help="run a filter as for tcpdump, next to tcpdump")
     said = parser.parse_args()
     draw = random.Random(37)
-    lengths = [draw.randint(SHORTEST, LONGEST) for _ in range(said.packets)]
+    lengths = [draw.randint(SHORTEST, said.longest) for _ in range(said.packets)]
     measured: dict[str, list[tuple[float, float]]] = {name: [] for name in WRITERS}
     with tempfile.TemporaryDirectory() as scratch:
         if said.filter is not None:

@@ -22,7 +22,7 @@ class Bench(HostTest):
         self.assertEqual((ended.stderr, ended.returncode), ("", 0))
         names = [line.partition(": ")[0] for line in ended.stdout.splitlines()]
         beside = ["tcpdump -w"] if shutil.which("tcpdump") else []
-        self.assertEqual(names, ["no packets", "run", "run --accepted", *beside, "run", "run --accepted"])
+        self.assertEqual(names, ["no packets", "run", "run --accepted", *beside, "no packets", "run", "run --accepted"])
 
     def test_both_formats(self) -> None:
         call = [sys.executable, str(BENCH), PROGRAM, "--packets", "2000", "--rounds", "2"]

@@ -2,6 +2,9 @@
 
 from __future__ import annotations
 
+import time
+from unittest import mock
+
 from bpfhost import Host, MapType, Packets, TestRuns, assemble, frames
 from bpfhost.captures import open_capture
 from bpfhost.captures.piece import Stamp
@@ -66,6 +69,19 @@ class Filtering(HostTest):
             self.assertEqual(outcome.results, {0: 600, 3: 300, 4: 900})
             self.assertEqual((outcome.link_types, outcome.fault), ([1], None))
             self.assertGreater(outcome.seconds, 0)
+
+    def test_the_time_is_that_of_the_host(self) -> None:
+        """Not of the client, which waits for packets."""
+        with mock.patch.object(Host, "processor_time", side_effect=[2.0, *(2.5 for _ in range(100))]):
+            self.assertEqual(self.run_on(pcap(RECORDS), LENGTH).seconds, 0.5)
+        with Host(PROGRAM) as host:
+            runs, packets = TestRuns(host, 0, host.tenant().prog_load(LENGTH)), Packets.of([bytes(60)] * 1000)
+            before = host.processor_time()
+            list(runs.results([packets] * 20))
+            behind = host.processor_time()
+            time.sleep(0.3)
+            self.assertGreater(behind, before)
+            self.assertLess(host.processor_time() - behind, 0.1)
 
     def test_more_is_kept_than_there_is(self) -> None:
         outcome = self.run_on(pcap(RECORDS), assemble(PROGRAM, "r0 = -1\nexit\n"))

@@ -21,7 +21,7 @@ from bpfhost.errors import HostError
 from bpfhost.functions import CONTEXT_WORDS, NO_MEMORY, NO_PART, functions_of
 from bpfhost.host import LONGEST_REPLY
 from bpfhost.numbers import REPLY_HEAD, Command
-from bpfhost.program import Program
+from bpfhost.program import Program, is_unproved
 from bpfhost.replies import Reply
 from bpfhost.shards.calls import Call
 from bpfhost.shards.errors import MemoryRefused
@@ -29,7 +29,6 @@ from bpfhost.shards.shared_object import soname_of
 from bpfhost.state import Steps, split
 
 SONAME = f"libbpfhost.so.{bpfhost.__version__.rpartition('.')[0]}"
-_UNPROVED = "UNPROVED"
 _DONE = 0
 # The size of the buffer for replies in bytes.
 _ROOM = 1 << 16
@@ -59,11 +58,9 @@ class Library:
 
     def demand_build_of(self, program: Program) -> None:
         """Raises HostError if the library is not of the program's build: if one of them has no proofs, and the other has them."""
-        folders = {name: Path(shutil.which(name) or name).absolute().parent for name in (str(self.path), os.fspath(program))}
-        unproved = [name for name, folder in folders.items() if (folder / _UNPROVED).is_file()]
-        proved = [name for name in folders if name not in unproved]
-        if unproved and proved:
-            raise HostError(f"{unproved[0]} is built without proofs, and {proved[0]} with them: a worker takes both of one build")
+        unproved, proved = sorted((str(self.path), os.fspath(program)), key=is_unproved, reverse=True)
+        if is_unproved(unproved) != is_unproved(proved):
+            raise HostError(f"{unproved} is built without proofs, and {proved} with them: a worker takes both of one build")
 
 
 def find_library(named: str | None, program: Program) -> Library | None:

@@ -11,8 +11,11 @@ import subprocess
 import sys
 import time
 import unittest
+from collections import Counter
+from collections.abc import Callable
 from pathlib import Path
 from typing import Any
+from unittest import mock
 
 from bpfhost import Host, disassemble
 from bpfhost.captures import open_capture
@@ -186,6 +189,55 @@ class Run(FilterTest):
         ended = self.command("run", "--filter", "len > 0", "two", "--json")
         self.assertEqual(ended.stderr.decode(), "bpfhost: two: a filter is for one link type, and behind 1 there are packets of 101\n")
         self.assertEqual((json.loads(ended.stdout)["filters"][0]["accepted"], ended.returncode), (1, 1))
+
+
+class Cost(FilterTest):
+    """What a run does for each packet, and what it needs before the first one, by counts."""
+
+    def packets(self, many: int) -> str:
+        packet = bytes(12) + b"\x08\x00" + bytes(200)
+        (self.scratch / f"{many}.pcap").write_bytes(pcap([(packet, Stamp(1, 0, len(packet)))] * many))
+        return f"{many}.pcap"
+
+    def test_packets_are_handed_over_in_pieces(self) -> None:
+        """Functions are called for pieces of packets, and not for each packet."""
+        calls = {}
+        for many in (2_000, 22_000):
+            words = ("run", "--filter", "ip", self.packets(many), "--accepted", "kept")
+            counted = Counter[str]()
+            sys.setprofile(lambda _frame, event, _argument: counted.update([event]) if event == "call" else None)
+            try:
+                ended = self.command(*words)
+            finally:
+                sys.setprofile(None)
+            self.assertIn(f"     0  {many:,}  ", ended.stdout.decode())
+            calls[many] = counted["call"]
+        self.assertLess(calls[22_000] - calls[2_000], 20_000 / 5)
+
+    def test_the_host_gets_what_may_decide(self) -> None:
+        """Of each packet the Ethernet header, the whole packet, or nothing; 52 bytes are before it in a frame."""
+        for expression, most in (("ip", 14), ("ether[300] = 1", 214), ("len > 60", 0)):
+            sent: list[int] = []
+
+            def send(host: Host, frames: bytes, many: int, to: Callable[..., None] = Host.send) -> None:
+                # A single frame loads the filter.
+                sent.append(len(frames) if many > 1 else 0)
+                to(host, frames, many)
+
+            with mock.patch.object(Host, "send", send):
+                self.assertEqual(self.command("run", "--filter", expression, self.packets(3_000)).returncode, 0)
+            self.assertEqual(sum(sent), 3_000 * (52 + most), expression)
+
+    def test_a_command_imports_what_it_needs(self) -> None:
+        code = "import sys; from bpfhost.command import main; main(sys.argv[1:]); print(*sys.modules, sep='\\n')"
+        call = [sys.executable, "-c", code, "run", "--filter", "tcp port 443", "sample.pcap"]
+        environment = {**os.environ, "PYTHONPATH": str(PACKAGE), "BPFHOST": PROGRAM}
+        modules = set(subprocess.run(call, cwd=self.scratch, env=environment, capture_output=True, text=True, check=True).stdout.splitlines())
+        self.assertLess({"bpfhost.classic.libpcap", "bpfhost.captures.pcap"}, modules)
+        others = ("aio", "library", "loading", "captures.pcapng", "captures.writer", "captures.interface", "command.show", "command.object_runs")
+        packages = ("bpfhost.objects", "bpfhost.lowering", "bpfhost.shards", "elftools", "rich", "redis", "asyncio", "json", "csv", "gzip")
+        needless = {name for name in modules for package in packages if name == package or name.startswith(f"{package}.")}
+        self.assertEqual(needless | modules & {f"bpfhost.{each}" for each in others}, set())
 
 
 @unittest.skipUnless(has_packet_sockets(), "packets of an interface can't be read here")

@@ -17,6 +17,7 @@ from unittest import mock
 
 from bpfhost import Errno, Host, frames
 from bpfhost.errors import HostError
+from bpfhost.program import is_unproved
 from bpfhost.shards import Settings, ShardKeys, Worker
 from bpfhost.shards.calls import NoCall
 from bpfhost.shards.connection import Redis
@@ -242,11 +243,9 @@ class Refused(HostTest):
 
     def test_another_build(self) -> None:
         """One is built without proofs, and the other with them."""
-        assert _FILE is not None
-        other = self.scratch / SONAME
-        shutil.copy(_FILE, other)
-        if not (Path(PROGRAM).parent / "UNPROVED").is_file():
-            (self.scratch / "UNPROVED").touch()
+        other, mark = self.scratch / SONAME, b"built without proofs\0"
+        whole = loaded().path.read_bytes()
+        other.write_bytes(whole.replace(mark, bytes(len(mark))) if is_unproved(PROGRAM) else whole + mark)
         self.refused(other, "is built without proofs, and .* with them: a worker takes both of one build")
 
     def test_which_is_found(self) -> None:
@@ -256,6 +255,7 @@ class Refused(HostTest):
             program = self.scratch / "bin/bpfhost"
             for folder in ("bin", "lib"):
                 (self.scratch / folder).mkdir()
+            shutil.copy(PROGRAM, program)
             self.assertIsNone(find_library(None, program))
             shutil.copy(loaded().path, self.scratch / "lib" / SONAME)
             for expected in (self.scratch / "lib" / SONAME, self.scratch / "bin" / SONAME):

@@ -2,7 +2,7 @@
 """Compiles the filters of this folder in many ways, lowers them, and runs them. usage: forms.py BPFHOST [--write]
 
 It compares the results with table.md, or writes that page with --write. A filter is compiled by each installed clang, with each of -O1, -O2
-and -Os and for each BPF processor that the compiler knows; those of ONE_WAY with -O2 for one processor. What is accepted runs on two captures, as incoming and as outgoing packets: as
+and -Os and for each BPF processor that the compiler knows; those of the folder rewritten with -O2 for one processor. What is accepted runs on two captures, as incoming and as outgoing packets: as
 it was compiled, lowered, and in topological order if it needs no lowering. All forms of a filter have to return the same and to leave the
 same in their maps. If a compiler is missing, its columns are not checked, and a notice is printed.
 """
@@ -39,11 +39,10 @@ LEVELS = ("-O1", "-O2", "-Os")
 PROCESSORS = ("v1", "v2", "v3", "v4")
 # The constants of linux/if_packet.h for an incoming and an outgoing packet.
 CONTEXTS = (Context(pkt_type=0), Context(pkt_type=4))
-STEPS = ("maps", "calls", "packet", "fetch", "exchange", "compare", "loops", "order", "copies")
-# Filters that each compiler compiles in one way, for a processor with atomic operations that fetch: their instructions are what they are for.
-ONE_WAY = frozenset(
-    "old_protocols old_flows old_bypass numbered first_protocol last_length last_sender greatest owner".split()
-)
+STEPS = ("maps", "calls", "packet", "fetch", "exchange", "compare", "loops", "order", "index", "equal", "zeros", "copies")
+# Filters in this folder have instructions or habits that the host does not have. Each compiler compiles them in one way, for a processor with
+# atomic operations that fetch.
+REWRITTEN = HERE / "rewritten"
 PASSED, DIFFERS = 0, 1
 
 
@@ -94,12 +93,12 @@ def processors(version: str) -> tuple[str, ...]:
 
 def compiled(source: Path, version: str, scratch: Path) -> Iterator[Path]:
     """The objects that a compiler makes of a source."""
-    is_one = source.stem in ONE_WAY
+    is_one = source.parent == REWRITTEN
     for level in ("-O2",) if is_one else LEVELS:
         for processor in ("v3",) if is_one else processors(version):
             made = scratch / f"{source.stem}{level}-{version}-{processor}.o"
             words = [clang(version) or "clang", level, "-g", "-Wall", "-Wno-unused-function", "-target", "bpf", f"-I{INCLUDE}", f"-mcpu={processor}"]
-            ended = subprocess.run([*words, "-c", source.name, "-o", str(made)], capture_output=True, text=True, check=False, cwd=HERE)
+            ended = subprocess.run([*words, "-c", source.name, "-o", str(made)], capture_output=True, text=True, check=False, cwd=source.parent)
             if ended.returncode or ended.stderr:
                 sys.exit(f"filters: {made.name}: {ended.stderr}")
             yield made
@@ -186,7 +185,7 @@ def tried(job: tuple[str, str, tuple[str, ...]]) -> Filter:
     kept = 0
     with tempfile.TemporaryDirectory() as scratch, Host(bpfhost) as host:
         for version, tally in tallies.items():
-            for made in compiled(HERE / f"{name}.c", version, Path(scratch)):
+            for made in compiled(source_of(name), version, Path(scratch)):
                 for found, form in forms_of(bpfhost, made, tally):
                     key = form.program.slots, str(found.maps)
                     if key not in seen:
@@ -199,9 +198,15 @@ def tried(job: tuple[str, str, tuple[str, ...]]) -> Filter:
     return Filter(name, tallies, kept, faults)
 
 
+def source_of(name: str) -> Path:
+    """The source of a filter."""
+    path = HERE / f"{name}.c"
+    return path if path.exists() else REWRITTEN / path.name
+
+
 def about(name: str) -> str:
     """What a filter does: the first sentence of its source."""
-    comment = (HERE / f"{name}.c").read_text().partition("*/")[0].removeprefix("/*")
+    comment = source_of(name).read_text().partition("*/")[0].removeprefix("/*")
     text = " ".join(line.strip().removeprefix("*").strip() for line in comment.splitlines())
     first = text.split(". ")[0].rstrip(".")
     return first.partition(": ")[0] if len(first) > 90 else first
@@ -260,7 +265,7 @@ def compared(found: Sequence[Filter]) -> list[str]:
 
 def found_of(bpfhost: str) -> list[Filter]:
     """The outcomes for all filters, each in a process of its own."""
-    names = sorted(path.stem for path in HERE.glob("*.c"))
+    names = sorted(path.stem for folder in (HERE, REWRITTEN) for path in folder.glob("*.c"))
     with tempfile.TemporaryDirectory() as scratch:
         traffic = Path(scratch) / "traffic.pcap"
         subprocess.run([sys.executable, str(HERE / "make_traffic.py"), str(traffic)], check=True)

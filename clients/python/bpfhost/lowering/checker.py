@@ -2,13 +2,17 @@
 
 It takes from the steps that wrote the form only what they state: where each slot of the form comes from, and how each inlined call renames
 its registers and its stack (`Frame`). It decodes the form again, and reads it from the first slot on, in the order of the slots, since all
-jumps have to go forward. At the same time it follows the original program, at the place that each slot names:
+jumps have to go forward. At the same time it follows the original program (`original`), at the place that each slot names:
 
 - Each instruction of the form is the instruction at that place, renamed for its frame; or a part of the sequence that it becomes
   (`sequences`), which the form has in order.
 - Each edge of the form leads to a slot that names the place at which the program continues. In between, the program may pass what has no
   slots in the form: jumps, calls and exits of inlined functions for which nothing is saved, and comparisons that are decided by the numbers
   known on this edge (`values`).
+- A slot that is added, before the instruction at its place, changes nothing: a move between registers that hold the same number
+  (`numbering`); a store of 0 into the stack, before anything else; a comparison of an index, after which both edges go on at the same place.
+- A register that is a pointer into the stack plus an index holds the index (`indexing`); an access through it is one at a constant place,
+  if the index can have only one value there.
 
 A frame is right if its registers are other names of the same registers, if its stack and its saved registers are below its caller's stack,
 and if each of the registers 6 to 9 that it writes and its caller reads later is saved before it and restored after it. A sequence is right
@@ -18,257 +22,172 @@ if the register that it uses besides is not read later, or is saved, and if its 
 from __future__ import annotations
 
 from collections.abc import Mapping, Sequence
+from dataclasses import dataclass
 
 from bpfhost.lowering import instructions as op
 from bpfhost.lowering.code import Function
-from bpfhost.lowering.errors import LoweringError
-from bpfhost.lowering.frames import Frame, Frames
-from bpfhost.lowering.graph import Origin
+from bpfhost.lowering.frames import Frames
+from bpfhost.lowering.graph import EQUAL, INDEX, ZERO, Origin
+from bpfhost.lowering.indexing import Bases, TooLarge, at_constant, numbers_of
 from bpfhost.lowering.instructions import CALLEE_SAVED, FRAME_POINTER, Instruction, decoded
-from bpfhost.lowering.sequences import EXIT, Stated, stated
+from bpfhost.lowering.numbering import Known, Numbers
+from bpfhost.lowering.original import Original, WrongForm, is_read
+from bpfhost.lowering.ranges import signed
 from bpfhost.lowering.values import STACK_SIZE, State, edges
+from bpfhost.lowering.zeroing import zero_store
 from bpfhost.numbers import MOST_SLOTS, SLOT_SIZE
 
-_WORD = 8
-
-
-class WrongForm(LoweringError):
-    """The form is not the same program: a bug of this package. Nothing is loaded."""
-
-    def __init__(self, what: str) -> None:
-        super().__init__(f"a form is not loaded, as it is another program: {what}")
+__all__ = ["WrongForm", "check"]
 
 
 def check(functions: Sequence[Function], frames: Frames, slots: bytes, origins: Sequence[Origin]) -> None:
     """Raises WrongForm if the form of these slots is another program than function 0 with all that it calls."""
     if len(slots) % SLOT_SIZE or not 1 <= len(slots) // SLOT_SIZE <= MOST_SLOTS or len(origins) != len(slots) // SLOT_SIZE:
         raise WrongForm(f"{len(slots)} bytes with {len(origins)} origins are no program")
-    program = _Program(functions, frames)
+    program = Original(functions, frames)
     program.check_frames()
     _Walk(program, decoded(slots), origins).check()
     _check_registers(program, decoded(slots), origins)
 
 
-class _Program:
-    """The original program, with each call in a frame: its places, and the instruction at each, renamed as in a form."""
+@dataclass
+class _Facts:
+    """What is known before an instruction of a form. The numbers and the indices are followed only if something is added."""
 
-    def __init__(self, functions: Sequence[Function], frames: Frames) -> None:
-        self.frames = frames
-        if not frames or any(not 0 <= frame.function < len(functions) for frame in frames):
-            raise WrongForm("a frame has no function")
-        self.functions = [functions[frame.function] for frame in frames]
-        self.inner = {(frame.caller, frame.call): number for number, frame in enumerate(frames)}
-        self._parts: dict[tuple[int, int], tuple[Instruction, ...]] = {}
-        self._sequences: dict[tuple[int, int], Stated] = {}
+    state: State
+    names: list[int]
+    bases: Bases
 
-    def check_frames(self) -> None:
-        """Frame 0 is the program itself, and the stack of each other frame is below its caller's."""
-        if self.frames[0] != Frame(0, None, 0, tuple(range(FRAME_POINTER + 1)), 0, ()):
-            raise WrongForm("the first frame is not that of the program")
-        for number, frame in enumerate(self.frames[1:], 1):
-            if frame.caller is None or not 0 <= frame.caller < number:
-                raise WrongForm(f"frame {number} has no caller before it")
-            self._check_frame(number, frame, self.frames[frame.caller])
-        for number in range(len(self.frames)):
-            self._check_sequences(number)
-
-    def _check_sequences(self, number: int) -> None:
-        """A sequence uses a register that is read no more, or saves it; and a word that nothing else uses."""
-        function, frame = self.functions[number], self.frames[number]
-        for slot, spare in function.spares.items():
-            found = function.instructions[slot]
-            if spare is not None and (spare in (*op.reads(found), *CALLEE_SAVED) or _is_read(function, function.after(slot), spare)):
-                raise WrongForm(f"the sequence of slot {slot} writes register {spare}, which is read later")
-            names = frame.registers
-            named = found._replace(dst=names[op.PACKET_CONTEXT if found.reads_packet else found.dst], src=names[found.src])
-            ending = tuple(Instruction(op.LOAD_64, register, FRAME_POINTER, at, 0) for register, at in frame.saved)
-            ending = (Instruction(op.EXIT, 0, 0, 0, 0),) if frame.caller is None else ending
-            self._sequences[number, slot] = stated(named, spare, -frame.depth - function.stack, ending)
-
-    def _check_frame(self, number: int, frame: Frame, caller: Frame) -> None:
-        function = self.functions[frame.caller or 0]
-        if function.calls.get(frame.call) != frame.function or self.inner[frame.caller, frame.call] != number:
-            raise WrongForm(f"frame {number} is not of the call at its slot")
-        others = tuple(register for register in range(FRAME_POINTER + 1) if register not in CALLEE_SAVED)
-        same = len(frame.registers) == FRAME_POINTER + 1 and all(frame.registers[register] == register for register in others)
-        if not same or sorted(frame.registers[register] for register in CALLEE_SAVED) != list(CALLEE_SAVED):
-            raise WrongForm(f"frame {number} does not name each register once")
-        bottom = caller.depth + function.stack
-        places = sorted(place for _, place in frame.saved)
-        between = all(-frame.depth <= place <= -bottom - _WORD and place % _WORD == 0 for place in places)
-        if not between or len(set(places)) != len(places) or frame.depth < bottom or frame.depth % _WORD:
-            raise WrongForm(f"frame {number} is not below its caller")
-        if frame.depth + self.functions[number].stack > STACK_SIZE:
-            raise WrongForm(f"frame {number} is outside of the stack")
-
-    def instruction(self, place: Origin) -> Instruction:
-        """The instruction at a place, as in the function. Raises WrongForm if there is none."""
-        found = self.functions[place.frame].instructions.get(place.slot) if 0 <= place.frame < len(self.frames) else None
-        if found is None:
-            raise WrongForm(f"there is no instruction at {place}")
-        return found
-
-    def _called(self, place: Origin) -> int:
-        """The frame of the call at a place."""
-        called = self.inner.get((place.frame, place.slot))
-        if called is None:
-            raise WrongForm(f"the call at {place} has no frame")
-        return called
-
-    def becomes(self, place: Origin) -> tuple[Instruction, ...]:
-        """What the instruction at a place becomes in a form: nothing for a jump; for calls and exits, the instructions that save registers."""
-        at = place.frame, place.slot
-        if at not in self._parts:
-            self._parts[at] = self._sequences[at].parts if at in self._sequences else self._become(place)
-        return self._parts[at]
-
-    def _become(self, place: Origin) -> tuple[Instruction, ...]:
-        found, frame = self.instruction(place), self.frames[place.frame]
-        if found.is_goto:
-            return ()
-        if found.calls_function:
-            inner = self.frames[self._called(place)]
-            return tuple(Instruction(op.STORE_64, FRAME_POINTER, register, at, 0) for register, at in inner.saved)
-        if found.is_exit and frame.caller is not None:
-            return tuple(Instruction(op.LOAD_64, register, FRAME_POINTER, at, 0) for register, at in frame.saved)
-        return _named(found, frame)
-
-    def following(self, place: Origin, is_taken: bool) -> Origin | None:
-        """The next place or part, if a comparison is true or false; None after the program's exit."""
-        sequence = self._sequences.get((place.frame, place.slot))
-        if sequence is not None:
-            part = sequence.following(place.part, is_taken)
-            if part >= 0:
-                return place._replace(part=part)
-            return self._left(place.frame) if part == EXIT else self._after(place)
-        return place._replace(part=place.part + 1) if place.part + 1 < len(self.becomes(place)) else self._behind(place, is_taken)
-
-    def _behind(self, place: Origin, is_taken: bool) -> Origin | None:
-        """The place after an instruction that becomes no sequence."""
-        found, function = self.instruction(place), self.functions[place.frame]
-        if found.calls_function:
-            return Origin(self._called(place), 0)
-        if found.is_exit:
-            return self._left(place.frame)
-        return Origin(place.frame, function.target(place.slot)) if found.is_goto or is_taken else self._after(place)
-
-    def _after(self, place: Origin) -> Origin:
-        return Origin(place.frame, self.functions[place.frame].after(place.slot))
-
-    def _left(self, number: int) -> Origin | None:
-        """The place after a frame's exit."""
-        frame = self.frames[number]
-        return None if frame.caller is None else Origin(frame.caller, self.functions[frame.caller].after(frame.call))
-
-    def leads(self, place: Origin | None, state: State, goal: Origin) -> bool:
-        """Whether the program gets from one place to another without an instruction of the form, given what is known."""
-        passed = set()
-        while place is not None and place != goal:
-            parts = self.becomes(place)
-            is_comparison = bool(parts) and parts[place.part].is_comparison
-            if place in passed or parts and not is_comparison:
-                return False
-            passed.add(place)
-            is_taken = False
-            if is_comparison:
-                taken, fallen = edges(state, parts[place.part])
-                if taken is not None and fallen is not None:
-                    return False
-                is_taken = fallen is None
-            place = self.following(place, is_taken)
-        return place == goal
-
-
-def _named(found: Instruction, frame: Frame) -> tuple[Instruction, ...]:
-    """An instruction that stays, renamed for its frame; this code is separate from the code that writes the form."""
-    dst, src = found.dst, found.src
-    is_operator = found.kind in (op.ALU, op.ALU64) and found.code != op.END
-    if found.kind in (op.LDX, op.STX) or found.from_register and (is_operator or found.is_comparison):
-        src = frame.registers[src]
-    if found.opcode not in (op.CALL, op.EXIT):
-        dst = frame.registers[dst]
-    offset = found.offset
-    if found.kind == op.LDX and found.src == FRAME_POINTER or found.kind in (op.ST, op.STX) and found.dst == FRAME_POINTER:
-        offset -= frame.depth
-    named = Instruction(found.opcode, dst, src, offset, found.constant, found.second)
-    reads_frame = frame.depth and FRAME_POINTER in op.reads(found) and found.kind not in (op.LDX, op.ST, op.STX)
-    stores_frame = frame.depth and found.kind == op.STX and found.src == FRAME_POINTER
-    if stores_frame or reads_frame and (found.opcode != op.MOVE_64 or found.offset):
-        raise WrongForm("an inlined function uses its frame pointer otherwise than by a copy")
-    return (named, Instruction(op.ADD_64, dst, 0, 0, -frame.depth)) if reads_frame else (named,)
+    @property
+    def known(self) -> Known:
+        """The ranges and the numbers."""
+        return Known(self.state, self.names)
 
 
 class _Walk:
     """One pass over a form, with what is known before each of its instructions."""
 
-    def __init__(self, program: _Program, form: Mapping[int, Instruction], origins: Sequence[Origin]) -> None:
+    def __init__(self, program: Original, form: Mapping[int, Instruction], origins: Sequence[Origin]) -> None:
         self._program = program
         self._form = form
         self._origins = origins
-        self._states: dict[int, State] = {}
+        self._facts: dict[int, _Facts] = {}
+        self._numbers = Numbers()
+        self._has_added = any(origin.added for origin in origins)
+        # Whether there was an instruction besides stores of 0.
+        self._has_begun = False
 
     def check(self) -> None:
         """Checks each instruction and each edge."""
-        self._arrive(0, Origin(0, 0), State())
+        self._arrive(0, Origin(0, 0), _Facts(State(), self._numbers.at_entry(), Bases()))
         for slot, found in self._form.items():
-            state = self._states.pop(slot, None)
-            if state is None:
+            facts = self._facts.pop(slot, None)
+            if facts is None:
                 raise WrongForm(f"no path leads to slot {slot}")
-            if found.second and self._origins[slot + 1] != self._origins[slot]._replace(slot=self._origins[slot].slot + 1):
+            origin = self._origins[slot]
+            if found.second and self._origins[slot + 1] != origin._replace(slot=origin.slot + 1):
                 raise WrongForm(f"the second half of slot {slot} is of something else")
+            self._has_begun |= origin.added != ZERO
             if found.is_goto:
-                self._go(slot + 1 + (found.distance() or 0), slot, self._origins[slot], state)
+                self._go(slot + 1 + (found.distance() or 0), slot, origin._replace(added=""), facts)
+            elif origin.added:
+                self._pass(slot, found, origin, facts)
             else:
-                self._follow(slot, found, state)
+                self._follow(slot, found, facts)
 
-    def _follow(self, slot: int, found: Instruction, state: State) -> None:
+    def _pass(self, slot: int, found: Instruction, origin: Origin, facts: _Facts) -> None:
+        """A slot that is added changes nothing, and the program goes on at its place."""
+        place = origin._replace(added="")
+        if max(found.dst, found.src) > FRAME_POINTER:
+            raise WrongForm(f"slot {slot} is added, and has no such registers")
+        is_index = found.kind == op.JMP and found.is_comparison and not found.from_register
+        if origin.added == INDEX and is_index:
+            for distance, known in zip((found.offset, 0), edges(facts.state, found)):
+                self._go(slot + 1 + distance, slot, place, _Facts(known or facts.state.copy(), facts.names, facts.bases))
+            return
+        is_move = found == Instruction(op.MOVE_64, found.dst, found.src, 0, 0) and facts.names[found.dst] == facts.names[found.src]
+        is_zero = found == zero_store(found.offset) and found.offset % 8 == 0 and -STACK_SIZE <= found.offset < 0 and not self._has_begun
+        if not (origin.added == EQUAL and is_move or origin.added == ZERO and is_zero):
+            raise WrongForm(f"slot {slot} is added, and changes something")
+        self._apply(facts, found)
+        self._go(slot + 1, slot, place, facts)
+
+    def _apply(self, facts: _Facts, found: Instruction) -> None:
+        facts.state.apply(found)
+        if self._has_added:
+            facts.names = facts.names.copy()
+            self._numbers.apply(facts.names, found)
+
+    def _follow(self, slot: int, found: Instruction, facts: _Facts) -> None:
         place = self._origins[slot]
         parts = self._program.becomes(place)
         if not 0 <= place.part < len(parts):
             raise WrongForm(f"slot {slot} is a part of {place} that there is not")
         if found.is_comparison:
-            self._compare(slot, found, parts[place.part], state)
+            self._compare(slot, found, parts[place.part], facts)
             return
-        if found != parts[place.part]:
+        wanted = self._wanted(slot, parts[place.part], facts) if self._has_added else parts[place.part]
+        if found != wanted:
             raise WrongForm(f"slot {slot} is another instruction than that of {place}")
         behind = self._program.following(place, False)
         if behind is not None:
-            state.apply(found)
-            self._go(slot + found.slots, slot, behind, state)
+            self._apply(facts, found)
+            self._go(slot + found.slots, slot, behind, facts)
 
-    def _compare(self, slot: int, found: Instruction, wanted: Instruction, state: State) -> None:
+    def _wanted(self, slot: int, found: Instruction, facts: _Facts) -> Instruction:
+        """What an instruction becomes if some registers are indices: an access through one of them has one place."""
+        facts.bases = Bases(facts.bases.known)
+        try:
+            becomes = facts.bases.becomes(found, facts.known)
+            if becomes is not None:
+                return becomes
+            base, register = facts.bases.base_of(found), found.src if found.kind == op.LDX else found.dst
+            values = numbers_of(facts.known, self._numbers, register)
+        except TooLarge:
+            raise WrongForm(f"slot {slot} uses a register that is an index") from None
+        if base is None or len(values) != 1:
+            raise WrongForm(f"slot {slot} is an access with an index that is not known")
+        facts.bases.forget(found)
+        return at_constant(found, base + signed(values[0], 64) + found.offset)
+
+    def _compare(self, slot: int, found: Instruction, wanted: Instruction, facts: _Facts) -> None:
         """A comparison is the one at its place, or its opposite with the edges exchanged."""
         place = self._origins[slot]
         is_opposite = found.code != wanted.code
         if found.jumping(0) != ((wanted.opposite() or wanted) if is_opposite else wanted).jumping(0):
             raise WrongForm(f"slot {slot} is another comparison than that of {place}")
-        for is_jump, known in zip((True, False), edges(state, found)):
+        if any(register in facts.bases.known for register in op.reads(found)):
+            raise WrongForm(f"slot {slot} compares a register that is an index")
+        for is_jump, known in zip((True, False), edges(facts.state, found)):
             behind = self._program.following(place, is_jump != is_opposite)
             target = slot + 1 + (found.offset if is_jump else 0)
-            self._go(target, slot, behind, known or state.copy())
+            self._go(target, slot, behind, _Facts(known or facts.state.copy(), facts.names, facts.bases))
 
-    def _go(self, target: int, slot: int, behind: Origin | None, state: State) -> None:
+    def _go(self, target: int, slot: int, behind: Origin | None, facts: _Facts) -> None:
         """Checks an edge of the form, from the place at which the program continues."""
         if target <= slot or target not in self._form:
             raise WrongForm(f"slot {slot} leads to slot {target}, at which no later instruction begins")
         if behind is None:
             raise WrongForm(f"slot {slot} goes on, and the program ends there")
-        self._arrive(target, behind, state)
+        self._arrive(target, behind, facts)
 
-    def _arrive(self, target: int, behind: Origin, state: State) -> None:
-        if not self._leads(behind, state, target):
-            raise WrongForm(f"slot {target} is of {self._origins[target]}, and the program goes on at {behind}")
-        self._states[target] = state.joined(self._states.get(target))
+    def _arrive(self, target: int, behind: Origin, facts: _Facts) -> None:
+        goal = self._origins[target]
+        if not self._program.leads(behind, facts.state, goal._replace(added="") if goal.added else goal):
+            raise WrongForm(f"slot {target} is of {goal}, and the program goes on at {behind}")
+        before = self._facts.get(target)
+        if before is None:
+            self._facts[target] = facts
+            return
+        names = self._numbers.joined(target, facts.names, before.names) if self._has_added else facts.names
+        self._facts[target] = _Facts(facts.state.joined(before.state), names, facts.bases.joined(before.bases))
 
-    def _leads(self, behind: Origin, state: State, target: int) -> bool:
-        return self._program.leads(behind, state, self._origins[target])
 
-
-def _check_registers(program: _Program, form: Mapping[int, Instruction], origins: Sequence[Origin]) -> None:
+def _check_registers(program: Original, form: Mapping[int, Instruction], origins: Sequence[Origin]) -> None:
     """Registers 6 to 9 that a frame writes and does not save are not read by its caller later."""
     written: list[set[int]] = [set() for _ in program.frames]
     for slot, found in form.items():
-        if not (program.instruction(origins[slot]).is_exit and found.opcode == op.LOAD_64):
+        if not origins[slot].added and not (program.instruction(origins[slot]).is_exit and found.opcode == op.LOAD_64):
             written[origins[slot].frame] |= set(op.writes(found)) & set(CALLEE_SAVED)
     for number in range(len(program.frames) - 1, 0, -1):
         frame = program.frames[number]
@@ -276,21 +195,6 @@ def _check_registers(program: _Program, form: Mapping[int, Instruction], origins
         kept = written[number] - {register for register, _ in frame.saved}
         function, names = program.functions[caller], program.frames[caller].registers
         for register in CALLEE_SAVED:
-            if names[register] in kept and _is_read(function, function.after(frame.call), register):
+            if names[register] in kept and is_read(function, function.after(frame.call), register):
                 raise WrongForm(f"frame {number} writes register {names[register]}, which its caller reads later")
         written[caller] |= kept
-
-
-def _is_read(function: Function, begin: int, register: int) -> bool:
-    """Whether a path from a slot reads a register before it writes it."""
-    seen, waiting = {begin}, [begin]
-    while waiting:
-        slot = waiting.pop()
-        found = function.instructions[slot]
-        if register in op.reads(found):
-            return True
-        if register not in op.writes(found):
-            following = set(function.successors[slot]) - seen
-            seen |= following
-            waiting.extend(following)
-    return False

@@ -15,6 +15,7 @@ MOST_TRIES = 48
 
 Refusal = tuple[int, int]
 Ask = Callable[[Written], Refusal | None]
+Write = Callable[[Graph], Written]
 
 
 @dataclass(frozen=True)
@@ -74,26 +75,29 @@ class Accepted:
     copies: int
 
 
-def with_copies(graph: Graph, refused: Refusal, ask: Ask) -> Accepted | None:
-    """The accepted form with the fewest copies that is found, for a graph whose plain form is rejected; None if there is none.
+def with_copies(graph: Graph, refused: Refusal, ask: Ask, write: Write = written) -> Accepted | None:
+    """The accepted form with the fewest copies that is found, for a graph whose form is rejected; None if there is none.
+
+    `write` returns the form of a graph, whose blocks keep their numbers.
 
     A fact that a rejected instruction needs was lost where edges meet before it. So the nearest such block, and the blocks from there to
     the instruction, are copied for each edge, and the new form is verified. Small blocks are tried first, then larger ones.
     """
     tries = iter(range(MOST_TRIES))
     for size in SIZES:
-        found = _with_copies_of(graph, size, refused, ask, tries)
+        found = _with_copies_of(graph, size, refused, (ask, write), tries)
         if found is not None:
             return found
     return None
 
 
-def _with_copies_of(graph: Graph, size: int, refused: Refusal | None, ask: Ask, tries: Iterator[int]) -> Accepted | None:
+def _with_copies_of(graph: Graph, size: int, refused: Refusal | None, by: tuple[Ask, Write], tries: Iterator[int]) -> Accepted | None:
     """Copies more and more blocks of at most so many slots, until a form is accepted or nothing more can be copied."""
+    ask, write = by
     chosen: set[int] = set()
     now = copied(graph, chosen)
     while now is not None and next(tries, None) is not None:
-        form = written(now.graph)
+        form = write(now.graph)
         if chosen:
             refused = ask(form) if len(form.origins) <= MOST_SLOTS else (0, 0)
         if refused is None:
@@ -108,6 +112,8 @@ def _to_copy(now: Copied, form: Written, slot: int, size: int) -> set[int]:
     """The blocks from the nearest one before a slot that has several incoming edges, to the slot's; none if one of them is too large."""
     before = predecessors(now.graph)
     number = form.blocks[slot]
+    if number not in now.graph:
+        return set()
     found = {number}
     while len(set(before[number])) == 1:
         (number,) = set(before[number])

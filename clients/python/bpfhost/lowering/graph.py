@@ -10,12 +10,20 @@ from bpfhost.lowering.errors import Cycle
 from bpfhost.lowering.instructions import Instruction, goto
 
 
+# What is added before a part: a move between registers that hold the same number, a store of 0 at the start, a comparison of an index.
+EQUAL, ZERO, INDEX = "equal", "zeros", "index"
+
+
 class Origin(NamedTuple):
-    """The origin of an instruction: the number of a frame, a slot of its function, and an index among the instructions that the slot became."""
+    """The origin of an instruction: the number of a frame, a slot of its function, and an index among the instructions that the slot became.
+
+    `added` says what is added before this part; it is empty for the part itself.
+    """
 
     frame: int
     slot: int
     part: int = 0
+    added: str = ""
 
 
 class Step(NamedTuple):
@@ -148,6 +156,15 @@ def _linked(steps: list[Step], targets: Mapping[int, int], places: Mapping[int, 
         if instruction.second:
             origins.append(origin._replace(slot=origin.slot + 1))
     return b"".join(pieces), tuple(origins)
+
+
+def place_after(graph: Graph, block: Block, at: int) -> Origin | None:
+    """The place of the instruction after one of a block's steps; None after the last one of the program."""
+    if at + 1 < len(block.steps):
+        return block.steps[at + 1].origin
+    if block.jump is not None:
+        return block.jump.origin
+    return None if block.next is None else graph[block.next].origin
 
 
 def predecessors(graph: Graph) -> dict[int, list[int]]:

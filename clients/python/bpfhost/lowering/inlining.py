@@ -78,21 +78,21 @@ class _Inlining:
 
     def _stated(self, origin: Origin, place: Origin, steps: list[Step]) -> Block | None:
         """Adds the parts of a sequence to the steps of a block; returns the block if it ends in the sequence."""
-        frame, slot, part = place
+        frame, slot, part = place.frame, place.slot, place.part
         function, here = self._functions[frame], self._frames[frame]
         room = -here.depth - function.stack
         sequence = stated(renamed(function.instructions[slot], here.registers), function.spares[slot], room, ending(here))
         while part != AFTER:
             if steps and part in sequence.taken.values():
                 return Block(origin, tuple(steps), self._number((frame, slot, part)))
-            step, behind = Step(sequence.parts[part], Origin(frame, slot, part)), sequence.following(part, False)
+            step, following = Step(sequence.parts[part], Origin(frame, slot, part)), sequence.following(part, False)
             if part in sequence.taken:
                 taken = self._number((frame, slot, sequence.taken[part]))
-                return Block(origin, tuple(steps), self._number((frame, slot, behind)), step, taken)
+                return Block(origin, tuple(steps), self._number((frame, slot, following)), step, taken)
             steps.append(step)
-            if behind == EXIT:
+            if following == EXIT:
                 return self._ended(origin, frame, steps)
-            part = behind
+            part = following
         return None
 
     def _ended(self, origin: Origin, frame: int, steps: list[Step]) -> Block:

@@ -9,19 +9,24 @@ from functools import cached_property
 
 from bpfhost.lowering.checker import check
 from bpfhost.lowering.code import Function, functions_of
-from bpfhost.lowering.copies import with_copies
+from bpfhost.lowering.copies import Accepted, with_copies
+from bpfhost.lowering.equal import with_moves
 from bpfhost.lowering.errors import Cycle, LoweringError
 from bpfhost.lowering.frames import Frames, frames_of
-from bpfhost.lowering.graph import Block, Origin, Written, in_order, without_empty, written
+from bpfhost.lowering.graph import EQUAL, INDEX, ZERO, Block, Graph, Origin, Written, in_order, without_empty, written
+from bpfhost.lowering.indexing import with_trees
 from bpfhost.lowering.inlining import inlined
 from bpfhost.lowering.instructions import decoded
 from bpfhost.lowering.loops import unrolled
 from bpfhost.lowering.sequences import COMPARED, EXCHANGED, FETCHED, PACKET, has_sequences, kind_of
+from bpfhost.lowering.zeroing import with_zeros
 from bpfhost.numbers import MOST_SLOTS
 from bpfhost.objects.model import MapSlot, ObjectFile, ObjectProgram, SourceLine
 from bpfhost.slots import WIDE_LOAD
 
 Refusal = tuple[int, int]
+# A step, what it changes in a sentence, and its graph.
+_Added = tuple[str, str, dict[int, Block]]
 Ask = Callable[[ObjectProgram], Refusal | None]
 
 # The words for the sequences of each kind.
@@ -39,6 +44,10 @@ _SEQUENCES = {
 _BACKWARD, _UNREACHED = 2, 4
 # Reasons that another form may avoid: facts lost where edges meet, and the order of blocks (docs/VERIFIER.md, "Reasons").
 _CURABLE = frozenset((_BACKWARD, _UNREACHED, *range(20, 37)))
+# Reasons for which something is added: a pointer that is moved, ranges of numbers, bytes of the stack that nothing wrote.
+_POINTER_MOVED, _UNWRITTEN = 23, 27
+_OF_RANGES = (23, 24, 25, 29, 35)
+_ACCESSES = ("access to the stack with an index is", "accesses to the stack with an index are")
 
 
 @dataclass(frozen=True)
@@ -79,8 +88,8 @@ class Lowered:
         return self._copies[slot] if 0 <= slot < len(self.origins) else (1, 1)
 
     def is_added(self, slot: int) -> bool:
-        """Whether a slot is a jump that may be only in the form."""
-        return 0 <= slot < len(self.origins) and self._keys[slot][1]
+        """Whether a slot is only in the form: a jump, or what is added before an instruction."""
+        return 0 <= slot < len(self.origins) and (self._keys[slot][1] or bool(self.origins[slot].added))
 
     @cached_property
     def _copies(self) -> list[tuple[int, int]]:
@@ -124,6 +133,7 @@ class _Lowering:
         self._program = program
         self._ask_verdict = ask
         self._refused = refused
+        self._maps = object_file.maps
         self._functions = functions_of(object_file, program)
         self._frames = frames_of(self._functions)
         # The text on each change, by the names of the steps: calls, loops, order, copies.
@@ -137,19 +147,77 @@ class _Lowering:
         graph = self._without_loops(graph)
         plain = written(graph)
         if len(plain.origins) > MOST_SLOTS:
-            form = f"{self._program.name} has {len(plain.origins):,} slots in this form"
-            raise LoweringError(f"{form}, and a program has {MOST_SLOTS:,} at most")
+            has = f"{self._program.name} has {len(plain.origins):,} slots in this form"
+            raise LoweringError(f"{has}, and a program has {MOST_SLOTS:,} at most")
         self._tell_order(plain)
         refused = self._ask(plain)
         if refused is None or refused[1] not in _CURABLE:
             return self._form(plain, refused)
-        accepted = with_copies(graph, refused, self._ask)
+        first = refused
+        graph, form, refused = self._with_additions(graph, plain, refused)
+        if refused is None:
+            return self._form(form, None)
+        accepted = with_copies(graph, refused, self._ask) or self._copied_with_moves(graph, refused)
         if accepted is None:
-            return self._refusal(plain, refused)
-        more = len(accepted.written.origins) - len(plain.origins)
+            return self._refusal(plain, first)
+        more = len(accepted.written.origins) - len(form.origins)
         copies = f"{_counted(accepted.copies, 'copy', 'copies')}, {more} slots more"
         self._changes["copies"] = f"blocks with several incoming edges are copied for each edge: {copies}"
         return self._form(accepted.written, None)
+
+    def _with_additions(self, graph: dict[int, Block], form: Written, refused: Refusal) -> tuple[dict[int, Block], Written, Refusal | None]:
+        """The graph with what is added for the reasons that the verifier gives, as long as each addition changes its verdict."""
+        additions = [self._indexed, self._moved, self._zeroed]
+        now: Refusal | None = refused
+        while additions and now is not None:
+            reason, place = now[1], form.origins[now[0]]
+            for add in additions:
+                added = add(graph, reason)
+                if added is None:
+                    continue
+                step, text, more = added
+                longer = written(more)
+                verdict = self._ask(longer) if len(longer.origins) <= MOST_SLOTS else now
+                if verdict is None or (verdict[1], longer.origins[verdict[0]]) != (reason, place):
+                    self._changes[step] = text
+                    graph, form, now = more, longer, verdict
+                    additions.remove(add)
+                    break
+            else:
+                break
+        return graph, form, now
+
+    def _copied_with_moves(self, graph: dict[int, Block], refused: Refusal) -> Accepted | None:
+        """A form with copies of blocks in which moves follow comparisons too."""
+        def write(each: Graph) -> Written:
+            return written(with_moves(each) or each)
+
+        if refused[1] not in _OF_RANGES or EQUAL in self._changes:
+            return None
+        verdict = self._ask(write(graph))
+        accepted = None if verdict is None else with_copies(graph, verdict, self._ask, write)
+        if accepted is not None:
+            self._changes[EQUAL] = _moves_in(accepted.written.origins)
+        return accepted
+
+    def _indexed(self, graph: dict[int, Block], reason: int) -> _Added | None:
+        found = with_trees(graph) if reason == _POINTER_MOVED else None
+        if found is None:
+            return None
+        return INDEX, f"{_counted(found[1], *_ACCESSES)} comparisons of the index, with an access for each of its numbers", found[0]
+
+    def _moved(self, graph: dict[int, Block], reason: int) -> _Added | None:
+        found = with_moves(graph) if reason in _OF_RANGES else None
+        if found is None:
+            return None
+        return EQUAL, _moves_in([step.origin for block in found.values() for step in block.steps]), found
+
+    def _zeroed(self, graph: dict[int, Block], reason: int) -> _Added | None:
+        found = with_zeros(graph, self._maps) if reason == _UNWRITTEN else None
+        if found is None:
+            return None
+        words = _counted(found[1], "word", "words")
+        return ZERO, f"{words} of the stack with bytes that are read before they are written begin as 0", found[0]
 
     def _without_loops(self, graph: dict[int, Block]) -> dict[int, Block]:
         try:
@@ -220,6 +288,12 @@ class _Lowering:
             if line is not None and (not found or replace(found[-1], slot=line.slot) != line):
                 found.append(replace(line, slot=slot))
         return tuple(found)
+
+
+def _moves_in(origins: Sequence[Origin]) -> str:
+    """The words for the moves between registers that hold the same number."""
+    count = sum(origin.added == EQUAL for origin in origins)
+    return f"{_counted(count, 'move follows', 'moves follow')} a comparison, to a register that holds the same number"
 
 
 def _maps(slots: bytes) -> list[tuple[int, int]]:

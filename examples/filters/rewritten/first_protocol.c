@@ -1,5 +1,5 @@
 /* Keeps the first packet of each protocol: atomic operations on a set of bits say whether it was in the set before. */
-#include "filters.h"
+#include "../filters.h"
 
 u64 seen[4];
 u32 toggled;

@@ -1,5 +1,5 @@
 /* The greatest length and the least: each is raised or lowered by an atomic compare-and-exchange, in at most four tries. */
-#include "filters.h"
+#include "../filters.h"
 
 u64 greatest, least = 1 << 20;
 

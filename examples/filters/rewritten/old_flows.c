@@ -1,6 +1,6 @@
 /* Flows of TCP and UDP by addresses and ports, in IPv4, IPv6, VLANs and tunnels of GRE: loads of the packet at places that are computed,
  * as the second of the kernel's samples has them. */
-#include "filters.h"
+#include "../filters.h"
 #include "old_loads.h"
 
 struct flow {

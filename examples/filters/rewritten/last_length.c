@@ -1,5 +1,5 @@
 /* Lengths that repeat: an atomic exchange leaves the length of this packet and returns that of the one before. */
-#include "filters.h"
+#include "../filters.h"
 
 u64 last;
 u64 same, longer;

@@ -1,5 +1,5 @@
 /* Numbers packets: an atomic addition returns the number that a counter had before, and one packet of sixteen is kept with its length. */
-#include "filters.h"
+#include "../filters.h"
 
 u64 packets;
 u32 kept;

@@ -1,5 +1,5 @@
 /* A lock for each port: the first source that uses it owns it, by an atomic compare-and-exchange with 0, and only its packets are kept. */
-#include "filters.h"
+#include "../filters.h"
 
 struct {
     __uint(type, BPF_MAP_TYPE_ARRAY);

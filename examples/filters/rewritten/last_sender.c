@@ -1,5 +1,5 @@
 /* Turns of senders: an array keeps the last source for each of 16 groups of destinations, and an atomic exchange shows a change. */
-#include "filters.h"
+#include "../filters.h"
 
 struct {
     __uint(type, BPF_MAP_TYPE_ARRAY);

@@ -1,6 +1,6 @@
 /* Bytes of what this host sends, by the protocol of IPv4: one load of the packet at a constant place, as the first samples of the kernel
  * have it. */
-#include "filters.h"
+#include "../filters.h"
 #include "old_loads.h"
 
 #define PACKET_OUTGOING 4

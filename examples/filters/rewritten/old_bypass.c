@@ -1,6 +1,6 @@
 /* Leaves out what a list of addresses says, and packets of VLANs that nobody asked for: loads of the packet in functions, as filters of
  * intrusion detection have them. A list's entry counts what it has left out. */
-#include "filters.h"
+#include "../filters.h"
 #include "old_loads.h"
 
 struct {

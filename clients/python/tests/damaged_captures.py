@@ -30,7 +30,7 @@ OBJECT = Path(__file__).resolve().parents[3] / "examples/capture/counter.o"
 # Lengths near those of an Ethernet header, of a word, and of the padding of a block.
 _LENGTHS = (0, 1, 5, 13, 14, 15, 16, 60, 61, 62, 63, 200)
 _PIECES = (1, 2, 3, 1024)
-# How many first bytes of each packet are wanted.
+# How many first bytes of each packet are needed.
 _REACHES = (0, 1, 14, 62, 300)
 
 Told = tuple[list[tuple[bytes, int, Stamp]], str]

@@ -78,10 +78,10 @@ class Filtering(HostTest):
             runs, packets = TestRuns(host, 0, host.tenant().prog_load(LENGTH)), Packets.of([bytes(60)] * 1000)
             before = host.processor_time()
             list(runs.results([packets] * 20))
-            behind = host.processor_time()
+            after = host.processor_time()
             time.sleep(0.3)
-            self.assertGreater(behind, before)
-            self.assertLess(host.processor_time() - behind, 0.1)
+            self.assertGreater(after, before)
+            self.assertLess(host.processor_time() - after, 0.1)
 
     def test_more_is_kept_than_there_is(self) -> None:
         outcome = self.run_on(pcap(RECORDS), assemble(PROGRAM, "r0 = -1\nexit\n"))

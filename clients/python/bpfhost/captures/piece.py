@@ -143,7 +143,7 @@ class Capture(ABC):
     """
 
     seconds: float | None = None
-    # How many of the first bytes of each packet the reader wants, if it wants no others until the packet is kept.
+    # How many of the first bytes of each packet the reader needs, if it needs no others until the packet is kept.
     reach: int | None = None
     # Whether timestamps are finer than microseconds.
     has_nanoseconds = False

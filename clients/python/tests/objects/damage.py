@@ -116,9 +116,9 @@ def outcome_of_check(path: Path, program: str) -> str:
     written, errors = io.StringIO(), io.StringIO()
     with limit(), contextlib.redirect_stdout(written), contextlib.redirect_stderr(errors):
         status = command(["check", "--bpfhost", program, str(path)])
-    told = without_notice(errors.getvalue().encode()).decode()
-    assert status in (0, 1), (status, told)
-    assert len(told.splitlines()) <= 1 and "Traceback" not in told, told
+    line = without_notice(errors.getvalue().encode()).decode()
+    assert status in (0, 1), (status, line)
+    assert len(line.splitlines()) <= 1 and "Traceback" not in line, line
     return f"check with status {status}"
 
 

@@ -1,7 +1,7 @@
 """tools/man FOLDER
 
-Writes the man pages into a folder: bpfhost.1, verifier_log.1 and libbpfhost.3. They are made of docs/CLI.md, docs/VERIFIER.md and
-clients/c/include/bpfhost.h, so nothing is written twice; tools/man_pages has how. Sentences about the repository itself are left out.
+Writes the man pages into a folder: bpfhost.1, verifier_log.1, bpfhost-py.1, bpfhost-shards.1 and libbpfhost.3. They are made of
+docs/CLI.md, docs/VERIFIER.md, what the client prints for --help and clients/c/include/bpfhost.h, so nothing is written twice; tools/man_pages has how. Sentences about the repository itself are left out.
 """
 
 from __future__ import annotations
@@ -11,7 +11,7 @@ import sys
 from email.utils import parsedate_to_datetime
 from pathlib import Path
 
-from man_pages import commands, header
+from man_pages import client, commands, header
 from man_pages.roff import Release
 
 TOP = Path(__file__).resolve().parent.parent
@@ -31,6 +31,7 @@ def pages() -> dict[str, str]:
     return {
         "bpfhost.1": commands.bpfhost(cli, of),
         "verifier_log.1": commands.verifier_log(cli, verifier, of),
+        **client.pages(TOP / "clients/python", of),
         "libbpfhost.3": header.libbpfhost((TOP / "clients/c/include/bpfhost.h").read_text(), of),
     }
 

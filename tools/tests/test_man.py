@@ -21,7 +21,7 @@ class Man(unittest.TestCase):
         if not shutil.which("man"):
             self.skipTest("man is missing")
         pages = man.pages()
-        self.assertEqual(sorted(pages), ["bpfhost.1", "libbpfhost.3", "verifier_log.1"])
+        self.assertEqual(sorted(pages), ["bpfhost-py.1", "bpfhost-shards.1", "bpfhost.1", "libbpfhost.3", "verifier_log.1"])
         with tempfile.TemporaryDirectory() as folder:
             for name, text in pages.items():
                 (Path(folder) / name).write_text(text)

@@ -3,6 +3,7 @@
 from __future__ import annotations
 
 import argparse
+import contextlib
 import math
 import os
 import sys
@@ -18,6 +19,8 @@ Number = TypeVar("Number", int, float)
 
 
 _AS_MODULE = "python3 -m "
+# The variable with which a shell asks for completions (argcomplete).
+_COMPLETES = "_ARGCOMPLETE"
 
 
 class Parser(argparse.ArgumentParser):
@@ -35,6 +38,15 @@ class Version(argparse.Action):
 
         print(version())
         parser.exit()
+
+
+def complete(parser: argparse.ArgumentParser) -> None:
+    """Completes the arguments for a shell that asks for it, by argcomplete, if it is installed (Debian: python3-argcomplete)."""
+    if _COMPLETES in os.environ:
+        with contextlib.suppress(ModuleNotFoundError):
+            import argcomplete
+
+            argcomplete.autocomplete(parser)
 
 
 def called(script: str, module: str) -> str:

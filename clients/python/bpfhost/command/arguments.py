@@ -3,9 +3,7 @@
 from __future__ import annotations
 
 import argparse
-import contextlib
 import importlib
-import os
 import sys
 from collections.abc import Callable, Sequence
 from typing import TYPE_CHECKING, TypeAlias
@@ -14,7 +12,7 @@ from bpfhost.command.subjects import CLASSIC, EXPRESSION, EXPRESSION_FILE, Sourc
 from bpfhost.command.words import link_type, seconds, setting
 from bpfhost.numbers import MOST_TENANTS
 from bpfhost.packets import ETHERNET
-from bpfhost.telling import Parser, Version, add_program, called, in_range, named
+from bpfhost.telling import Parser, Version, add_program, called, complete, in_range, named
 
 if TYPE_CHECKING:
     _Words: TypeAlias = "argparse._SubParsersAction[_Intermixed]"
@@ -36,8 +34,6 @@ _TIMED = ("mark", "priority", "queue_mapping")
 _number = in_range(int, "number of at least 0", 0)
 _count = in_range(int, "number of at least 1", 1)
 _tenants = in_range(int, f"number from 1 to {MOST_TENANTS}", 1, MOST_TENANTS)
-# The variable with which a shell asks for completions (argcomplete).
-_COMPLETES = "_ARGCOMPLETE"
 _hex = named(bytes.fromhex, "bytes in hexadecimal digits")
 
 
@@ -229,15 +225,8 @@ def _add_test_run(parser: Parser) -> None:
 
 
 def parse(words: Sequence[str] | None) -> argparse.Namespace:
-    """The parsed arguments; wrong ones end the process with status 2.
-
-    argcomplete completes them in a shell, if it is installed (Debian: python3-argcomplete).
-    """
+    """The parsed arguments; wrong ones end the process with status 2. A shell may complete them (`complete`)."""
     parser = _parser()
-    if _COMPLETES in os.environ:
-        with contextlib.suppress(ModuleNotFoundError):
-            import argcomplete
-
-            argcomplete.autocomplete(parser)
+    complete(parser)
     said = parser.parse_args(sys.argv[1:] if words is None else words)
     return settled(said)

@@ -15,7 +15,7 @@ from bpfhost.shards.gateway.limits import GatewayLimits
 from bpfhost.shards.lease import SECONDS as LEASE_SECONDS
 from bpfhost.shards.names import PREFIX
 from bpfhost.shards.settings import LEAST_REPLY_BYTES, MOST_ENTRIES, Settings
-from bpfhost.telling import WRONG_WORDS, Parser, Version, add_program, in_range, named
+from bpfhost.telling import WRONG_WORDS, Parser, Version, add_program, called, complete, in_range, named
 
 _ABOUT = "Serves customers by many hosts, behind Redis Streams (docs/SCALING.md)."
 
@@ -42,7 +42,7 @@ _OF_SHARDS = {
 
 
 def _parser() -> tuple[Parser, Mapping[str, Parser]]:
-    parser = Parser(prog="python3 -m bpfhost.shards", description=_ABOUT)
+    parser = Parser(prog=called("bpfhost-shards", "bpfhost.shards"), description=_ABOUT)
     parser.add_argument("--version", action=Version, nargs=0, help="the client's version, and the program that it uses")
     words = parser.add_subparsers(metavar="WORD", required=True, parser_class=Parser, dest="word")
     _add_worker(words)
@@ -123,8 +123,9 @@ def _add_redis(parser: argparse.ArgumentParser, whose: str) -> None:
 
 
 def parse(words: Sequence[str] | None) -> argparse.Namespace:
-    """The parsed arguments; wrong ones end the process with the status 2."""
+    """The parsed arguments; wrong ones end the process with the status 2. A shell may complete them (`complete`)."""
     parser, of_words = _parser()
+    complete(parser)
     given = list(sys.argv[1:] if words is None else words)
     file = _config_of(given)
     if file:

@@ -5,8 +5,8 @@
 
 use crate::{Context, Errno};
 use bpfhost_sys::{
-    ABI, DONE, ERR_NO_MEMORY, ERR_TOO_BIG, bpfhost, bpfhost_bytes, bpfhost_c_abi, bpfhost_c_free, bpfhost_c_handle_lent,
-    bpfhost_c_memory_refused, bpfhost_c_new, bpfhost_c_run_packets, bpfhost_c_save,
+    ABI, DONE, ERR_NO_MEMORY, ERR_TOO_BIG, bpfhost, bpfhost_bytes, bpfhost_c_abi, bpfhost_c_free,
+    bpfhost_c_handle_lent, bpfhost_c_memory_refused, bpfhost_c_new, bpfhost_c_run_packets, bpfhost_c_save,
 };
 use std::ptr::{NonNull, null_mut};
 

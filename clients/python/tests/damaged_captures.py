@@ -30,7 +30,7 @@ OBJECT = Path(__file__).resolve().parents[3] / "examples/capture/counter.o"
 # Lengths near those of an Ethernet header, of a word, and of the padding of a block.
 _LENGTHS = (0, 1, 5, 13, 14, 15, 16, 60, 61, 62, 63, 200)
 _PIECES = (1, 2, 3, 1024)
-# How many first bytes of each packet are needed.
+# How many first bytes of each packet are read along with its header.
 _REACHES = (0, 1, 14, 62, 300)
 
 Told = tuple[list[tuple[bytes, int, Stamp]], str]
@@ -101,8 +101,7 @@ def outcome_of(path: Path) -> str:
     """The outcome of reading a capture: `read` to its end, or `refused`, at once or after some packet."""
     with limit():
         told = [told_of(path, most) for most in _PIECES]
-        told += [told_of(path, _PIECES[-1], reach) for reach in _REACHES]
-        told.append(told_through_pipe(path.read_bytes(), _PIECES[-1]))
+        told += [*(told_of(path, _PIECES[-1], reach) for reach in _REACHES), told_through_pipe(path.read_bytes(), _PIECES[-1])]
     assert all(each == told[0] for each in told), [(len(packets), fault) for packets, fault in told]
     return "refused" if told[0][1] else "read"
 

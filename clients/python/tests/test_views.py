@@ -219,8 +219,8 @@ class Versions(CommandTest):
             ended = self.command("--version", BPFHOST=str(program))
             self.assertIn(told, ended.stdout.decode())
             self.assertEqual(ended.returncode, 0)
-            library = self.command("--version", BPFHOST=str(program), BPFHOST_LIBRARY=str(program)).stdout.decode().splitlines()[2]
-            self.assertEqual(f"{library}\n", f"bpfhost, the library: {told}")
+            library = self.command("--version", BPFHOST=str(program), BPFHOST_LIBRARY=str(program)).stdout.decode().splitlines(keepends=True)[2]
+            self.assertEqual(library.removeprefix("bpfhost, the library: "), told)
         program.write_bytes(b"#!/bin/sh\n")
         (self.scratch / "UNPROVED").touch()
         self.assertIn(UNPROVED.format(program), self.command("--version", BPFHOST=str(program)).stdout.decode())

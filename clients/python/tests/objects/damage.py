@@ -116,9 +116,9 @@ def outcome_of_check(path: Path, program: str) -> str:
     written, errors = io.StringIO(), io.StringIO()
     with limit(), contextlib.redirect_stdout(written), contextlib.redirect_stderr(errors):
         status = command(["check", "--bpfhost", program, str(path)])
-    line = without_notice(errors.getvalue().encode()).decode()
-    assert status in (0, 1), (status, line)
-    assert len(line.splitlines()) <= 1 and "Traceback" not in line, line
+    errors_only = without_notice(errors.getvalue().encode()).decode()
+    assert status in (0, 1), (status, errors_only)
+    assert len(errors_only.splitlines()) <= 1 and "Traceback" not in errors_only, errors_only
     return f"check with status {status}"
 
 

@@ -10,11 +10,12 @@ import re
 from collections.abc import Mapping
 
 from bpfhost.helpers import helper_name
+from bpfhost.instead import of_access
 from bpfhost.numbers import SLOT_SIZE
-from bpfhost.slots import WIDE_LOAD, first_slots
+from bpfhost.slots import WIDE_LOAD, access_at, first_slots
 
 PAGE = "docs/VERIFIER.md"
-_BACKWARD = 2
+_BACKWARD, _CONTEXT = 2, 31
 _LOOP = "loop"
 
 # What to change in C, by the reason.
@@ -52,6 +53,10 @@ _HINTS = {
 
 def hint(reason: int, slots: bytes, slot: int) -> str | None:
     """What to change in C if a program is rejected at a slot for a reason; None if that is not known."""
+    access = access_at(slots, slot) if reason == _CONTEXT else None
+    field = of_access(access) if access is not None else None
+    if field is not None:
+        return field
     return _HINTS.get(_LOOP if reason == _BACKWARD and is_loop(slots, slot) else reason)
 
 

@@ -3,14 +3,32 @@
 from __future__ import annotations
 
 from collections.abc import Iterator, Mapping
+from typing import NamedTuple
 
 from bpfhost.numbers import SLOT_SIZE
 
 WIDE_LOAD = 0x18
+# The classes of loads, and of stores of constants and of registers.
+_MEMORY = (1, 2, 3)
 # The immediates of the host's atomic operations.
 ATOMIC_OPERATIONS = (0x00, 0x40, 0x50, 0xA0)
 # The second half of the byte of registers in a wide load: of a map, or of an address in a map's value.
 _OF_MAPS = (1, 2)
+
+
+class Access(NamedTuple):
+    """A load or a store: its offset, and which of the two it is."""
+
+    offset: int
+    is_load: bool
+
+
+def access_at(slots: bytes, slot: int) -> Access | None:
+    """The load or the store at a slot; None if there is another instruction."""
+    if not 0 <= slot < len(slots) // SLOT_SIZE or slots[SLOT_SIZE * slot] & 7 not in _MEMORY:
+        return None
+    offset = int.from_bytes(slots[SLOT_SIZE * slot + 2 : SLOT_SIZE * slot + 4], "little", signed=True)
+    return Access(offset, slots[SLOT_SIZE * slot] & 7 == _MEMORY[0])
 
 
 def first_slots(slots: bytes | bytearray) -> Iterator[int]:

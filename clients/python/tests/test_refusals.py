@@ -128,6 +128,18 @@ class Messages(CommandTest, ClangTest):
         told = self.told("return table[skb->len & 31];", log="")
         self.assertRegex(told, r"filter\.c:\d+: return table\[skb->len & 31\]; \(slot \d+.*: outside a map's value, reason 29\); compare the index before")
 
+    def test_fields_of_the_context(self) -> None:
+        """Reason 31 names the field, and what to use instead."""
+        for body, wanted in {
+            "return *((unsigned *)skb + 17);": "skb->hash is a field that the host's context does not have: compute a number of the addresses",
+            "return *((unsigned *)skb + 13);": "skb->cb is a field that the host's context does not have: keep it in a variable",
+            "return *((unsigned *)skb + 40);": "skb->wire_len is a field that the host's context does not have \\(",
+            "return *((unsigned char *)skb + 16);": "a part of skb->protocol is read: read the whole word into a variable",
+            "*((unsigned *)skb + 2) = 7; return 1;": "skb->mark is written, and a program only reads the context",
+            "return *((unsigned *)skb + 90);": "of the context eleven words of 32 bits are read",
+        }.items():
+            self.assertRegex(self.told(body, log=""), rf"reason 31\); {wanted}")
+
     def test_a_loop(self) -> None:
         told = self.told("int sum = 0;\nfor (unsigned i = 0; i < skb->len; i++) sum += i * skb->mark ^ sum;\nreturn sum;", "--as-is", log="")
         self.assertIn("reason 2); give the loop a bound of constants", told)

@@ -17,7 +17,7 @@ if TYPE_CHECKING:
 
 
 def read_object(said: argparse.Namespace, path: str) -> ObjectFile:
-    """The object of a file in the form that the arguments ask for. Raises MissingPackage without pyelftools.
+    """The object of a file, or the built program, in the form that the arguments ask for. Raises MissingPackage without pyelftools.
 
     Prints what is changed in its maps.
     """
@@ -26,11 +26,11 @@ def read_object(said: argparse.Namespace, path: str) -> ObjectFile:
     if is_capture(path):
         raise InputError(f"{path} is a capture, and not an object")
     try:
-        from bpfhost.objects import Form, load_object
+        from bpfhost.objects import Form, is_built, load_built, load_object
     except ModuleNotFoundError as error:
         raise MissingPackage("elftools", "python3-pyelftools") from error
     form = Form.AS_IS if said.as_is else Form.STRICT if said.strict else Form.LOWERED
-    found = load_object(path, form)
+    found = load_built(path, form) if is_built(path) else load_object(path, form)
     tell_changes(path, found.changes)
     return found
 

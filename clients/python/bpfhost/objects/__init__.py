@@ -7,6 +7,7 @@
 It needs pyelftools (Debian: python3-pyelftools); without it, `load_object` raises MissingPackage.
 """
 
+from bpfhost.objects.built import is_built, load_built
 from bpfhost.objects.errors import ObjectError
 from bpfhost.objects.load import load_object
 from bpfhost.objects.model import CallSlot, Form, MapSlot, ObjectFile, ObjectMap, ObjectProgram, SourceLine
@@ -22,5 +23,7 @@ __all__ = [
     "ObjectProgram",
     "SourceLine",
     "Types",
+    "is_built",
+    "load_built",
     "load_object",
 ]

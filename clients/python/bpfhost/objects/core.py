@@ -6,6 +6,7 @@ of struct __sk_buff there, whose order is in docs/PROTOCOL.md ("PROG_TEST_RUN").
 
 from __future__ import annotations
 
+from bpfhost.instead import of_field
 from bpfhost.numbers import SLOT_SIZE
 from bpfhost.objects.btf import Btf, Composite
 from bpfhost.objects.btf_ext import CoreRelocation
@@ -37,7 +38,8 @@ def relocate(place: Place, slots: bytearray, btf: Btf | None, relocation: CoreRe
     if relocation.kind == _EXISTS:
         number = int(known is not None)
     elif known is None:
-        raise place.refused(slot, f"uses skb->{field}, and the host's context has skb->{FIELDS[0]} to skb->{FIELDS[-1]}")
+        has = f"and the host's context has skb->{FIELDS[0]} to skb->{FIELDS[-1]}"
+        raise place.refused(slot, f"uses skb->{field}, {has}", of_field(field))
     else:
         number = {_OFFSET: _WORD * known, _SIZE: _WORD, _SIGNED: 0}[relocation.kind]
     if not _put(slots, slot, number):

@@ -11,16 +11,17 @@ file. A notice is printed for each of these changes; with strict reading they ar
 from __future__ import annotations
 
 import struct
-from collections.abc import Iterator
+from collections.abc import Callable, Iterator
 from dataclasses import dataclass, field
 
+from bpfhost.instead import of_map
 from bpfhost.numbers import MOST_MAPS, MapType
 from bpfhost.objects.btf import Array, Btf, Composite, Member, Pointer, Variable
 from bpfhost.objects.elf import ElfObject, Section, Symbol
 from bpfhost.objects.errors import ObjectError
 from bpfhost.objects.layout import resolve, size_of
 from bpfhost.objects.limits import check_map
-from bpfhost.objects.model import ObjectMap
+from bpfhost.objects.model import ObjectMap, SourceLine
 
 BTF_MAPS, LEGACY_MAPS = MAP_SECTIONS = (".maps", "maps")
 
@@ -61,14 +62,25 @@ class MapChanges:
 
     is_strict: bool
     told: list[str] = field(default_factory=list)
+    # The line of the source that first uses a map, by the map's name.
+    line_of: Callable[[str], SourceLine | None] = lambda _name: None
 
-    def map_type(self, number: int, where: str) -> MapType:
+    def map_type(self, number: int, where: str, name: str) -> MapType:
         """The kind of a map, by its number in linux/bpf.h."""
         if number in _BY_PROCESSOR and not self.is_strict:
             kind = _BY_PROCESSOR[number]
             self.told.append(f"{where}: {_MAP_TYPES[number]} is taken as {kind.name}, since one processor runs all programs")
             return kind
-        return _map_type(number, where)
+        return self._map_type(number, where, name)
+
+    def _map_type(self, number: int, where: str, name: str) -> MapType:
+        try:
+            return MapType(number)
+        except ValueError:
+            kind = f" ({_MAP_TYPES[number]})" if number in _MAP_TYPES else ""
+            does, line = of_map(number), self.line_of(name)
+            has = f"and the host has only HASH (1) and ARRAY (2){f' ({line})' if line else ''}{f'; {does}' if does else ''}"
+            raise ObjectError(f"{where} has type {number}{kind}, {has}") from None
 
     def check_flags(self, number: int, where: str) -> None:
         """Drops BPF_F_NO_PREALLOC, and refuses other flags."""
@@ -103,14 +115,6 @@ def defined_maps(elf: ElfObject, btf: Btf | None, changes: MapChanges) -> list[D
         elif section.name == LEGACY_MAPS and section.size:
             found.extend(_by_struct(elf, section, changes))
     return found
-
-
-def _map_type(number: int, where: str) -> MapType:
-    try:
-        return MapType(number)
-    except ValueError:
-        name = f" ({_MAP_TYPES[number]})" if number in _MAP_TYPES else ""
-        raise ObjectError(f"{where} has type {number}{name}, and the host has only HASH (1) and ARRAY (2)") from None
 
 
 def _symbols(elf: ElfObject, section: Section) -> list[Symbol]:
@@ -173,7 +177,7 @@ class _Attributes:
             raise ObjectError(f"{self._where} has no type")
         declared = ObjectMap(
             name=name,
-            map_type=changes.map_type(self._numbers["type"], self._where),
+            map_type=changes.map_type(self._numbers["type"], self._where, name),
             key_size=self._size("key"),
             value_size=self._size("value"),
             max_entries=self._numbers.get("max_entries", 0),
@@ -253,5 +257,5 @@ def _legacy(name: str, definition: bytes, where: str, changes: MapChanges) -> Ob
         raise ObjectError(f"{where} has fields after those of struct bpf_map_def that are not 0")
     kind, key_size, value_size, max_entries, flags = struct.unpack("<5I", definition[:size].ljust(size, b"\0"))
     changes.check_flags(flags, where)
-    declared = ObjectMap(name, changes.map_type(kind, where), key_size, value_size, max_entries, None, None, None)
+    declared = ObjectMap(name, changes.map_type(kind, where, name), key_size, value_size, max_entries, None, None, None)
     return check_map(declared, where)

@@ -6,6 +6,7 @@ Source: RFC 9669; docs/INSTRUCTIONS.md for what the host has. Invalid instructio
 from __future__ import annotations
 
 from bpfhost.helpers import HELPERS, helper_name, the_helpers
+from bpfhost.instead import of_helper
 from bpfhost.numbers import SLOT_SIZE
 from bpfhost.objects.place import Place
 from bpfhost.slots import ATOMIC_OPERATIONS, WIDE_LOAD, first_slots
@@ -50,9 +51,11 @@ def check_instructions(slots: bytes, place: Place, is_lowered: bool) -> None:
     If programs are lowered, some of these instructions become others (`bpfhost.lowering.sequences`).
     """
     for slot in first_slots(slots):
-        lacks = _lacks(slots[SLOT_SIZE * slot : SLOT_SIZE * (slot + 1)], is_lowered)
+        instruction = slots[SLOT_SIZE * slot : SLOT_SIZE * (slot + 1)]
+        lacks = _lacks(instruction, is_lowered)
         if lacks:
-            raise place.refused(slot, lacks)
+            is_helper = instruction[0] == _CALL and not instruction[1] >> 4
+            raise place.refused(slot, lacks, of_helper(int.from_bytes(instruction[4:], "little")) if is_helper else None)
 
 
 def _lacks(instruction: bytes, is_lowered: bool) -> str | None:

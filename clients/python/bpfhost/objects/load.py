@@ -11,7 +11,7 @@ from bpfhost.objects.elf import ElfObject, read_elf
 from bpfhost.objects.errors import ObjectError
 from bpfhost.objects.limits import check_maps
 from bpfhost.objects.model import Form, ObjectFile
-from bpfhost.objects.programs import read_programs
+from bpfhost.objects.programs import line_of_use, read_programs
 from bpfhost.objects.types import Types
 from bpfhost.objects.variables import variable_maps, with_places
 
@@ -34,7 +34,7 @@ def load_object(path: str | os.PathLike[str], form: Form = Form.LOWERED) -> Obje
 
 def _read(name: str, elf: ElfObject, form: Form) -> ObjectFile:
     btf, btf_ext = _types(elf)
-    changes = MapChanges(form is not Form.LOWERED)
+    changes = MapChanges(form is not Form.LOWERED, line_of=lambda symbol: line_of_use(elf, btf_ext, symbol))
     maps = [*defined_maps(elf, btf, changes), *variable_maps(elf, btf)]
     check_maps([each.map for each in maps])
     programs, functions = read_programs(elf, maps, (btf, btf_ext), is_lowered=form is not Form.AS_IS)

@@ -27,10 +27,10 @@ class Place:
         """The offset of the byte after its last one."""
         return self.function.value + self.function.size
 
-    def refused(self, slot: int, what: str) -> ObjectError:
-        """The error for a slot that needs what the host does not have, with the line of the source if it is known."""
+    def refused(self, slot: int, what: str, instead: str | None = None) -> ObjectError:
+        """The error for a slot that needs what the host does not have, with the line of the source, and what to use instead, if known."""
         line = line_at(self.lines, slot)
-        return ObjectError(f"{self} {what}, at slot {slot}{f' ({line})' if line else ''}")
+        return ObjectError(f"{self} {what}, at slot {slot}{f' ({line})' if line else ''}{f'; {instead}' if instead else ''}")
 
     def __str__(self) -> str:
         return f"function {self.function.name} in section {self.section.name}"

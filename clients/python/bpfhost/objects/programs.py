@@ -48,6 +48,17 @@ def read_programs(
     return programs, reader.called()
 
 
+def line_of_use(elf: ElfObject, btf_ext: BtfExt, name: str) -> SourceLine | None:
+    """The first line of a program that names a symbol, as of a map; None if none does, or if there are no lines."""
+    for section in elf.sections:
+        relocations = elf.relocations_of(section) if section.executable else ()
+        offsets = [relocation.offset for relocation in relocations if relocation.symbol.name == name]
+        lines = [line for line in btf_ext.lines.get(section.name, ()) if offsets and line.line and line.offset <= min(offsets)]
+        if lines:
+            return _source_line(lines[-1], 0)
+    return None
+
+
 class _Reader:
     """Reads functions, and those that they call, each once."""
 

@@ -69,13 +69,23 @@ class ByBtf(ClangTest):
         all_of_them = "__uint(type, 5); __uint(pinning, 1); __uint(map_flags, 1);"
         self.changed(all_of_them, MapType.HASH, dropped, pinning, f"PERCPU_HASH is taken as HASH, {one}")
 
+    USES = 'SEC("socket") int f(struct __sk_buff *skb) { int key = 0; return bpf_map_lookup_elem(&m, &key) != 0; }'
+
     def test_other_types(self) -> None:
         rest = "__type(key, __u32); __type(value, __u32); __uint(max_entries, 1);"
         has = "and the host has only HASH (1) and ARRAY (2)"
-        self.refused(f"__uint(type, BPF_MAP_TYPE_LRU_HASH); {rest}", f" has type 9 (LRU_HASH), {has}")
         for form in (Form.STRICT, Form.AS_IS):
             self.refused(f"__uint(type, BPF_MAP_TYPE_PERCPU_ARRAY); {rest}", f" has type 6 (PERCPU_ARRAY), {has}", form)
             self.refused(f"__uint(type, 5); {rest}", f" has type 5 (PERCPU_HASH), {has}", form)
+        for number, name, does in (
+            (9, "LRU_HASH", "use HASH, and count what has no room"),
+            (10, "LRU_PERCPU_HASH", "use HASH, and count what has no room"),
+            (11, "LPM_TRIE", "keep the prefixes in an array, the longest first"),
+            (27, "RINGBUF", "count in a map, which is read after the run"),
+            (3, "PROG_ARRAY", "call a function, which is inlined"),
+        ):
+            used = f'struct {{ __uint(type, {number}); {rest} }} m SEC(".maps");\n{self.USES}'
+            self.assertIn(f" has type {number} ({name}), {has} (filter.c:3: {self.USES}); {does}", self.refusal(used))
         self.refused(f"__uint(type, 77); {rest}", f" has type 77, {has}")
         self.refused(rest, " has no type")
 

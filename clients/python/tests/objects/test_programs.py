@@ -54,7 +54,15 @@ class Lacking(ClangTest):
         self.assertEqual(told, f"function f in section socket {what}, at slot {slot} (filter.c:4: {line})")
 
     def test_helpers(self) -> None:
-        self.lacks(f"calls helper bpf_ktime_get_ns (5), and the host has {the_helpers()}", 0, "return bpf_ktime_get_ns();")
+        for number, name, does in (
+            (5, "ktime_get_ns", "run --time mark gives the milliseconds since the first packet: `u32 now = skb->mark;`"),
+            (7, "get_prandom_u32", "count in a global variable"),
+            (12, "tail_call", "call a function, which is inlined"),
+            (130, "ringbuf_output", "count in a map"),
+        ):
+            refused = self.refusal(f'SEC("socket") int f(struct __sk_buff *skb) {{ return ((int (*)(void))(long){number})(); }}')
+            self.assertIn(f"calls helper bpf_{name} ({number}), and the host has {the_helpers()}, at slot 0 (filter.c:2: ", refused)
+            self.assertIn(f"; {does}", refused)
 
     def test_calls_of_functions(self) -> None:
         no_calls = "and calls between functions are not supported"
@@ -141,6 +149,8 @@ class Lacking(ClangTest):
         )
         numbers = [self.plain(text.format(field, kind)).programs[0].slots[4] for field, kind in (("len", 1), ("len", 2), ("cb", 2), ("len", 3))]
         self.assertEqual(numbers, [4, 1, 0, 0])
+        with self.assertRaisesRegex(ObjectError, "uses skb->hash, and the host's context .*; compute a number of the addresses and ports: `hash = "):
+            self.plain(text.replace("cb;", "hash;").format("hash", 0))
         with self.assertRaisesRegex(ObjectError, "uses skb->cb, and the host's context has skb->len to skb->ifindex, at slot 0"):
             self.plain(text.format("cb", 0))
 

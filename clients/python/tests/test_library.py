@@ -14,7 +14,7 @@ import threading
 import unittest
 from pathlib import Path
 
-from bpfhost import Context, Host, Packets, ProgramRefused, Refused, frames
+from bpfhost import Context, Host, Packets, ProgramRefused, Refused, __version__, frames
 from bpfhost.library import Library, LibraryError, LibraryHost
 from bpfhost.numbers import MapType
 from bpfhost.state import FILLER
@@ -70,6 +70,14 @@ class Files(TimedTest):
         link.symlink_to(path)
         self.refused(link, ".*/libbpfhost.so is of version 0.3, and this client is for 0.2")
 
+    @unittest.skipIf(shutil.which("cc") is None, "a C compiler is missing")
+    def test_another_binary_interface(self) -> None:
+        path = self.scratch / "other.so"
+        source = "unsigned bpfhost_c_abi(void) { return 99; }"
+        subprocess.run(["cc", "-shared", "-x", "c", "-", "-o", str(path)], input=source.encode(), check=True)
+        told = "its functions are of the binary interface 99, and this client calls those of 2"
+        self.refused(path, f".*/other.so is no library of bpfhost 0.2: {told}")
+
 
 @unittest.skipUnless(IS_THERE, "there is no library: BPFHOST_LIBRARY names none, and no libbpfhost.a is beside the program")
 class Calls(TimedTest):
@@ -78,6 +86,9 @@ class Calls(TimedTest):
         self.library = Library(linked(self.scratch))
         self.host = self.library.host(3, (1, 2))
         self.addCleanup(self.host.close)
+
+    def test_version(self) -> None:
+        self.assertEqual(self.library.version(), __version__)
 
     def test_batches(self) -> None:
         """As packets, as a list, in any place of the bytes, and none."""

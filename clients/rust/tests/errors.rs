@@ -18,6 +18,14 @@ fn a_host_has_1_to_64_tenants() {
 }
 
 #[test]
+fn the_library_is_of_this_version() {
+    let numbers = bpfhost::library_version().map(|number| number.to_string());
+    assert_eq!(numbers.join("."), bpfhost::VERSION);
+    assert_eq!(Error::Version.errno(), None);
+    assert_eq!(Error::Version.to_string(), "the library is of another binary interface than this crate");
+}
+
+#[test]
 fn a_tenant_that_is_not_served() {
     let mut host = host(2);
     for number in [2, 65535] {

@@ -75,8 +75,8 @@ class Files(TimedTest):
         path = self.scratch / "other.so"
         source = "unsigned bpfhost_c_abi(void) { return 99; }"
         subprocess.run(["cc", "-shared", "-x", "c", "-", "-o", str(path)], input=source.encode(), check=True)
-        told = "its functions are of the binary interface 99, and this client calls those of 2"
-        self.refused(path, f".*/other.so is no library of bpfhost 0.2: {told}")
+        reason = "its functions are of the binary interface 99, and this client calls those of 2"
+        self.refused(path, f".*/other.so is no library of bpfhost 0.2: {reason}")
 
 
 @unittest.skipUnless(IS_THERE, "there is no library: BPFHOST_LIBRARY names none, and no libbpfhost.a is beside the program")

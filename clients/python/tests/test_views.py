@@ -213,14 +213,14 @@ class Versions(CommandTest):
     def test_a_program_with_and_without_proofs(self) -> None:
         """A copy of a program has its mark; older builds only have a file next to them."""
         program = self.scratch / "copied"
-        for mark, told in ((b"", f"{program}, built with its proofs (it has no mark of tools/quick-build)\n"), (MARK, UNPROVED.format(program))):
+        for mark, line in ((b"", f"{program}, built with its proofs (it has no mark of tools/quick-build)\n"), (MARK, UNPROVED.format(program))):
             program.write_bytes(b"#!/bin/sh\n" + mark)
             program.chmod(0o755)
             ended = self.command("--version", BPFHOST=str(program))
-            self.assertIn(told, ended.stdout.decode())
+            self.assertIn(line, ended.stdout.decode())
             self.assertEqual(ended.returncode, 0)
             library = self.command("--version", BPFHOST=str(program), BPFHOST_LIBRARY=str(program)).stdout.decode().splitlines(keepends=True)[2]
-            self.assertEqual(library.removeprefix("bpfhost, the library: "), told)
+            self.assertEqual(library.removeprefix("bpfhost, the library: "), line)
         program.write_bytes(b"#!/bin/sh\n")
         (self.scratch / "UNPROVED").touch()
         self.assertIn(UNPROVED.format(program), self.command("--version", BPFHOST=str(program)).stdout.decode())

@@ -103,9 +103,9 @@ class Lacking(ClangTest):
         ):
             with self.subTest(name):
                 text = f'int number; SEC("socket") int f(struct __sk_buff *skb) {{ return {call}; }}'
-                told = self.refusal(text, "-mcpu=v3", form=Form.AS_IS)
-                self.assertIn(f"function f in section socket has {name}, which the host does not have, at slot ", told)
-                self.assertIn(" (filter.c:2: ", told)
+                refusal = self.refusal(text, "-mcpu=v3", form=Form.AS_IS)
+                self.assertIn(f"function f in section socket has {name}, which the host does not have, at slot ", refusal)
+                self.assertIn(" (filter.c:2: ", refusal)
                 self.assertEqual(len(self.text(text, "-mcpu=v3").programs), 1)
 
     def test_legacy_packet_access(self) -> None:

@@ -41,6 +41,8 @@ ZERO = frames.map_update_elem(0, 3, bytes(4), bytes(8))
 _FRAGILE = """
 #include <stdint.h>
 #include <stdlib.h>
+uint32_t bpfhost_c_version(void) { return 512; }
+uint32_t bpfhost_c_abi(void) { return 2; }
 int32_t bpfhost_c_new(void *h, size_t n, uint64_t a, uint64_t b) { return 0; }
 int32_t bpfhost_c_handle(void *h, const uint8_t *f, size_t n, uint8_t *r, size_t m, size_t *w) { abort(); }
 int32_t bpfhost_c_run_packets(void) { abort(); }

@@ -152,10 +152,10 @@ class Built(ObjectTest):
 
     def test_names_for_terminals(self) -> None:
         builder = good()
-        builder.symbol("f\n\x1b[2J", builder.program("a\tb", "8500000005000000"), 0, 8)
+        builder.symbol("f\n\x1b[2J", builder.program("a\tb", "8500000004000000"), 0, 8)
         self.assertEqual(
             self.refused(builder.to_bytes()),
-            rf"function f\n\x1b[2J in section a\tb calls helper bpf_ktime_get_ns (5), and the host has {the_helpers()}, at slot 0",
+            rf"function f\n\x1b[2J in section a\tb calls helper bpf_probe_read (4), and the host has {the_helpers()}, at slot 0",
         )
 
     def test_kinds_of_sections(self) -> None:

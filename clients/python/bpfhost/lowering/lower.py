@@ -283,11 +283,19 @@ class _Lowering:
     def _lines(self, origins: Sequence[Origin]) -> tuple[SourceLine, ...]:
         """The line of each slot, if it differs from that of the slot before."""
         found: list[SourceLine] = []
+        last: SourceLine | None = None
         for slot, origin in enumerate(origins):
             line = self._functions[self._frames[origin.frame].function].declared.line_of(origin.slot)
-            if line is not None and (not found or replace(found[-1], slot=line.slot) != line):
-                found.append(replace(line, slot=slot))
+            if line is not None and line is not last:
+                if last is None or _text_of(line) != _text_of(last):
+                    found.append(replace(line, slot=slot))
+                last = line
         return tuple(found)
+
+
+def _text_of(line: SourceLine) -> tuple[str, int, int, str]:
+    """What a line has besides its slot."""
+    return line.file, line.line, line.column, line.text
 
 
 def _moves_in(origins: Sequence[Origin]) -> str:

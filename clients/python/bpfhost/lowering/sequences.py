@@ -19,6 +19,7 @@ from dataclasses import dataclass, field
 
 from bpfhost.lowering import instructions as op
 from bpfhost.lowering.instructions import FRAME_POINTER, Instruction
+from bpfhost.numbers import SLOT_SIZE
 from bpfhost.slots import first_slots
 
 PACKET, FETCHED, EXCHANGED, COMPARED = KINDS = ("packet", "fetch", "exchange", "compare")
@@ -28,6 +29,8 @@ _LOAD_BYTES = 26
 _SET, _SWAP = 0xB7, 0xDC
 _OF_REGISTER = 0x08
 _LOAD, _STORE = 0x61, 0x63
+# The opcodes of instructions that may become a sequence: legacy loads, and atomic operations.
+_OPCODES = frozenset((0x20, 0x28, 0x30, 0x40, 0x48, 0x50, 0xC3, 0xDB))
 # The registers that a sequence may write.
 _SPARES = (0, 1, 2, 3, 4, 5)
 
@@ -53,6 +56,8 @@ class Stated:
 
 def kind_of(found: Instruction) -> str | None:
     """The kind of an instruction that becomes a sequence; None if it stays."""
+    if found.opcode not in _OPCODES:
+        return None
     if found.reads_packet:
         return PACKET
     if not found.fetches or found.dst == found.src:
@@ -62,6 +67,8 @@ def kind_of(found: Instruction) -> str | None:
 
 def has_sequences(slots: bytes) -> bool:
     """Whether a program has an instruction that becomes a sequence."""
+    if _OPCODES.isdisjoint(slots[::SLOT_SIZE]):
+        return False
     return any(kind_of(Instruction.at(slots, slot)) is not None for slot in first_slots(slots))
 
 

@@ -1,5 +1,5 @@
 #!/usr/bin/env python3
-"""The processor time of lowering: of the filters of examples/filters, beside another package of the client, and of 4,000 slots beside 1,000.
+"""The processor time of lowering: of the filters of examples/filters, next to another package of the client, and of 4,000 slots next to 1,000.
 
 usage: bench/lowering.py [--bpfhost PATH] [--before PACKAGE] [--rounds N]
 

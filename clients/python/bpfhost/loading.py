@@ -13,8 +13,8 @@ from bpfhost.maps import Map
 from bpfhost.numbers import FIRST_DESCRIPTOR
 from bpfhost.objects import Form, ObjectFile, ObjectMap, ObjectProgram
 from bpfhost.prog import Prog
-from bpfhost.program import MapShape, Program, log_or_fault, verify
-from bpfhost.refusals import PAGE, hint, need_of, with_names
+from bpfhost.program import MapShape, Program, disassemble, log_or_fault, verify
+from bpfhost.refusals import PAGE, hint, line_with_names, need_of, with_names
 from bpfhost.runs import TestRuns
 from bpfhost.tenant import Tenant
 from bpfhost.words import reason_words
@@ -81,6 +81,17 @@ def log_of(bpfhost: Program, object_file: ObjectFile, lowered: Lowered) -> str |
     """
     log = _raw_log(bpfhost, object_file, lowered)
     return None if log is None else _readable(log, object_file, lowered)
+
+
+def facts_of(bpfhost: Program, object_file: ObjectFile, lowered: Lowered) -> dict[int, tuple[str, str]]:
+    """The text of each instruction by its slot, and what the log says is newly known before it; this is empty if there is no log."""
+    names = _map_names(object_file)
+    texts = disassemble(bpfhost, lowered.program.linked(first_descriptors(object_file))).splitlines()
+    lines = {slot: f"{slot}: {text}" for slot, text in zip(_slots_of(texts), texts) if slot is not None}
+    log = (_raw_log(bpfhost, object_file, lowered) or "").splitlines()
+    lines |= {int(line.partition(": ")[0]): line for line in log if line.partition(": ")[0].isdecimal()}
+    parts = {slot: line_with_names(line, names).partition(": ")[2].partition(" // ") for slot, line in lines.items()}
+    return {slot: (text.rstrip(), notes) for slot, (text, _, notes) in parts.items()}
 
 
 def graph_of(bpfhost: Program, object_file: ObjectFile, lowered: Lowered) -> str | None:

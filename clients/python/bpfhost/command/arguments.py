@@ -73,6 +73,8 @@ def _add_words(words: _Words) -> None:
     _subject_word(words, "check", _add_check, ("check.run", "filters.check"), check, "--filter 'tcp port 443'")
     build = "write a program of an object with its maps, or a filter, as a file that is loaded without Python"
     _subject_word(words, "build", _add_build, ("build.run", "filters.build"), build, "--filter 'tcp port 443' -o https.json")
+    report = "write a page of HTML on a program or a filter: its verdict, its lines and blocks, and what a capture gives"
+    _subject_word(words, "report", _add_report, ("report.run_object", "report.run_filter"), report, "filter.o capture.pcap -o filter.html")
     _word(words, "asm", _add_asm, "texts.asm", "write the slots of a program's text as hex lines")
     dis = "write the text of hex lines, of an object's programs with their source, or of filters"
     _subject_word(words, "dis", _add_dis, ("texts.dis", "filters.dis"), dis, "--filter 'tcp port 443'")
@@ -191,6 +193,17 @@ def _add_build(parser: Parser) -> None:
     _add_object(parser)
     _add_filters(parser)
     parser.add_argument("-o", "--output", metavar="FILE", required=True, help="the file")
+    of_objects = parser.add_argument_group("for OBJECT")
+    _add_section(of_objects)
+    _add_form(of_objects)
+    add_program(parser)
+
+
+def _add_report(parser: Parser) -> None:
+    _add_object(parser)
+    parser.add_argument("capture", metavar="CAPTURE", nargs="?", help="a capture whose packets are run")
+    _add_filters(parser)
+    parser.add_argument("-o", "--output", metavar="FILE", required=True, help="the page")
     of_objects = parser.add_argument_group("for OBJECT")
     _add_section(of_objects)
     _add_form(of_objects)

@@ -55,7 +55,7 @@ def _settle_filters(said: argparse.Namespace) -> None:
     _refuse(said, _OF_OBJECTS, "is for an object, and filters are named")
     files = [getattr(said, name) for name in ("object", "file", "capture") if getattr(said, name, None) is not None]
     if "capture" in said:
-        if said.csv:
+        if getattr(said, "csv", None):
             # The table of filters has no name: a word after --csv is the capture.
             files.append(said.csv)
             said.csv = ""

@@ -47,12 +47,13 @@ def load_built(path: str | os.PathLike[str], form: Form = Form.LOWERED) -> Objec
             data = file.read(_LONGEST + 1)
         if len(data) > _LONGEST:
             raise ObjectError(f"a built program has {_LONGEST:,} bytes at most")
-        return _read(name, data, form)
+        return read_built(name, data, form)
     except ObjectError as error:
         raise ObjectError(f"{name}: {error}") from error
 
 
-def _read(name: str, data: bytes, form: Form) -> ObjectFile:
+def read_built(name: str, data: bytes, form: Form = Form.LOWERED) -> ObjectFile:
+    """The program of a built file's content. Raises ObjectError, without the name."""
     try:
         found = json.loads(data)
     except (ValueError, RecursionError) as error:

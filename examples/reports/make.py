@@ -17,7 +17,7 @@ from collections.abc import Sequence
 from pathlib import Path
 
 HERE = Path(__file__).resolve().parent
-PACKAGE = HERE.parents[1] / "clients/python"
+PACKAGE, INCLUDE = HERE.parents[1] / "clients/python", HERE.parents[1] / "clients/c/include"
 sys.path.insert(0, str(PACKAGE))
 
 from bpfhost.program import find_verifier_log  # noqa: E402
@@ -40,7 +40,7 @@ def made(bpfhost: str, name: str, folder: Path) -> str:
     """A page, made in a folder with the object."""
     source, words = PAGES[name]
     built, output = folder / f"{Path(source).stem}.o", folder / name
-    compile_words = [CLANG, "-O2", "-g", "-fdebug-compilation-dir=.", "-target", "bpf", "-c", source, "-o", str(built)]
+    compile_words = [CLANG, "-O2", "-g", "-fdebug-compilation-dir=.", "-target", "bpf", f"-I{INCLUDE}", "-c", source, "-o", str(built)]
     subprocess.run(compile_words, check=True, cwd=HERE)
     call = [sys.executable, "-m", "bpfhost", "report", "--bpfhost", bpfhost, str(built), *words, "-o", str(output)]
     ended = subprocess.run(call, check=False, cwd=HERE, env={**os.environ, "PYTHONPATH": str(PACKAGE)}, capture_output=True, text=True)

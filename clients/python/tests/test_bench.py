@@ -5,11 +5,15 @@ from __future__ import annotations
 import shutil
 import subprocess
 import sys
+import unittest
 from pathlib import Path
 
 from tests.classic.common import needs_libpcap
 from tests.common import PROGRAM, HostTest
+from tests.objects.common import clang
 
+# A busy machine gets more time for one of two measurements.
+SLACK = 2
 BENCH = Path(__file__).resolve().parents[1] / "bench/packets.py"
 
 
@@ -34,3 +38,14 @@ class Bench(HostTest):
             self.assertRegex(line, rf"\A{name}, 2,000 packets: client \d+\.\d\d us a packet, host \d+\.\d\d, ratio \d+\.\d\d\Z")
         for line, name in zip(lines[4:], ("pcap", "pcapng")):
             self.assertRegex(line, rf"\A{name}: the client costs \d+\.\d\d us a packet at least, and is to cost less than 3\Z")
+
+    @unittest.skipUnless(clang(), "there is no clang with the target bpf")
+    def test_lowering(self) -> None:
+        """Both ratios are printed: next to a package, here the same one, and of 4,000 slots to 1,000, which is at most 5."""
+        bench = BENCH.with_name("lowering.py")
+        call = [sys.executable, str(bench), "--bpfhost", PROGRAM, "--before", str(BENCH.parents[1]), "--rounds", "1"]
+        ended = subprocess.run(call, capture_output=True, check=False, text=True)
+        self.assertEqual((ended.stderr, ended.returncode), ("", 0))
+        lines = ended.stdout.splitlines()
+        self.assertEqual([line.partition(": ")[0] for line in lines], ["forty filters, now", "forty filters, before", "ratio", "1,000 slots"])
+        self.assertLess(float(lines[-1].rpartition(" ")[2]), 5 * SLACK)

@@ -159,6 +159,8 @@ class _Lowering:
             return self._form(form, None)
         accepted = with_copies(graph, refused, self._ask) or self._copied_with_moves(graph, refused)
         if accepted is None:
+            for step in (INDEX, EQUAL, ZERO):
+                self._changes.pop(step, None)
             return self._refusal(plain, first)
         more = len(accepted.written.origins) - len(form.origins)
         copies = f"{_counted(accepted.copies, 'copy', 'copies')}, {more} slots more"

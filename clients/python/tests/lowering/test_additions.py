@@ -244,6 +244,12 @@ class Checked(LoweringTest):
 
 
 class OneProgram(LoweringTest):
+    def test_a_program_that_is_rejected_all_the_same(self) -> None:
+        """What is reported is the plain form, without what was added."""
+        text = COPIED.format(mask=7, shift=0) + "r6 = *(u8 *)(r3 + 0)\nr1 = r6\ncall g\nr0 += r5\nexit"
+        lowered = self.lowered(object_of(f=text, g="r0 = r1\nexit"))
+        self.assertEqual((lowered.refused, lowered.steps), ((11, 23), ("calls",)))
+
     def test_nothing_is_added_to_an_accepted_program(self) -> None:
         found = object_of(f="r0 = *(u32 *)(r1 + 0)\nr2 = r0\nif r2 > 5 goto +1\nr0 = 1\nexit")
         lowered = self.accepted(found)

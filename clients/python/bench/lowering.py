@@ -21,7 +21,7 @@ from collections.abc import Callable
 from pathlib import Path
 
 HERE = Path(__file__).resolve().parents[1]
-FILTERS = HERE.parents[1] / "examples/filters"
+FILTERS, INCLUDE = HERE.parents[1] / "examples/filters", HERE.parents[1] / "clients/c/include"
 # How often a worker lowers all filters for one number, and each of the long programs.
 PASSES = 3
 
@@ -87,7 +87,8 @@ def compiled(folder: Path) -> list[str]:
     made = []
     for source in sorted(FILTERS.glob("*.c")):
         path = folder / f"{source.stem}.o"
-        subprocess.run([clang, "-O2", "-g", "-target", "bpf", "-c", source.name, "-o", str(path)], check=True, cwd=FILTERS, stderr=subprocess.DEVNULL)
+        words = [clang, "-O2", "-g", "-target", "bpf", f"-I{INCLUDE}", "-c", source.name, "-o", str(path)]
+        subprocess.run(words, check=True, cwd=FILTERS, stderr=subprocess.DEVNULL)
         made.append(str(path))
     return made
 

@@ -45,6 +45,7 @@ pub record IsChange (a : Inside) (t : LiveMaps) (handle map key : ℕ) (old new 
   pub under : IsUnder a t handle map key old
   pub start : new.start ≡ old.start
   pub stride : new.stride ≡ old.stride
+  pub elements : new.elements ≡ old.elements
   pub shape : (places_of new.map).shape ≡ (places_of old.map).shape
   pub held : 1 ≤ new.holds
   pub sound : IsSound (places_of new.map)
@@ -97,7 +98,7 @@ module _ {a : Inside} {t : LiveMaps} {handle map key : ℕ} {old new : StoredMap
 
   pub whole_stays : IsWellFormedMaps now
   whole_stays =
-      whole_replaced now handle c.under.whole others old new (at_handle c.under) is c.start c.stride c.shape c.held c.sound refl
+      whole_replaced now handle c.under.whole others old new (at_handle c.under) is c.start c.stride c.elements c.shape c.held c.sound refl
       (changed_keys a.keys a.maps c.under.whole.keys handle key c.under.keyed old new c.under.here) c.under.whole.room
 
   pub laid_stays : IsLaid (as_live_maps now)

@@ -15,6 +15,7 @@ use Rattle.bpf_maps.specs.declared.spare_maps.SpareMaps.{SpareMaps}
 use Rattle.bpf_maps.specs.declared.maps.Maps.TheInside.{Inside}
 use Rattle.bpf_maps.specs.Places.{PlaceTable, IsSound, new_places}
 use Rattle.bpf_maps.specs.BpfMap.{places_of}
+use Rattle.bpf_maps.specs.Elements.{elements_of, word_of}
 use Rattle.bpf_maps.specs.Live.{LiveMap, LiveMaps, live_at, live_or, free_handle, places_at, offset, value_in, map_in, start_at, area_by, areas, create_fault, Creates, IsCreated, IsLaid, AreSound, SameValues, KeepsMaps}
 use Rattle.bpf_maps.specs.InMaps.{live_of, by_handle, stored_in, as_live_maps, AreKeys, IsWellFormedMaps}
 use Rattle.bpf_maps.specs.LiveLaws.{lowest_most}
@@ -77,6 +78,7 @@ pub record IsAdded (a : Inside) (shape : MapShape) (spares : SpareMaps) (keys : 
   pub places : places_of e.map ≡ new_places shape
   pub start : e.start ≡ STACK_AND_CONTEXT + a.bytes
   pub stride : e.stride ≡ (shape.value_size + 7) / 8 * 8
+  pub elements : e.elements ≡ word_of (elements_of shape)
   pub holds : e.holds ≡ 1
 
 -- the fields with it
@@ -170,12 +172,15 @@ module _ {a : Inside} {t : LiveMaps} {shape : MapShape} {size handle : ℕ} (r :
     round : e.stride ≡ ((places_of e.map).shape.value_size + 7) / 8 * 8
     round = stride ∙ ap (λ (v : ℕ). (v + 7) / 8 * 8) (sym value_of)
 
+    elements_there : e.elements ≡ word_of (elements_of (places_of e.map).shape)
+    elements_there = d.elements ∙ ap (λ (q : PlaceTable). word_of (elements_of q.shape)) (sym d.places)
+
     pub whole_one : IsWellFormedMaps after
     whole_one =
         let x : area_by (places_of e.map).shape ≡ area_by shape = ap (λ (q : PlaceTable). area_by q.shape) d.places in
         let room = h.room in
         let same = d.capacity in
-        whole_added after handle h others e empty there d.start round (let o = d.holds in omega arith) (subst IsSound (sym d.places) (sound_new shape)) (let s = r.size_is in omega arith) r.room
+        whole_added after handle h others e empty there d.start round elements_there (let o = d.holds in omega arith) (subst IsSound (sym d.places) (sound_new shape)) (let s = r.size_is in omega arith) r.room
         (subst (λ (ks : List (Option ℕ)). AreKeys ks maps) (sym d.keys_are) (added_keys a.keys a.maps maps h.keys handle key free below d.was e d.there d.others d.len))
         (omega arith)
 

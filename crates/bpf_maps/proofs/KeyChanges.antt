@@ -11,7 +11,7 @@ use Rattle.bpf_maps.proofs.Changes.{with_stored, told_of, IsUnder, IsChange, pla
 
 -- the map with another table of places
 abbrev pub with_map : StoredMap → BpfMap → StoredMap
-with_map e map = record { map = map; start = e.start; stride = e.stride; holds = e.holds }
+with_map e map = record { map = map; start = e.start; stride = e.stride; elements = e.elements; holds = e.holds }
 
 -- the map of `handle`, which is under `key`, has another table
 pub record IsKeyChange (a : Inside) (t : LiveMaps) (handle map key : ℕ) (old : StoredMap) (table : BpfMap) : Type 0 where
@@ -24,7 +24,7 @@ module _ {a : Inside} {t : LiveMaps} {handle map key : ℕ} {old : StoredMap} {t
   after = with_stored a key (with_map old table)
 
   change : IsChange a t handle map key old (with_map old table)
-  change = record { under = c.under; start = refl; stride = refl; shape = c.shape; held = (placed_under c.under).held; sound = c.sound }
+  change = record { under = c.under; start = refl; stride = refl; elements = refl; shape = c.shape; held = (placed_under c.under).held; sound = c.sound }
 
   pub places_before : places_of old.map ≡ places_at t map
   places_before = sym (told_of (λ l. l.places) (live_old change))

@@ -9,6 +9,7 @@ use Rattle.bpf_maps.specs.declared.spare_maps.SpareMaps.{SpareMaps}
 use Rattle.bpf_maps.specs.declared.maps.Maps.TheInside.{Inside}
 use Rattle.bpf_maps.specs.BpfMap.{places_of}
 use Rattle.bpf_maps.specs.Places.{IsSound}
+use Rattle.bpf_maps.specs.Elements.{elements_of, word_of}
 use Rattle.bpf_maps.specs.Live.{LiveMap, live_at, live_or, places_at, offset, LiesInPart, IsLaid, IsPacked, area_of, areas, StandsBefore, start_without, map_without}
 use Rattle.bpf_maps.specs.Sum.{weight}
 use Rattle.bpf_maps.specs.InMaps.{live_of, live_maps_of, stored_in, as_live_maps, AreKeys, closed_up, IsInItsArea, IsWellFormedMaps}
@@ -119,7 +120,7 @@ module _ {a : Inside} (b : Inside) (k : ℕ) (h : IsWellFormedMaps a) (others : 
   changed = total_but_one area_of k (live_maps_of (stored_in a)) (live_maps_of (stored_in b)) (λ j ne. ap (weight area_of) (others_by (stored_in a) (stored_in b) k others j ne))
 
   -- a map that keeps its area
-  module _ (e f : StoredMap) (at : stored_at a k e) (bt : stored_at b k f) (start : f.start ≡ e.start) (stride : f.stride ≡ e.stride) (shape : (places_of f.map).shape ≡ (places_of e.map).shape) (held : 1 ≤ f.holds) (sound : IsSound (places_of f.map)) (bytes : b.bytes ≡ a.bytes) where
+  module _ (e f : StoredMap) (at : stored_at a k e) (bt : stored_at b k f) (start : f.start ≡ e.start) (stride : f.stride ≡ e.stride) (elements : f.elements ≡ e.elements) (shape : (places_of f.map).shape ≡ (places_of e.map).shape) (held : 1 ≤ f.holds) (sound : IsSound (places_of f.map)) (bytes : b.bytes ≡ a.bytes) where
     same_area : area_of (live_of f) ≡ area_of (live_of e)
     same_area = ap (λ (s : MapShape). area s.value_size s.max_entries) shape
 
@@ -142,6 +143,7 @@ module _ {a : Inside} (b : Inside) (k : ℕ) (h : IsWellFormedMaps a) (others : 
               within = let z = i.within in let s = same_area in omega arith;
               aligned = ap (λ (n : ℕ). n % 8) start ∙ i.aligned;
               stride = stride ∙ i.stride ∙ ap (λ s. (s.value_size + 7) / 8 * 8) (sym shape);
+              elements = elements ∙ i.elements ∙ ap (λ s. word_of (elements_of s)) (sym shape);
               held = held;
               sound = sound;
             }
@@ -186,15 +188,15 @@ module _ {a : Inside} (b : Inside) (k : ℕ) (h : IsWellFormedMaps a) (others : 
         omega arith
 
   -- its area is after the others
-  module _ (e : StoredMap) (at : get_or (stored_in a) k None ≡ None) (bt : stored_at b k e) (start : e.start ≡ STACK_AND_CONTEXT + a.bytes) (stride : e.stride ≡ ((places_of e.map).shape.value_size + 7) / 8 * 8) (held : 1 ≤ e.holds) (sound : IsSound (places_of e.map)) (bytes : b.bytes ≡ a.bytes + area_of (live_of e)) (few : b.bytes ≤ LARGEST_SUM) where
+  module _ (e : StoredMap) (at : get_or (stored_in a) k None ≡ None) (bt : stored_at b k e) (start : e.start ≡ STACK_AND_CONTEXT + a.bytes) (stride : e.stride ≡ ((places_of e.map).shape.value_size + 7) / 8 * 8) (elements : e.elements ≡ word_of (elements_of (places_of e.map).shape)) (held : 1 ≤ e.holds) (sound : IsSound (places_of e.map)) (bytes : b.bytes ≡ a.bytes + area_of (live_of e)) (few : b.bytes ≤ LARGEST_SUM) where
     aligned_now : (a.bytes + area_of (live_of e)) % 8 ≡ 0
     aligned_now = let al = h.aligned in let r = area_aligned (places_of e.map).shape.value_size (places_of e.map).shape.max_entries in omega arith
 
     placed_added : (j : ℕ) (g : StoredMap) → stored_at b j g → IsInItsArea b.bytes g
     placed_added =
         of_each (IsInItsArea b.bytes) bt
-        (record { behind = omega arith; within = omega arith; aligned = let al = h.aligned in omega arith; stride = stride; held = held; sound = sound })
-        (λ j g at. let i = h.placed j g at in record { behind = i.behind; within = let w = i.within in omega arith; aligned = i.aligned; stride = i.stride; held = i.held; sound = i.sound })
+        (record { behind = omega arith; within = omega arith; aligned = let al = h.aligned in omega arith; stride = stride; elements = elements; held = held; sound = sound })
+        (λ j g at. let i = h.placed j g at in record { behind = i.behind; within = let w = i.within in omega arith; aligned = i.aligned; stride = i.stride; elements = i.elements; held = i.held; sound = i.sound })
 
     is_new : (j : ℕ) (g : StoredMap) → j ≡ k → stored_at b j g → g ≡ e
     is_new j g s gt = sym (same_at (stored_in b) bt s gt)
@@ -273,6 +275,7 @@ module _ {a : Inside} (b : Inside) (k : ℕ) (h : IsWellFormedMaps a) (e : Store
         within = ⊎_elim (λ x. let l = x.0 in let s = x.1 in let w = p.within in omega arith) (λ x. let l = x.0 in let s = x.1 in let w = i.within in omega arith) c;
         aligned = ⊎_elim (λ x. let s = x.1 in let m = i.aligned in omega arith) (λ x. let l = x.0 in let s = x.1 in let m = i.aligned in let q = p.aligned in omega arith) c;
         stride = i.stride;
+        elements = i.elements;
         held = i.held;
         sound = i.sound;
       }

@@ -8,6 +8,7 @@ use Rattle.bpf_maps.specs.declared.maps.Maps.TheInside.{Inside}
 use Rattle.slab.specs.Slab.{Slab, get, ContainsKey, slab_len}
 use Rattle.bpf_maps.specs.Places.{IsSound}
 use Rattle.bpf_maps.specs.BpfMap.{places_of}
+use Rattle.bpf_maps.specs.Elements.{elements_of, word_of}
 use Rattle.bpf_maps.specs.Live.{LiveMap, LiveMaps, areas, area_of, StandsBefore, start_without}
 
 -- ---- what contracts see
@@ -39,15 +40,16 @@ pub record AreKeys (keys : List (Option ℕ)) (maps : Slab StoredMap) : Type 0 w
 
 -- a map after an area of `size` bytes up to `end` is gone
 abbrev pub closed_up : ℕ → ℕ → StoredMap → StoredMap
-closed_up end size e = record { map = e.map; start = start_without end size e.start; stride = e.stride; holds = e.holds }
+closed_up end size e = record { map = e.map; start = start_without end size e.start; stride = e.stride; elements = e.elements; holds = e.holds }
 
--- a map's area lies in the `bytes` bytes after the stack and the context, its values begin at multiples of eight, it has a
--- reference, and no two of its keys have the same place
+-- a map's area lies in the `bytes` bytes after the stack and the context, its values begin at multiples of eight, its elements are
+-- those of its shape, it has a reference, and no two of its keys have the same place
 pub record IsInItsArea (bytes : ℕ) (e : StoredMap) : Type 0 where
   pub behind : STACK_AND_CONTEXT ≤ e.start
   pub within : e.start + area_of (live_of e) ≤ STACK_AND_CONTEXT + bytes
   pub aligned : e.start % 8 ≡ 0
   pub stride : e.stride ≡ ((places_of e.map).shape.value_size + 7) / 8 * 8
+  pub elements : e.elements ≡ word_of (elements_of (places_of e.map).shape)
   pub held : 1 ≤ e.holds
   pub sound : IsSound (places_of e.map)
 

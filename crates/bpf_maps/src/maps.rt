@@ -7,11 +7,13 @@ ghost use Rattle.tagged_model.specs.Table.{look_up, verdict, removal, next_of, n
 ghost use Rattle.bpf_maps.specs.declared.part.TheConstants.{PART, STACK_AND_CONTEXT};
 ghost use Rattle.bpf_maps.specs.Limits.{most_maps, most_bytes};
 ghost use Rattle.bpf_maps.specs.Places.{table_of, IsSound, Claims, Removes, GivesKey, after_run};
+ghost use Rattle.bpf_maps.specs.Elements.{elements_at, word_of};
 ghost use Rattle.bpf_maps.specs.KeyRef.{key_bytes, shown_entry};
 ghost use Rattle.bpf_maps.specs.Live.{live_at, places_at, shape_at, holds_at, held_at, offset_at, value_in, map_in, value_address, LiesInPart, IsLaid, IsPacked, ClosesUp, start_at, AreSound, SameAreas, SameValues, KeepsMap, KeepsMaps, KeepsOthers, area_by, areas, OnlyKeysChange, create_fault, Creates, one_more, one_less};
 ghost use Rattle.bpf_maps.specs.InMaps.{live_of};
 
 use crate::bpf_map::BpfMap;
+use crate::elements::Elements;
 use crate::key_ref::KeyRef;
 use crate::part::{KEY_ROOM, LARGEST_SUM, MAPS, PART, STACK_AND_CONTEXT, clear};
 use crate::slab_keys::SlabKeys;
@@ -177,6 +179,7 @@ impl Maps {
             map,
             start,
             stride: shape.value_size.next_multiple_of(8) as usize,
+            elements: Elements::of(shape).word(),
             holds: 1,
         };
         // A key is less than the capacity.
@@ -257,6 +260,7 @@ impl Maps {
     }
 
     /// Whether a map is live.
+    #[inline(always)]
     pub fn is_live(&self, map: MapKey) -> bool
         ensures { result ≡ is_some (live_at self.now map) }
     {
@@ -272,6 +276,23 @@ impl Maps {
         ensures { result ≡ shape_at self.now map }
     {
         self.stored(map).map.shape()
+    }
+
+    /// The offset of the first value of a map in the tenant's part, in bytes, and its elements as one number (`Elements::word`); `None` if
+    /// the map is not live.
+    #[inline(always)]
+    pub fn first_and_elements(&self, map: MapKey) -> Option<(usize, u64)>
+        ensures live { IsSome (live_at self.now map)
+            → result ≡ Some (offset_at self.now map 0, word_of (elements_at self.now map)) }
+        ensures none { live_at self.now map ≡ None → result ≡ None }
+        ensures inside { IfSome result (λ row. row.0 ≤ PART) }
+    {
+        if !self.is_live(map) {
+            return None;
+        }
+        let key = self.keys.key(map.handle);
+        let stored = &self.maps[key];
+        Some((stored.start, stored.elements))
     }
 
     /// The offset of the value at a place of a map in the tenant's part, in bytes. The values of all maps lie in the part, after

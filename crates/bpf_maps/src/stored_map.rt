@@ -16,6 +16,8 @@ pub(crate) struct StoredMap {
     pub start: usize,
     /// The distance from the start of one value to the start of the next, in bytes.
     pub stride: usize,
+    /// Its elements as one number (`Elements::word`).
+    pub elements: u64,
     pub holds: u32,
 }
 

@@ -304,10 +304,6 @@ assembled text read lines insns e are none forms count some = record {
   some = omega arith;
 }
 
-pub own_fault : (text : List ℕ) (read : List (List ℕ)) (lines : List (Option Line)) (fault : TextFault) → read ≡ text_lines text → AreRead read lines → (fault ≡ memory_fault) ⊎ IsFirstFaultyLine (fault_at lines) fault → (fault ≡ memory_fault) ⊎ IsOwnFault text fault
-own_fault text read lines fault e are (inl memory) = inl memory
-own_fault text read lines fault e are (inr first) = inr (record { lines = lines; read = subst (λ (ls : List (List ℕ)). AreRead ls lines) e are; first = inl first })
-
 pub no_slot_fault : (text : List ℕ) (read : List (List ℕ)) (lines : List (Option Line)) (insns : List Insn) (fault : TextFault) → read ≡ text_lines text → AreRead read lines → ((i : ℕ) → fault_at lines i ≡ None) → slot_count insns ≡ slots_on lines → (fault ≡ memory_fault) ⊎ ((fault ≡ empty_fault) × (slot_count insns ≡ 0)) → (fault ≡ memory_fault) ⊎ IsOwnFault text fault
 no_slot_fault text read lines insns fault e are none count (inl memory) = inl memory
 no_slot_fault text read lines insns fault e are none count (inr empty) = inr (record {

@@ -8,3 +8,5 @@ pub mod Sequences
 pub mod Rows
 pub mod Contexts
 pub mod Packets
+pub mod Given
+pub mod Calls

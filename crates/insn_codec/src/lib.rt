@@ -71,4 +71,8 @@ pub use insn_set::{
 pub use opcode::SourceBit;
 pub use program::{Program, read_program, write_program};
 pub use reading::decode;
+pub use sequences::{
+    ADD64_K, ATOMIC_ADD, BE16, CALL, LDDW_MAP, LDDW_VALUE, LDXDW, LDXH, LSH64_K, MOV32_K, MOV64,
+    MOV64_K, RSH64_K, STXDW,
+};
 pub use writing::encode;

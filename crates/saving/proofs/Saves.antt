@@ -59,9 +59,6 @@ past_end f (y ∷ xs) last zero e other = absurd (none-some y (sym e))
 past_end f (y ∷ xs) last (suc i) e other = past_end f xs last i e (λ same. other (ap suc same))
 
 module _ (s : TenantState) (births : List Birth) where
-  pub part_of_fillers : (i : ℕ) → i ≡ 0 → slice_get (parts s births) i ≡ Some (filled most)
-  part_of_fillers i e = ap (slice_get (parts s births)) e
-
   pub part_of_birth : (i : ℕ) (b : Birth) → i ≢ 0 → slice_get (reverse births) (i - 1) ≡ Some b → slice_get (parts s births) i ≡ Some (birth_commands s b)
   part_of_birth zero b other e = absurd (other refl)
   part_of_birth (suc i) b other e =

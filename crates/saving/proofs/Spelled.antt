@@ -21,9 +21,6 @@ number_of_bytes n rest small = omega arith
 pub half_of_bytes : (n : ℕ) (rest : List ℕ) → n < 2 ^ 16 → little_number 2 (little_bytes 2 n ++ rest) ≡ n
 half_of_bytes n rest small = omega arith
 
-pub long_zero : (rest : List ℕ) → little_number 8 (little_bytes 8 0 ++ rest) ≡ 0
-long_zero rest = refl
-
 -- ---- frames
 
 code_small : (c : Command) → command_code c < 2 ^ 16

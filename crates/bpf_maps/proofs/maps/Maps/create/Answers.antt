@@ -1,6 +1,7 @@
-use Rattle.std.proofs.Common.{◌≡◌, ◌+◌, ◌*◌, ◌/◌, refl, sym, subst, ◌∙◌, arith, inl, inr}
+use Rattle.std.proofs.Common.{◌≡◌, ◌+◌, ◌*◌, ◌/◌, refl, sym, ap, subst, ◌∙◌, arith, inl, inr}
 use Rattle.bpf_maps.specs.declared.part.TheConstants.{STACK_AND_CONTEXT}
 use Rattle.bpf_maps.specs.declared.stored_map.StoredMap.{StoredMap}
+use Rattle.bpf_maps.specs.Elements.{word_of}
 use Rattle.bpf_maps.specs.Live.{IsLaid}
 use Rattle.bpf_maps.proofs.Created.{IsRoom, IsAdded, creates_full, creates_none, has_room, older_stay, creates_one, whole_one, laid_one, last_one, more_one, front_kept, cleared_one, values_kept, fresh_one, maps_kept}
 use Rattle.bpf_maps.proofs.Whole.{laid, whole_refused}
@@ -54,7 +55,7 @@ module _ (c : goal.After-self-2-1) where
   has = room (goal.at.invariant_of-self-2 c).Else-self-size-gt-LARGEST_SUM
 
   abbrev stored : StoredMap
-  stored = record { map = c.in-Ok.map; start = STACK_AND_CONTEXT + c.self.inside.bytes; stride = c.next_multiple_of.result; holds = 1 }
+  stored = record { map = c.in-Ok.map; start = STACK_AND_CONTEXT + c.self.inside.bytes; stride = c.next_multiple_of.result; elements = c.word.result; holds = 1 }
 
   stride : c.next_multiple_of.result ≡ (c.args.shape.value_size + 7) / 8 * 8
   stride =
@@ -74,6 +75,7 @@ module _ (c : goal.After-self-2-1) where
     places = c.in-Ok.ensures;
     start = refl;
     stride = stride;
+    elements = c.word.ensures ∙ ap word_of c.of.ensures;
     holds = refl;
   }
 

@@ -21,8 +21,8 @@ module _ (c : goal.After-self-1) where
   under : IsUnder c.self.inside c.args.self.now c.map.inside.handle c.args.map c.key-key.result old
   under = is_under c.self.view_is c.self.invariant c.map.view_is c.key-key.ensures c.index_mut-stored.ensures.value
 
-  change : IsChange c.self.inside c.args.self.now c.map.inside.handle c.args.map c.key-key.result old (record { map = old.map; start = old.start; stride = old.stride; holds = old.holds + 1 })
-  change = record { under = under; start = refl; stride = refl; shape = refl; held = omega arith; sound = (placed_under under).sound }
+  change : IsChange c.self.inside c.args.self.now c.map.inside.handle c.args.map c.key-key.result old (record { map = old.map; start = old.start; stride = old.stride; elements = old.elements; holds = old.holds + 1 })
+  change = record { under = under; start = refl; stride = refl; elements = refl; shape = refl; held = omega arith; sound = (placed_under under).sound }
 
 pub invariant_of-self : goal.invariant_of-self
 invariant_of-self c = whole_stays (change c)

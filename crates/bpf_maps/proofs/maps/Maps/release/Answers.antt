@@ -24,11 +24,12 @@ module _ (c : goal.After-self-1) where
   is : IsUnder c.self.inside c.args.self.now c.map.inside.handle c.args.map c.key-key.result old
   is = under (goal.at.invariant_of-self c).After-index_mut-stored
 
-  change : IsChange c.self.inside c.args.self.now c.map.inside.handle c.args.map c.key-key.result old (record { map = old.map; start = old.start; stride = old.stride; holds = old.holds - 1 })
+  change : IsChange c.self.inside c.args.self.now c.map.inside.handle c.args.map c.key-key.result old (record { map = old.map; start = old.start; stride = old.stride; elements = old.elements; holds = old.holds - 1 })
   change = record {
     under = is;
     start = refl;
     stride = refl;
+    elements = refl;
     shape = refl;
     held = let m = c.if-stored-gt-LAST.true in omega arith;
     sound = (placed_under is).sound;

@@ -27,15 +27,15 @@ below zero (suc t) s h = omega (arith, next t s)
     next t s = omega arith
 below (suc u) (suc t) s h = omega (arith, below u t s (omega arith))
 
-sides : (m : Memory) (t u place n : ℕ) → part_start m t ≤ place → place + n ≤ part_start m t + m.part → u ≢ t → (part_start m u + m.part ≤ place) ⊎ (place + n ≤ part_start m u)
-sides m t u place n from to differ =
+sides : (m : Memory) (t u offset n : ℕ) → part_start m t ≤ offset → offset + n ≤ part_start m t + m.part → u ≢ t → (part_start m u + m.part ≤ offset) ⊎ (offset + n ≤ part_start m u)
+sides m t u offset n from to differ =
     elim (order u t differ) [
       | inl h ↦ inl (omega (arith, below u t m.part h))
       | inr h ↦ inr (omega (arith, below t u m.part h))
     ]
 
-pub stays : (m : Memory) (t u place : ℕ) (new : List ℕ) → IsPart m t → part_start m t ≤ place → place + length new ≤ part_start m t + m.part → u ≢ t → part_bytes (with_bytes m place new) u ≡ part_bytes m u
-stays m t u place new is from to differ = bytes_stay m.bytes new place (part_start m u) m.part (omega (arith, part_within m t is)) (sides m t u place (length new) from to differ)
+pub stays : (m : Memory) (t u offset : ℕ) (new : List ℕ) → IsPart m t → part_start m t ≤ offset → offset + length new ≤ part_start m t + m.part → u ≢ t → part_bytes (with_bytes m offset new) u ≡ part_bytes m u
+stays m t u offset new is from to differ = bytes_stay m.bytes new offset (part_start m u) m.part (omega (arith, part_within m t is)) (sides m t u offset (length new) from to differ)
 
 whole : (m : Memory) (t : ℕ) (new : List ℕ) → IsPart m t → length new ≡ m.part → refilled m.bytes (written_at m.bytes (part_start m t) new) ≡ written_at m.bytes (part_start m t) new
 whole m t new is e = refilled_whole m.bytes (written_at m.bytes (part_start m t) new) (length-written_at m.bytes new (part_start m t) (omega (arith, part_within m t is)))

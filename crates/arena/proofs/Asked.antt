@@ -5,13 +5,13 @@ use Rattle.words.specs.ByteLaws.{bytes_within, length-bytes_at, length-low_bytes
 use Rattle.arena.specs.Bytes.{bytes_at}
 use Rattle.arena.specs.Memory.{Memory, size_of, base, loaded, stored, copied, part_start, part_bytes, with_bytes}
 use Rattle.arena.specs.Apart.{IsPart, IsWrittenAt, asked_in, HasAccesses, AccessesAreInParts}
-use Rattle.arena.specs.PartLaws.{part_within, place_is}
+use Rattle.arena.specs.PartLaws.{part_within, offset_is}
 use Rattle.arena.proofs.Apart.{stays}
 use Rattle.arena.proofs.Within.{part_over}
 
 module _ (m : Memory) (t : ℕ) (is : IsPart m t) where
   found : (at n : ℕ) → at + n ≤ m.part → asked_in m t n at ≡ Some (part_start m t + at)
-  found at n room = place_is (size_of m) n (part_start m t + at) (base + (part_start m t + at)) refl (let fits = part_within m t is in omega arith)
+  found at n room = offset_is (size_of m) n (part_start m t + at) (base + (part_start m t + at)) refl (let fits = part_within m t is in omega arith)
 
   in_part : (at n : ℕ) → at + n ≤ m.part → bytes_at m.bytes (part_start m t + at) n ≡ bytes_at (part_bytes m t) at n
   in_part at n room = sym (bytes_within m.bytes (part_start m t) m.part at n room)

@@ -2,7 +2,7 @@
 use Rattle.std.specs.Prelude.{◌≡◌, ◌≢◌, ℕ, ◌+◌, ◌*◌, ◌<◌, ◌≤◌, List, length, Option, Some}
 use Rattle.words.specs.Bytes.{number_of, low_bytes}
 use Rattle.arena.specs.Bytes.{bytes_at, written_at}
-use Rattle.arena.specs.Memory.{Memory, size_of, base, place_of, loaded, stored, copied, part_start, part_bytes, with_bytes, with_part}
+use Rattle.arena.specs.Memory.{Memory, size_of, base, offset_of, loaded, stored, copied, part_start, part_bytes, with_bytes, with_part}
 
 -- the memory consists of its parts, and t is one of them
 abbrev pub IsPart : Memory → ℕ → Type 0
@@ -11,8 +11,8 @@ IsPart m t = (size_of m ≡ m.parts * m.part) × (t < m.parts)
 -- bytes written within part t leave every other part u unchanged
 abbrev pub WritesStayInside : Type 0
 WritesStayInside =
-    (m : Memory) (t u place : ℕ) (new : List ℕ) → IsPart m t → part_start m t ≤ place → place + length new ≤ part_start m t + m.part → u ≢ t
-    → part_bytes (with_bytes m place new) u ≡ part_bytes m u
+    (m : Memory) (t u offset : ℕ) (new : List ℕ) → IsPart m t → part_start m t ≤ offset → offset + length new ≤ part_start m t + m.part → u ≢ t
+    → part_bytes (with_bytes m offset new) u ≡ part_bytes m u
 
 -- replacing all bytes of part t changes no other part, and not the size
 pub record PartsAreApart : Type 0 where
@@ -33,9 +33,9 @@ pub record IsWrittenAt (old : Memory) (t at : ℕ) (new : List ℕ) (after : Mem
   pub own : part_bytes after t ≡ written_at (part_bytes old t) at new
   pub others : (u : ℕ) → u ≢ t → part_bytes after u ≡ part_bytes old u
 
--- the place in the memory of n bytes at offset `at` of part t, if they lie in the memory
+-- the offset in the memory of n bytes at offset `at` of part t, if they lie in the memory
 abbrev pub asked_in : Memory → ℕ → ℕ → ℕ → Option ℕ
-asked_in m t n at = place_of (size_of m) n (base + (part_start m t + at))
+asked_in m t n at = offset_of (size_of m) n (base + (part_start m t + at))
 
 -- loads, stores and copies within part t are those of its bytes
 pub record HasAccesses (m : Memory) (t : ℕ) : Type 0 where

@@ -21,22 +21,22 @@ size_of m = length m.bytes
 abbrev pub base : ℕ
 base = 4294967296
 
--- the place (offset from base) of n bytes at an address; None if they are not in a memory of that size
-abbrev pub place_of : ℕ → ℕ → ℕ → Option ℕ
-place_of size n address = if nat_le base address && nat_le (address + n) (base + size) then Some (address - base) else None
+-- the offset from base of n bytes at an address; None if they are not in a memory of that size
+abbrev pub offset_of : ℕ → ℕ → ℕ → Option ℕ
+offset_of size n address = if nat_le base address && nat_le (address + n) (base + size) then Some (address - base) else None
 
--- ---- loads, stores and copies; without a place, nothing is loaded or changed
+-- ---- loads, stores and copies; without an offset, nothing is loaded or changed
 
 abbrev pub loaded : Memory → ℕ → Option ℕ → Option ℕ
 loaded m n None = None
-loaded m n (Some place) = Some (number_of (bytes_at m.bytes place n))
+loaded m n (Some offset) = Some (number_of (bytes_at m.bytes offset n))
 
 abbrev pub with_bytes : Memory → ℕ → List ℕ → Memory
-with_bytes m place new = record { bytes = written_at m.bytes place new; parts = m.parts; part = m.part }
+with_bytes m offset new = record { bytes = written_at m.bytes offset new; parts = m.parts; part = m.part }
 
 abbrev pub stored : Memory → ℕ → ℕ → Option ℕ → Memory
 stored m n value None = m
-stored m n value (Some place) = with_bytes m place (low_bytes n value)
+stored m n value (Some offset) = with_bytes m offset (low_bytes n value)
 
 abbrev pub copied : Memory → ℕ → Option ℕ → Option ℕ → Memory
 copied m n None to = m

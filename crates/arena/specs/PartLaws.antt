@@ -3,7 +3,7 @@
 use Rattle.std.proofs.Common.{◌≡◌, ℕ, suc, ◌+◌, ◌-◌, ◌*◌, ◌≤◌, ◌&&◌, leb, Some, None, ap, ◌∙◌, arith}
 use Rattle.std.proofs.lemmas.Bool.{cond-true, and_from, le-leb}
 use Rattle.std.proofs.lemmas.Nat.{mul-le}
-use Rattle.arena.specs.Memory.{Memory, base, size_of, place_of, part_start}
+use Rattle.arena.specs.Memory.{Memory, base, size_of, offset_of, part_start}
 use Rattle.arena.specs.Apart.{IsPart}
 
 -- a part lies in the memory
@@ -14,11 +14,11 @@ part_within m t is =
     let size = is.0 in
     omega arith
 
--- if n bytes at a place are in the memory, the place of the address base + place is that place
-pub place_is : (size n place address : ℕ) → address ≡ base + place → place + n ≤ size → place_of size n address ≡ Some place
-place_is size n place address e h =
+-- if n bytes at an offset are in the memory, `offset_of` finds it from the address base + offset
+pub offset_is : (size n offset address : ℕ) → address ≡ base + offset → offset + n ≤ size → offset_of size n address ≡ Some offset
+offset_is size n offset address e h =
     let from : base ≤ address = omega arith in
     let to : address + n ≤ base + size = omega arith in
     let t = and_from (leb base address) (leb (address + n) (base + size)) (le-leb base address from) (le-leb (address + n) (base + size) to) in
-    let at : address - base ≡ place = omega arith in
+    let at : address - base ≡ offset = omega arith in
     cond-true (leb base address && leb (address + n) (base + size)) (Some (address - base)) None t ∙ ap (λ (q : ℕ). Some q) at

@@ -3,7 +3,7 @@
 ghost use Rattle.std.specs.Prelude.{◌≡◌, ◌+◌, ◌*◌, ◌^◌, ◌<◌, ◌≤◌, ◌++◌, ◌∷◌, [], length, replicate, Some, IfOk, IsSome, is_some, ◌&&◌};
 ghost use Rattle.std.specs.Borrow.{sem};
 ghost use Rattle.arena.specs.Bytes.{IsSize};
-ghost use Rattle.arena.specs.Memory.{base, place_of, loaded, stored, copied, part_start, part_bytes, size_of};
+ghost use Rattle.arena.specs.Memory.{base, offset_of, loaded, stored, copied, part_start, part_bytes, size_of};
 
 use crate::numbers::{copy_bytes, read, write};
 use crate::trace::Trace;
@@ -38,10 +38,10 @@ impl Model for Arena {
 /// The offset of `address` in a memory of `memory_size` bytes that holds `size` bytes there: the low 32 bits, since addresses
 /// begin at 2^32 and the memory has at most 2^28 bytes. The machine code needs no 64-bit constant for it.
 #[inline(always)]
-fn place_inside(memory_size: usize, size: usize, address: u64) -> usize
+fn offset_inside(memory_size: usize, size: usize, address: u64) -> usize
     requires small { memory_size ≤ 2 ^ 28 }
-    requires inside { IsSome (place_of memory_size size address) }
-    ensures value { place_of memory_size size address ≡ Some result }
+    requires inside { IsSome (offset_of memory_size size address) }
+    ensures value { offset_of memory_size size address ≡ Some result }
     ensures within { result + size ≤ memory_size }
 {
     (address % BASE) as usize
@@ -49,15 +49,15 @@ fn place_inside(memory_size: usize, size: usize, address: u64) -> usize
 
 /// The offset of `size` bytes at `address`; `None` if they don't lie in a memory of `memory_size` bytes.
 #[inline(always)]
-fn place(memory_size: usize, size: usize, address: u64) -> Option<usize>
+fn offset(memory_size: usize, size: usize, address: u64) -> Option<usize>
     requires { memory_size ≤ 2 ^ 28 }
-    ensures { result ≡ place_of memory_size size address }
+    ensures { result ≡ offset_of memory_size size address }
 {
-    let place = address.checked_sub(BASE)?;
-    if size > memory_size || place > (memory_size - size) as u64 {
+    let offset = address.checked_sub(BASE)?;
+    if size > memory_size || offset > (memory_size - size) as u64 {
         return None;
     }
-    Some(place as usize)
+    Some(offset as usize)
 }
 
 impl Arena {
@@ -138,12 +138,12 @@ impl Arena {
     #[inline(always)]
     pub fn load(&self, address: u64, size: usize, trace: &mut Trace) -> Option<u64>
         requires { IsSize size }
-        ensures value { result ≡ loaded self.now size (place_of (size_of self.now) size address) }
+        ensures value { result ≡ loaded self.now size (offset_of (size_of self.now) size address) }
         ensures steps { trace.new.steps ≡ trace.old.steps }
         ensures ranges { trace.new.ranges ≡ trace.old.ranges ++ (address, size) ∷ [] }
     {
         trace.range(address, size as u64);
-        let at = place(self.bytes.len(), size, address)?;
+        let at = offset(self.bytes.len(), size, address)?;
         Some(read(&self.bytes, at, size))
     }
 
@@ -152,14 +152,14 @@ impl Arena {
     #[inline(always)]
     pub fn store(&mut self, address: u64, size: usize, value: u64, trace: &mut Trace) -> Option<()>
         requires { IsSize size }
-        ensures found { is_some result ≡ is_some (place_of (size_of self.old) size address) }
+        ensures found { is_some result ≡ is_some (offset_of (size_of self.old) size address) }
         ensures bytes { self.new ≡ stored self.old size value
-            (place_of (size_of self.old) size address) }
+            (offset_of (size_of self.old) size address) }
         ensures steps { trace.new.steps ≡ trace.old.steps }
         ensures ranges { trace.new.ranges ≡ trace.old.ranges ++ (address, size) ∷ [] }
     {
         trace.range(address, size as u64);
-        let at = place(self.bytes.len(), size, address)?;
+        let at = offset(self.bytes.len(), size, address)?;
         write(&mut self.bytes, at, size, value);
         Some(())
     }
@@ -168,14 +168,14 @@ impl Arena {
     #[inline(always)]
     pub fn load_inside(&self, address: u64, size: usize, trace: &mut Trace) -> u64
         requires size { IsSize size }
-        requires inside { IsSome (place_of (size_of self.now) size address) }
-        ensures value { loaded self.now size (place_of (size_of self.now) size address)
+        requires inside { IsSome (offset_of (size_of self.now) size address) }
+        ensures value { loaded self.now size (offset_of (size_of self.now) size address)
             ≡ Some result }
         ensures steps { trace.new.steps ≡ trace.old.steps }
         ensures ranges { trace.new.ranges ≡ trace.old.ranges ++ (address, size) ∷ [] }
     {
         trace.range(address, size as u64);
-        let start = place_inside(self.bytes.len(), size, address);
+        let start = offset_inside(self.bytes.len(), size, address);
         read(&self.bytes, start, size)
     }
 
@@ -183,14 +183,14 @@ impl Arena {
     #[inline(always)]
     pub fn store_inside(&mut self, address: u64, size: usize, value: u64, trace: &mut Trace)
         requires size { IsSize size }
-        requires inside { IsSome (place_of (size_of self.old) size address) }
+        requires inside { IsSome (offset_of (size_of self.old) size address) }
         ensures bytes { self.new ≡ stored self.old size value
-            (place_of (size_of self.old) size address) }
+            (offset_of (size_of self.old) size address) }
         ensures steps { trace.new.steps ≡ trace.old.steps }
         ensures ranges { trace.new.ranges ≡ trace.old.ranges ++ (address, size) ∷ [] }
     {
         trace.range(address, size as u64);
-        let start = place_inside(self.bytes.len(), size, address);
+        let start = offset_inside(self.bytes.len(), size, address);
         write(&mut self.bytes, start, size, value);
     }
 
@@ -198,10 +198,10 @@ impl Arena {
     /// changes, exactly if either range doesn't lie in the memory.
     pub fn copy(&mut self, to: u64, from: u64, length: usize, trace: &mut Trace) -> Option<()>
         requires { 1 ≤ length }
-        ensures found { is_some result ≡ (is_some (place_of (size_of self.old) length from)
-            && is_some (place_of (size_of self.old) length to)) }
-        ensures bytes { self.new ≡ copied self.old length (place_of (size_of self.old) length from)
-            (place_of (size_of self.old) length to) }
+        ensures found { is_some result ≡ (is_some (offset_of (size_of self.old) length from)
+            && is_some (offset_of (size_of self.old) length to)) }
+        ensures bytes { self.new ≡ copied self.old length (offset_of (size_of self.old) length from)
+            (offset_of (size_of self.old) length to) }
         ensures steps { trace.new.steps ≡ trace.old.steps }
         ensures ranges { trace.new.ranges ≡ trace.old.ranges ++ (from, length) ∷ [] ++ (to, length)
             ∷ [] }
@@ -209,8 +209,8 @@ impl Arena {
         trace.range(from, length as u64);
         trace.range(to, length as u64);
         let size = self.bytes.len();
-        let source = place(size, length, from)?;
-        let target = place(size, length, to)?;
+        let source = offset(size, length, from)?;
+        let target = offset(size, length, to)?;
         copy_bytes(&mut self.bytes, source, target, length);
         Some(())
     }
@@ -219,10 +219,10 @@ impl Arena {
     #[inline(always)]
     pub fn copy_inside(&mut self, to: u64, from: u64, length: usize, trace: &mut Trace)
         requires some { 1 ≤ length }
-        requires source { IsSome (place_of (size_of self.old) length from) }
-        requires target { IsSome (place_of (size_of self.old) length to) }
-        ensures bytes { self.new ≡ copied self.old length (place_of (size_of self.old) length from)
-            (place_of (size_of self.old) length to) }
+        requires source { IsSome (offset_of (size_of self.old) length from) }
+        requires target { IsSome (offset_of (size_of self.old) length to) }
+        ensures bytes { self.new ≡ copied self.old length (offset_of (size_of self.old) length from)
+            (offset_of (size_of self.old) length to) }
         ensures steps { trace.new.steps ≡ trace.old.steps }
         ensures ranges { trace.new.ranges ≡ trace.old.ranges ++ (from, length) ∷ [] ++ (to, length)
             ∷ [] }
@@ -230,8 +230,8 @@ impl Arena {
         trace.range(from, length as u64);
         trace.range(to, length as u64);
         let size = self.bytes.len();
-        let source = place_inside(size, length, from);
-        let target = place_inside(size, length, to);
+        let source = offset_inside(size, length, from);
+        let target = offset_inside(size, length, to);
         copy_bytes(&mut self.bytes, source, target, length);
     }
 

@@ -21,7 +21,7 @@ use Rattle.bpf_maps.specs.Live.{LiveMaps, LiveMap, live_or, shape_at, holds_at, 
 use Rattle.bpf_maps.specs.LiveLaws.{same_areas}
 use Rattle.bpf_helpers.specs.Layout.{Layout, IsWord}
 use Rattle.bpf_helpers.specs.Stands.{IsRoom, Simulates}
-use Rattle.bpf_helpers.specs.Named.{part_place, part_input, place_named, key_named, NamedPair, pair_named}
+use Rattle.bpf_helpers.specs.Named.{part_offset, part_input, named_offset, key_named, NamedPair, pair_named}
 use Rattle.bpf_helpers.specs.inside.Flat.{flat_look_up, Updates, UpdatesNamed, Deletes, DeletesNamed, LoadsAt}
 use Rattle.bpf_helpers.specs.Calls.{AreArguments, Extends, ResultFollows, CallFollows}
 use Rattle.bpf_helpers.specs.inside.Laws.{GivesWord, ReturnsKeepSimulation, TaggedUpdate, update_reply}
@@ -46,13 +46,13 @@ same_holds old new k rest key =
 -- the input has as many bytes as were requested
 input_long : (memory : Memory) (t n w : ℕ) (bs : List ℕ) → part_start memory t + memory.part ≤ length memory.bytes → part_input memory t n w ≡ Some bs → length bs ≡ n
 input_long memory t n w bs fits e =
-    let a = also_some (part_place (part_start memory t) memory.part n w) (λ p. Some (bytes_at memory.bytes (part_start memory t + p) n)) bs e in
+    let a = also_some (part_offset (part_start memory t) memory.part n w) (λ p. Some (bytes_at memory.bytes (part_start memory t + p) n)) bs e in
     let start = part_start memory t in
     let c = cond_some (leb (base + start) w && leb (w + n) (base + start + memory.part)) (w - (base + start)) a.0 a.1 in
     let p = and_parts (leb (base + start) w) (leb (w + n) (base + start + memory.part)) c.0 in
     let from : base + start ≤ w = leb-true (base + start) w p.0 in
     let to : w + n ≤ base + start + memory.part = leb-true (w + n) (base + start + memory.part) p.1 in
-    let place : w - (base + start) ≡ a.0 = c.1 in
+    let offset : w - (base + start) ≡ a.0 = c.1 in
     ap length (sym (same_Some (bytes_at memory.bytes (part_start memory t + a.0) n) bs a.2)) ∙ length-bytes_at memory.bytes (part_start memory t + a.0) n (omega arith)
 
 module _ (env : Environment) (l : Layout) (flat : FlatState) (s : RunState) (room : IsRoom env.memory env.tenant) (stands : Simulates env l flat s) (words : List ℕ) (args : AreArguments words flat.registers) where
@@ -168,7 +168,7 @@ module _ (env : Environment) (l : Layout) (flat : FlatState) (s : RunState) (roo
         (subst (λ (x : RunState). Simulates env l (with_answer flat (answers word flat.memory new)) x) (same_Some (replies s g.descriptor gave) u b.2)
         (returned env l (with_held flat flat.memory new) (with_map s g.descriptor gave.map) (Scalar gave.answer) word st.1 st.0))
 
-    load_followed : (word : ℕ) (after : Memory) (u : RunState) → LoadsAt (site_in env flat) (slice_index words 1) (slice_index words 3) (place_named flat.memory env.tenant (slice_index words 3) (slice_index words 2)) word after → called LoadBytes s ≡ Some u
+    load_followed : (word : ℕ) (after : Memory) (u : RunState) → LoadsAt (site_in env flat) (slice_index words 1) (slice_index words 3) (named_offset flat.memory env.tenant (slice_index words 3) (slice_index words 2)) word after → called LoadBytes s ≡ Some u
         → ResultFollows env l flat u (answers word after flat.maps)
     load_followed word after u told e =
         let st = load_stands env l flat s room stands below.writes u e in
@@ -176,17 +176,17 @@ module _ (env : Environment) (l : Layout) (flat : FlatState) (s : RunState) (roo
         let to = args 2 (omega arith) in
         let count = args 3 (omega arith) in
         let same = stands.packet in
-        let place_is : place_named flat.memory env.tenant (slice_index words 3) (slice_index words 2) ≡ Some st.place =
-        ap (λ (n : ℕ). place_named flat.memory env.tenant n (slice_index words 2)) count ∙ ap (λ (w : ℕ). place_named flat.memory env.tenant (slice_index flat.registers 4) w) to ∙ st.place_is in
-        let r : (word ≡ packet_answer env.packet (slice_index words 1) (slice_index words 3)) × (after ≡ with_bytes flat.memory (part_start flat.memory env.tenant + st.place) (packet_bytes env.packet (slice_index words 1) (slice_index words 3))) =
-        subst (λ o. LoadsAt (site_in env flat) (slice_index words 1) (slice_index words 3) o word after) place_is told in
+        let offset_is : named_offset flat.memory env.tenant (slice_index words 3) (slice_index words 2) ≡ Some st.offset =
+        ap (λ (n : ℕ). named_offset flat.memory env.tenant n (slice_index words 2)) count ∙ ap (λ (w : ℕ). named_offset flat.memory env.tenant (slice_index flat.registers 4) w) to ∙ st.offset_is in
+        let r : (word ≡ packet_answer env.packet (slice_index words 1) (slice_index words 3)) × (after ≡ with_bytes flat.memory (part_start flat.memory env.tenant + st.offset) (packet_bytes env.packet (slice_index words 1) (slice_index words 3))) =
+        subst (λ o. LoadsAt (site_in env flat) (slice_index words 1) (slice_index words 3) o word after) offset_is told in
         let bytes : packet_bytes env.packet (slice_index words 1) (slice_index words 3) ≡ packet_bytes s.packet (slice_index flat.registers 2) (slice_index flat.registers 4) =
         ap (λ (x : List ℕ). packet_bytes x (slice_index words 1) (slice_index words 3)) (sym same) ∙ ap (λ (x : ℕ). packet_bytes s.packet x (slice_index words 3)) offset ∙ ap (λ (x : ℕ). packet_bytes s.packet (slice_index flat.registers 2) x) count in
         let gives : packet_answer env.packet (slice_index words 1) (slice_index words 3) ≡ packet_answer s.packet (slice_index flat.registers 2) (slice_index flat.registers 4) =
         ap (λ (x : List ℕ). packet_answer x (slice_index words 1) (slice_index words 3)) (sym same) ∙ ap (λ (x : ℕ). packet_answer s.packet x (slice_index words 3)) offset ∙ ap (λ (x : ℕ). packet_answer s.packet (slice_index flat.registers 2) x) count in
         let answer = packet_answer s.packet (slice_index flat.registers 2) (slice_index flat.registers 4) in
-        let written = with_bytes flat.memory (part_start flat.memory env.tenant + st.place) (packet_bytes s.packet (slice_index flat.registers 2) (slice_index flat.registers 4)) in
-        let memory_is : after ≡ written = r.1 ∙ ap (λ (x : List ℕ). with_bytes flat.memory (part_start flat.memory env.tenant + st.place) x) bytes in
+        let written = with_bytes flat.memory (part_start flat.memory env.tenant + st.offset) (packet_bytes s.packet (slice_index flat.registers 2) (slice_index flat.registers 4)) in
+        let memory_is : after ≡ written = r.1 ∙ ap (λ (x : List ℕ). with_bytes flat.memory (part_start flat.memory env.tenant + st.offset) x) bytes in
         leaves_maps word after u
         (subst (λ (x : RunState). Simulates env l (with_answer flat (answers word after flat.maps)) x) (sym st.is)
         (subst (λ (n : Memory). Simulates env l (with_answer flat (answers word n flat.maps)) (returns st.written (Scalar answer))) (sym memory_is)
@@ -216,7 +216,7 @@ module _ (returned : ReturnsKeepSimulation) (below : LawsBelow) (words : List �
       follows_at (λ x. DeletesNamed x.maps (key_named x (slice_index words 0) (slice_index words 1)) word new) (λ x. answers word x.memory new) words Delete
       (λ env l flat s room stands args u told goes. delete_followed env l flat s room stands words args returned below word new u told goes)
 
-  pub load_follows : (word : ℕ) (after : Memory) (site : CallSite) → LoadsAt site (slice_index words 1) (slice_index words 3) (place_named site.memory site.tenant (slice_index words 3) (slice_index words 2)) word after → CallFollows site words LoadBytes (answers word after site.maps)
+  pub load_follows : (word : ℕ) (after : Memory) (site : CallSite) → LoadsAt site (slice_index words 1) (slice_index words 3) (named_offset site.memory site.tenant (slice_index words 3) (slice_index words 2)) word after → CallFollows site words LoadBytes (answers word after site.maps)
   load_follows word after =
-      follows_at (λ x. LoadsAt x (slice_index words 1) (slice_index words 3) (place_named x.memory x.tenant (slice_index words 3) (slice_index words 2)) word after) (λ x. answers word after x.maps) words LoadBytes
+      follows_at (λ x. LoadsAt x (slice_index words 1) (slice_index words 3) (named_offset x.memory x.tenant (slice_index words 3) (slice_index words 2)) word after) (λ x. answers word after x.maps) words LoadBytes
       (λ env l flat s room stands args u told goes. load_followed env l flat s room stands words args returned below word after u told goes)

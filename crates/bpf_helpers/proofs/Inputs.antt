@@ -8,7 +8,7 @@ use Rattle.std.proofs.lemmas.Option.{none-some, same_Some, cond_some}
 use Rattle.std.proofs.lemmas.List.{length-take}
 use Rattle.words.specs.Bytes.{bytes_at}
 use Rattle.words.specs.ByteLaws.{bytes_within}
-use Rattle.words.specs.Stack.{is_in_stack, place}
+use Rattle.words.specs.Stack.{is_in_stack, byte_index}
 use Rattle.words.specs.StackLaws.{in_stack}
 use Rattle.tagged_model.specs.declared.value.Object.TheVariants as object
 use Rattle.tagged_model.specs.declared.value.Tagged.{Tagged}
@@ -22,30 +22,30 @@ use Rattle.bpf_maps.specs.Live.{LiveMaps, live_at, shape_at, offset_at}
 use Rattle.bpf_maps.specs.LiveLaws.{laid_inside}
 use Rattle.bpf_helpers.specs.Layout.{Layout, IsWord}
 use Rattle.bpf_helpers.specs.Stands.{IsRoom, HasObject, MapsStandFor, Simulates, stored_maps}
-use Rattle.bpf_helpers.specs.Named.{part_place, part_input}
+use Rattle.bpf_helpers.specs.Named.{part_offset, part_input}
 use Rattle.bpf_helpers.proofs.Many.{also_some, bytes_there}
 use Rattle.bpf_helpers.specs.States.{Environment, FlatState}
 
 -- ---- parts
 
-pub part_place_is : (start part n address at : ℕ) → address ≡ base + (start + at) → at + n ≤ part → part_place start part n address ≡ Some at
-part_place_is start part n address at e h =
+pub part_offset_is : (start part n address at : ℕ) → address ≡ base + (start + at) → at + n ≤ part → part_offset start part n address ≡ Some at
+part_offset_is start part n address at e h =
     let from : base + start ≤ address = omega arith in
     let to : address + n ≤ base + start + part = omega arith in
     let t = and_from (leb (base + start) address) (leb (address + n) (base + start + part)) (le-leb (base + start) address from) (le-leb (address + n) (base + start + part) to) in
-    let place : address - (base + start) ≡ at = omega arith in
-    cond-true (leb (base + start) address && leb (address + n) (base + start + part)) (Some (address - (base + start))) None t ∙ ap (λ (q : ℕ). Some q) place
+    let offset : address - (base + start) ≡ at = omega arith in
+    cond-true (leb (base + start) address && leb (address + n) (base + start + part)) (Some (address - (base + start))) None t ∙ ap (λ (q : ℕ). Some q) offset
 
 -- ---- maps
 
--- an object that has a place
+-- an object that has an element
 pub record Found (l : Layout) (start : ℕ) (memory : List ℕ) (tenant : LiveMaps) (maps : ℕ → Option RunMap) (m number : ℕ) : Type 0 where
   pub map : RunMap
   pub there : maps m ≡ Some map
   pub key : ℕ
   pub live : IsSome (live_at tenant key)
-  pub place : ℕ
-  pub has : HasObject (stored_maps start memory tenant) key place (l.object_at m number) (map.values number)
+  pub element : ℕ
+  pub has : HasObject (stored_maps start memory tenant) key element (l.object_at m number) (map.values number)
 
 pub placed_object : (env : Environment) (l : Layout) (start : ℕ) (memory : List ℕ) (tenant : LiveMaps) (maps : ℕ → Option RunMap) (m number : ℕ) → MapsStandFor env l (stored_maps start memory tenant) maps → number < l.counts m → Found l start memory tenant maps m number
 placed_object env l start memory tenant maps m number has lt =
@@ -57,7 +57,7 @@ placed_object env l start memory tenant maps m number has lt =
       there = g.1;
       key = slice_index env.bind at.0;
       live = g.2.live;
-      place = g.2.place number;
+      element = g.2.element number;
       has = g.2.objects number (omega arith);
     }
 
@@ -78,7 +78,7 @@ module _ (env : Environment) (l : Layout) (flat : FlatState) (s : RunState) (roo
   there w n q bs e fits same =
       let begin = start_same in
       let part = part_same in
-      ap (λ o. and_then o (λ p. Some (bytes_at flat.memory.bytes (part_start flat.memory env.tenant + p) n))) (part_place_is (part_start flat.memory env.tenant) flat.memory.part n w q (e ∙ ap (λ (a : ℕ). base + (a + q)) (sym start_same)) (omega arith))
+      ap (λ o. and_then o (λ p. Some (bytes_at flat.memory.bytes (part_start flat.memory env.tenant + p) n))) (part_offset_is (part_start flat.memory env.tenant) flat.memory.part n w q (e ∙ ap (λ (a : ℕ). base + (a + q)) (sym start_same)) (omega arith))
       ∙ ap (λ (a : ℕ). Some (bytes_at flat.memory.bytes (a + q) n)) start_same ∙ ap (λ (x : List ℕ). Some x) same
 
   pub memory_long : part_start env.memory env.tenant + PART ≤ length flat.memory.bytes
@@ -86,13 +86,13 @@ module _ (env : Environment) (l : Layout) (flat : FlatState) (s : RunState) (roo
 
   stack_there : (x : ℤ) (w n : ℕ) (bs : List ℕ) → pos w ≡ pos l.front +ℤ x → stack_bytes s x n ≡ Some bs → part_input flat.memory env.tenant n w ≡ Some bs
   stack_there x w n bs h e =
-      let c = chosen (is_in_stack x n) (gathered (stack_byte s) (place x) n) e in
+      let c = chosen (is_in_stack x n) (gathered (stack_byte s) (byte_index x) n) e in
       let is = in_stack n x c in
       let value = is.0 in
       let within = is.1 in
       let front = stands.front in
       let long = memory_long in
-      there w n (place x) bs (omega (arith, ints)) (omega arith) (bytes_there env l flat.memory.bytes (part_start env.memory env.tenant) s x n bs stands.stack (omega arith) e)
+      there w n (byte_index x) bs (omega (arith, ints)) (omega arith) (bytes_there env l flat.memory.bytes (part_start env.memory env.tenant) s x n bs stands.stack (omega arith) e)
     where
       chosen : (b : Bool) (o : Option (List ℕ)) → (if b then o else None) ≡ Some bs → b ≡ true
       chosen true o e = refl
@@ -105,7 +105,7 @@ module _ (env : Environment) (l : Layout) (flat : FlatState) (s : RunState) (roo
       let f = placed_object env l (part_start env.memory env.tenant) flat.memory.bytes flat.maps s.maps m number stands.maps placed in
       let a = also_some (s.maps m) (λ map. value_bytes (map.values number) (pos y) n) bs e in
       let same : a.0 ≡ f.map = same_Some a.0 f.map (sym a.1 ∙ f.there) in
-      let off = offset_at flat.maps f.key f.place in
+      let off = offset_at flat.maps f.key f.element in
       let size = (shape_at flat.maps f.key).value_size in
       let value = f.map.values number in
       let got : value_bytes value (pos y) n ≡ Some bs = ap (λ (map : RunMap). value_bytes (map.values number) (pos y) n) (sym same) ∙ a.2 in
@@ -114,7 +114,7 @@ module _ (env : Environment) (l : Layout) (flat : FlatState) (s : RunState) (roo
       let is : bytes_at flat.memory.bytes (part_start env.memory env.tenant + off) size ≡ value = f.has.bytes in
       let long : length (bytes_at flat.memory.bytes (part_start env.memory env.tenant + off) size) ≡ length value = ap length is in
       let least = length-take size (drop (part_start env.memory env.tenant + off) flat.memory.bytes) in
-      let inside = (laid_inside flat.maps stands.maps.laid f.key f.place f.live f.has.within).within in
+      let inside = (laid_inside flat.maps stands.maps.laid f.key f.element f.live f.has.within).within in
       let address = f.has.address in
       let whole = memory_long in
       let here : part_start env.memory env.tenant + off + y ≡ part_start env.memory env.tenant + (off + y) = omega arith in

@@ -16,7 +16,7 @@ use Rattle.arena.specs.Memory.{part_start, with_bytes}
 use Rattle.arena.specs.Apart.{WritesStayInside}
 use Rattle.bpf_helpers.specs.Layout.{Layout, IsWord}
 use Rattle.bpf_helpers.specs.Stands.{IsRoom, Simulates}
-use Rattle.bpf_helpers.specs.Named.{place_named}
+use Rattle.bpf_helpers.specs.Named.{named_offset}
 use Rattle.bpf_helpers.specs.inside.Laws.{LoadKeepsSimulation}
 use Rattle.bpf_helpers.proofs.Many.{also_some}
 use Rattle.bpf_helpers.proofs.Outputs.{outputs_keep_simulation}
@@ -60,8 +60,8 @@ module _ (env : Environment) (l : Layout) (flat : FlatState) (s : RunState) (roo
         let d = also_some (s.registers 3) (λ p. output s p (packet_bytes s.packet offset n)) v e in
         let r = outputs_keep_simulation writes env l flat s v d.0 (slice_index flat.registers 3) (packet_bytes s.packet offset n) room stands (stands.values 3 d.0 (omega arith) d.1) d.2 in
         record {
-          place = r.0;
-          place_is = ap (λ (x : ℕ). place_named flat.memory env.tenant x (slice_index flat.registers 3)) (last ∙ sym (length-packet_bytes s.packet offset n)) ∙ r.1;
+          offset = r.0;
+          offset_is = ap (λ (x : ℕ). named_offset flat.memory env.tenant x (slice_index flat.registers 3)) (last ∙ sym (length-packet_bytes s.packet offset n)) ∙ r.1;
           written = v;
           stands = subst (λ (x : ℕ). Simulates env l (with_memory flat (with_bytes flat.memory (part_start flat.memory env.tenant + r.0) (packet_bytes s.packet (slice_index flat.registers 2) x))) v) (sym last)
               (subst (λ (x : ℕ). Simulates env l (with_memory flat (with_bytes flat.memory (part_start flat.memory env.tenant + r.0) (packet_bytes s.packet x n))) v) (sym first) r.2);

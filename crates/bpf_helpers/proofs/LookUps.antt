@@ -14,8 +14,8 @@ use Rattle.tagged_model.specs.State.{RunState, RunMap, input}
 use Rattle.tagged_model.specs.Helpers.{GivenMap, map_given, argument, map_argument, looked_up, called, returns}
 use Rattle.tagged_model.specs.StateLaws.{found_owned}
 use Rattle.arena.specs.Memory.{part_start}
-use Rattle.bpf_maps.specs.Places.{table_of}
-use Rattle.bpf_maps.specs.Live.{places_at, shape_at}
+use Rattle.bpf_maps.specs.KeyTable.{table_of}
+use Rattle.bpf_maps.specs.Live.{keys_at, shape_at}
 use Rattle.bpf_maps.specs.Laws.{CallsRefineValues}
 use Rattle.bpf_helpers.specs.Layout.{Layout, IsWord}
 use Rattle.bpf_helpers.specs.Stands.{IsRoom, HasMap, Simulates, stored_maps}
@@ -78,10 +78,10 @@ module _ (env : Environment) (l : Layout) (flat : FlatState) (s : RunState) (roo
     shape_same : shape_at flat.maps key ≡ map.table.shape
     shape_same = ap (λ (x : Table ℕ). x.shape) has.table
 
-    found_place : (bytes : List ℕ) → look_up (table_of (places_at flat.maps key)) bytes ≡ option_map has.place (look_up map.table bytes)
-    found_place bytes = ap (λ (x : Table ℕ). look_up x bytes) has.table ∙ along.found has.place map.table bytes
+    found_element : (bytes : List ℕ) → look_up (table_of (keys_at flat.maps key)) bytes ≡ option_map has.element (look_up map.table bytes)
+    found_element bytes = ap (λ (x : Table ℕ). look_up x bytes) has.table ∙ along.found has.element map.table bytes
 
-    found_word : (o : Option ℕ) → ((number : ℕ) → o ≡ Some number → number < map.count) → IsWord env l (looked_up m o) (value_word (site_in env flat) key (option_map has.place o))
+    found_word : (o : Option ℕ) → ((number : ℕ) → o ≡ Some number → number < map.count) → IsWord env l (looked_up m o) (value_word (site_in env flat) key (option_map has.element o))
     found_word None owned = refl
     found_word (Some number) owned =
         let lt = owned number refl in
@@ -90,9 +90,9 @@ module _ (env : Environment) (l : Layout) (flat : FlatState) (s : RunState) (roo
         let begin : part_start flat.memory env.tenant ≡ part_start env.memory env.tenant = ap (λ (n : ℕ). env.tenant * n) stands.changed.part in
         (omega (arith, ints), refl, omega arith)
 
-    pub look_up_follows : (bytes : List ℕ) → IsWord env l (looked_up m (look_up map.table bytes)) (value_word (site_in env flat) key (look_up (table_of (places_at flat.maps key)) bytes))
+    pub look_up_follows : (bytes : List ℕ) → IsWord env l (looked_up m (look_up map.table bytes)) (value_word (site_in env flat) key (look_up (table_of (keys_at flat.maps key)) bytes))
     look_up_follows bytes =
-        subst (λ (o : Option ℕ). IsWord env l (looked_up m (look_up map.table bytes)) (value_word (site_in env flat) key o)) (sym (found_place bytes))
+        subst (λ (o : Option ℕ). IsWord env l (looked_up m (look_up map.table bytes)) (value_word (site_in env flat) key o)) (sym (found_element bytes))
         (found_word (look_up map.table bytes) (λ number e. found_owned map.count bytes map.table.entries number has.owns e))
 
   given_word : (map key : ℕ) (v : Tagged) {n : NamedKey} → key_named (site_in env flat) map key ≡ Some n → IsWord env l v (key_word (site_in env flat) n) → GivesWord env l (flat_look_up (site_in env flat) map key) (Some v)

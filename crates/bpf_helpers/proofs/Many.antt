@@ -4,7 +4,7 @@ use Rattle.std.proofs.lemmas.Bool.{cond_both, and_parts, and_cases, ltb-true, lt
 use Rattle.std.proofs.lemmas.Option.{none-some, same_Some, cond_some, get_or_from_slice_get}
 use Rattle.words.specs.Bytes.{number_of, written_at}
 use Rattle.words.specs.ByteLaws.{written_in, written_out, bytes_are, bytes_stay}
-use Rattle.words.specs.Stack.{is_in_stack, place, touches}
+use Rattle.words.specs.Stack.{is_in_stack, byte_index, touches}
 use Rattle.words.specs.StackLaws.{in_stack}
 use Rattle.tagged_model.specs.declared.value.Tagged.{Tagged}
 use Rattle.tagged_model.specs.Cells.{Cell, holds, bytes, and_then, byte_at, gathered, cell_over}
@@ -19,7 +19,7 @@ also_some (Some x) f y e = (x, refl, e)
 
 -- ---- bytes that are present
 
--- the list has the n bytes from place p on
+-- the list has the n bytes from offset p on
 pub record AreFrom (byte : ℕ → Option ℕ) (p n : ℕ) (list : List ℕ) : Type 0 where
   pub count : length list ≡ n
   pub each : (k : ℕ) → k < n → byte (p + k) ≡ Some (get_or list k 0)
@@ -49,12 +49,12 @@ stack_byte_there env l memory start s q b has lt e =
 
 pub bytes_there : StackBytesAreThere
 bytes_there env l memory start s y n bs has fits e =
-    let i = chosen (is_in_stack y n) (gathered (stack_byte s) (place y) n) bs e in
+    let i = chosen (is_in_stack y n) (gathered (stack_byte s) (byte_index y) n) bs e in
     let within = (in_stack n y i.0).1 in
-    let from = are_from (stack_byte s) n (place y) bs i.1 in
-    bytes_are memory bs (start + place y) n from.count (omega arith)
-    (λ k lt. let at : start + place y + k ≡ start + (place y + k) = omega arith in
-    ap (λ (a : ℕ). get_or memory a 0) at ∙ stack_byte_there env l memory start s (place y + k) (get_or bs k 0) has (omega arith) (from.each k lt))
+    let from = are_from (stack_byte s) n (byte_index y) bs i.1 in
+    bytes_are memory bs (start + byte_index y) n from.count (omega arith)
+    (λ k lt. let at : start + byte_index y + k ≡ start + (byte_index y + k) = omega arith in
+    ap (λ (a : ℕ). get_or memory a 0) at ∙ stack_byte_there env l memory start s (byte_index y + k) (get_or bs k 0) has (omega arith) (from.each k lt))
   where
     chosen : {A : Type 0} (b : Bool) (o : Option A) (y : A) → (if b then o else None) ≡ Some y → (b ≡ true) × (o ≡ Some y)
     chosen true o y e = (refl, e)
@@ -108,7 +108,7 @@ module _ (env : Environment) (l : Layout) (memory : List ℕ) (start : ℕ) (fit
 
 pub bytes_over : StackBytesAreWritten
 bytes_over env l memory start s t y bs has fits e =
-    let c = cond_some (is_in_stack y (length bs)) (with_cells s (λ i. cell_over i (s.cells i) (place y) bs)) t e in
+    let c = cond_some (is_in_stack y (length bs)) (with_cells s (λ i. cell_over i (s.cells i) (byte_index y) bs)) t e in
     let within = (in_stack (length bs) y c.0).1 in
-    subst (λ (u : RunState). HasStack env l (written_at memory (start + place y) bs) start u.cells) c.1
-    (λ i lt. cell_after env l memory start fits (place y) bs within i (s.cells i) lt (has i lt))
+    subst (λ (u : RunState). HasStack env l (written_at memory (start + byte_index y) bs) start u.cells) c.1
+    (λ i lt. cell_after env l memory start fits (byte_index y) bs within i (s.cells i) lt (has i lt))

@@ -8,9 +8,9 @@ use Rattle.std.proofs.lemmas.Option.{same_Some, slice_get_within}
 use Rattle.words.specs.Bytes.{bytes_at}
 use Rattle.tagged_model.specs.State.{RunState, RunMap, set_at}
 use Rattle.arena.specs.Memory.{base, part_start}
-use Rattle.bpf_maps.specs.Places.{PlaceTable, table_of, occurrences}
-use Rattle.bpf_maps.specs.Live.{LiveMaps, LiveMap, live_at, live_or, places_at, shape_at, offset, offset_at, OnlyKeysChange}
-use Rattle.bpf_maps.specs.Laws.{AreasKeepPlaces}
+use Rattle.bpf_maps.specs.KeyTable.{KeyTable, table_of, occurrences}
+use Rattle.bpf_maps.specs.Live.{LiveMaps, LiveMap, live_at, live_or, keys_at, shape_at, offset, offset_at, OnlyKeysChange}
+use Rattle.bpf_maps.specs.Laws.{AreasKeepElements}
 use Rattle.bpf_helpers.specs.Layout.{Layout}
 use Rattle.bpf_helpers.specs.Stands.{HasObject, HasMap, MapsStandFor, StoredMaps, KeepsUnboundValues, Simulates, stored_maps}
 use Rattle.bpf_helpers.specs.States.{Environment, FlatState, with_held}
@@ -24,50 +24,50 @@ other_key {env} has i m j n named e differ same =
     let one : j ≡ i = has.keys j i (omega arith) (omega arith) same in
     differ (same_Some n m (sym e ∙ ap (λ (x : ℕ). slice_get env.descriptors x) one ∙ named))
 
--- the map has the same places, at the same addresses
-map_moved : {l : Layout} {start : ℕ} {memory : List ℕ} {old new : LiveMaps} {k m : ℕ} {t : RunMap} → places_at new k ≡ places_at old k → ((p : ℕ) → offset_at new k p ≡ offset_at old k p) → IsSome (live_at new k) → HasMap l (stored_maps start memory old) k m t → HasMap l (stored_maps start memory new) k m t
-map_moved {start = start} {memory = memory} {old = old} {new = new} {k = k} places offsets live h = record {
+-- the map has the same elements, at the same addresses
+map_moved : {l : Layout} {start : ℕ} {memory : List ℕ} {old new : LiveMaps} {k m : ℕ} {t : RunMap} → keys_at new k ≡ keys_at old k → ((p : ℕ) → offset_at new k p ≡ offset_at old k p) → IsSome (live_at new k) → HasMap l (stored_maps start memory old) k m t → HasMap l (stored_maps start memory new) k m t
+map_moved {start = start} {memory = memory} {old = old} {new = new} {k = k} key_table offsets live h = record {
   live = live;
-  place = h.place;
-  table = ap table_of places ∙ h.table;
+  element = h.element;
+  table = ap table_of key_table ∙ h.table;
   owns = h.owns;
   counted = h.counted;
   objects = λ number lt.
       let o = h.objects number lt in
       record {
-        within = subst (λ (x : PlaceTable). h.place number < x.shape.max_entries) (sym places) o.within;
-        in_use = subst (λ (x : PlaceTable). 1 ≤ occurrences (h.place number) (values_of x.entries) + occurrences (h.place number) x.kept) (sym places) o.in_use;
-        address = o.address ∙ ap (λ (a : ℕ). base + (start + a)) (sym (offsets (h.place number)));
-        bytes = ap (λ (a : ℕ). bytes_at memory (start + a) (shape_at new k).value_size) (offsets (h.place number)) ∙ ap (λ (x : PlaceTable). bytes_at memory (start + offset_at old k (h.place number)) x.shape.value_size) places ∙ o.bytes;
+        within = subst (λ (x : KeyTable). h.element number < x.shape.max_entries) (sym key_table) o.within;
+        in_use = subst (λ (x : KeyTable). 1 ≤ occurrences (h.element number) (values_of x.entries) + occurrences (h.element number) x.kept) (sym key_table) o.in_use;
+        address = o.address ∙ ap (λ (a : ℕ). base + (start + a)) (sym (offsets (h.element number)));
+        bytes = ap (λ (a : ℕ). bytes_at memory (start + a) (shape_at new k).value_size) (offsets (h.element number)) ∙ ap (λ (x : KeyTable). bytes_at memory (start + offset_at old k (h.element number)) x.shape.value_size) key_table ∙ o.bytes;
       };
   apart = h.apart;
 }
 
-live_places : (old new : LiveMaps) (k : ℕ) → live_at new k ≡ live_at old k → places_at new k ≡ places_at old k
-live_places old new k e = ap (λ (o : Option LiveMap). (live_or o).places) e
+live_keys : (old new : LiveMaps) (k : ℕ) → live_at new k ≡ live_at old k → keys_at new k ≡ keys_at old k
+live_keys old new k e = ap (λ (o : Option LiveMap). (live_or o).keys) e
 
 live_offsets : (old new : LiveMaps) (k p : ℕ) → live_at new k ≡ live_at old k → offset_at new k p ≡ offset_at old k p
 live_offsets old new k p e = ap (λ (o : Option LiveMap). offset (live_or o) p) e
 
--- the bytes, and possibly the values, are different; the keys and their places are the same
-pub other_bytes : {l : Layout} {start : ℕ} {before after : List ℕ} {tenant : LiveMaps} {k m : ℕ} {t : RunMap} {values : ℕ → List ℕ} (h : HasMap l (stored_maps start before tenant) k m t) → ((number : ℕ) → number < t.count → HasObject (stored_maps start after tenant) k (h.place number) (l.object_at m number) (values number))
+-- the bytes, and possibly the values, are different; the keys and their elements are the same
+pub other_bytes : {l : Layout} {start : ℕ} {before after : List ℕ} {tenant : LiveMaps} {k m : ℕ} {t : RunMap} {values : ℕ → List ℕ} (h : HasMap l (stored_maps start before tenant) k m t) → ((number : ℕ) → number < t.count → HasObject (stored_maps start after tenant) k (h.element number) (l.object_at m number) (values number))
     → HasMap l (stored_maps start after tenant) k m (record t { values = values })
-other_bytes h objects = record { live = h.live; place = h.place; table = h.table; owns = h.owns; counted = h.counted; objects = objects; apart = h.apart }
+other_bytes h objects = record { live = h.live; element = h.element; table = h.table; owns = h.owns; counted = h.counted; objects = objects; apart = h.apart }
 
--- only the map under key k changes, and its places have the same addresses
+-- only the map of handle k changes, and its elements have the same addresses
 module _ {old new : LiveMaps} {k : ℕ} (rest : OnlyKeysChange k old new) where
   pub other_moved : {l : Layout} {start : ℕ} {memory : List ℕ} {j n : ℕ} {u : RunMap} → j ≢ k → HasMap l (stored_maps start memory old) j n u → HasMap l (stored_maps start memory new) j n u
-  other_moved {j = j} differ h = map_moved (live_places old new j (rest.others j differ)) (λ p. live_offsets old new j p (rest.others j differ)) (subst IsSome (sym (rest.others j differ)) h.live) h
+  other_moved {j = j} differ h = map_moved (live_keys old new j (rest.others j differ)) (λ p. live_offsets old new j p (rest.others j differ)) (subst IsSome (sym (rest.others j differ)) h.live) h
 
-  pub maps_moved : AreasKeepPlaces → places_at new k ≡ places_at old k → {env : Environment} {l : Layout} {start : ℕ} {memory : List ℕ} {maps : ℕ → Option RunMap} → MapsStandFor env l (stored_maps start memory old) maps → MapsStandFor env l (stored_maps start memory new) maps
-  maps_moved keep places {env} {l} {start} {memory} has = record {
+  pub maps_moved : AreasKeepElements → keys_at new k ≡ keys_at old k → {env : Environment} {l : Layout} {start : ℕ} {memory : List ℕ} {maps : ℕ → Option RunMap} → MapsStandFor env l (stored_maps start memory old) maps → MapsStandFor env l (stored_maps start memory new) maps
+  maps_moved keep key_table {env} {l} {start} {memory} has = record {
     count = has.count;
     each = λ i m e. let g = has.each i m e in (
       g.0,
       g.1,
       ⊎_elim
           (λ b. let same : slice_index env.bind i ≡ k = eqb-true (slice_index env.bind i) k b in
-          subst (λ (j : ℕ). HasMap l (stored_maps start memory new) j m g.0) (sym same) (map_moved places (λ p. keep old new k p rest.areas rest.live) rest.live (subst (λ (j : ℕ). HasMap l (stored_maps start memory old) j m g.0) same g.2)))
+          subst (λ (j : ℕ). HasMap l (stored_maps start memory new) j m g.0) (sym same) (map_moved key_table (λ p. keep old new k p rest.areas rest.live) rest.live (subst (λ (j : ℕ). HasMap l (stored_maps start memory old) j m g.0) same g.2)))
           (λ b. other_moved (eqb-false (slice_index env.bind i) k b) g.2)
           (cases_Bool (eqb (slice_index env.bind i) k)),
     );
@@ -113,7 +113,7 @@ module _ {env : Environment} {l : Layout} {start : ℕ} {memory : List ℕ} {old
 -- the maps that the run does not name are not changed
 pub others_moved : (bind : List ℕ) (start : ℕ) (old memory : List ℕ) (tenant new : LiveMaps) (i : ℕ) → i < length bind → ((other : ℕ) → other ≢ slice_index bind i → live_at new other ≡ live_at tenant other) → KeepsUnboundValues bind old (stored_maps start memory tenant) → KeepsUnboundValues bind old (stored_maps start memory new)
 others_moved bind start old memory tenant new i within others has key p away =
-    subst (λ (o : Option LiveMap). IsSome o → p < (live_or o).places.shape.max_entries → bytes_at memory (start + offset (live_or o) p) (live_or o).places.shape.value_size ≡ bytes_at old (start + offset (live_or o) p) (live_or o).places.shape.value_size)
+    subst (λ (o : Option LiveMap). IsSome o → p < (live_or o).keys.shape.max_entries → bytes_at memory (start + offset (live_or o) p) (live_or o).keys.shape.value_size ≡ bytes_at old (start + offset (live_or o) p) (live_or o).keys.shape.value_size)
     (sym (others key (λ same. away i within (sym same))))
     (λ live lt. has key p away live lt)
 

@@ -8,7 +8,7 @@ use Rattle.std.proofs.lemmas.Option.{none-some, same_Some, cond_some, slice_get_
 use Rattle.std.proofs.lemmas.List.{length-take}
 use Rattle.words.specs.Bytes.{number_of, bytes_at, written_at}
 use Rattle.words.specs.ByteLaws.{written_out, length-written_at, bytes_stay, over_within}
-use Rattle.words.specs.Stack.{is_in_stack, place}
+use Rattle.words.specs.Stack.{is_in_stack, byte_index}
 use Rattle.words.specs.StackLaws.{in_stack}
 use Rattle.tagged_model.specs.declared.value.Object.TheVariants as object
 use Rattle.tagged_model.specs.declared.value.Tagged.{Tagged}
@@ -21,19 +21,19 @@ use Rattle.bpf_maps.specs.declared.part.TheConstants.{PART}
 use Rattle.bpf_maps.specs.Live.{LiveMaps, LiveMap, live_at, live_or, shape_at, offset, offset_at, LiesInPart, IsLaid}
 use Rattle.bpf_helpers.specs.Layout.{Layout, IsWord, HasCell, HasStack, HasWords}
 use Rattle.bpf_helpers.specs.Stands.{stack_top, IsRoom, IsOnlyChanged, HasObject, HasMap, MapsStandFor, KeepsUnboundValues, Simulates, stored_maps}
-use Rattle.bpf_helpers.specs.Named.{place_named}
+use Rattle.bpf_helpers.specs.Named.{named_offset}
 use Rattle.bpf_helpers.specs.inside.Laws.{OutputsKeepSimulation}
 use Rattle.bpf_helpers.proofs.Many.{also_some, bytes_over}
 use Rattle.bpf_helpers.proofs.Moved.{other_key, other_bytes}
 use Rattle.bpf_maps.specs.LiveLaws.{laid_inside}
-use Rattle.bpf_helpers.proofs.Inputs.{part_place_is, start_same, memory_long}
+use Rattle.bpf_helpers.proofs.Inputs.{part_offset_is, start_same, memory_long}
 use Rattle.bpf_helpers.specs.States.{Environment, FlatState, with_memory}
 
 -- ---- bytes outside the write are not changed
 
 module _ (env : Environment) (l : Layout) (memory new : List ℕ) (from : ℕ) (fits : from + length new ≤ length memory) where
   abbrev IsApart : ℕ → ℕ → Type 0
-  IsApart place n = (place + n ≤ from) ⊎ (from + length new ≤ place)
+  IsApart offset n = (offset + n ≤ from) ⊎ (from + length new ≤ offset)
 
   pub cell_kept : (at : ℕ) (c : Cell) → IsApart at 8 → HasCell env l memory at c → HasCell env l (written_at memory from new) at c
   cell_kept at c away has =
@@ -53,14 +53,14 @@ module _ (env : Environment) (l : Layout) (memory new : List ℕ) (from : ℕ) (
       apart (inl below) = inl (omega arith)
       apart (inr above) = inr (omega arith)
 
-  object_kept : (start : ℕ) (tenant : LiveMaps) (key m number : ℕ) (value : List ℕ) (place : ℕ) → IsApart (start + offset_at tenant key place) (shape_at tenant key).value_size
-      → HasObject (stored_maps start memory tenant) key place (l.object_at m number) value → HasObject (stored_maps start (written_at memory from new) tenant) key place (l.object_at m number) value
-  object_kept start tenant key m number value place away has =
+  object_kept : (start : ℕ) (tenant : LiveMaps) (key m number : ℕ) (value : List ℕ) (element : ℕ) → IsApart (start + offset_at tenant key element) (shape_at tenant key).value_size
+      → HasObject (stored_maps start memory tenant) key element (l.object_at m number) value → HasObject (stored_maps start (written_at memory from new) tenant) key element (l.object_at m number) value
+  object_kept start tenant key m number value element away has =
       record {
         within = has.within;
         in_use = has.in_use;
         address = has.address;
-        bytes = bytes_stay memory new from (start + offset_at tenant key place) (shape_at tenant key).value_size fits away ∙ has.bytes;
+        bytes = bytes_stay memory new from (start + offset_at tenant key element) (shape_at tenant key).value_size fits away ∙ has.bytes;
       }
 
 -- ---- the values of maps are disjoint
@@ -70,8 +70,8 @@ module _ (tenant : LiveMaps) (laid : IsLaid tenant) where
       → (offset_at tenant k p + (shape_at tenant k).value_size ≤ offset_at tenant j q) ⊎ (offset_at tenant j q + (shape_at tenant j).value_size ≤ offset_at tenant k p)
   laid_apart k p j q live there lt few differ = by (live_at tenant k) (live_at tenant j) refl refl live there lt few
     where
-      by : (o u : Option LiveMap) → live_at tenant k ≡ o → live_at tenant j ≡ u → IsSome o → IsSome u → p < (live_or o).places.shape.max_entries → q < (live_or u).places.shape.max_entries
-          → (offset (live_or o) p + (live_or o).places.shape.value_size ≤ offset (live_or u) q) ⊎ (offset (live_or u) q + (live_or u).places.shape.value_size ≤ offset (live_or o) p)
+      by : (o u : Option LiveMap) → live_at tenant k ≡ o → live_at tenant j ≡ u → IsSome o → IsSome u → p < (live_or o).keys.shape.max_entries → q < (live_or u).keys.shape.max_entries
+          → (offset (live_or o) p + (live_or o).keys.shape.value_size ≤ offset (live_or u) q) ⊎ (offset (live_or u) q + (live_or u).keys.shape.value_size ≤ offset (live_or o) p)
       by None u e f some too lt few = absurd (false≢true some)
       by (Some a) None e f some too lt few = absurd (false≢true too)
       by (Some a) (Some b) e f some too lt few = laid.apart k p j q a b e f lt few differ
@@ -88,9 +88,9 @@ module _ (env : Environment) (l : Layout) (start : ℕ) (memory new : List ℕ) 
           other_bytes h
           (λ number lt.
           let o = h.objects number lt in
-          let is = laid_inside tenant has.laid key (h.place number) h.live o.within in
+          let is = laid_inside tenant has.laid key (h.element number) h.live o.within in
           let within = is.within in let behind = is.behind in
-          object_kept env l memory new (start + q) (omega arith) start tenant key m number (t.values number) (h.place number) (inr (omega arith)) o)
+          object_kept env l memory new (start + q) (omega arith) start tenant key m number (t.values number) (h.element number) (inr (omega arith)) o)
 
       each : (i m : ℕ) → slice_get env.descriptors i ≡ Some m → (t : RunMap) × (maps m ≡ Some t) × HasMap l (stored_maps start (written_at memory (start + q) new) tenant) (slice_index env.bind i) m t
       each i m e = let g = has.each i m e in (g.0, g.1, one (slice_index env.bind i) m g.0 g.2)
@@ -101,13 +101,13 @@ module _ (env : Environment) (l : Layout) (start : ℕ) (memory new : List ℕ) 
     key = slice_index env.bind i
 
     abbrev off : ℕ
-    off = offset_at tenant (slice_index env.bind i) (h.place number)
+    off = offset_at tenant (slice_index env.bind i) (h.element number)
 
     abbrev size : ℕ
     size = (shape_at tenant (slice_index env.bind i)).value_size
 
     inside : LiesInPart off size
-    inside = laid_inside tenant has.laid key (h.place number) h.live (h.objects number lt).within
+    inside = laid_inside tenant has.laid key (h.element number) h.live (h.objects number lt).within
 
     fits : start + (off + y) + length new ≤ length memory
     fits = let within = inside.within in omega arith
@@ -115,7 +115,7 @@ module _ (env : Environment) (l : Layout) (start : ℕ) (memory new : List ℕ) 
     abbrev after : List ℕ
     after = written_at memory (start + (off + y)) new
 
-    value_after : HasObject (stored_maps start after tenant) key (h.place number) (l.object_at m number) (written_at (t.values number) y new)
+    value_after : HasObject (stored_maps start after tenant) key (h.element number) (l.object_at m number) (written_at (t.values number) y new)
     value_after =
         let o = h.objects number lt in
         let within = inside.within in
@@ -127,24 +127,24 @@ module _ (env : Environment) (l : Layout) (start : ℕ) (memory new : List ℕ) 
           bytes = ap (λ (a : ℕ). bytes_at (written_at memory a new) (start + off) size) at ∙ over_within memory new (start + off) size y (omega arith) room ∙ ap (λ (v : List ℕ). written_at v y new) o.bytes;
         }
 
-    -- the value at another place is not changed
-    other_after : (other n k : ℕ) (value : List ℕ) (p : ℕ) → IsSome (live_at tenant other) → (other ≡ key → p ≢ h.place number) → HasObject (stored_maps start memory tenant) other p (l.object_at n k) value → HasObject (stored_maps start after tenant) other p (l.object_at n k) value
+    -- the value of another element is not changed
+    other_after : (other n k : ℕ) (value : List ℕ) (p : ℕ) → IsSome (live_at tenant other) → (other ≡ key → p ≢ h.element number) → HasObject (stored_maps start memory tenant) other p (l.object_at n k) value → HasObject (stored_maps start after tenant) other p (l.object_at n k) value
     other_after other n k value p live differ o =
         let q = laid_inside tenant has.laid other p live o.within in
         let within = q.within in
         let mine = inside.within in
         object_kept env l memory new (start + (off + y)) fits start tenant other n k value p
-        (⊎_elim (λ below. inl (omega arith)) (λ above. inr (omega arith)) (laid_apart tenant has.laid other p key (h.place number) live h.live o.within (h.objects number lt).within differ)) o
+        (⊎_elim (λ below. inl (omega arith)) (λ above. inr (omega arith)) (laid_apart tenant has.laid other p key (h.element number) live h.live o.within (h.objects number lt).within differ)) o
 
     own_after : HasMap l (stored_maps start after tenant) key m (with_value t number (written_at (t.values number) y new))
     own_after =
         other_bytes h
-        (λ k few. cond_both (k == number) (written_at (t.values number) y new) (t.values k) (λ v. HasObject (stored_maps start after tenant) key (h.place k) (l.object_at m k) v)
-        (λ e. let same : number ≡ k = sym (eqb-true k number e) in subst (λ x. HasObject (stored_maps start after tenant) key (h.place x) (l.object_at m x) (written_at (t.values number) y new)) same value_after)
-        (λ e. other_after key m k (t.values k) (h.place k) h.live (λ _ same. eqb-false k number e (h.apart k number few lt same)) (h.objects k few)))
+        (λ k few. cond_both (k == number) (written_at (t.values number) y new) (t.values k) (λ v. HasObject (stored_maps start after tenant) key (h.element k) (l.object_at m k) v)
+        (λ e. let same : number ≡ k = sym (eqb-true k number e) in subst (λ x. HasObject (stored_maps start after tenant) key (h.element x) (l.object_at m x) (written_at (t.values number) y new)) same value_after)
+        (λ e. other_after key m k (t.values k) (h.element k) h.live (λ _ same. eqb-false k number e (h.apart k number few lt same)) (h.objects k few)))
 
     others_after : (j n : ℕ) (u : RunMap) → slice_get env.descriptors j ≡ Some n → n ≢ m → HasMap l (stored_maps start memory tenant) (slice_index env.bind j) n u → HasMap l (stored_maps start after tenant) (slice_index env.bind j) n u
-    others_after j n u e differ g = other_bytes g (λ k few. other_after (slice_index env.bind j) n k (u.values k) (g.place k) g.live (λ same. absurd (other_key has i m j n at e differ same)) (g.objects k few))
+    others_after j n u e differ g = other_bytes g (λ k few. other_after (slice_index env.bind j) n k (u.values k) (g.element k) g.live (λ same. absurd (other_key has i m j n at e differ same)) (g.objects k few))
 
     maps_over : MapsStandFor env l (stored_maps start after tenant) (set_at maps m (Some (with_value t number (written_at (t.values number) y new))))
     maps_over = record { count = has.count; each = each; listed = has.listed; keys = has.keys; names = has.names; laid = has.laid }
@@ -220,32 +220,32 @@ module _ (writes : WritesStayInside) (env : Environment) (l : Layout) (flat : Fl
         elsewhere = others_behind env.bind start env.memory.bytes flat.memory.bytes new flat.maps stands.maps.laid long stands.elsewhere q low;
       }
 
-  -- the place of the write, and the simulation after it
+  -- the offset of the write, and the simulation after it
   Written : ℕ → List ℕ → RunState → Type 0
-  Written w bs u = (q : ℕ) × (place_named flat.memory env.tenant (length bs) w ≡ Some q) × Simulates env l (with_memory flat (with_bytes flat.memory (part_start flat.memory env.tenant + q) bs)) u
+  Written w bs u = (q : ℕ) × (named_offset flat.memory env.tenant (length bs) w ≡ Some q) × Simulates env l (with_memory flat (with_bytes flat.memory (part_start flat.memory env.tenant + q) bs)) u
 
   written : (w q : ℕ) (bs : List ℕ) (u : RunState) → w ≡ base + (part_start env.memory env.tenant + q) → q + length bs ≤ PART → Simulates env l (with_memory flat (with_bytes flat.memory (part_start env.memory env.tenant + q) bs)) u → Written w bs u
   unfolding Written
   written w q bs u e fits after =
       let part = stands.changed.part in let large = room.room in (
         q,
-        part_place_is (part_start flat.memory env.tenant) flat.memory.part (length bs) w q (e ∙ ap (λ (a : ℕ). base + (a + q)) (sym (start_same env l flat s room stands))) (omega arith),
+        part_offset_is (part_start flat.memory env.tenant) flat.memory.part (length bs) w q (e ∙ ap (λ (a : ℕ). base + (a + q)) (sym (start_same env l flat s room stands))) (omega arith),
         subst (λ (a : ℕ). Simulates env l (with_memory flat (with_bytes flat.memory (a + q) bs)) u) (sym (start_same env l flat s room stands)) after,
       )
 
   stack_output : (x : ℤ) (w : ℕ) (bs : List ℕ) (u : RunState) → pos w ≡ pos l.front +ℤ x → stack_written s x bs ≡ Some u → Written w bs u
   stack_output x w bs u h e =
       let start = part_start env.memory env.tenant in
-      let c = cond_some (is_in_stack x (length bs)) (with_cells s (λ i. cell_over i (s.cells i) (place x) bs)) u e in
+      let c = cond_some (is_in_stack x (length bs)) (with_cells s (λ i. cell_over i (s.cells i) (byte_index x) bs)) u e in
       let is = in_stack (length bs) x c.0 in
       let value = is.0 in
       let within = is.1 in
       let front = stands.front in
       let long = memory_long env l flat s room stands in
       let cells = bytes_over env l flat.memory.bytes start s u x bs stands.stack (omega arith) e in
-      written w (place x) bs u (omega (arith, ints)) (omega arith)
-      (subst (λ (v : RunState). HasStack env l (written_at flat.memory.bytes (start + place x) bs) start v.cells → Simulates env l (with_memory flat (with_bytes flat.memory (start + place x) bs)) v) c.1
-      (stack_stands (place x) bs (λ i. cell_over i (s.cells i) (place x) bs) within) cells)
+      written w (byte_index x) bs u (omega (arith, ints)) (omega arith)
+      (subst (λ (v : RunState). HasStack env l (written_at flat.memory.bytes (start + byte_index x) bs) start v.cells → Simulates env l (with_memory flat (with_bytes flat.memory (start + byte_index x) bs)) v) c.1
+      (stack_stands (byte_index x) bs (λ i. cell_over i (s.cells i) (byte_index x) bs) within) cells)
 
   object_output : (m number : ℕ) (x : ℤ) (w : ℕ) (bs : List ℕ) (u : RunState) → pos w ≡ pos (l.object_at m number) +ℤ x → number < l.counts m → object_written s m number x bs ≡ Some u → Written w bs u
   object_output m number (negsuc y) w bs u h placed e =
@@ -265,12 +265,12 @@ module _ (writes : WritesStayInside) (env : Environment) (l : Layout) (flat : Fl
       let counted = g.2.counted in
       let lt : number < g.0.count = omega arith in
       let o = g.2.objects number lt in
-      let off = offset_at flat.maps key (g.2.place number) in
+      let off = offset_at flat.maps key (g.2.element number) in
       let size = (shape_at flat.maps key).value_size in
       let is : length (bytes_at flat.memory.bytes (start + off) size) ≡ length (g.0.values number) = ap length o.bytes in
       let least = length-take size (drop (start + off) flat.memory.bytes) in
       let small : y + length bs ≤ size = omega arith in
-      let inside = laid_inside flat.maps stands.maps.laid key (g.2.place number) g.2.live o.within in
+      let inside = laid_inside flat.maps stands.maps.laid key (g.2.element number) g.2.live o.within in
       let within = inside.within in
       let behind = inside.behind in
       let address = o.address in
@@ -290,7 +290,7 @@ module _ (writes : WritesStayInside) (env : Environment) (l : Layout) (flat : Fl
         words = stands.words;
         context = words_kept env l flat.memory.bytes bs (start + (off + y)) (omega arith) (stack_top env.memory env.tenant) s.words (inl (omega arith)) stands.context;
         maps = maps_over env l start flat.memory.bytes bs flat.maps s.maps stands.maps long m number g.0 g.1 i listed.1 g.2 lt y small;
-        elsewhere = let count = stands.maps.count in let fits = slice_get_within env.descriptors i m listed.1 in others_over env.bind start env.memory.bytes flat.memory.bytes bs flat.maps stands.maps.laid long stands.elsewhere i (g.2.place number) y (omega arith) g.2.live o.within small;
+        elsewhere = let count = stands.maps.count in let fits = slice_get_within env.descriptors i m listed.1 in others_over env.bind start env.memory.bytes flat.memory.bytes bs flat.maps stands.maps.laid long stands.elsewhere i (g.2.element number) y (omega arith) g.2.live o.within small;
       }))
 
   output_written : (p : Tagged) (w : ℕ) (bs : List ℕ) (u : RunState) → IsWord env l p w → output s p bs ≡ Some u → Written w bs u
@@ -299,7 +299,7 @@ module _ (writes : WritesStayInside) (env : Environment) (l : Layout) (flat : Fl
   output_written p w bs u h e = absurd (none-some u e)
 
   pub object_overwritten : (m number : ℕ) (x : ℤ) (w : ℕ) (bs : List ℕ) (u : RunState) → pos w ≡ pos (l.object_at m number) +ℤ x → number < l.counts m → object_written s m number x bs ≡ Some u
-      → (q : ℕ) × (place_named flat.memory env.tenant (length bs) w ≡ Some q) × Simulates env l (with_memory flat (with_bytes flat.memory (part_start flat.memory env.tenant + q) bs)) u
+      → (q : ℕ) × (named_offset flat.memory env.tenant (length bs) w ≡ Some q) × Simulates env l (with_memory flat (with_bytes flat.memory (part_start flat.memory env.tenant + q) bs)) u
   unfolding Written
   object_overwritten m number x w bs u h placed e = object_output m number x w bs u h placed e
 

@@ -1,9 +1,9 @@
--- The number of uses of a place.
+-- The number of uses of an element.
 use Rattle.std.proofs.Common.{◌≡◌, ℕ, ◌+◌, nat_eq, if◌then◌else◌, List, [], ◌∷◌, eq-eqb, refl, ap, ◌∙◌, arith}
 use Rattle.std.specs.Map.{values_of}
 use Rattle.std.proofs.lemmas.Bool.{cond-true}
 use Rattle.tagged_model.specs.Table.{with_key}
-use Rattle.bpf_maps.specs.Places.{occurrences}
+use Rattle.bpf_maps.specs.KeyTable.{occurrences}
 
 pub times_with : (q p : ℕ) (key : List ℕ) (es : List (List ℕ × ℕ)) → occurrences q (values_of (with_key key p es)) ≡ occurrences q (values_of es) + (if nat_eq q p then 1 else 0)
 times_with q p key [] = omega arith

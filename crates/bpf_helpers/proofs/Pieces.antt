@@ -9,23 +9,23 @@ front_kept bytes n last low fits =
     sym (take-append-le last (take n bytes) (drop n bytes) (omega (arith, length-take-le n bytes fits))) ∙ ap (take last) (take-append-drop n bytes)
 
 -- the first n bytes, and then the last n
-pub ends_written : (to bytes : List ℕ) (place n last : ℕ) → last + n ≡ length bytes → last ≤ n → place + length bytes ≤ length to
-    → written_at (written_at to place (take n bytes)) (place + last) (drop last bytes) ≡ written_at to place bytes
-ends_written to bytes place n last all low room =
-    let front = take place to in
+pub ends_written : (to bytes : List ℕ) (offset n last : ℕ) → last + n ≡ length bytes → last ≤ n → offset + length bytes ≤ length to
+    → written_at (written_at to offset (take n bytes)) (offset + last) (drop last bytes) ≡ written_at to offset bytes
+ends_written to bytes offset n last all low room =
+    let front = take offset to in
     let first = take n bytes in
-    let back = drop (place + length first) to in
-    let tail = drop (place + length bytes) to in
+    let back = drop (offset + length first) to in
+    let tail = drop (offset + length bytes) to in
     let mid = front ++ (first ++ back) in
     let more = length bytes - n in
-    let front_long : length front ≡ place = length-take-le place to (omega arith) in
+    let front_long : length front ≡ offset = length-take-le offset to (omega arith) in
     let first_long : length first ≡ n = length-take-le n bytes (omega arith) in
-    let kept : take (place + last) mid ≡ front ++ take last bytes =
+    let kept : take (offset + last) mid ≡ front ++ take last bytes =
     ap (λ (k : ℕ). take (k + last) mid) (sym front_long) ∙ take-append-add front (first ++ back) last
     ∙ ap (λ (l : List ℕ). front ++ l) (take-append-le last first back (omega arith) ∙ front_kept bytes n last low (omega arith)) in
-    let behind : (place + last) + length (drop last bytes) ≡ length front + (length first + more) = omega (arith, length-drop last bytes, front_long, first_long) in
-    let left : drop ((place + last) + length (drop last bytes)) mid ≡ tail =
-    ap (λ (k : ℕ). drop k mid) behind ∙ drop-append-add front (first ++ back) (length first + more) ∙ drop-append-add first back more ∙ drop-drop more (place + length first) to
+    let behind : (offset + last) + length (drop last bytes) ≡ length front + (length first + more) = omega (arith, length-drop last bytes, front_long, first_long) in
+    let left : drop ((offset + last) + length (drop last bytes)) mid ≡ tail =
+    ap (λ (k : ℕ). drop k mid) behind ∙ drop-append-add front (first ++ back) (length first + more) ∙ drop-append-add first back more ∙ drop-drop more (offset + length first) to
     ∙ ap (λ (k : ℕ). drop k to) (omega (arith, first_long)) in
     ap₂ (λ (x y : List ℕ). x ++ (drop last bytes ++ y)) kept left
     ∙ append_assoc front (take last bytes) (drop last bytes ++ tail)

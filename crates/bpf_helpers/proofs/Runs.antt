@@ -18,9 +18,9 @@ use Rattle.tagged_model.specs.Step.{MapsByDescriptor, begins_with, start_of_run,
 use Rattle.arena.specs.Memory.{Memory, base, size_of, part_start, part_bytes}
 use Rattle.arena.specs.PartLaws.{part_within}
 use Rattle.bpf_maps.specs.declared.part.TheConstants.{PART}
-use Rattle.bpf_maps.specs.Places.{PlaceTable, after_run}
-use Rattle.bpf_maps.specs.Live.{LiveMaps, live_at, places_at, shape_at, offset_at, value_in, map_in, SameAreas}
-use Rattle.bpf_maps.specs.Laws.{AreasKeepPlaces}
+use Rattle.bpf_maps.specs.KeyTable.{KeyTable, after_run}
+use Rattle.bpf_maps.specs.Live.{LiveMaps, live_at, keys_at, shape_at, offset_at, value_in, map_in, SameAreas}
+use Rattle.bpf_maps.specs.Laws.{AreasKeepElements}
 use Rattle.bpf_helpers.specs.Layout.{Layout, IsWord}
 use Rattle.bpf_helpers.specs.Stands.{stack_top, IsRoom, HasMap, Simulates, stored_maps}
 use Rattle.bpf_helpers.specs.Runs.{AreReady, HasContext, AreFirst, RunsBegin, RunsEnd, OthersStay, first_state}
@@ -31,29 +31,29 @@ use Rattle.bpf_helpers.specs.States.{Environment, FlatState}
 -- ---- the position of a descriptor
 
 -- the first position of a descriptor in a list
-place_in : List ℕ → ℕ → Option ℕ
-place_in [] m = None
-place_in (x ∷ xs) m = if x == m then Some 0 else option_map suc (place_in xs m)
+index_in : List ℕ → ℕ → Option ℕ
+index_in [] m = None
+index_in (x ∷ xs) m = if x == m then Some 0 else option_map suc (index_in xs m)
 
 some_suc : (o : Option ℕ) (i : ℕ) → option_map suc o ≡ Some i → (j : ℕ) × (o ≡ Some j) × (suc j ≡ i)
 some_suc None i e = absurd (none-some i e)
 some_suc (Some j) i e = (j, refl, same_Some (suc j) i e)
 
-place_is_there : (xs : List ℕ) (m i : ℕ) → place_in xs m ≡ Some i → slice_get xs i ≡ Some m
-unfolding place_in
-place_is_there [] m i e = absurd (none-some i e)
-place_is_there (x ∷ xs) m i e = by (place_is_there xs m) (eqb x m) refl e
+index_is_there : (xs : List ℕ) (m i : ℕ) → index_in xs m ≡ Some i → slice_get xs i ≡ Some m
+unfolding index_in
+index_is_there [] m i e = absurd (none-some i e)
+index_is_there (x ∷ xs) m i e = by (index_is_there xs m) (eqb x m) refl e
   where
-    by : ((j : ℕ) → place_in xs m ≡ Some j → slice_get xs j ≡ Some m) → (b : Bool) → eqb x m ≡ b → cond b (Some 0) (option_map suc (place_in xs m)) ≡ Some i → slice_get (x ∷ xs) i ≡ Some m
+    by : ((j : ℕ) → index_in xs m ≡ Some j → slice_get xs j ≡ Some m) → (b : Bool) → eqb x m ≡ b → cond b (Some 0) (option_map suc (index_in xs m)) ≡ Some i → slice_get (x ∷ xs) i ≡ Some m
     by rest true t e = ap (slice_get (x ∷ xs)) (sym (same_Some 0 i e)) ∙ ap (λ (y : ℕ). Some y) (eqb-true x m t)
-    by rest false t e = let r = some_suc (place_in xs m) i e in ap (slice_get (x ∷ xs)) (sym r.2) ∙ rest r.0 r.1
+    by rest false t e = let r = some_suc (index_in xs m) i e in ap (slice_get (x ∷ xs)) (sym r.2) ∙ rest r.0 r.1
 
-has_place : (xs : List ℕ) (m i : ℕ) → slice_get xs i ≡ Some m → (j : ℕ) × (place_in xs m ≡ Some j)
-unfolding place_in
-has_place [] m i e = absurd (none-some m e)
-has_place (x ∷ xs) m i e = by (has_place xs m) (eqb x m) refl i e
+has_index : (xs : List ℕ) (m i : ℕ) → slice_get xs i ≡ Some m → (j : ℕ) × (index_in xs m ≡ Some j)
+unfolding index_in
+has_index [] m i e = absurd (none-some m e)
+has_index (x ∷ xs) m i e = by (has_index xs m) (eqb x m) refl i e
   where
-    by : ((i : ℕ) → slice_get xs i ≡ Some m → (j : ℕ) × (place_in xs m ≡ Some j)) → (b : Bool) → eqb x m ≡ b → (i : ℕ) → slice_get (x ∷ xs) i ≡ Some m → (j : ℕ) × (cond b (Some 0) (option_map suc (place_in xs m)) ≡ Some j)
+    by : ((i : ℕ) → slice_get xs i ≡ Some m → (j : ℕ) × (index_in xs m ≡ Some j)) → (b : Bool) → eqb x m ≡ b → (i : ℕ) → slice_get (x ∷ xs) i ≡ Some m → (j : ℕ) × (cond b (Some 0) (option_map suc (index_in xs m)) ≡ Some j)
     by rest true t i e = (0, refl)
     by rest false t zero e = absurd (eqb-false x m t (same_Some x m e))
     by rest false t (suc i) e = let r = rest i e in (suc r.0, ap (option_map suc) r.1)
@@ -75,17 +75,17 @@ module _ (env : Environment) (memory : Memory) (registers : List ℕ) (maps : Ma
   -- the number of objects of a map is the number of its keys
   count_at : Option ℕ → ℕ
   count_at None = 0
-  count_at (Some i) = length (places_at env.maps (slice_index env.bind i)).entries
+  count_at (Some i) = length (keys_at env.maps (slice_index env.bind i)).entries
 
   object_at : Option ℕ → ℕ → ℕ
   object_at None number = 0
-  object_at (Some i) number = base + (part_start env.memory env.tenant + offset_at env.maps (slice_index env.bind i) (slice_index (values_of (places_at env.maps (slice_index env.bind i)).entries) number))
+  object_at (Some i) number = base + (part_start env.memory env.tenant + offset_at env.maps (slice_index env.bind i) (slice_index (values_of (keys_at env.maps (slice_index env.bind i)).entries) number))
 
   layout : Layout
   layout = record {
     front = base + stack_top env.memory env.tenant;
-    object_at = λ m number. object_at (place_in env.descriptors m) number;
-    counts = λ m. count_at (place_in env.descriptors m);
+    object_at = λ m number. object_at (index_in env.descriptors m) number;
+    counts = λ m. count_at (index_in env.descriptors m);
   }
 
   -- a value lies after the context, and is not changed
@@ -108,10 +108,10 @@ module _ (env : Environment) (memory : Memory) (registers : List ℕ) (maps : Ma
   index_within i m e = let fits = slice_get_within env.descriptors i m e in let count = ready.count in omega arith
 
   -- a descriptor in the list has its position as its first position
-  place_is : (i m : ℕ) → slice_get env.descriptors i ≡ Some m → place_in env.descriptors m ≡ Some i
-  place_is i m e =
-      let r = has_place env.descriptors m i e in
-      let same : r.0 ≡ i = ready.names r.0 i m (place_is_there env.descriptors m r.0 r.1) e in
+  index_is : (i m : ℕ) → slice_get env.descriptors i ≡ Some m → index_in env.descriptors m ≡ Some i
+  index_is i m e =
+      let r = has_index env.descriptors m i e in
+      let same : r.0 ≡ i = ready.names r.0 i m (index_is_there env.descriptors m r.0 r.1) e in
       r.1 ∙ ap (λ (x : ℕ). Some x) same
 
   map_begins : (i m : ℕ) → slice_get env.descriptors i ≡ Some m → HasMap layout (stored_maps (part_start env.memory env.tenant) memory.bytes env.maps) (slice_index env.bind i) m (first_map (map_in (part_bytes env.memory env.tenant) env.maps (slice_index env.bind i)))
@@ -120,16 +120,16 @@ module _ (env : Environment) (memory : Memory) (registers : List ℕ) (maps : Ma
       let lt = index_within i m e in
       let k = slice_index env.bind i in
       maps_begin layout (part_start env.memory env.tenant) memory.bytes env.maps k m (value_in (part_bytes env.memory env.tenant) env.maps k) (ready.live i lt) (ready.sound i lt) (ready.free i lt) (λ p few. value_there k p (ready.live i lt) few)
-      (ap count_at (place_is i m e))
-      (λ number few. ap (λ (o : Option ℕ). object_at o number) (place_is i m e))
+      (ap count_at (index_is i m e))
+      (λ number few. ap (λ (o : Option ℕ). object_at o number) (index_is i m e))
 
   listed : (m number : ℕ) → number < layout.counts m → (i : ℕ) × (slice_get env.descriptors i ≡ Some m)
   unfolding layout count_at
-  listed m number = by (place_in env.descriptors m) refl
+  listed m number = by (index_in env.descriptors m) refl
     where
-      by : (o : Option ℕ) → place_in env.descriptors m ≡ o → number < count_at o → (i : ℕ) × (slice_get env.descriptors i ≡ Some m)
+      by : (o : Option ℕ) → index_in env.descriptors m ≡ o → number < count_at o → (i : ℕ) × (slice_get env.descriptors i ≡ Some m)
       by None e lt = absurd (omega arith)
-      by (Some i) e lt = (i, place_is_there env.descriptors m i e)
+      by (Some i) e lt = (i, index_is_there env.descriptors m i e)
 
   context_first : IsWord env layout (Pointer object.Context (pos 0)) (base + stack_top env.memory env.tenant)
   unfolding layout
@@ -185,12 +185,12 @@ runs_begin env memory registers maps words room context first ready given = (lay
 -- ---- the end
 
 module _ (env : Environment) (l : Layout) (flat : FlatState) (s : RunState) (room : IsRoom env.memory env.tenant) (stands : Simulates env l flat s) where
-  map_ends : AreasKeepPlaces → (new : LiveMaps) (i m : ℕ) → slice_get env.descriptors i ≡ Some m → IsSome (live_at new (slice_index env.bind i)) → places_at new (slice_index env.bind i) ≡ after_run (places_at flat.maps (slice_index env.bind i)) → SameAreas flat.maps new
+  map_ends : AreasKeepElements → (new : LiveMaps) (i m : ℕ) → slice_get env.descriptors i ≡ Some m → IsSome (live_at new (slice_index env.bind i)) → keys_at new (slice_index env.bind i) ≡ after_run (keys_at flat.maps (slice_index env.bind i)) → SameAreas flat.maps new
       → option_map last_map (s.maps m) ≡ Some (map_in (part_bytes flat.memory env.tenant) new (slice_index env.bind i))
   map_ends keep new i m named live ended areas =
       let g = stands.maps.each i m named in
       let k = slice_index env.bind i in
-      let shape : shape_at new k ≡ shape_at flat.maps k = ap (λ (x : PlaceTable). x.shape) ended in
+      let shape : shape_at new k ≡ shape_at flat.maps k = ap (λ (x : KeyTable). x.shape) ended in
       ap (option_map last_map) g.1
       ∙ ap (λ x. Some x) (sym (maps_end l (part_start env.memory env.tenant) flat.memory.bytes flat.maps new k m g.0 (value_in (part_bytes flat.memory env.tenant) new k) g.2 ended
       (λ p lt.
@@ -206,7 +206,7 @@ module _ (env : Environment) (l : Layout) (flat : FlatState) (s : RunState) (roo
       ∙ stands.elsewhere key p away live lt
       ∙ sym (in_part env.memory env.tenant room env.memory refl refl (offset_at flat.maps key p) (shape_at flat.maps key).value_size (omega arith))
 
-pub runs_end : AreasKeepPlaces → RunsEnd
+pub runs_end : AreasKeepElements → RunsEnd
 runs_end keep env l flat s new i m room stands named live ended areas = map_ends env l flat s room stands keep new i m named live ended areas
 
 pub others_stay : OthersStay

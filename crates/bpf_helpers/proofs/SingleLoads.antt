@@ -10,18 +10,18 @@ use Rattle.tagged_model.specs.declared.value.Object.TheVariants as object
 use Rattle.tagged_model.specs.declared.value.Tagged.{Tagged}
 use Rattle.tagged_model.specs.declared.value.Tagged.TheVariants.{Scalar, Pointer}
 use Rattle.tagged_model.specs.Cells.{widened, number_from, read_cell}
-use Rattle.tagged_model.specs.State.{RunState, stack_place, stack_load, word_at, context_load, object_bytes, load}
-use Rattle.arena.specs.Memory.{base, size_of, place_of, part_start}
+use Rattle.tagged_model.specs.State.{RunState, access_start, stack_load, word_at, context_load, object_bytes, load}
+use Rattle.arena.specs.Memory.{base, size_of, offset_of, part_start}
 use Rattle.arena.specs.Ranges.{IsInside}
 use Rattle.arena.specs.PartLaws.{part_within}
 use Rattle.bpf_helpers.specs.Layout.{Layout, IsWord}
 use Rattle.bpf_helpers.specs.Stands.{stack_top, IsRoom, Simulates}
-use Rattle.bpf_helpers.specs.Named.{part_place}
+use Rattle.bpf_helpers.specs.Named.{part_offset}
 use Rattle.bpf_helpers.specs.Accesses.{MayExtend, address_from, LoadsGiveWords}
 use Rattle.bpf_helpers.proofs.Many.{also_some}
 use Rattle.bpf_helpers.proofs.Inputs.{object_there}
 use Rattle.bpf_helpers.proofs.Cells.{number_some, cell_loaded}
-use Rattle.bpf_helpers.proofs.Addresses.{in_front, part_place_told, is_at, in_stack, slot_of, slot_within, in_context, value_read}
+use Rattle.bpf_helpers.proofs.Addresses.{in_front, part_offset_told, is_at, in_stack, slot_of, slot_within, in_context, value_read}
 use Rattle.bpf_helpers.specs.States.{Environment, FlatState}
 
 mapped_some : {A B : Type 0} (f : A → B) (o : Option A) (y : B) → option_map f o ≡ Some y → (x : A) × (o ≡ Some x) × (f x ≡ y)
@@ -31,7 +31,7 @@ mapped_some f (Some x) y e = (x, refl, same_Some (f x) y e)
 module _ (env : Environment) (l : Layout) (flat : FlatState) (s : RunState) (room : IsRoom env.memory env.tenant) (stands : Simulates env l flat s) where
   -- the bytes are in the part, and the word that is loaded represents the value
   Loads : AccessSize → Bool → ℕ → Tagged → Type 0
-  Loads size signed from v = (place : ℕ) × (place_of (size_of flat.memory) (bytes_of size) from ≡ Some place) × IsInside env.memory env.tenant (from, bytes_of size) × IsWord env l v (widened size signed (number_of (bytes_at flat.memory.bytes place (bytes_of size))))
+  Loads size signed from v = (offset : ℕ) × (offset_of (size_of flat.memory) (bytes_of size) from ≡ Some offset) × IsInside env.memory env.tenant (from, bytes_of size) × IsWord env l v (widened size signed (number_of (bytes_at flat.memory.bytes offset (bytes_of size))))
 
   loads_at : (size : AccessSize) (signed : Bool) (from q : ℕ) (v : Tagged) → from ≡ base + (part_start env.memory env.tenant + q) → q + bytes_of size ≤ 576 → IsWord env l v (widened size signed (number_of (bytes_at flat.memory.bytes (part_start env.memory env.tenant + q) (bytes_of size)))) → Loads size signed from v
   unfolding Loads
@@ -45,7 +45,7 @@ module _ (env : Environment) (l : Layout) (flat : FlatState) (s : RunState) (roo
   stack_loaded : (size : AccessSize) (signed : Bool) (x off : ℤ) (w : ℕ) (v : Tagged) → MayExtend size signed → pos w ≡ pos l.front +ℤ x → stack_load s (x +ℤ off) size signed ≡ Some v → Loads size signed (address_from w off) v
   stack_loaded size signed x off w v may h e =
       let start = part_start env.memory env.tenant in
-      let a = also_some (stack_place (x +ℤ off) size) (λ p. read_cell (s.cells (p / 8)) (p % 8) size signed) v e in
+      let a = also_some (access_start (x +ℤ off) size) (λ p. read_cell (s.cells (p / 8)) (p % 8) size signed) v e in
       let q = a.0 in
       let is = in_stack (x +ℤ off) size q a.1 in
       let within = is.within in
@@ -69,11 +69,11 @@ module _ (env : Environment) (l : Layout) (flat : FlatState) (s : RunState) (roo
       let small = start_small in
       let value : pos (512 + is.offset) ≡ pos 512 +ℤ (x +ℤ off) = ap (λ (z : ℤ). pos 512 +ℤ z) (sym is.is) in
       let last : is.offset + 4 ≤ 44 = whole_word is.offset even (omega arith) in
-      let place : stack_top env.memory env.tenant + 4 * (is.offset / 4) ≡ start + (512 + is.offset) = omega arith in
+      let offset : stack_top env.memory env.tenant + 4 * (is.offset / 4) ≡ start + (512 + is.offset) = omega arith in
       let got : number_of (bytes_at flat.memory.bytes (stack_top env.memory env.tenant + 4 * (is.offset / 4)) 4) ≡ a.0 = stands.context (is.offset / 4) (omega arith) ∙ get_or_from_slice_get s.words (is.offset / 4) a.0 0 is.word in
       loads_at Word false (address_from w off) (512 + is.offset) v (in_front start w (512 + is.offset) l.front x off stands.front h value (omega arith)) (omega arith)
       (subst (λ (u : Tagged). IsWord env l u (number_of (bytes_at flat.memory.bytes (start + (512 + is.offset)) 4))) a.2
-      (subst (λ (p : ℕ). number_of (bytes_at flat.memory.bytes p 4) ≡ a.0) place got))
+      (subst (λ (p : ℕ). number_of (bytes_at flat.memory.bytes p 4) ≡ a.0) offset got))
     where
       whole_word : (y : ℕ) → y % 4 ≡ 0 → y / 4 < 11 → y + 4 ≤ 44
       whole_word y e lt = omega arith
@@ -90,8 +90,8 @@ module _ (env : Environment) (l : Layout) (flat : FlatState) (s : RunState) (roo
       let r = number_some size signed (object_bytes s m number (x +ℤ off) n) v e in
       let address = value_read env l flat s room stands m number w n x off (x +ℤ off) r.0 h refl placed r.1 in
       let read = object_there env l flat s room stands m number (x +ℤ off) from n r.0 address placed r.1 in
-      let a = also_some (part_place (part_start flat.memory env.tenant) flat.memory.part n from) (λ p. Some (bytes_at flat.memory.bytes (part_start flat.memory env.tenant + p) n)) r.0 read in
-      let told = part_place_told (part_start flat.memory env.tenant) flat.memory.part n from a.0 a.1 in
+      let a = also_some (part_offset (part_start flat.memory env.tenant) flat.memory.part n from) (λ p. Some (bytes_at flat.memory.bytes (part_start flat.memory env.tenant + p) n)) r.0 read in
+      let told = part_offset_told (part_start flat.memory env.tenant) flat.memory.part n from a.0 a.1 in
       let start : part_start flat.memory env.tenant ≡ part_start env.memory env.tenant = ap (λ (k : ℕ). env.tenant * k) stands.changed.part in
       let part = stands.changed.part in
       let large = room.room in

@@ -11,8 +11,8 @@ use Rattle.tagged_model.specs.declared.value.Object.TheVariants as object
 use Rattle.tagged_model.specs.declared.value.Tagged.{Tagged}
 use Rattle.tagged_model.specs.declared.value.Tagged.TheVariants.{Scalar, Map, Pointer}
 use Rattle.tagged_model.specs.Cells.{Cell, and_then, write_cell}
-use Rattle.tagged_model.specs.State.{RunState, set_at, with_cell, stack_place, stack_store, object_written, object_stored, store}
-use Rattle.arena.specs.Memory.{size_of, place_of, part_start, with_bytes}
+use Rattle.tagged_model.specs.State.{RunState, set_at, with_cell, access_start, stack_store, object_written, object_stored, store}
+use Rattle.arena.specs.Memory.{size_of, offset_of, part_start, with_bytes}
 use Rattle.arena.specs.Apart.{WritesStayInside}
 use Rattle.arena.specs.Ranges.{IsInside}
 use Rattle.arena.specs.PartLaws.{part_within}
@@ -23,13 +23,13 @@ use Rattle.bpf_helpers.proofs.Many.{also_some}
 use Rattle.bpf_helpers.proofs.Inputs.{memory_long}
 use Rattle.bpf_helpers.proofs.Outputs.{stack_stands, cell_kept, object_overwritten}
 use Rattle.bpf_helpers.proofs.Cells.{cell_stored}
-use Rattle.bpf_helpers.proofs.Addresses.{in_front, part_place_told, is_at, in_stack, slot_of, slot_within, value_overwritten}
+use Rattle.bpf_helpers.proofs.Addresses.{in_front, part_offset_told, is_at, in_stack, slot_of, slot_within, value_overwritten}
 use Rattle.bpf_helpers.specs.States.{Environment, FlatState, with_memory}
 
 module _ (writes : WritesStayInside) (env : Environment) (l : Layout) (flat : FlatState) (s : RunState) (room : IsRoom env.memory env.tenant) (stands : Simulates env l flat s) where
   -- the bytes are in the part, and the memory after the store represents the state
   Stores : ℕ → List ℕ → ℕ → RunState → Type 0
-  Stores n new from u = (place : ℕ) × (place_of (size_of flat.memory) n from ≡ Some place) × IsInside env.memory env.tenant (from, n) × Simulates env l (with_memory flat (with_bytes flat.memory place new)) u
+  Stores n new from u = (offset : ℕ) × (offset_of (size_of flat.memory) n from ≡ Some offset) × IsInside env.memory env.tenant (from, n) × Simulates env l (with_memory flat (with_bytes flat.memory offset new)) u
 
   -- ---- the stack
 
@@ -60,7 +60,7 @@ module _ (writes : WritesStayInside) (env : Environment) (l : Layout) (flat : Fl
       let n = bytes_of size in
       let new = low_bytes n y in
       let count = length-low_bytes n y in
-      let a = also_some (stack_place (x +ℤ off) size) (λ p. and_then (write_cell (s.cells (p / 8)) (p % 8) size v) (λ c. Some (with_cell s (p / 8) c))) u e in
+      let a = also_some (access_start (x +ℤ off) size) (λ p. and_then (write_cell (s.cells (p / 8)) (p % 8) size v) (λ c. Some (with_cell s (p / 8) c))) u e in
       let q = a.0 in
       let is = in_stack (x +ℤ off) size q a.1 in
       let b = also_some (write_cell (s.cells (q / 8)) (q % 8) size v) (λ c. Some (with_cell s (q / 8) c)) u a.2 in
@@ -85,7 +85,7 @@ module _ (writes : WritesStayInside) (env : Environment) (l : Layout) (flat : Fl
       let from = address_from w off in
       let address = value_overwritten env l flat s room stands m number w x off (x +ℤ off) new u h refl placed e in
       let r = object_overwritten writes env l flat s room stands m number (x +ℤ off) from new u address placed e in
-      let told = part_place_told (part_start flat.memory env.tenant) flat.memory.part (length new) from r.0 r.1 in
+      let told = part_offset_told (part_start flat.memory env.tenant) flat.memory.part (length new) from r.0 r.1 in
       let start : part_start flat.memory env.tenant ≡ part_start env.memory env.tenant = ap (λ (k : ℕ). env.tenant * k) stands.changed.part in
       let part = stands.changed.part in
       let large = room.room in

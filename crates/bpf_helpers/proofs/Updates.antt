@@ -17,16 +17,16 @@ use Rattle.tagged_model.specs.State.{RunState, RunMap, set_at, with_value, with_
 use Rattle.tagged_model.specs.Helpers.{put, with_object}
 use Rattle.tagged_model.specs.StateLaws.{found_owned}
 use Rattle.arena.specs.Memory.{Memory as Bytes, base, part_start, with_bytes}
-use Rattle.bpf_maps.specs.Places.{table_of, IsFree, with_place, Claims}
-use Rattle.bpf_maps.specs.Live.{live_at, places_at, shape_at, offset_at}
+use Rattle.bpf_maps.specs.KeyTable.{table_of, IsFree, with_entry, Claims}
+use Rattle.bpf_maps.specs.Live.{live_at, keys_at, shape_at, offset_at}
 use Rattle.bpf_helpers.specs.inside.Below.{LawsBelow}
 use Rattle.bpf_helpers.specs.Layout.{Layout, IsWord}
 use Rattle.bpf_helpers.specs.Stands.{stack_top, IsRoom, HasMap, MapsStandFor, Simulates, stored_maps}
 use Rattle.bpf_maps.specs.declared.part.TheConstants.{PART}
-use Rattle.bpf_helpers.specs.Named.{part_place, place_named, NamedPair}
+use Rattle.bpf_helpers.specs.Named.{part_offset, named_offset, NamedPair}
 use Rattle.bpf_helpers.specs.inside.Flat.{Updates, claim_word, with_claimed}
 use Rattle.bpf_maps.specs.LiveLaws.{laid_inside}
-use Rattle.bpf_helpers.proofs.Inputs.{part_place_is, memory_long, start_same}
+use Rattle.bpf_helpers.proofs.Inputs.{part_offset_is, memory_long, start_same}
 use Rattle.bpf_helpers.proofs.Outputs.{changed_after, cell_kept, words_kept, laid_apart, outputs_keep_simulation}
 use Rattle.bpf_helpers.specs.Calls.{Extends}
 use Rattle.bpf_helpers.specs.inside.Laws.{UpdateKeepsSimulation, UpdatesKeepSimulation}
@@ -67,21 +67,21 @@ module _ (below : LawsBelow) (env : Environment) (l : Layout) (flat : FlatState)
   value_size_is = ap (λ (x : Table ℕ). x.shape.value_size) has.table ∙ sym size
 
   -- nothing has changed
-  unchanged : places_at reply.maps k ≡ places_at flat.maps k → reply.memory ≡ flat.memory → Simulates env l (with_held flat reply.memory reply.maps) (with_map s m map)
-  unchanged places same =
+  unchanged : keys_at reply.maps k ≡ keys_at flat.maps k → reply.memory ≡ flat.memory → Simulates env l (with_held flat reply.memory reply.maps) (with_map s m map)
+  unchanged key_table same =
       subst (λ (n : Bytes). Simulates env l (with_held flat n reply.maps) (with_map s m map)) (sym same)
-      (maps_stand stands i m named reply.maps u.rest (set_at s.maps m (Some map)) (maps_again m is (maps_moved u.rest below.areas places stands.maps)))
+      (maps_stand stands i m named reply.maps u.rest (set_at s.maps m (Some map)) (maps_again m is (maps_moved u.rest below.areas key_table stands.maps)))
 
-  refused_stands : (fault : MapFault) → u.claim ≡ Err fault → places_at reply.maps k ≡ places_at flat.maps k → Done (Refused fault)
-  refused_stands fault told places = record {
+  refused_stands : (fault : MapFault) → u.claim ≡ Err fault → keys_at reply.maps k ≡ keys_at flat.maps k → Done (Refused fault)
+  refused_stands fault told key_table = record {
     layout = l;
     more = extends_itself l;
     answer = u.word_is ∙ ap claim_word told;
-    standing = unchanged places (u.memory_is ∙ ap (with_claimed (site_in env flat) pair) told);
+    standing = unchanged key_table (u.memory_is ∙ ap (with_claimed (site_in env flat) pair) told);
   }
 
-  moved : (x : RunState) (n : Bytes) → places_at reply.maps k ≡ places_at flat.maps k → Simulates env l (with_memory flat n) x → Simulates env l (with_held flat n reply.maps) x
-  moved x n places st = maps_stand st i m named reply.maps u.rest x.maps (maps_moved u.rest below.areas places st.maps)
+  moved : (x : RunState) (n : Bytes) → keys_at reply.maps k ≡ keys_at flat.maps k → Simulates env l (with_memory flat n) x → Simulates env l (with_held flat n reply.maps) x
+  moved x n key_table st = maps_stand st i m named reply.maps u.rest x.maps (maps_moved u.rest below.areas key_table st.maps)
 
   long_memory : part_start env.memory env.tenant + PART ≤ length flat.memory.bytes
   long_memory = memory_long env l flat s room stands
@@ -91,18 +91,18 @@ module _ (below : LawsBelow) (env : Environment) (l : Layout) (flat : FlatState)
 
   -- ---- a present key
 
-  -- the value is written at the place of its address
-  at_place : (off w : ℕ) (x : RunState) → place_named flat.memory env.tenant (length value) w ≡ Some off → (q : ℕ) × (place_named flat.memory env.tenant (length value) w ≡ Some q) × Simulates env l (with_memory flat (with_bytes flat.memory (part_start flat.memory env.tenant + q) value)) x
+  -- the value is written at the offset of its address
+  at_offset : (off w : ℕ) (x : RunState) → named_offset flat.memory env.tenant (length value) w ≡ Some off → (q : ℕ) × (named_offset flat.memory env.tenant (length value) w ≡ Some q) × Simulates env l (with_memory flat (with_bytes flat.memory (part_start flat.memory env.tenant + q) value)) x
       → Simulates env l (with_memory flat (with_bytes flat.memory (part_start flat.memory env.tenant + off) value)) x
-  at_place off w x named written = subst (λ (q : ℕ). Simulates env l (with_memory flat (with_bytes flat.memory (part_start flat.memory env.tenant + q) value)) x) (same_Some written.0 off (sym written.1 ∙ named)) written.2
+  at_offset off w x named written = subst (λ (q : ℕ). Simulates env l (with_memory flat (with_bytes flat.memory (part_start flat.memory env.tenant + q) value)) x) (same_Some written.0 off (sym written.1 ∙ named)) written.2
 
-  present_stands : (number : ℕ) → u.claim ≡ Ok (has.place number) → places_at reply.maps k ≡ places_at flat.maps k → number < map.count → Done (Present number)
-  present_stands number told places lt =
+  present_stands : (number : ℕ) → u.claim ≡ Ok (has.element number) → keys_at reply.maps k ≡ keys_at flat.maps k → number < map.count → Done (Present number)
+  present_stands number told key_table lt =
       let start = part_start env.memory env.tenant in
       let o = has.objects number lt in
-      let off = offset_at flat.maps k (has.place number) in
+      let off = offset_at flat.maps k (has.element number) in
       let v = map.values number in
-      let inside = laid_inside flat.maps stands.maps.laid k (has.place number) has.live o.within in
+      let inside = laid_inside flat.maps stands.maps.laid k (has.element number) has.live o.within in
       let within = inside.within in
       let large = long_memory in
       let sized = value_size_is in
@@ -121,20 +121,20 @@ module _ (below : LawsBelow) (env : Environment) (l : Layout) (flat : FlatState)
       let begin = begins in
       let part = stands.changed.part in
       let large_part = room.room in
-      let at_off : part_place (part_start flat.memory env.tenant) flat.memory.part (length value) w ≡ Some off = part_place_is (part_start flat.memory env.tenant) flat.memory.part (length value) w off (omega arith) (omega arith) in
+      let at_off : part_offset (part_start flat.memory env.tenant) flat.memory.part (length value) w ≡ Some off = part_offset_is (part_start flat.memory env.tenant) flat.memory.part (length value) w off (omega arith) (omega arith) in
       let memory_is : reply.memory ≡ with_bytes flat.memory (part_start flat.memory env.tenant + off) value = u.memory_is ∙ ap (with_claimed (site_in env flat) pair) told in
       record {
         layout = l;
         more = extends_itself l;
         answer = u.word_is ∙ ap claim_word told;
         standing = subst (λ (n : Bytes). Simulates env l (with_held flat n reply.maps) (with_map s m (with_value map number value))) (sym memory_is)
-            (moved (with_map s m (with_value map number value)) (with_bytes flat.memory (part_start flat.memory env.tenant + off) value) places
-            (at_place off w (with_map s m (with_value map number value)) at_off (outputs_keep_simulation below.writes env l flat s (with_map s m (with_value map number value)) (Pointer (object.Value m number) (pos 0)) w value room stands word_is out)));
+            (moved (with_map s m (with_value map number value)) (with_bytes flat.memory (part_start flat.memory env.tenant + off) value) key_table
+            (at_offset off w (with_map s m (with_value map number value)) at_off (outputs_keep_simulation below.writes env l flat s (with_map s m (with_value map number value)) (Pointer (object.Value m number) (pos 0)) w value room stands word_is out)));
       }
 
   -- ---- a new key
 
-  module _ (p : ℕ) (told : u.claim ≡ Ok p) (free : IsFree (places_at flat.maps k) p) (places : places_at reply.maps k ≡ with_place (places_at flat.maps k) key p) where
+  module _ (p : ℕ) (told : u.claim ≡ Ok p) (free : IsFree (keys_at flat.maps k) p) (key_table : keys_at reply.maps k ≡ with_entry (keys_at flat.maps k) key p) where
     abbrev begin : ℕ
     begin = part_start env.memory env.tenant
 
@@ -156,10 +156,10 @@ module _ (below : LawsBelow) (env : Environment) (l : Layout) (flat : FlatState)
     room_there : begin + off + length value ≤ length flat.memory.bytes
     room_there = let a = within in let b = long_memory in omega arith
 
-    -- the value at another place of any map is not changed
-    place_kept : (j q : ℕ) → IsSome (live_at flat.maps j) → q < (shape_at flat.maps j).max_entries → (j ≡ k → q ≢ p)
+    -- the value of another element of any map is not changed
+    element_kept : (j q : ℕ) → IsSome (live_at flat.maps j) → q < (shape_at flat.maps j).max_entries → (j ≡ k → q ≢ p)
         → bytes_at bytes (begin + offset_at flat.maps j q) (shape_at flat.maps j).value_size ≡ bytes_at flat.memory.bytes (begin + offset_at flat.maps j q) (shape_at flat.maps j).value_size
-    place_kept j q live lt differ =
+    element_kept j q live lt differ =
         let a = room_there in
         let b = (laid_inside flat.maps stands.maps.laid j q live lt).within in
         let large = long_memory in
@@ -171,14 +171,14 @@ module _ (below : LawsBelow) (env : Environment) (l : Layout) (flat : FlatState)
     value_there = let a = room_there in ap (bytes_at bytes (begin + off)) value_size_is ∙ bytes_written flat.memory.bytes value (begin + off) (omega arith)
 
     own : HasMap wider (stored_maps begin bytes reply.maps) k m (with_object map key value)
-    own = map_with_new l begin flat.memory.bytes bytes flat.maps reply.maps k m map key value p has free places u.rest.live (λ q. below.areas flat.maps reply.maps k q u.rest.areas u.rest.live) (λ q lt differ. place_kept k q has.live lt (λ _. differ)) value_there below.along
+    own = map_with_new l begin flat.memory.bytes bytes flat.maps reply.maps k m map key value p has free key_table u.rest.live (λ q. below.areas flat.maps reply.maps k q u.rest.areas u.rest.live) (λ q lt differ. element_kept k q has.live lt (λ _. differ)) value_there below.along
 
     other : (j n : ℕ) (v : RunMap) → slice_get env.descriptors j ≡ Some n → n ≢ m → HasMap l (stored_maps begin flat.memory.bytes flat.maps) (slice_index env.bind j) n v → HasMap wider (stored_maps begin bytes reply.maps) (slice_index env.bind j) n v
     other j n v e differ h =
         let key_differs = other_key stands.maps i m j n named e differ in
         map_extended l begin bytes reply.maps m (base + (begin + off)) (slice_index env.bind j) n v differ
         (other_moved u.rest key_differs
-        (other_bytes h (λ number lt. let o = h.objects number lt in record { within = o.within; in_use = o.in_use; address = o.address; bytes = place_kept (slice_index env.bind j) (h.place number) h.live o.within (λ same. absurd (key_differs same)) ∙ o.bytes })))
+        (other_bytes h (λ number lt. let o = h.objects number lt in record { within = o.within; in_use = o.in_use; address = o.address; bytes = element_kept (slice_index env.bind j) (h.element number) h.live o.within (λ same. absurd (key_differs same)) ∙ o.bytes })))
 
     maps_after : MapsStandFor env wider (stored_maps begin bytes reply.maps) (set_at s.maps m (Some (with_object map key value)))
     maps_after = record {
@@ -221,25 +221,25 @@ module _ (below : LawsBelow) (env : Environment) (l : Layout) (flat : FlatState)
             context = words_kept env l flat.memory.bytes value (begin + off) (omega arith) (stack_top env.memory env.tenant) s.words (inl (omega arith)) stands.context;
             maps = maps_after;
             elsewhere = others_moved env.bind (part_start env.memory env.tenant) env.memory.bytes bytes flat.maps reply.maps i index_within u.rest.others
-                (λ other q away live lt. place_kept other q live lt (λ same. absurd (away i index_within (sym same))) ∙ stands.elsewhere other q away live lt);
+                (λ other q away live lt. element_kept other q live lt (λ same. absurd (away i index_within (sym same))) ∙ stands.elsewhere other q away live lt);
           });
         }
 
   -- ---- by the verdict
 
-  new_done : (answer : Result ℕ MapFault) → u.claim ≡ answer → Claims New key (places_at flat.maps k) answer (places_at reply.maps k) → Done New
+  new_done : (answer : Result ℕ MapFault) → u.claim ≡ answer → Claims New key (keys_at flat.maps k) answer (keys_at reply.maps k) → Done New
   new_done (Ok p) e c = new_stands p e c.0 c.1
   new_done (Err fault) e c = absurd c
 
-  done : (v : Verdict ℕ) → verdict map.table key flags ≡ v → Claims (verdict_with has.place v) key (places_at flat.maps k) u.claim (places_at reply.maps k) → Done v
+  done : (v : Verdict ℕ) → verdict map.table key flags ≡ v → Claims (verdict_with has.element v) key (keys_at flat.maps k) u.claim (keys_at reply.maps k) → Done v
   done (Refused fault) e c = refused_stands fault c.0 c.1
   done (Present number) e c = present_stands number c.0 c.1 (found_owned map.count key map.table.entries number has.owns (present_found map.table key flags number e))
   done New e c = new_done u.claim refl c
 
   update_stands : UpdateKeepsSimulation env l flat s (record { given = record { descriptor = m; map = map }; key = key; value = value; flags = flags }) reply
   update_stands =
-      let same : verdict (table_of (places_at flat.maps k)) key flags ≡ verdict_with has.place (verdict map.table key flags) = ap (λ (x : Table ℕ). verdict x key flags) has.table ∙ below.along.verdict has.place map.table key flags in
-      let d = done (verdict map.table key flags) refl (subst (λ v. Claims v key (places_at flat.maps k) u.claim (places_at reply.maps k)) same u.claimed) in
+      let same : verdict (table_of (keys_at flat.maps k)) key flags ≡ verdict_with has.element (verdict map.table key flags) = ap (λ (x : Table ℕ). verdict x key flags) has.table ∙ below.along.verdict has.element map.table key flags in
+      let d = done (verdict map.table key flags) refl (subst (λ v. Claims v key (keys_at flat.maps k) u.claim (keys_at reply.maps k)) same u.claimed) in
       record { layout = d.layout; extends = d.more; answer_is = d.answer; stands = d.standing }
 
 pub updates_keep_simulation : LawsBelow → UpdatesKeepSimulation

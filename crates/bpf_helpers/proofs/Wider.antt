@@ -27,8 +27,8 @@ module _ (l m : Layout) (e : Extends l m) where
   word_more env (Map k) w h = h
   word_more env (Pointer o x) w h = let p = placed_more o h.2 in (subst (λ (a : ℕ). pos w ≡ pos a +ℤ x) (sym p.1) h.0, h.1, p.0)
 
-  pub cell_more : (env : Environment) (memory : List ℕ) (place : ℕ) (c : Cell) → HasCell env l memory place c → HasCell env m memory place c
-  cell_more env memory place c h = record { present = h.present; whole = λ v k. word_more env v _ (h.whole v k) }
+  pub cell_more : (env : Environment) (memory : List ℕ) (offset : ℕ) (c : Cell) → HasCell env l memory offset c → HasCell env m memory offset c
+  cell_more env memory offset c h = record { present = h.present; whole = λ v k. word_more env v _ (h.whole v k) }
 
 -- object `l.counts m` of map m is at this address
 abbrev pub extended : Layout → ℕ → ℕ → Layout
@@ -62,7 +62,7 @@ module _ (l : Layout) (m a : ℕ) where
 pub map_extended : (l : Layout) (start : ℕ) (memory : List ℕ) (tenant : LiveMaps) (m a key n : ℕ) (u : RunMap) → n ≢ m → HasMap l (stored_maps start memory tenant) key n u → HasMap (extended l m a) (stored_maps start memory tenant) key n u
 map_extended l start memory tenant m a key n u differ h = record {
   live = h.live;
-  place = h.place;
+  element = h.element;
   table = h.table;
   owns = h.owns;
   counted = cond-false (n == m) (l.counts m + 1) (l.counts n) (ne_eqb n m differ) ∙ h.counted;

@@ -5,21 +5,21 @@ use Rattle.words.specs.ByteLaws.{bytes_within, range_is_bytes}
 use Rattle.tagged_model.specs.Cells.{and_then}
 use Rattle.arena.specs.Memory.{Memory, part_start, part_bytes}
 use Rattle.bpf_maps.specs.Live.{shape_at}
-use Rattle.bpf_helpers.specs.Named.{bound_map, place_named, part_input, key_input, value_input, NamedKey, NamedPair, key_at, pair_at, key_named, pair_named}
+use Rattle.bpf_helpers.specs.Named.{bound_map, named_offset, part_input, key_input, value_input, NamedKey, NamedPair, key_at, pair_at, key_named, pair_named}
 use Rattle.bpf_helpers.specs.States.{CallSite}
 use Rattle.bpf_helpers.specs.inside.Flat.{key_bytes, value_bytes}
 
 -- ---- bytes at an address
 
 module _ (memory : Memory) (t size n address : ℕ) (same : n ≡ size) where
-  place_is : (o : Option ℕ) → o ≡ place_named memory t n address → place_named memory t size address ≡ o
-  place_is o e = ap (λ (k : ℕ). place_named memory t k address) (sym same) ∙ sym e
+  offset_is : (o : Option ℕ) → o ≡ named_offset memory t n address → named_offset memory t size address ≡ o
+  offset_is o e = ap (λ (k : ℕ). named_offset memory t k address) (sym same) ∙ sym e
 
-  input_is : (at : ℕ) → Some at ≡ place_named memory t n address → part_input memory t size address ≡ Some (bytes_at memory.bytes (part_start memory t + at) size)
-  input_is at e = ap (λ o. and_then o (λ p. Some (bytes_at memory.bytes (part_start memory t + p) size))) (place_is (Some at) e)
+  input_is : (at : ℕ) → Some at ≡ named_offset memory t n address → part_input memory t size address ≡ Some (bytes_at memory.bytes (part_start memory t + at) size)
+  input_is at e = ap (λ o. and_then o (λ p. Some (bytes_at memory.bytes (part_start memory t + p) size))) (offset_is (Some at) e)
 
-  no_input : None ≡ place_named memory t n address → part_input memory t size address ≡ None
-  no_input e = ap (λ o. and_then o (λ p. Some (bytes_at memory.bytes (part_start memory t + p) size))) (place_is None e)
+  no_input : None ≡ named_offset memory t n address → part_input memory t size address ≡ None
+  no_input e = ap (λ o. and_then o (λ p. Some (bytes_at memory.bytes (part_start memory t + p) size))) (offset_is None e)
 
 -- a range of a part
 pub part_range : (memory : Memory) (t at n : ℕ) (part : List ℕ) → part ≡ part_bytes memory t → at + n ≤ memory.part → slice_range part at (at + n) ≡ bytes_at memory.bytes (part_start memory t + at) n
@@ -41,19 +41,19 @@ module _ (site : CallSite) (map key : ℕ) where
 
     -- the size that the code has requested is the map's key size
     module _ {n : ℕ} (size : n ≡ (shape_at site.maps k).key_size) where
-      pub no_key : None ≡ place_named site.memory site.tenant n key → key_named site map key ≡ None
+      pub no_key : None ≡ named_offset site.memory site.tenant n key → key_named site map key ≡ None
       no_key e = by_map None (no_input site.memory site.tenant (shape_at site.maps k).key_size n key size e)
 
-      pub key_found : {at : ℕ} → Some at ≡ place_named site.memory site.tenant n key → key_named site map key ≡ Some (record { map = k; key = key_bytes site k at })
+      pub key_found : {at : ℕ} → Some at ≡ named_offset site.memory site.tenant n key → key_named site map key ≡ Some (record { map = k; key = key_bytes site k at })
       key_found {at} e = key_is (key_bytes site k at) (input_is site.memory site.tenant (shape_at site.maps k).key_size n key size at e)
 
       -- the bytes of the part are the key
-      pub key_there : (at : ℕ) {part : List ℕ} → Some at ≡ place_named site.memory site.tenant n key → part ≡ part_bytes site.memory site.tenant → at + n ≤ site.memory.part
+      pub key_there : (at : ℕ) {part : List ℕ} → Some at ≡ named_offset site.memory site.tenant n key → part ≡ part_bytes site.memory site.tenant → at + n ≤ site.memory.part
           → key_named site map key ≡ Some (record { map = k; key = slice_range part at (at + n) })
-      key_there at {part} place is fits =
+      key_there at {part} offset is fits =
           let there : key_bytes site k at ≡ slice_range part at (at + n) =
           ap (λ (m : ℕ). bytes_at site.memory.bytes (part_start site.memory site.tenant + at) m) (sym size) ∙ sym (part_range site.memory site.tenant at n part is fits) in
-          key_found place ∙ ap (λ (bs : List ℕ). let o : Option NamedKey = Some (record { map = k; key = bs }) in o) there
+          key_found offset ∙ ap (λ (bs : List ℕ). let o : Option NamedKey = Some (record { map = k; key = bs }) in o) there
 
   pub no_pair : (value : ℕ) → key_named site map key ≡ None → pair_named site map key value ≡ None
   no_pair value e = ap (λ o. and_then o (pair_at site value)) e
@@ -66,8 +66,8 @@ module _ (site : CallSite) (map key : ℕ) where
     pair_is vs e = by_key (Some vs) e
 
     module _ {n : ℕ} (size : n ≡ (shape_at site.maps k.map).value_size) where
-      pub no_value : None ≡ place_named site.memory site.tenant n value → pair_named site map key value ≡ None
+      pub no_value : None ≡ named_offset site.memory site.tenant n value → pair_named site map key value ≡ None
       no_value e = by_key None (no_input site.memory site.tenant (shape_at site.maps k.map).value_size n value size e)
 
-      pub pair_found : {at : ℕ} → Some at ≡ place_named site.memory site.tenant n value → pair_named site map key value ≡ Some (record { map = k.map; key = k.key; value = value_bytes site k.map at })
+      pub pair_found : {at : ℕ} → Some at ≡ named_offset site.memory site.tenant n value → pair_named site map key value ≡ Some (record { map = k.map; key = k.key; value = value_bytes site k.map at })
       pair_found {at} e = pair_is (value_bytes site k.map at) (input_is site.memory site.tenant (shape_at site.maps k.map).value_size n value size at e)

@@ -19,19 +19,19 @@ bound_map bind w = if w == 0 then None else slice_get bind (w - 1)
 -- ---- bytes at an address
 
 -- the offset of n bytes at an address, in a part of this size that begins at `start`; None if they don't lie in it
-abbrev pub part_place : ℕ → ℕ → ℕ → ℕ → Option ℕ
-part_place start part n address =
+abbrev pub part_offset : ℕ → ℕ → ℕ → ℕ → Option ℕ
+part_offset start part n address =
     if nat_le (base + start) address && nat_le (address + n) (base + start + part)
     then Some (address - (base + start)) else None
 
 -- the same in part t
-abbrev pub place_named : Memory → ℕ → ℕ → ℕ → Option ℕ
-place_named memory t n address = part_place (part_start memory t) memory.part n address
+abbrev pub named_offset : Memory → ℕ → ℕ → ℕ → Option ℕ
+named_offset memory t n address = part_offset (part_start memory t) memory.part n address
 
 -- the n bytes at an address, if they lie in part t
 abbrev pub part_input : Memory → ℕ → ℕ → ℕ → Option (List ℕ)
 part_input memory t n address =
-    and_then (place_named memory t n address) (λ at.
+    and_then (named_offset memory t n address) (λ at.
     Some (bytes_at memory.bytes (part_start memory t + at) n))
 
 -- the key of a map at an address, and the value
@@ -82,7 +82,7 @@ NamesNothing site words Update =
     pair_named site (slice_index words 0) (slice_index words 1) (slice_index words 2) ≡ None
 NamesNothing site words Delete = key_named site (slice_index words 0) (slice_index words 1) ≡ None
 NamesNothing site words LoadBytes =
-    place_named site.memory site.tenant (slice_index words 3) (slice_index words 2) ≡ None
+    named_offset site.memory site.tenant (slice_index words 3) (slice_index words 2) ≡ None
 
 -- the result of such a call: null, EINVAL or EFAULT
 abbrev pub unnamed_answer : Helper → ℕ

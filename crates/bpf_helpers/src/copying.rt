@@ -19,57 +19,57 @@ fn first_bytes<const N: usize>(bytes: &[u8]) -> [u8; N]
     first
 }
 
-/// Copies `N` bytes to a place.
+/// Copies `N` bytes to an offset.
 #[inline(always)]
-fn copy_piece<const N: usize>(to: &mut [u8], place: usize, bytes: &[u8])
+fn copy_piece<const N: usize>(to: &mut [u8], offset: usize, bytes: &[u8])
     requires length { length bytes.now ≡ N }
-    requires room { place + N ≤ length to.old }
-    ensures { to.new ≡ written_at to.old place bytes.now }
+    requires room { offset + N ≤ length to.old }
+    ensures { to.new ≡ written_at to.old offset bytes.now }
 {
     let piece = first_bytes::<N>(bytes);
-    to[place..place + N].copy_from_slice(&piece);
+    to[offset..offset + N].copy_from_slice(&piece);
 }
 
-/// Copies `N` to 2 `N` bytes to a place: the first `N` and the last `N` of them, which may overlap.
+/// Copies `N` to 2 `N` bytes to an offset: the first `N` and the last `N` of them, which may overlap.
 #[inline(always)]
-fn copy_by_ends<const N: usize>(to: &mut [u8], place: usize, bytes: &[u8])
+fn copy_by_ends<const N: usize>(to: &mut [u8], offset: usize, bytes: &[u8])
     requires least { N ≤ length bytes.now }
     requires most { length bytes.now ≤ N + N }
-    requires room { place + length bytes.now ≤ length to.old }
-    ensures { to.new ≡ written_at to.old place bytes.now }
+    requires room { offset + length bytes.now ≤ length to.old }
+    ensures { to.new ≡ written_at to.old offset bytes.now }
 {
     let last = bytes.len() - N;
-    copy_piece::<N>(to, place, &bytes[..N]);
-    copy_piece::<N>(to, place + last, &bytes[last..]);
+    copy_piece::<N>(to, offset, &bytes[..N]);
+    copy_piece::<N>(to, offset + last, &bytes[last..]);
 }
 
-/// Copies any number of bytes to a place.
+/// Copies any number of bytes to an offset.
 #[inline(never)]
-fn copy_many(to: &mut [u8], place: usize, bytes: &[u8])
-    requires { place + length bytes.now ≤ length to.old }
-    ensures { to.new ≡ written_at to.old place bytes.now }
+fn copy_many(to: &mut [u8], offset: usize, bytes: &[u8])
+    requires { offset + length bytes.now ≤ length to.old }
+    ensures { to.new ≡ written_at to.old offset bytes.now }
 {
-    to[place..place + bytes.len()].copy_from_slice(bytes);
+    to[offset..offset + bytes.len()].copy_from_slice(bytes);
 }
 
-/// Copies bytes to a place.
+/// Copies bytes to an offset.
 #[inline(always)]
-pub(crate) fn copy_bytes(to: &mut [u8], place: usize, bytes: &[u8])
-    requires { place + length bytes.now ≤ length to.old }
-    ensures { to.new ≡ written_at to.old place bytes.now }
+pub(crate) fn copy_bytes(to: &mut [u8], offset: usize, bytes: &[u8])
+    requires { offset + length bytes.now ≤ length to.old }
+    ensures { to.new ≡ written_at to.old offset bytes.now }
 {
     let count = bytes.len();
     if count > 32 {
-        copy_many(to, place, bytes);
+        copy_many(to, offset, bytes);
     } else if count >= 16 {
-        copy_by_ends::<16>(to, place, bytes);
+        copy_by_ends::<16>(to, offset, bytes);
     } else if count >= 8 {
-        copy_by_ends::<8>(to, place, bytes);
+        copy_by_ends::<8>(to, offset, bytes);
     } else if count >= 4 {
-        copy_by_ends::<4>(to, place, bytes);
+        copy_by_ends::<4>(to, offset, bytes);
     } else if count >= 2 {
-        copy_by_ends::<2>(to, place, bytes);
+        copy_by_ends::<2>(to, offset, bytes);
     } else if count == 1 {
-        copy_piece::<1>(to, place, bytes);
+        copy_piece::<1>(to, offset, bytes);
     }
 }

@@ -7,7 +7,7 @@ ghost use Rattle.bpf_helpers.specs.Parts.{IsPartOf, AsksInside};
 ghost use Rattle.bpf_helpers.specs.inside.Flat.{site_of, DeletesNamed};
 
 use crate::caller::Caller;
-use crate::look_up::{bound, traced_place};
+use crate::look_up::{bound, traced_offset};
 use crate::update::refusal;
 use arena::{Arena, Trace};
 use bpf_maps::{Maps, laws};
@@ -34,7 +34,7 @@ pub(crate) fn delete(
         return refusal(MapFault::Invalid);
     };
     let size = maps.shape(map).key_size as usize;
-    let Some(at) = traced_place(arena, caller.tenant, size, key, trace) else {
+    let Some(at) = traced_offset(arena, caller.tenant, size, key, trace) else {
         return refusal(MapFault::Invalid);
     };
     let part = arena.part(caller.tenant);

@@ -11,8 +11,8 @@ pub(crate) fn call_premises()
 {
     arena::laws::writes_stay_inside();
     tagged_model::laws::calls_refine_values();
-    bpf_maps::laws::areas_keep_places();
-    bpf_maps::laws::deletes_keep_places();
+    bpf_maps::laws::areas_keep_elements();
+    bpf_maps::laws::deletes_keep_elements();
 }
 
 /// If the machine loads a value, the bytes at the address of the load are a word that represents it, and lie in the part.
@@ -47,7 +47,7 @@ pub fn runs_begin()
 pub fn runs_end()
     ensures { RunsEnd }
 {
-    bpf_maps::laws::areas_keep_places();
+    bpf_maps::laws::areas_keep_elements();
 }
 
 /// The values of maps that are not bound to a run have the same bytes after it.

@@ -3,7 +3,7 @@
 ghost use Rattle.std.specs.Prelude.{◌≡◌, ◌+◌, ◌-◌, ◌<◌, ◌≤◌, length, slice_index, unwrap_or, IfSome};
 ghost use Rattle.arena.specs.Ranges.{IsInside};
 ghost use Rattle.bpf_maps.specs.declared.part.TheConstants.{MAPS, PART};
-ghost use Rattle.bpf_helpers.specs.Named.{bound_map, place_named};
+ghost use Rattle.bpf_helpers.specs.Named.{bound_map, named_offset};
 ghost use Rattle.bpf_helpers.specs.Calls.{AreArrays, AreLive};
 ghost use Rattle.bpf_helpers.specs.Parts.{IsPartOf, AsksInside};
 ghost use Rattle.bpf_helpers.specs.inside.Flat.{site_of, flat_look_up};
@@ -30,10 +30,10 @@ pub(crate) fn bound(bind: &[MapKey], word: u64) -> Option<MapKey>
 /// The offset, in the part of `tenant`, of `size` bytes at an address; `size` is at most `PART`; `None`
 /// if they don't lie in the part.
 #[inline(always)]
-pub(crate) fn place_in(arena: &Arena, tenant: usize, size: usize, address: u64) -> Option<usize>
+pub(crate) fn offset_in(arena: &Arena, tenant: usize, size: usize, address: u64) -> Option<usize>
     requires part { IsPartOf tenant arena.now }
     requires size { size ≤ PART }
-    ensures value { result ≡ place_named arena.now tenant size address }
+    ensures value { result ≡ named_offset arena.now tenant size address }
     ensures within { IfSome result (λ at. at + size ≤ arena.now.part) }
     ensures inside { IfSome result (λ at. IsInside arena.now tenant (address, size)) }
 {
@@ -45,9 +45,9 @@ pub(crate) fn place_in(arena: &Arena, tenant: usize, size: usize, address: u64) 
     Some(at as usize)
 }
 
-/// The offset of requested bytes, like `place_in`; appends their range to the trace if they lie in the part.
+/// The offset of requested bytes, like `offset_in`; appends their range to the trace if they lie in the part.
 #[inline(always)]
-pub(crate) fn traced_place(
+pub(crate) fn traced_offset(
     arena: &Arena,
     tenant: usize,
     size: usize,
@@ -56,11 +56,11 @@ pub(crate) fn traced_place(
 ) -> Option<usize>
     requires part { IsPartOf tenant arena.now }
     requires size { size ≤ PART }
-    ensures value { result ≡ place_named arena.now tenant size address }
+    ensures value { result ≡ named_offset arena.now tenant size address }
     ensures within { IfSome result (λ at. at + size ≤ arena.now.part) }
     ensures asks { AsksInside arena.now tenant trace.old trace.new }
 {
-    let at = place_in(arena, tenant, size, address)?;
+    let at = offset_in(arena, tenant, size, address)?;
     trace.range(address, size as u64);
     Some(at)
 }
@@ -88,7 +88,7 @@ pub(crate) fn look_up(
         return 0;
     };
     let size = maps.shape(map).key_size as usize;
-    let Some(at) = traced_place(arena, caller.tenant, size, key, trace) else {
+    let Some(at) = traced_offset(arena, caller.tenant, size, key, trace) else {
         return 0;
     };
     let part = arena.part(caller.tenant);
@@ -126,7 +126,7 @@ pub(crate) fn look_up_among(
         return look_up(map, key, caller, arena, maps, trace);
     }
     let size = INDEX_SIZE;
-    let Some(at) = traced_place(arena, caller.tenant, size, key, trace) else {
+    let Some(at) = traced_offset(arena, caller.tenant, size, key, trace) else {
         return 0;
     };
     let part = arena.part(caller.tenant);

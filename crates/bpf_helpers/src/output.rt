@@ -4,13 +4,13 @@ ghost use Rattle.std.specs.Prelude.{◌≡◌, ◌+◌, ◌<◌, ◌≤◌, leng
 ghost use Rattle.arena.specs.Memory.{part_start, with_bytes};
 ghost use Rattle.bpf_maps.specs.declared.part.TheConstants.{PART};
 ghost use Rattle.bpf_maps.specs.Live.{LiveMaps};
-ghost use Rattle.bpf_helpers.specs.Named.{place_named};
+ghost use Rattle.bpf_helpers.specs.Named.{named_offset};
 ghost use Rattle.bpf_helpers.specs.Parts.{IsPartOf, AsksInside};
 ghost use Rattle.bpf_helpers.specs.inside.Flat.{site_of, LoadsAt};
 
 use crate::caller::Caller;
 use crate::copying::copy_bytes;
-use crate::look_up::traced_place;
+use crate::look_up::traced_offset;
 use arena::{Arena, Trace, laws};
 use bpf_maps::PART;
 
@@ -63,14 +63,14 @@ pub(crate) fn load_bytes(
 ) -> u64
     requires part { IsPartOf caller.tenant arena.old }
     ensures loaded { (maps : LiveMaps) → LoadsAt (site_of caller.entry arena.old maps) offset count
-        (place_named arena.old caller.entry.tenant count to) result arena.new }
+        (named_offset arena.old caller.entry.tenant count to) result arena.new }
     ensures asks { AsksInside arena.old caller.entry.tenant trace.old trace.new }
 {
     if count > PART as u64 {
         return OUTSIDE;
     }
     let count = count as usize;
-    let Some(at) = traced_place(arena, caller.tenant, count, to, trace) else {
+    let Some(at) = traced_offset(arena, caller.tenant, count, to, trace) else {
         return OUTSIDE;
     };
     let from = offset % OFFSETS;

@@ -11,7 +11,7 @@ ghost use Rattle.bpf_helpers.specs.Parts.{IsPartOf, AsksInside};
 ghost use Rattle.bpf_helpers.specs.inside.Flat.{site_of, pair_there, Updates, UpdatesNamed};
 
 use crate::caller::Caller;
-use crate::look_up::{bound, traced_place};
+use crate::look_up::{bound, traced_offset};
 use arena::{Arena, Trace};
 use bpf_maps::{MapKey, Maps, laws};
 use tagged_model::MapFault;
@@ -59,13 +59,13 @@ pub(crate) fn put(
     ensures asks { AsksInside arena.old caller.entry.tenant trace.old trace.new }
 {
     arena.memory_is_its_parts();
-    laws::areas_keep_places();
+    laws::areas_keep_elements();
     let shape = maps.shape(map);
     let part = arena.part(caller.tenant);
     match maps.claim(map, &part[key..key + shape.key_size as usize], flags) {
-        Ok(place) => {
+        Ok(element) => {
             let start = arena.address(caller.tenant);
-            let to = start + maps.value_at(map, place) as u64;
+            let to = start + maps.value_at(map, element) as u64;
             arena.copy_inside(to, start + value as u64, shape.value_size as usize, trace);
             0
         }
@@ -98,11 +98,11 @@ pub(crate) fn update(
     };
     let shape = maps.shape(map);
     let size = shape.key_size as usize;
-    let Some(key) = traced_place(arena, caller.tenant, size, key, trace) else {
+    let Some(key) = traced_offset(arena, caller.tenant, size, key, trace) else {
         return refusal(MapFault::Invalid);
     };
     let size = shape.value_size as usize;
-    let Some(value) = traced_place(arena, caller.tenant, size, value, trace) else {
+    let Some(value) = traced_offset(arena, caller.tenant, size, value, trace) else {
         return refusal(MapFault::Invalid);
     };
     put(map, key, value, flags, caller, arena, maps, trace)

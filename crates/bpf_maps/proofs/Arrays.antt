@@ -6,7 +6,7 @@ use Rattle.tagged_model.specs.declared.shape.MapKind.{MapKind}
 use Rattle.tagged_model.specs.declared.shape.MapKind.TheVariants.{Array, Hash}
 use Rattle.tagged_model.specs.declared.shape.MapShape.{MapShape}
 use Rattle.tagged_model.specs.Table.{found, key_after, look_up, next_of, index_key, indexed, new_entries}
-use Rattle.bpf_maps.specs.Places.{PlaceTable, table_of, new_places, after_run, occurrences, IsSound, IsSized}
+use Rattle.bpf_maps.specs.KeyTable.{KeyTable, table_of, new_keys, after_run, occurrences, IsSound, IsSized}
 use Rattle.bpf_maps.proofs.Shapes.{few_entries, array_key, hash_no_array}
 use Rattle.bpf_maps.proofs.Indices.{found_index, after_index, after_other, length_indexed, once_indexed, sized_indexed}
 
@@ -16,7 +16,7 @@ module _ (s : MapShape) (array : s.kind ≡ Array) where
   entries_are : new_entries (λ i. i) s.kind s.max_entries ≡ indexed (λ i. i) 0 s.max_entries
   entries_are = ap (λ (d : MapKind). new_entries (λ i. i) d s.max_entries) array
 
-  pub sound_array : IsSound (new_places s)
+  pub sound_array : IsSound (new_keys s)
   sound_array = record {
     once = λ p.
         let e : occurrences p (values_of (new_entries (λ i. i) s.kind s.max_entries)) ≡ (if nat_lt p s.max_entries then 1 else 0) = ap (λ (es : List (List ℕ × ℕ)). occurrences p (values_of es)) entries_are ∙ once_indexed p s.max_entries in
@@ -27,7 +27,7 @@ module _ (s : MapShape) (array : s.kind ≡ Array) where
   }
 
   -- an index is found if it is in range
-  found_new : (key : List ℕ) (i : ℕ) → index_key i ≡ key → i < 2 ^ 32 → look_up (table_of (new_places s)) key ≡ (if nat_lt i s.max_entries then Some i else None)
+  found_new : (key : List ℕ) (i : ℕ) → index_key i ≡ key → i < 2 ^ 32 → look_up (table_of (new_keys s)) key ≡ (if nat_lt i s.max_entries then Some i else None)
   found_new key i same small =
       let few = few_entries s in
       let m : 0 + s.max_entries ≡ s.max_entries = omega arith in
@@ -37,7 +37,7 @@ module _ (s : MapShape) (array : s.kind ≡ Array) where
       ∙ ap (λ (x : ℕ). if nat_lt i x then Some i else None) m
 
   -- the key after an index that is in range
-  next_new : (key : List ℕ) (i : ℕ) → index_key i ≡ key → i < s.max_entries → next_of (table_of (new_places s)) key ≡ (if nat_lt (i + 1) s.max_entries then Some (index_key (i + 1)) else None)
+  next_new : (key : List ℕ) (i : ℕ) → index_key i ≡ key → i < s.max_entries → next_of (table_of (new_keys s)) key ≡ (if nat_lt (i + 1) s.max_entries then Some (index_key (i + 1)) else None)
   next_new key i same below =
       let few = few_entries s in
       ap (key_after key) entries_are
@@ -45,25 +45,25 @@ module _ (s : MapShape) (array : s.kind ≡ Array) where
       ∙ after_index s.max_entries i (omega arith) below
 
   -- the key after an absent key
-  next_other : (key : List ℕ) → look_up (table_of (new_places s)) key ≡ None → next_of (table_of (new_places s)) key ≡ (if nat_lt 0 s.max_entries then Some (index_key 0) else None)
+  next_other : (key : List ℕ) → look_up (table_of (new_keys s)) key ≡ None → next_of (table_of (new_keys s)) key ≡ (if nat_lt 0 s.max_entries then Some (index_key 0) else None)
   next_other key none = ap (key_after key) entries_are ∙ after_other s.max_entries key (ap (found key) (sym entries_are) ∙ none)
 
 -- ---- the same of a table that is that of an array
 
-module _ {t : PlaceTable} (array : t.shape.kind ≡ Array) (whole : t ≡ new_places t.shape) where
+module _ {t : KeyTable} (array : t.shape.kind ≡ Array) (whole : t ≡ new_keys t.shape) where
   pub found_array : (key : List ℕ) (i : ℕ) (b : Bool) → index_key i ≡ key → i < 2 ^ 32 → nat_lt i t.shape.max_entries ≡ b → (if b then Some i else None) ≡ look_up (table_of t) key
   found_array key i b same small is =
-      ap (λ (x : Bool). if x then Some i else None) (sym is) ∙ sym (found_new t.shape array key i same small) ∙ ap (λ (u : PlaceTable). look_up (table_of u) key) (sym whole)
+      ap (λ (x : Bool). if x then Some i else None) (sym is) ∙ sym (found_new t.shape array key i same small) ∙ ap (λ (u : KeyTable). look_up (table_of u) key) (sym whole)
 
   pub after_present : (key : List ℕ) (i : ℕ) → index_key i ≡ key → i < t.shape.max_entries → next_of (table_of t) key ≡ (if nat_lt (i + 1) t.shape.max_entries then Some (index_key (i + 1)) else None)
-  after_present key i same below = ap (λ (u : PlaceTable). next_of (table_of u) key) whole ∙ next_new t.shape array key i same below
+  after_present key i same below = ap (λ (u : KeyTable). next_of (table_of u) key) whole ∙ next_new t.shape array key i same below
 
   pub after_absent : (key : List ℕ) → look_up (table_of t) key ≡ None → next_of (table_of t) key ≡ (if nat_lt 0 t.shape.max_entries then Some (index_key 0) else None)
   after_absent key none =
-      ap (λ (u : PlaceTable). next_of (table_of u) key) whole
-      ∙ next_other t.shape array key (ap (λ (u : PlaceTable). look_up (table_of u) key) (sym whole) ∙ none)
+      ap (λ (u : KeyTable). next_of (table_of u) key) whole
+      ∙ next_other t.shape array key (ap (λ (u : KeyTable). look_up (table_of u) key) (sym whole) ∙ none)
 
-  -- no place is kept apart
+  -- no element is kept apart
   pub run_ends : t ≡ after_run t
   run_ends = whole ∙ ap after_run (sym whole)
 
@@ -97,7 +97,7 @@ spelled (a ∷ b ∷ c ∷ d ∷ e ∷ rest) n size small is = absurd (omega ari
 no_keys : (s : MapShape) → s.kind ≡ Hash → new_entries (λ i. i) s.kind s.max_entries ≡ []
 no_keys s hash = ap (λ (d : MapKind). new_entries (λ i. i) d s.max_entries) hash
 
-sound_hash : (s : MapShape) → s.kind ≡ Hash → IsSound (new_places s)
+sound_hash : (s : MapShape) → s.kind ≡ Hash → IsSound (new_keys s)
 sound_hash s hash = record {
   once = λ p. let e : occurrences p (values_of (new_entries (λ i. i) s.kind s.max_entries)) ≡ 0 = ap (λ (es : List (List ℕ × ℕ)). occurrences p (values_of es)) (no_keys s hash) in omega arith;
   few = let e : length (new_entries (λ i. i) s.kind s.max_entries) ≡ 0 = ap length (no_keys s hash) in omega arith;
@@ -105,9 +105,9 @@ sound_hash s hash = record {
   array = λ array. absurd (hash_no_array s.kind hash array);
 }
 
-pub sound_new : (s : MapShape) → IsSound (new_places s)
+pub sound_new : (s : MapShape) → IsSound (new_keys s)
 sound_new s = by s.kind refl
   where
-    by : (d : MapKind) → s.kind ≡ d → IsSound (new_places s)
+    by : (d : MapKind) → s.kind ≡ d → IsSound (new_keys s)
     by Array e = sound_array s e
     by Hash e = sound_hash s e

@@ -5,8 +5,8 @@ use Rattle.std.proofs.lemmas.List.{drop-drop}
 use Rattle.words.specs.Bytes.{written_at}
 use Rattle.tagged_model.specs.declared.fault.MapFault.{MapFault}
 use Rattle.tagged_model.specs.Table as map
-use Rattle.bpf_maps.specs.Places.{PlaceTable, Claims, Removes}
-use Rattle.bpf_maps.specs.Live.{LiveMap, LiveMaps, live_at, live_or, places_at, map_in, SameAreas, KeepsMap}
+use Rattle.bpf_maps.specs.KeyTable.{KeyTable, Claims, Removes}
+use Rattle.bpf_maps.specs.Live.{LiveMap, LiveMaps, live_at, live_or, keys_at, map_in, SameAreas, KeepsMap}
 use Rattle.bpf_maps.specs.InPart.{IsValueAt, with_value, ValuesAreWritten, LiveMapsRefineValues}
 
 pub on_err : {T E P : Type 0} (r : Result T E) → P → OnErr r P
@@ -25,26 +25,26 @@ copied_is part copied value start at same there =
 
 -- ---- refusals
 
-pub not_claimed : (v : map.Verdict ℕ) (key : List ℕ) (old new : PlaceTable) (fault : MapFault) → Claims v key old (Err fault) new → new ≡ old
+pub not_claimed : (v : map.Verdict ℕ) (key : List ℕ) (old new : KeyTable) (fault : MapFault) → Claims v key old (Err fault) new → new ≡ old
 not_claimed (map.Refused f) key old new fault h = h.1
-not_claimed (map.Present p) key old new fault h = absurd (no_place h.0)
+not_claimed (map.Present p) key old new fault h = absurd (no_element h.0)
   where
-    no_place : ◌≡◌ {A = Result ℕ MapFault} (Err fault) (Ok p) → ⊥
-    no_place e = cc
+    no_element : ◌≡◌ {A = Result ℕ MapFault} (Err fault) (Ok p) → ⊥
+    no_element e = cc
 not_claimed map.New key old new fault h = absurd h
 
-pub not_removed : (v : Result ℕ MapFault) (key : List ℕ) (old new : PlaceTable) (fault : MapFault) → Removes v key old (Err fault) new → new ≡ old
+pub not_removed : (v : Result ℕ MapFault) (key : List ℕ) (old new : KeyTable) (fault : MapFault) → Removes v key old (Err fault) new → new ≡ old
 not_removed (Err f) key old new fault h = h.1
-not_removed (Ok p) key old new fault h = absurd (no_place h.0)
+not_removed (Ok p) key old new fault h = absurd (no_element h.0)
   where
-    no_place : ◌≡◌ {A = Result (Unit {0}) MapFault} (Err fault) (Ok tt) → ⊥
-    no_place e = cc
+    no_element : ◌≡◌ {A = Result (Unit {0}) MapFault} (Err fault) (Ok tt) → ⊥
+    no_element e = cc
 
 module _ (along : LiveMapsRefineValues) (part : List ℕ) (old new : LiveMaps) (k : ℕ) (areas : SameAreas old new) (live : IsSome (live_at new k)) where
-  pub keeps : places_at new k ≡ places_at old k → KeepsMap k old part new part
-  keeps places was = (live, (along part old new k areas live).same places)
+  pub keeps : keys_at new k ≡ keys_at old k → KeepsMap k old part new part
+  keeps keys was = (live, (along part old new k areas live).same keys)
 
-  pub removed : (v : Result ℕ MapFault) (key : List ℕ) (done : Unit {0}) → Removes v key (places_at old k) (Ok done) (places_at new k) → map_in part new k ≡ map.with_deleted (map_in part old k) key
+  pub removed : (v : Result ℕ MapFault) (key : List ℕ) (done : Unit {0}) → Removes v key (keys_at old k) (Ok done) (keys_at new k) → map_in part new k ≡ map.with_deleted (map_in part old k) key
   removed (Ok p) key done h = (along part old new k areas live).delete key p h.1
   removed (Err f) key done h = absurd (no_fault h.0)
     where
@@ -54,7 +54,7 @@ module _ (along : LiveMapsRefineValues) (part : List ℕ) (old new : LiveMaps) (
   pub others_stay : (j : ℕ) → live_at new j ≡ live_at old j → KeepsMap j old part new part
   others_stay j same was =
       let still : IsSome (live_at new j) = ap is_some same ∙ was in
-      (still, (along part old new j areas still).same (ap (λ (o : Option LiveMap). (live_or o).places) same))
+      (still, (along part old new j areas still).same (ap (λ (o : Option LiveMap). (live_or o).keys) same))
 
 -- a value that is written into one map
 pub keeps_written : ValuesAreWritten → (part : List ℕ) (old new : LiveMaps) (k p : ℕ) (bytes : List ℕ) (j : ℕ) → IsValueAt part new k p bytes → j ≢ k → KeepsMap j old part new part → KeepsMap j old part new (with_value part new k p bytes)

@@ -3,15 +3,15 @@ use Rattle.std.proofs.Common.{◌≡◌, ◌≢◌, ℕ, ◌-◌, ◌<◌, ◌�
 use Rattle.std.proofs.lemmas.Bool.{lt-leb, le-leb}
 use Rattle.bpf_maps.specs.declared.stored_map.StoredMap.{StoredMap}
 use Rattle.bpf_maps.specs.declared.maps.Maps.TheInside.{Inside}
-use Rattle.bpf_maps.specs.Places.{IsSound}
-use Rattle.bpf_maps.specs.BpfMap.{places_of}
-use Rattle.bpf_maps.specs.Live.{LiveMap, LiveMaps, live_at, live_or, places_at, holds_at, AreSound, IsLaid, SameAreas, SameValues, KeepsMap, KeepsOthers, areas, MapWithoutArea, without_area, held_at, one_less}
+use Rattle.bpf_maps.specs.KeyTable.{IsSound}
+use Rattle.bpf_maps.specs.BpfMap.{keys_in}
+use Rattle.bpf_maps.specs.Live.{LiveMap, LiveMaps, live_at, live_or, keys_at, holds_at, AreSound, IsLaid, SameAreas, SameValues, KeepsMap, KeepsOthers, areas, MapWithoutArea, without_area, held_at, one_less}
 use Rattle.slab.specs.Slab.{get, with_value}
 use Rattle.bpf_maps.specs.InMaps.{live_of, live_maps_of, stored_in, as_live_maps, IsInItsArea, IsWellFormedMaps}
 use Rattle.bpf_maps.proofs.Slots.{some_stored, live_by, others_by, one_changed, value_stays}
 use Rattle.bpf_maps.proofs.ByHandle.{under_key, changed_here, changed_others, changed_keys}
 use Rattle.bpf_maps.proofs.Whole.{laid, sound_at, whole_replaced}
-use Rattle.bpf_maps.proofs.Stays.{keeps_live, keeps_places}
+use Rattle.bpf_maps.proofs.Stays.{keeps_live, keeps_keys}
 
 -- the fields with another map under a key
 abbrev pub with_stored : Inside → ℕ → StoredMap → Inside
@@ -23,7 +23,7 @@ told_of f is = ap (λ (x : Option LiveMap). f (live_or x)) is
 
 -- the map without its area after one hold is released; None if it was the last
 abbrev held_less : LiveMap → Bool → Option MapWithoutArea
-held_less l last = if last then None else Some (let h : MapWithoutArea = record { places = l.places; holds = l.holds - 1 } in h)
+held_less l last = if last then None else Some (let h : MapWithoutArea = record { keys = l.keys; holds = l.holds - 1 } in h)
 
 less_than_held : {o : Option LiveMap} {l : LiveMap} {last : Bool} → o ≡ Some l → nat_le l.holds 1 ≡ last → one_less (option_map without_area o) ≡ held_less l last
 less_than_held {l = l} at is = ap (λ (x : Option LiveMap). one_less (option_map without_area x)) at ∙ ap (held_less l) is
@@ -46,9 +46,9 @@ pub record IsChange (a : Inside) (t : LiveMaps) (handle map key : ℕ) (old new 
   pub start : new.start ≡ old.start
   pub stride : new.stride ≡ old.stride
   pub elements : new.elements ≡ old.elements
-  pub shape : (places_of new.map).shape ≡ (places_of old.map).shape
+  pub shape : (keys_in new.map).shape ≡ (keys_in old.map).shape
   pub held : 1 ≤ new.holds
-  pub sound : IsSound (places_of new.map)
+  pub sound : IsSound (keys_in new.map)
 
 -- a map is live
 pub live_here : (a : Inside) {t : LiveMaps} {handle map : ℕ} {e : StoredMap} → as_live_maps a ≡ t → handle ≡ map → get_or (stored_in a) handle None ≡ Some e → live_at t map ≡ Some (live_of e)
@@ -125,16 +125,16 @@ module _ {a : Inside} {t : LiveMaps} {handle map key : ℕ} {old new : StoredMap
   -- ---- a change of only the holds
 
   module _ (same : new.map ≡ old.map) where
-    places_stay : places_at (as_live_maps now) map ≡ places_at t map
-    places_stay = part_stays (λ l. l.places) (ap places_of same)
+    keys_stay : keys_at (as_live_maps now) map ≡ keys_at t map
+    keys_stay = part_stays (λ l. l.keys) (ap keys_in same)
 
     pub itself_keeps : (bytes : List ℕ) → KeepsMap map t bytes (as_live_maps now) bytes
-    itself_keeps bytes = keeps_places t (as_live_maps now) bytes bytes map (values_stay bytes) (sound_before map) (ap is_some live_new) places_stay
+    itself_keeps bytes = keeps_keys t (as_live_maps now) bytes bytes map (values_stay bytes) (sound_before map) (ap is_some live_new) keys_stay
 
     pub one_held_less : new.holds ≡ old.holds - 1 → 1 < old.holds → held_at (as_live_maps now) map ≡ one_less (held_at t map)
     one_held_less holds more =
         ap (option_map without_area) live_new
-        ∙ (λ i. let h : MapWithoutArea = record { places = places_of (same i); holds = holds i } in Some h)
+        ∙ (λ i. let h : MapWithoutArea = record { keys = keys_in (same i); holds = holds i } in Some h)
         ∙ sym (less_than_held live_old (lt-leb old.holds 1 more))
 
 -- a live map with at most one reference doesn't have more than one

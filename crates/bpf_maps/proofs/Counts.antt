@@ -1,11 +1,11 @@
--- How often a place occurs in a list, and how many entries there are.
+-- How often an element occurs in a list, and how many entries there are.
 use Rattle.std.proofs.Common.{◌≡◌, ℕ, ◌+◌, ◌≤◌, Bool, true, false, cond, List, [], ◌∷◌, ◌++◌, length, take, drop, Some, None, refl, sym, ap, subst, ◌∙◌, nat_eq, nat_lt, if◌then◌else◌, arith, eq-eqb}
 use Rattle.std.proofs.lemmas.List.{take-append-drop}
 use Rattle.std.proofs.lemmas.Option.{none-some, same_Some}
 use Rattle.std.proofs.lemmas.Bool.Decides.{nat_tests}
 use Rattle.std.specs.Map.{values_of}
 use Rattle.tagged_model.specs.Table.{is_key, found, without, with_key}
-use Rattle.bpf_maps.specs.Places.{occurrences, IsSized}
+use Rattle.bpf_maps.specs.KeyTable.{occurrences, IsSized}
 
 pub times-append : (p : ℕ) (xs ys : List ℕ) → occurrences p (xs ++ ys) ≡ occurrences p xs + occurrences p ys
 times-append p [] ys = omega arith
@@ -17,7 +17,7 @@ times_self p = let e : nat_eq p p ≡ true = eq-eqb p p refl in let P : Bool →
 one_of : (p n : ℕ) → (if nat_lt p n then 1 else 0) + ((if nat_eq p n then 1 else 0) + 0) ≡ (if nat_lt p (n + 1) then 1 else 0)
 one_of p n = grind (arith, nat_tests)
 
--- the next place
+-- the next element
 pub times-next : (p n : ℕ) (xs : List ℕ) → occurrences p xs ≡ (if nat_lt p n then 1 else 0) → occurrences p (xs ++ n ∷ []) ≡ (if nat_lt p (n + 1) then 1 else 0)
 times-next p n xs h = times-append p xs (n ∷ []) ∙ ap (λ (k : ℕ). k + occurrences p (n ∷ [])) h ∙ one_of p n
 
@@ -25,7 +25,7 @@ pub values_of-append : {K : Type 0} (es fs : List (K × ℕ)) → values_of (es 
 values_of-append [] fs = refl
 values_of-append (e ∷ es) fs = ap (λ r. e.1 ∷ r) (values_of-append es fs)
 
--- ---- sums over the places of a list, such as how often a place occurs in it, and its length
+-- ---- sums over the elements of a list, such as how often an element occurs in it, and its length
 
 abbrev pub IsSum : (List ℕ → ℕ) → Type 0
 IsSum f = (xs ys : List ℕ) → f (xs ++ ys) ≡ f xs + f ys
@@ -34,14 +34,14 @@ IsSum f = (xs ys : List ℕ) → f (xs ++ ys) ≡ f xs + f ys
 pub sum-split : (f : List ℕ → ℕ) → IsSum f → (n : ℕ) (xs : List ℕ) → f (take n xs) + f (drop n xs) ≡ f xs
 sum-split f sum n xs = sym (sum (take n xs) (drop n xs)) ∙ ap f (take-append-drop n xs)
 
--- a key with its place is taken out of the entries
-pub sum-without : (f : List ℕ → ℕ) → IsSum f → (key : List ℕ) (place : ℕ) (es : List (List ℕ × ℕ)) → found key es ≡ Some place → f (values_of (without key es)) + f (place ∷ []) ≡ f (values_of es)
-sum-without f sum key place [] h = absurd (none-some place h)
-sum-without f sum key place (e ∷ es) h = by (is_key key e.0) h (sum-without f sum key place es)
+-- a key with its element is taken out of the entries
+pub sum-without : (f : List ℕ → ℕ) → IsSum f → (key : List ℕ) (element : ℕ) (es : List (List ℕ × ℕ)) → found key es ≡ Some element → f (values_of (without key es)) + f (element ∷ []) ≡ f (values_of es)
+sum-without f sum key element [] h = absurd (none-some element h)
+sum-without f sum key element (e ∷ es) h = by (is_key key e.0) h (sum-without f sum key element es)
   where
-    by : (b : Bool) → cond b (Some e.1) (found key es) ≡ Some place → (found key es ≡ Some place → f (values_of (without key es)) + f (place ∷ []) ≡ f (values_of es)) → f (values_of (cond b es (e ∷ without key es))) + f (place ∷ []) ≡ f (values_of (e ∷ es))
+    by : (b : Bool) → cond b (Some e.1) (found key es) ≡ Some element → (found key es ≡ Some element → f (values_of (without key es)) + f (element ∷ []) ≡ f (values_of es)) → f (values_of (cond b es (e ∷ without key es))) + f (element ∷ []) ≡ f (values_of (e ∷ es))
     by true g rest =
-        let here = ap (λ (p : ℕ). f (p ∷ [])) (same_Some e.1 place g) in
+        let here = ap (λ (p : ℕ). f (p ∷ [])) (same_Some e.1 element g) in
         let whole = sum (e.1 ∷ []) (values_of es) in
         omega arith
     by false g rest =
@@ -50,13 +50,13 @@ sum-without f sum key place (e ∷ es) h = by (is_key key e.0) h (sum-without f 
         let after = sum (e.1 ∷ []) (values_of (without key es)) in
         omega arith
 
--- the place of a key is in use
+-- the element of a key is in use
 pub in_use : (p : ℕ) (key : List ℕ) (es : List (List ℕ × ℕ)) → found key es ≡ Some p → 1 ≤ occurrences p (values_of es)
 in_use p key es h = let w = sum-without (occurrences p) (times-append p) key p es h in let one = times_self p in omega arith
 
--- the place of a removed key is kept apart
-pub times-kept : (p : ℕ) (key : List ℕ) (place : ℕ) (es : List (List ℕ × ℕ)) (kept : List ℕ) → found key es ≡ Some place → occurrences p (values_of (without key es)) + occurrences p (kept ++ place ∷ []) ≡ occurrences p (values_of es) + occurrences p kept
-times-kept p key place es kept h = let w = sum-without (occurrences p) (times-append p) key place es h in let a = times-append p kept (place ∷ []) in omega arith
+-- the element of a removed key is kept apart
+pub times-kept : (p : ℕ) (key : List ℕ) (element : ℕ) (es : List (List ℕ × ℕ)) (kept : List ℕ) → found key es ≡ Some element → occurrences p (values_of (without key es)) + occurrences p (kept ++ element ∷ []) ≡ occurrences p (values_of es) + occurrences p kept
+times-kept p key element es kept h = let w = sum-without (occurrences p) (times-append p) key element es h in let a = times-append p kept (element ∷ []) in omega arith
 
 pub sized-without : (n : ℕ) (key : List ℕ) (es : List (List ℕ × ℕ)) → IsSized n es → IsSized n (without key es)
 sized-without n key [] h = tt

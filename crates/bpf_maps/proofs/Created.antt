@@ -13,10 +13,10 @@ use Rattle.bpf_maps.specs.declared.part.TheConstants.{STACK_AND_CONTEXT, LARGEST
 use Rattle.bpf_maps.specs.declared.stored_map.StoredMap.{StoredMap}
 use Rattle.bpf_maps.specs.declared.spare_maps.SpareMaps.{SpareMaps}
 use Rattle.bpf_maps.specs.declared.maps.Maps.TheInside.{Inside}
-use Rattle.bpf_maps.specs.Places.{PlaceTable, IsSound, new_places}
-use Rattle.bpf_maps.specs.BpfMap.{places_of}
+use Rattle.bpf_maps.specs.KeyTable.{KeyTable, IsSound, new_keys}
+use Rattle.bpf_maps.specs.BpfMap.{keys_in}
 use Rattle.bpf_maps.specs.Elements.{elements_of, word_of}
-use Rattle.bpf_maps.specs.Live.{LiveMap, LiveMaps, live_at, live_or, free_handle, places_at, offset, value_in, map_in, start_at, area_by, areas, create_fault, Creates, IsCreated, IsLaid, AreSound, SameValues, KeepsMaps}
+use Rattle.bpf_maps.specs.Live.{LiveMap, LiveMaps, live_at, live_or, free_handle, keys_at, offset, value_in, map_in, start_at, area_by, areas, create_fault, Creates, IsCreated, IsLaid, AreSound, SameValues, KeepsMaps}
 use Rattle.bpf_maps.specs.InMaps.{live_of, by_handle, stored_in, as_live_maps, AreKeys, IsWellFormedMaps}
 use Rattle.bpf_maps.specs.LiveLaws.{lowest_most}
 use Rattle.bpf_maps.proofs.Slots.{live_by, none_by, others_by, same_or_other}
@@ -75,7 +75,7 @@ pub record IsAdded (a : Inside) (shape : MapShape) (spares : SpareMaps) (keys : 
   pub others : (j : ℕ) → j ≢ key → get maps j ≡ get a.maps j
   pub len : slab_len maps ≡ slab_len a.maps + 1
   pub capacity : maps.capacity ≡ a.maps.capacity
-  pub places : places_of e.map ≡ new_places shape
+  pub table : keys_in e.map ≡ new_keys shape
   pub start : e.start ≡ STACK_AND_CONTEXT + a.bytes
   pub stride : e.stride ≡ (shape.value_size + 7) / 8 * 8
   pub elements : e.elements ≡ word_of (elements_of shape)
@@ -150,8 +150,8 @@ module _ {a : Inside} {t : LiveMaps} {shape : MapShape} {size handle : ℕ} (r :
     pub older_stay : (k : ℕ) → IsSome (live_at t k) → live_at (as_live_maps after) k ≡ live_at t k
     older_stay k live = others_stay k (λ e. true≢false (sym live ∙ ap is_some (ap (live_at t) e ∙ was_none)))
 
-    places_one : places_at (as_live_maps after) handle ≡ new_places shape
-    places_one = told_of (λ l. l.places) live_new ∙ d.places
+    keys_one : keys_at (as_live_maps after) handle ≡ new_keys shape
+    keys_one = told_of (λ l. l.keys) live_new ∙ d.table
 
     pub creates_one : Creates (create_fault t shape) t shape (Ok handle) (as_live_maps after)
     creates_one =
@@ -160,27 +160,27 @@ module _ {a : Inside} {t : LiveMaps} {shape : MapShape} {size handle : ℕ} (r :
           lowest = lowest;
           was = was_none;
           live = ap is_some live_new;
-          places = places_one;
+          keys = keys_one;
           holds = told_of (λ l. l.holds) live_new ∙ d.holds;
           others = others_stay;
           refused = ap (λ (u : LiveMaps). u.refused) view;
         })
 
-    value_of : (places_of e.map).shape.value_size ≡ shape.value_size
-    value_of = ap (λ (q : PlaceTable). q.shape.value_size) d.places
+    value_of : (keys_in e.map).shape.value_size ≡ shape.value_size
+    value_of = ap (λ (q : KeyTable). q.shape.value_size) d.table
 
-    round : e.stride ≡ ((places_of e.map).shape.value_size + 7) / 8 * 8
+    round : e.stride ≡ ((keys_in e.map).shape.value_size + 7) / 8 * 8
     round = stride ∙ ap (λ (v : ℕ). (v + 7) / 8 * 8) (sym value_of)
 
-    elements_there : e.elements ≡ word_of (elements_of (places_of e.map).shape)
-    elements_there = d.elements ∙ ap (λ (q : PlaceTable). word_of (elements_of q.shape)) (sym d.places)
+    elements_there : e.elements ≡ word_of (elements_of (keys_in e.map).shape)
+    elements_there = d.elements ∙ ap (λ (q : KeyTable). word_of (elements_of q.shape)) (sym d.table)
 
     pub whole_one : IsWellFormedMaps after
     whole_one =
-        let x : area_by (places_of e.map).shape ≡ area_by shape = ap (λ (q : PlaceTable). area_by q.shape) d.places in
+        let x : area_by (keys_in e.map).shape ≡ area_by shape = ap (λ (q : KeyTable). area_by q.shape) d.table in
         let room = h.room in
         let same = d.capacity in
-        whole_added after handle h others e empty there d.start round elements_there (let o = d.holds in omega arith) (subst IsSound (sym d.places) (sound_new shape)) (let s = r.size_is in omega arith) r.room
+        whole_added after handle h others e empty there d.start round elements_there (let o = d.holds in omega arith) (subst IsSound (sym d.table) (sound_new shape)) (let s = r.size_is in omega arith) r.room
         (subst (λ (ks : List (Option ℕ)). AreKeys ks maps) (sym d.keys_are) (added_keys a.keys a.maps maps h.keys handle key free below d.was e d.there d.others d.len))
         (omega arith)
 
@@ -211,16 +211,16 @@ module _ {a : Inside} {t : LiveMaps} {shape : MapShape} {size handle : ℕ} (r :
       pub cleared_one : (p : ℕ) → p < shape.max_entries → value_in later (as_live_maps after) handle p ≡ replicate shape.value_size 0
       cleared_one p l =
           let o : offset (live_of e) p ≡ STACK_AND_CONTEXT + a.bytes + p * e.stride = offset_of e p ∙ ap (λ (n : ℕ). n + p * e.stride) d.start in
-          ap (λ (x : Option LiveMap). take (live_or x).places.shape.value_size (drop (offset (live_or x) p) later)) live_new
+          ap (λ (x : Option LiveMap). take (live_or x).keys.shape.value_size (drop (offset (live_or x) p) later)) live_new
           ∙ ap (λ (v : ℕ). take v (drop (offset (live_of e) p) later)) value_of
           ∙ ap (λ (n : ℕ). take shape.value_size (drop n later)) o
           ∙ ap (λ (b : List ℕ). take shape.value_size (drop (STACK_AND_CONTEXT + a.bytes + p * e.stride) b)) written
           ∙ zeros bytes (STACK_AND_CONTEXT + a.bytes) size enough (p * e.stride) shape.value_size (let x = value_ends shape.value_size shape.max_entries e.stride stride p l in let z = r.size_is in omega arith)
 
-      kept_at : (j p : ℕ) (f : StoredMap) → get_or (stored_in a) j None ≡ Some f → p < (places_of f.map).shape.max_entries → take (places_of f.map).shape.value_size (drop (offset (live_of f) p) later) ≡ take (places_of f.map).shape.value_size (drop (offset (live_of f) p) bytes)
+      kept_at : (j p : ℕ) (f : StoredMap) → get_or (stored_in a) j None ≡ Some f → p < (keys_in f.map).shape.max_entries → take (keys_in f.map).shape.value_size (drop (offset (live_of f) p) later) ≡ take (keys_in f.map).shape.value_size (drop (offset (live_of f) p) bytes)
       kept_at j p f at l =
           let i = h.placed j f at in
-          let s = (places_of f.map).shape in
+          let s = (keys_in f.map).shape in
           let o = offset_of f p in
           let x = value_ends s.value_size s.max_entries f.stride i.stride p l in
           let w = i.within in
@@ -234,13 +234,13 @@ module _ {a : Inside} {t : LiveMaps} {shape : MapShape} {size handle : ℕ} (r :
           (λ (ne : j ≢ handle).
           let f = live_stored a {map = j} view refl old_live in
           let n = others_stay j ne ∙ f.2 in
-          let m = told_of (λ x. x.places.shape.max_entries) n in
-          ap (λ (x : Option LiveMap). take (live_or x).places.shape.value_size (drop (offset (live_or x) p) later)) n
+          let m = told_of (λ x. x.keys.shape.max_entries) n in
+          ap (λ (x : Option LiveMap). take (live_or x).keys.shape.value_size (drop (offset (live_or x) p) later)) n
           ∙ kept_at j p f.0 f.1 (omega arith)
-          ∙ ap (λ (x : Option LiveMap). take (live_or x).places.shape.value_size (drop (offset (live_or x) p) bytes)) (sym f.2))
+          ∙ ap (λ (x : Option LiveMap). take (live_or x).keys.shape.value_size (drop (offset (live_or x) p) bytes)) (sym f.2))
 
       pub fresh_one : map_in later (as_live_maps after) handle ≡ new_table (λ i. replicate shape.value_size 0) shape
-      fresh_one = new_map_in later (as_live_maps after) handle shape (replicate shape.value_size 0) places_one (λ array. cleared_one)
+      fresh_one = new_map_in later (as_live_maps after) handle shape (replicate shape.value_size 0) keys_one (λ array. cleared_one)
 
       pub maps_kept : KeepsMaps t bytes (as_live_maps after) later
       maps_kept k live = keeps_live t (as_live_maps after) bytes later k values_kept (subst AreSound view (sound_at h) k) (older_stay k live) live

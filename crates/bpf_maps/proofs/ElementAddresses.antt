@@ -8,8 +8,8 @@ use Rattle.tagged_model.specs.declared.shape.MapShape.{MapShape}
 use Rattle.tagged_model.specs.Table.{look_up, index_key}
 use Rattle.bpf_maps.specs.declared.elements.Elements.{Elements}
 use Rattle.bpf_maps.specs.declared.part.TheConstants.{PART}
-use Rattle.bpf_maps.specs.Places.{table_of}
-use Rattle.bpf_maps.specs.Live.{LiveMap, LiveMaps, live_at, live_or, places_at, shape_at, offset, offset_at, value_address, LiesInPart, IsLaid, IsPacked, AreSound}
+use Rattle.bpf_maps.specs.KeyTable.{table_of}
+use Rattle.bpf_maps.specs.Live.{LiveMap, LiveMaps, live_at, live_or, keys_at, shape_at, offset, offset_at, value_address, LiesInPart, IsLaid, IsPacked, AreSound}
 use Rattle.bpf_maps.specs.LiveLaws.{laid_inside}
 use Rattle.bpf_maps.specs.Elements.{element_count, elements_of, elements_at, word_of}
 use Rattle.bpf_maps.proofs.Shapes.{array_key, few_entries}
@@ -52,12 +52,12 @@ module _ (t : LiveMaps) (k : ℕ) (e : Elements) (is : e ≡ elements_at t k) (s
       (only.0, count_is ∙ only.1)
 
   -- a key of another size
-  pub no_key : IsSome (live_at t k) → AreSound t → (key : List ℕ) → (length key ≡ 4 → ⊥) → None ≡ look_up (table_of (places_at t k)) key
+  pub no_key : IsSome (live_at t k) → AreSound t → (key : List ℕ) → (length key ≡ 4 → ⊥) → None ≡ look_up (table_of (keys_at t k)) key
   no_key live sound key differ =
-      sym (absent_by_size (shape_at t k).key_size key (λ same. differ (same ∙ array_key (shape_at t k) is_array.0)) (places_at t k).entries (sound k live).sized)
+      sym (absent_by_size (shape_at t k).key_size key (λ same. differ (same ∙ array_key (shape_at t k) is_array.0)) (keys_at t k).entries (sound k live).sized)
 
   module _ (live : IsSome (live_at t k)) (laid : IsLaid t) (packed : IsPacked t) (sound : AreSound t) (key : List ℕ) (i : ℕ) (spells : index_key i ≡ key) (small : i < 2 ^ 32) where
-    stride_of : (o : Option LiveMap) → live_at t k ≡ o → IsSome o → (live_or o).stride ≡ ((live_or o).places.shape.value_size + 7) / 8 * 8
+    stride_of : (o : Option LiveMap) → live_at t k ≡ o → IsSome o → (live_or o).stride ≡ ((live_or o).keys.shape.value_size + 7) / 8 * 8
     stride_of None at some = absurd (false≢true some)
     stride_of (Some l) at some = packed.stride k l at
 
@@ -69,18 +69,18 @@ module _ (t : LiveMaps) (k : ℕ) (e : Elements) (is : e ≡ elements_at t k) (s
         let start : (live_or (live_at t k)).start + 0 * (live_or (live_at t k)).stride ≡ (live_or (live_at t k)).start = omega arith in
         ap (λ (n : ℕ). n + j * e.stride) start ∙ ap (λ (n : ℕ). (live_or (live_at t k)).start + j * n) stride
 
-    found_at : (b : Bool) → nat_lt i (shape_at t k).max_entries ≡ b → (if b then Some i else None) ≡ look_up (table_of (places_at t k)) key
+    found_at : (b : Bool) → nat_lt i (shape_at t k).max_entries ≡ b → (if b then Some i else None) ≡ look_up (table_of (keys_at t k)) key
     found_at b b_is = found_array is_array.0 ((sound k live).array is_array.0) key i b spells small b_is
 
     -- an index that is out of range
-    pub no_element : e.count ≤ i → None ≡ look_up (table_of (places_at t k)) key
+    pub no_element : e.count ≤ i → None ≡ look_up (table_of (keys_at t k)) key
     no_element past = let count = is_array.1 in found_at false (le-ltb i (shape_at t k).max_entries (omega arith))
 
     module _ (below : i < e.count) where
       within : i < (shape_at t k).max_entries
       within = let count = is_array.1 in omega arith
 
-      pub element : Some i ≡ look_up (table_of (places_at t k)) key
+      pub element : Some i ≡ look_up (table_of (keys_at t k)) key
       element = found_at true (lt-ltb i (shape_at t k).max_entries within)
 
       pub element_lies : LiesInPart (offset_at t k i) (shape_at t k).value_size
@@ -89,7 +89,7 @@ module _ (t : LiveMaps) (k : ℕ) (e : Elements) (is : e ≡ elements_at t k) (s
       pub element_small : i * e.stride ≤ PART
       element_small = let lies = element_lies.within in let at = offset_along i in omega arith
 
-      pub element_address : (first part : ℕ) → first ≡ part + offset_at t k 0 → (first + i * e.stride) % 2 ^ 64 ≡ value_address part t k (look_up (table_of (places_at t k)) key)
+      pub element_address : (first part : ℕ) → first ≡ part + offset_at t k 0 → (first + i * e.stride) % 2 ^ 64 ≡ value_address part t k (look_up (table_of (keys_at t k)) key)
       element_address first part first_is =
           along part (offset_at t k 0) (i * e.stride) first first_is
           ∙ ap (λ (n : ℕ). (part + n) % 2 ^ 64) (offset_along i)

@@ -4,7 +4,7 @@ use Rattle.std.specs.Cmp.Lexicographic.{bytes_decides}
 use Rattle.tagged_model.specs.Table.{found, is_key, first_key, key_behind, key_after}
 use Rattle.bpf_maps.specs.declared.key_ref.KeyRef.{KeyRef}
 use Rattle.bpf_maps.specs.KeyRef.{key_bytes}
-use Rattle.bpf_maps.specs.Places.{IsSized}
+use Rattle.bpf_maps.specs.KeyTable.{IsSized}
 
 abbrev HasSize : ℕ → Option (List ℕ) → Type 0
 HasSize n None = Unit {0}

@@ -31,8 +31,8 @@ module _ (value max stride : ℕ) (round : stride ≡ (value + 7) / 8 * 8) where
       omega arith
 
   -- the value lies in the part
-  pub place_inside : (start bytes p : ℕ) → STACK_AND_CONTEXT ≤ start → start % 8 ≡ 0 → start + area value max ≤ STACK_AND_CONTEXT + bytes → bytes ≤ LARGEST_SUM → p < max → LiesInPart (start + p * stride) value
-  place_inside start bytes p behind aligned within few l = record {
+  pub element_inside : (start bytes p : ℕ) → STACK_AND_CONTEXT ≤ start → start % 8 ≡ 0 → start + area value max ≤ STACK_AND_CONTEXT + bytes → bytes ≤ LARGEST_SUM → p < max → LiesInPart (start + p * stride) value
+  element_inside start bytes p behind aligned within few l = record {
     behind = omega arith;
     within = let i = value_ends p l in omega arith;
     aligned = ap (λ (s : ℕ). (start + p * s) % 8) round ∙ aligned_at ((value + 7) / 8);
@@ -42,8 +42,8 @@ module _ (value max stride : ℕ) (round : stride ≡ (value + 7) / 8 * 8) where
       aligned_at r = let e : p * (r * 8) ≡ p * r * 8 = omega arith in omega arith
 
 -- values of one map
-pub apart_places : (value stride start p q : ℕ) → stride ≡ (value + 7) / 8 * 8 → p ≢ q → (start + p * stride + value ≤ start + q * stride) ⊎ (start + q * stride + value ≤ start + p * stride)
-apart_places value stride start p q round ne =
+pub apart_elements : (value stride start p q : ℕ) → stride ≡ (value + 7) / 8 * 8 → p ≢ q → (start + p * stride + value ≤ start + q * stride) ⊎ (start + q * stride + value ≤ start + p * stride)
+apart_elements value stride start p q round ne =
     ⊎_elim
     (λ (l : p < q). let b = value_before value 0 stride round p q l in inl (omega arith))
     (λ (l : q ≤ p). let b = value_before value 0 stride round q p (omega arith) in inr (omega arith))

@@ -7,8 +7,8 @@ use Rattle.tagged_model.specs.declared.fault.MapFault.{MapFault}
 use Rattle.tagged_model.specs.Table as map
 use Rattle.tagged_model.specs.MapLaws.{CallsRefineValues, MapVerdictsMatchLookUps}
 use Rattle.bpf_maps.specs.declared.part.TheConstants.{STACK_AND_CONTEXT}
-use Rattle.bpf_maps.specs.Places.{PlaceTable, table_of, occurrences, IsFree, Claims, with_place, with_kept, after_run}
-use Rattle.bpf_maps.specs.Live.{LiveMaps, live_at, live_or, places_at, shape_at, offset_at, value_in, map_in, LiesInPart, IsLaid, SameAreas}
+use Rattle.bpf_maps.specs.KeyTable.{KeyTable, table_of, occurrences, IsFree, Claims, with_entry, with_kept, after_run}
+use Rattle.bpf_maps.specs.Live.{LiveMaps, live_at, live_or, keys_at, shape_at, offset_at, value_in, map_in, LiesInPart, IsLaid, SameAreas}
 use Rattle.bpf_maps.specs.InPart.{IsValueAt, with_value, ValueIsWritten, updated, RefinesValues}
 use Rattle.bpf_maps.proofs.Counts.{times-append, values_of-append}
 use Rattle.bpf_maps.specs.LiveLaws.{laid_inside}
@@ -54,10 +54,10 @@ module _ (part : List ℕ) (t : LiveMaps) (k p : ℕ) (bytes : List ℕ) (is : I
       (apart_at t is.laid j q k p live is.live lt is.within differ)
 
   -- each value in use of this map
-  each : (q : ℕ) → 1 ≤ occurrences q (values_of (places_at t k).entries) → value_in later t k q ≡ written (value_in part t k) p bytes q
+  each : (q : ℕ) → 1 ≤ occurrences q (values_of (keys_at t k).entries) → value_in later t k q ≡ written (value_in part t k) p bytes q
   each q used = ⊎_elim
       (λ b. ap (value_in later t k) (eqb-true q p b) ∙ here ∙ sym (ap (λ (c : Bool). if c then bytes else value_in part t k q) b))
-      (λ b. elsewhere k q is.live (used_in_entries (places_at t k) q (is.sound k is.live) used) (λ _. eqb-false q p b) ∙ sym (ap (λ (c : Bool). if c then bytes else value_in part t k q) b))
+      (λ b. elsewhere k q is.live (used_in_entries (keys_at t k) q (is.sound k is.live) used) (λ _. eqb-false q p b) ∙ sym (ap (λ (c : Bool). if c then bytes else value_in part t k q) b))
       (cases_Bool (q == p))
 
   pub value_is_written : ValueIsWritten part t k p bytes
@@ -65,11 +65,11 @@ module _ (part : List ℕ) (t : LiveMaps) (k p : ℕ) (bytes : List ℕ) (is : I
     here = here;
     elsewhere = elsewhere;
     key = λ key found.
-        agreeing_tables (value_in later t k) (written (value_in part t k) p bytes) (places_at t k) each
-        ∙ table_written (value_in part t k) (places_at t k) key p bytes (is.sound k is.live) found;
+        agreeing_tables (value_in later t k) (written (value_in part t k) p bytes) (keys_at t k) each
+        ∙ table_written (value_in part t k) (keys_at t k) key p bytes (is.sound k is.live) found;
     others = λ other differ live.
-        agreeing_tables (value_in later t other) (value_in part t other) (places_at t other)
-        (λ q used. elsewhere other q live (used_in_entries (places_at t other) q (is.sound other live) used) (λ same. absurd (differ same)));
+        agreeing_tables (value_in later t other) (value_in part t other) (keys_at t other)
+        (λ q used. elsewhere other q live (used_in_entries (keys_at t other) q (is.sound other live) used) (λ same. absurd (differ same)));
     front = let behind = inside.behind in front_same part bytes start (length bytes) refl room STACK_AND_CONTEXT behind;
     size = length_same part bytes start (length bytes) refl room ∙ is.whole;
   }
@@ -84,24 +84,24 @@ module _ (along : CallsRefineValues ℕ (List ℕ)) (tell : MapVerdictsMatchLook
   value = value_in part old k
 
   -- the values are at the same addresses as before
-  moved : (t : PlaceTable) → map.with_values (value_in part new k) (table_of t) ≡ map.with_values value (table_of t)
+  moved : (t : KeyTable) → map.with_values (value_in part new k) (table_of t) ≡ map.with_values value (table_of t)
   moved t = agreeing_tables (value_in part new k) value t (λ p used. value_stays old new k areas live part p)
 
-  same : places_at new k ≡ places_at old k → map_in part new k ≡ map_in part old k
-  same places = ap (λ (t : PlaceTable). map.with_values (value_in part new k) (table_of t)) places ∙ moved (places_at old k)
+  same : keys_at new k ≡ keys_at old k → map_in part new k ≡ map_in part old k
+  same keys = ap (λ (t : KeyTable). map.with_values (value_in part new k) (table_of t)) keys ∙ moved (keys_at old k)
 
-  one_deleted : (t : PlaceTable) (key : List ℕ) (place : ℕ) → table_of (with_kept t key place) ≡ map.with_deleted (table_of t) key
-  one_deleted t key place = ap (λ (n : ℕ). let m : map.Table ℕ = record { shape = t.shape; entries = map.without key t.entries; deleted = n } in m) (length-append t.kept (place ∷ []))
+  one_deleted : (t : KeyTable) (key : List ℕ) (element : ℕ) → table_of (with_kept t key element) ≡ map.with_deleted (table_of t) key
+  one_deleted t key element = ap (λ (n : ℕ). let m : map.Table ℕ = record { shape = t.shape; entries = map.without key t.entries; deleted = n } in m) (length-append t.kept (element ∷ []))
 
-  delete : (key : List ℕ) (place : ℕ) → places_at new k ≡ with_kept (places_at old k) key place → map_in part new k ≡ map.with_deleted (map_in part old k) key
-  delete key place places =
-      ap (λ (t : PlaceTable). map.with_values (value_in part new k) (table_of t)) places
-      ∙ moved (with_kept (places_at old k) key place)
-      ∙ ap (map.with_values value) (one_deleted (places_at old k) key place)
-      ∙ along.delete value (table_of (places_at old k)) key
+  delete : (key : List ℕ) (element : ℕ) → keys_at new k ≡ with_kept (keys_at old k) key element → map_in part new k ≡ map.with_deleted (map_in part old k) key
+  delete key element keys =
+      ap (λ (t : KeyTable). map.with_values (value_in part new k) (table_of t)) keys
+      ∙ moved (with_kept (keys_at old k) key element)
+      ∙ ap (map.with_values value) (one_deleted (keys_at old k) key element)
+      ∙ along.delete value (table_of (keys_at old k)) key
 
-  end : places_at new k ≡ after_run (places_at old k) → map_in part new k ≡ map.after_run (map_in part old k)
-  end places = ap (λ (t : PlaceTable). map.with_values (value_in part new k) (table_of t)) places ∙ moved (after_run (places_at old k)) ∙ along.end value (table_of (places_at old k))
+  end : keys_at new k ≡ after_run (keys_at old k) → map_in part new k ≡ map.after_run (map_in part old k)
+  end keys = ap (λ (t : KeyTable). map.with_values (value_in part new k) (table_of t)) keys ∙ moved (after_run (keys_at old k)) ∙ along.end value (table_of (keys_at old k))
 
   -- ---- a claim and the write of its value
 
@@ -109,47 +109,47 @@ module _ (along : CallsRefineValues ℕ (List ℕ)) (tell : MapVerdictsMatchLook
     abbrev after : List ℕ
     after = with_value part new k p bytes
 
-    present : map.verdict (table_of (places_at old k)) key flags ≡ map.Present p → places_at new k ≡ places_at old k → map_in after new k ≡ map.with_object (map_in part old k) key bytes
-    present v places =
-        (value_is_written part new k p bytes is).key key (ap (λ (t : PlaceTable). map.look_up (table_of t) key) places ∙ tell.present (table_of (places_at old k)) key flags p v)
-        ∙ ap (λ (t : map.Table (List ℕ)). map.with_object t key bytes) (same places)
+    present : map.verdict (table_of (keys_at old k)) key flags ≡ map.Present p → keys_at new k ≡ keys_at old k → map_in after new k ≡ map.with_object (map_in part old k) key bytes
+    present v keys =
+        (value_is_written part new k p bytes is).key key (ap (λ (t : KeyTable). map.look_up (table_of t) key) keys ∙ tell.present (table_of (keys_at old k)) key flags p v)
+        ∙ ap (λ (t : map.Table (List ℕ)). map.with_object t key bytes) (same keys)
 
-    -- no value of a key is at a free place
-    others_stay : IsFree (places_at old k) p → places_at new k ≡ with_place (places_at old k) key p → (q : ℕ) → 1 ≤ occurrences q (values_of (places_at old k).entries) → value_in after new k q ≡ value q
-    others_stay free places q used =
-        elsewhere part new k p bytes is k q live (used_in_entries (places_at new k) q (is.sound k live) still) (λ _. differ) ∙ value_stays old new k areas live part q
+    -- no value of a key is in a free element
+    others_stay : IsFree (keys_at old k) p → keys_at new k ≡ with_entry (keys_at old k) key p → (q : ℕ) → 1 ≤ occurrences q (values_of (keys_at old k).entries) → value_in after new k q ≡ value q
+    others_stay free keys q used =
+        elsewhere part new k p bytes is k q live (used_in_entries (keys_at new k) q (is.sound k live) still) (λ _. differ) ∙ value_stays old new k areas live part q
       where
-        still : 1 ≤ occurrences q (values_of (places_at new k).entries)
+        still : 1 ≤ occurrences q (values_of (keys_at new k).entries)
         still =
-            let es = (places_at old k).entries in
-            let more = ap (λ (t : PlaceTable). occurrences q (values_of t.entries)) places ∙ ap (occurrences q) (values_of-append es ((key, p) ∷ [])) ∙ times-append q (values_of es) (p ∷ []) in
+            let es = (keys_at old k).entries in
+            let more = ap (λ (t : KeyTable). occurrences q (values_of t.entries)) keys ∙ ap (occurrences q) (values_of-append es ((key, p) ∷ [])) ∙ times-append q (values_of es) (p ∷ []) in
             omega arith
 
         differ : q ≢ p
-        differ e = let none = free.entries in let there = ap (λ (n : ℕ). occurrences n (values_of (places_at old k).entries)) e in omega arith
+        differ e = let none = free.entries in let there = ap (λ (n : ℕ). occurrences n (values_of (keys_at old k).entries)) e in omega arith
 
-    new_key : IsFree (places_at old k) p → places_at new k ≡ with_place (places_at old k) key p → map_in after new k ≡ map.with_new (map_in part old k) key bytes
-    new_key free places =
-        ap (λ (t : PlaceTable). map.with_values (value_in after new k) (table_of t)) places
-        ∙ along.update (value_in after new k) (table_of (places_at old k)) key p
-        ∙ ap (map.with_new (map.with_values (value_in after new k) (table_of (places_at old k))) key) (here part new k p bytes is)
-        ∙ ap (λ (t : map.Table (List ℕ)). map.with_new t key bytes) (agreeing_tables (value_in after new k) value (places_at old k) (others_stay free places))
+    new_key : IsFree (keys_at old k) p → keys_at new k ≡ with_entry (keys_at old k) key p → map_in after new k ≡ map.with_new (map_in part old k) key bytes
+    new_key free keys =
+        ap (λ (t : KeyTable). map.with_values (value_in after new k) (table_of t)) keys
+        ∙ along.update (value_in after new k) (table_of (keys_at old k)) key p
+        ∙ ap (map.with_new (map.with_values (value_in after new k) (table_of (keys_at old k))) key) (here part new k p bytes is)
+        ∙ ap (λ (t : map.Table (List ℕ)). map.with_new t key bytes) (agreeing_tables (value_in after new k) value (keys_at old k) (others_stay free keys))
 
-    by_verdict : (v : map.Verdict ℕ) → map.verdict (table_of (places_at old k)) key flags ≡ v → Claims v key (places_at old k) (Ok p) (places_at new k) → map_in after new k ≡ updated (map.verdict_with value v) (map_in part old k) key bytes
+    by_verdict : (v : map.Verdict ℕ) → map.verdict (table_of (keys_at old k)) key flags ≡ v → Claims v key (keys_at old k) (Ok p) (keys_at new k) → map_in after new k ≡ updated (map.verdict_with value v) (map_in part old k) key bytes
     by_verdict (map.Refused fault) v claims = absurd (no_fault claims.0)
       where
         no_fault : ◌≡◌ {A = Result ℕ MapFault} (Ok p) (Err fault) → ⊥
         no_fault e = cc
-    by_verdict (map.Present q) v claims = present (v ∙ ap (λ (n : ℕ). map.Present n) (sym (same_place claims.0))) claims.1
+    by_verdict (map.Present q) v claims = present (v ∙ ap (λ (n : ℕ). map.Present n) (sym (same_element claims.0))) claims.1
       where
-        same_place : ◌≡◌ {A = Result ℕ MapFault} (Ok p) (Ok q) → p ≡ q
-        same_place e = cc
+        same_element : ◌≡◌ {A = Result ℕ MapFault} (Ok p) (Ok q) → p ≡ q
+        same_element e = cc
     by_verdict map.New v claims = new_key claims.0 claims.1
 
-    update : Claims (map.verdict (table_of (places_at old k)) key flags) key (places_at old k) (Ok p) (places_at new k) → map_in after new k ≡ updated (map.verdict (map_in part old k) key flags) (map_in part old k) key bytes
+    update : Claims (map.verdict (table_of (keys_at old k)) key flags) key (keys_at old k) (Ok p) (keys_at new k) → map_in after new k ≡ updated (map.verdict (map_in part old k) key flags) (map_in part old k) key bytes
     update claims =
-        by_verdict (map.verdict (table_of (places_at old k)) key flags) refl claims
-        ∙ ap (λ v. updated v (map_in part old k) key bytes) (sym (along.verdict value (table_of (places_at old k)) key flags))
+        by_verdict (map.verdict (table_of (keys_at old k)) key flags) refl claims
+        ∙ ap (λ v. updated v (map_in part old k) key bytes) (sym (along.verdict value (table_of (keys_at old k)) key flags))
 
 pub goes_along : CallsRefineValues ℕ (List ℕ) → MapVerdictsMatchLookUps ℕ → (part : List ℕ) (old new : LiveMaps) (k : ℕ) → SameAreas old new → IsSome (live_at new k) → RefinesValues part old new k
 goes_along along tell part old new k areas live = record {

@@ -1,4 +1,4 @@
--- The entries of an array: all indices, each with itself for a place.
+-- The entries of an array: all indices, each with itself for an element.
 use Rattle.std.proofs.Common.{◌≡◌, ℕ, zero, suc, ◌+◌, ◌^◌, ◌<◌, ◌≤◌, Bool, true, false, cond, List, length, Option, Some, None, is_some, refl, sym, ap, ◌∙◌, nat_eq, nat_lt, if◌then◌else◌, arith, eqb-true, eq-eqb}
 use Rattle.std.proofs.lemmas.Bool.{lt-ltb, le-ltb}
 use Rattle.std.proofs.lemmas.Bool.Decides.{nat_tests}
@@ -6,7 +6,7 @@ use Rattle.std.specs.Cmp.Lexicographic.{bytes_decides}
 use Rattle.std.specs.Map.{values_of}
 use Rattle.words.specs.Bytes.{number_of}
 use Rattle.tagged_model.specs.Table.{is_key, found, first_key, key_behind, key_after, index_key, indexed}
-use Rattle.bpf_maps.specs.Places.{occurrences, IsSized}
+use Rattle.bpf_maps.specs.KeyTable.{occurrences, IsSized}
 
 abbrev pub itself : ℕ → ℕ
 itself i = i
@@ -102,7 +102,7 @@ pub after_other : (n : ℕ) (key : List ℕ) → found key (indexed itself 0 n) 
 after_other n key h =
     ap (λ (o : Option ℕ). if is_some o then key_behind key (indexed itself 0 n) else first_key (indexed itself 0 n)) h ∙ first_index 0 n
 
--- ---- the places
+-- ---- the elements
 
 pub length_indexed : (first n : ℕ) → length (indexed itself first n) ≡ n
 unfolding indexed

@@ -3,21 +3,21 @@ use Rattle.std.proofs.Common.{◌≡◌, ℕ, refl, sym, ap, subst, is_some}
 use Rattle.bpf_maps.specs.declared.bpf_map.BpfMap.{BpfMap}
 use Rattle.bpf_maps.specs.declared.stored_map.StoredMap.{StoredMap}
 use Rattle.bpf_maps.specs.declared.maps.Maps.TheInside.{Inside}
-use Rattle.bpf_maps.specs.Places.{IsSound}
-use Rattle.bpf_maps.specs.BpfMap.{places_of}
-use Rattle.bpf_maps.specs.Live.{LiveMaps, places_at, OnlyKeysChange}
+use Rattle.bpf_maps.specs.KeyTable.{IsSound}
+use Rattle.bpf_maps.specs.BpfMap.{keys_in}
+use Rattle.bpf_maps.specs.Live.{LiveMaps, keys_at, OnlyKeysChange}
 use Rattle.bpf_maps.specs.InMaps.{as_live_maps, IsWellFormedMaps}
 use Rattle.bpf_maps.proofs.Changes.{with_stored, told_of, IsUnder, IsChange, placed_under, live_old, live_new, others_stay, areas_stay, whole_stays, laid_stays, room_stays, part_stays}
 
--- the map with another table of places
+-- the map with another table of keys
 abbrev pub with_map : StoredMap → BpfMap → StoredMap
 with_map e map = record { map = map; start = e.start; stride = e.stride; elements = e.elements; holds = e.holds }
 
 -- the map of `handle`, which is under `key`, has another table
 pub record IsKeyChange (a : Inside) (t : LiveMaps) (handle map key : ℕ) (old : StoredMap) (table : BpfMap) : Type 0 where
   pub under : IsUnder a t handle map key old
-  pub shape : (places_of table).shape ≡ (places_of old.map).shape
-  pub sound : IsSound (places_of table)
+  pub shape : (keys_in table).shape ≡ (keys_in old.map).shape
+  pub sound : IsSound (keys_in table)
 
 module _ {a : Inside} {t : LiveMaps} {handle map key : ℕ} {old : StoredMap} {table : BpfMap} (c : IsKeyChange a t handle map key old table) where
   abbrev after : Inside
@@ -26,11 +26,11 @@ module _ {a : Inside} {t : LiveMaps} {handle map key : ℕ} {old : StoredMap} {t
   change : IsChange a t handle map key old (with_map old table)
   change = record { under = c.under; start = refl; stride = refl; elements = refl; shape = c.shape; held = (placed_under c.under).held; sound = c.sound }
 
-  pub places_before : places_of old.map ≡ places_at t map
-  places_before = sym (told_of (λ l. l.places) (live_old change))
+  pub keys_before : keys_in old.map ≡ keys_at t map
+  keys_before = sym (told_of (λ l. l.keys) (live_old change))
 
-  pub places_after : places_of table ≡ places_at (as_live_maps after) map
-  places_after = sym (told_of (λ l. l.places) (live_new change))
+  pub keys_after : keys_in table ≡ keys_at (as_live_maps after) map
+  keys_after = sym (told_of (λ l. l.keys) (live_new change))
 
   pub keys_whole : IsWellFormedMaps after
   keys_whole = whole_stays change
@@ -39,8 +39,8 @@ module _ {a : Inside} {t : LiveMaps} {handle map key : ℕ} {old : StoredMap} {t
   only_keys = record {
     live = ap is_some (live_new change);
     holds = part_stays change (λ l. l.holds) refl;
-    shape = part_stays change (λ l. l.places.shape) c.shape;
-    sound = subst IsSound places_after c.sound;
+    shape = part_stays change (λ l. l.keys.shape) c.shape;
+    sound = subst IsSound keys_after c.sound;
     others = others_stay change;
     areas = areas_stay change;
     room = room_stays change;

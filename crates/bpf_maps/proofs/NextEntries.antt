@@ -1,4 +1,4 @@
--- The entry that follows the one at a place.
+-- The entry that follows the one at an element.
 use Rattle.std.proofs.Common.{◌≡◌, ℕ, zero, suc, ◌+◌, ◌<◌, ◌≤◌, ◌⊎◌, inl, inr, Bool, true, false, List, [], ◌∷◌, Option, Some, None, option_map, IfSome, refl, sym, ap, ◌∙◌, nat_eq, nat_lt, if◌then◌else◌, true≢false, arith, eqb-true, eq-eqb}
 use Rattle.std.specs.Map.{values_of}
 use Rattle.std.specs.Option.{option_map_or}
@@ -10,7 +10,7 @@ use Rattle.tagged_model.specs.declared.shape.MapKind.TheVariants.{Array}
 use Rattle.tagged_model.specs.Table.{index_key, indexed, new_entries}
 use Rattle.bpf_maps.specs.KeyLists.{shown_by}
 use Rattle.bpf_maps.specs.KeyRef.{key_bytes, shown_entry}
-use Rattle.bpf_maps.specs.Places.{PlaceTable, IsSound, occurrences, new_places}
+use Rattle.bpf_maps.specs.KeyTable.{KeyTable, IsSound, occurrences, new_keys}
 use Rattle.bpf_maps.specs.declared.key_ref.KeyRef.{KeyRef}
 use Rattle.bpf_maps.proofs.Indices.{itself}
 use Rattle.bpf_maps.proofs.Values.{used_in_entries}
@@ -34,7 +34,7 @@ module _ {K : Type 0} (bytes : K → List ℕ) where
       by true f r = f
       by false f r = r
 
-  pub next_shown : (place : Option ℕ) (es : List (K × ℕ)) → next_entry place (shown_by bytes es) ≡ option_map shown_one (next_entry place es)
+  pub next_shown : (element : Option ℕ) (es : List (K × ℕ)) → next_entry element (shown_by bytes es) ≡ option_map shown_one (next_entry element es)
   next_shown None es = first_shown es
   next_shown (Some p) es = behind_shown p es
 
@@ -81,7 +81,7 @@ behind_index p first (suc n) le = by (nat_eq p first) refl (behind_index p (firs
         first_index (first + 1) n ∙ ap (index_entry (first + 1)) end ∙ ap (λ (i : ℕ). index_entry i (first + suc n)) next
     by false e r = r (above e) ∙ ap (index_entry (p + 1)) end
 
-pub next_index : (place : Option ℕ) (n : ℕ) → next_entry place (indexed itself 0 n) ≡ index_entry (option_map_or (λ p. p + 1) place 0) n
+pub next_index : (element : Option ℕ) (n : ℕ) → next_entry element (indexed itself 0 n) ≡ index_entry (option_map_or (λ p. p + 1) element 0) n
 next_index None n = let none : 0 + n ≡ n = omega arith in first_index 0 n ∙ ap (index_entry 0) none
 next_index (Some p) n = let none : 0 + n ≡ n = omega arith in behind_index p 0 n (omega arith) ∙ ap (index_entry (p + 1)) none
 
@@ -94,10 +94,10 @@ some_index i n key below is =
     ∙ ap (λ (k : List ℕ). let o : Option (List ℕ × ℕ) = Some (k, i) in o) (sym is)
 
 -- an array has the entries of its indices
-pub array_entries : (t : PlaceTable) → t ≡ new_places t.shape → t.shape.kind ≡ Array → t.entries ≡ indexed itself 0 t.shape.max_entries
-array_entries t whole kind = ap (λ (u : PlaceTable). u.entries) whole ∙ ap (λ (k : MapKind). new_entries itself k t.shape.max_entries) kind
+pub array_entries : (t : KeyTable) → t ≡ new_keys t.shape → t.shape.kind ≡ Array → t.entries ≡ indexed itself 0 t.shape.max_entries
+array_entries t whole kind = ap (λ (u : KeyTable). u.entries) whole ∙ ap (λ (k : MapKind). new_entries itself k t.shape.max_entries) kind
 
--- ---- the place of an entry is within the map
+-- ---- the element of an entry is within the map
 
 counted : (p q n : ℕ) → p ≡ q → 1 ≤ (if nat_eq p q then 1 else 0) + n
 counted p q n e = let b : nat_eq p q ≡ true = eq-eqb p q e in grind arith
@@ -118,10 +118,10 @@ behind_occurs p (x ∷ es) e is = more (nat_eq e.1 x.1) (occurrences e.1 (values
     by true is f r = f is
     by false is f r = r is
 
-next_occurs : (place : Option ℕ) (es : List (List ℕ × ℕ)) (e : List ℕ × ℕ) → next_entry place es ≡ Some e → 1 ≤ occurrences e.1 (values_of es)
+next_occurs : (element : Option ℕ) (es : List (List ℕ × ℕ)) (e : List ℕ × ℕ) → next_entry element es ≡ Some e → 1 ≤ occurrences e.1 (values_of es)
 next_occurs None es e is = first_occurs es e is
 next_occurs (Some p) es e is = behind_occurs p es e is
 
-pub next_within : (t : PlaceTable) (place : Option ℕ) (o : Option (KeyRef × ℕ)) → IsSound t → option_map shown_entry o ≡ next_entry place t.entries → IfSome o (λ e. e.1 < t.shape.max_entries)
-next_within t place None sound is = tt
-next_within t place (Some e) sound is = used_in_entries t e.1 sound (next_occurs place t.entries (key_bytes e.0, e.1) (sym is))
+pub next_within : (t : KeyTable) (element : Option ℕ) (o : Option (KeyRef × ℕ)) → IsSound t → option_map shown_entry o ≡ next_entry element t.entries → IfSome o (λ e. e.1 < t.shape.max_entries)
+next_within t element None sound is = tt
+next_within t element (Some e) sound is = used_in_entries t e.1 sound (next_occurs element t.entries (key_bytes e.0, e.1) (sym is))

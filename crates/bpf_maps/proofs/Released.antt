@@ -7,7 +7,7 @@ use Rattle.bpf_maps.specs.declared.part.TheConstants.{STACK_AND_CONTEXT, PART}
 use Rattle.bpf_maps.specs.declared.stored_map.StoredMap.{StoredMap}
 use Rattle.bpf_maps.specs.declared.spare_maps.SpareMaps.{SpareMaps}
 use Rattle.bpf_maps.specs.declared.maps.Maps.TheInside.{Inside}
-use Rattle.bpf_maps.specs.BpfMap.{places_of}
+use Rattle.bpf_maps.specs.BpfMap.{keys_in}
 use Rattle.bpf_maps.specs.Live.{LiveMap, LiveMaps, live_at, live_or, shape_at, offset, area_by, areas, without_area, held_at, one_less, area_of, IsLaid, AreSound, SameValues, KeepsOthers, map_without, ClosesUp}
 use Rattle.bpf_maps.specs.Sum.{weight}
 use Rattle.bpf_maps.specs.InMaps.{live_of, live_maps_of, by_handle, stored_in, as_live_maps, AreKeys, closed_up, IsWellFormedMaps}
@@ -197,10 +197,10 @@ module _ {a : Inside} {t : LiveMaps} {handle map key size : ℕ} {old gone : Sto
         ∙ ap (take n) (drop-drop x (gone.start + size) bytes)
 
     -- a value of another map
-    kept_at : (j p : ℕ) (f : StoredMap) → j ≢ handle → get_or (stored_in a) j None ≡ Some f → p < (places_of f.map).shape.max_entries
-        → take (places_of f.map).shape.value_size (drop (offset (map_without (live_of gone) (live_of f)) p) later) ≡ take (places_of f.map).shape.value_size (drop (offset (live_of f) p) bytes)
+    kept_at : (j p : ℕ) (f : StoredMap) → j ≢ handle → get_or (stored_in a) j None ≡ Some f → p < (keys_in f.map).shape.max_entries
+        → take (keys_in f.map).shape.value_size (drop (offset (map_without (live_of gone) (live_of f)) p) later) ≡ take (keys_in f.map).shape.value_size (drop (offset (live_of f) p) bytes)
     kept_at j p f ne ft l =
-        let s = (places_of f.map).shape in
+        let s = (keys_in f.map).shape in
         let i = was_whole.placed j f ft in
         let o = offset_of f p in
         let m = offset_without gone f p in
@@ -232,10 +232,10 @@ module _ {a : Inside} {t : LiveMaps} {handle map key size : ℕ} {old gone : Sto
         let ne : j ≢ map = λ (s : j ≡ map). true≢false (sym new_live ∙ ap is_some (ap (live_at (as_live_maps new)) s ∙ none_now)) in
         let f = live_stored a {map = j} g.taken.under.view refl old_live in
         let n : live_at (as_live_maps new) j ≡ Some (map_without (live_of gone) (live_of f.0)) = lives_close j (λ e. ne (e ∙ g.taken.under.same)) ∙ ap (option_map (map_without (live_of gone))) f.2 in
-        let m = told_of (λ x. x.places.shape.max_entries) n in
-        ap (λ (x : Option LiveMap). take (live_or x).places.shape.value_size (drop (offset (live_or x) p) later)) n
+        let m = told_of (λ x. x.keys.shape.max_entries) n in
+        ap (λ (x : Option LiveMap). take (live_or x).keys.shape.value_size (drop (offset (live_or x) p) later)) n
         ∙ kept_at j p f.0 (λ e. ne (e ∙ g.taken.under.same)) f.1 (omega arith)
-        ∙ ap (λ (x : Option LiveMap). take (live_or x).places.shape.value_size (drop (offset (live_or x) p) bytes)) (sym f.2)
+        ∙ ap (λ (x : Option LiveMap). take (live_or x).keys.shape.value_size (drop (offset (live_or x) p) bytes)) (sym f.2)
 
     pub others_kept : KeepsOthers map t bytes (as_live_maps new) later
     others_kept other ne = keeps_held t (as_live_maps new) bytes later other values_gone (subst AreSound g.taken.under.view (sound_at was_whole) other) (others_gone other ne)

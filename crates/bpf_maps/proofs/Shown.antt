@@ -66,9 +66,9 @@ module _ {K : Type 0} (bytes : K → List ℕ) where
 
   -- ---- a new key
 
-  pub added_shown : (es fs : List (K × ℕ)) (own : K) (key : List ℕ) (place : ℕ) → bytes own ≡ key → fs ≡ es ++ (own, place) ∷ [] → view fs ≡ with_key key place (view es)
-  added_shown es fs own key place is e =
-      ap view e ∙ shown_by-append es ((own, place) ∷ []) ∙ ap (λ (k : List ℕ). view es ++ (k, place) ∷ []) is
+  pub added_shown : (es fs : List (K × ℕ)) (own : K) (key : List ℕ) (element : ℕ) → bytes own ≡ key → fs ≡ es ++ (own, element) ∷ [] → view fs ≡ with_key key element (view es)
+  added_shown es fs own key element is e =
+      ap view e ∙ shown_by-append es ((own, element) ∷ []) ∙ ap (λ (k : List ℕ). view es ++ (k, element) ∷ []) is
 
   pub values_shown : (es : List (K × ℕ)) → values_of (view es) ≡ values_of es
   values_shown [] = refl

@@ -60,7 +60,7 @@ module _ (old new : LiveMaps) (k : ℕ) (areas : SameAreas old new) (live : IsSo
   offsets_stay p = let m = areas k (live_or (live_at new k)) (live_is new k live) in offset_same (live_or (live_at new k)) m.0 p m.3 m.4 ∙ ap (λ (o : Option LiveMap). offset (live_or o) p) (sym m.1)
 
   shape_stays : shape_at new k ≡ shape_at old k
-  shape_stays = let m = areas k (live_or (live_at new k)) (live_is new k live) in m.2 ∙ ap (λ (o : Option LiveMap). (live_or o).places.shape) (sym m.1)
+  shape_stays = let m = areas k (live_or (live_at new k)) (live_is new k live) in m.2 ∙ ap (λ (o : Option LiveMap). (live_or o).keys.shape) (sym m.1)
 
   pub value_stays : (part : List ℕ) (p : ℕ) → value_in part new k p ≡ value_in part old k p
   value_stays part p =
@@ -78,14 +78,14 @@ same_or_other {P} j k f g = by (nat_eq j k) refl
 pub same_some : {A : Type 0} {o : Option A} {l m : A} → o ≡ Some l → o ≡ Some m → l ≡ m
 same_some {l = l} {m = m} e f = same_Some l m (sym e ∙ f)
 
--- a place has one element
+-- an index has one entry
 pub same_at : {A : Type 0} (xs : List (Option A)) {j k : ℕ} {f g : A} → get_or xs k None ≡ Some f → j ≡ k → get_or xs j None ≡ Some g → f ≡ g
 same_at xs there same at = same_some there (ap (λ (i : ℕ). get_or xs i None) (sym same) ∙ at)
 
 -- one map that keeps its shape and its area
-pub one_changed : (old new : LiveMaps) (k : ℕ) (a b : LiveMap) → live_at old k ≡ Some a → live_at new k ≡ Some b → b.places.shape ≡ a.places.shape → b.start ≡ a.start → b.stride ≡ a.stride → ((j : ℕ) → j ≢ k → live_at new j ≡ live_at old j) → SameAreas old new
+pub one_changed : (old new : LiveMaps) (k : ℕ) (a b : LiveMap) → live_at old k ≡ Some a → live_at new k ≡ Some b → b.keys.shape ≡ a.keys.shape → b.start ≡ a.start → b.stride ≡ a.stride → ((j : ℕ) → j ≢ k → live_at new j ≡ live_at old j) → SameAreas old new
 one_changed old new k a b at bt shape start stride others j l h =
     same_or_other j k
     (λ (q : j ≡ k). let is : l ≡ b = same_some (ap (live_at new) (sym q) ∙ h) bt in
-    (a, ap (live_at old) q ∙ at, ap (λ (x : LiveMap). x.places.shape) is ∙ shape, ap (λ (x : LiveMap). x.start) is ∙ start, ap (λ (x : LiveMap). x.stride) is ∙ stride))
+    (a, ap (live_at old) q ∙ at, ap (λ (x : LiveMap). x.keys.shape) is ∙ shape, ap (λ (x : LiveMap). x.start) is ∙ start, ap (λ (x : LiveMap). x.stride) is ∙ stride))
     (λ (ne : j ≢ k). (l, sym (others j ne) ∙ h, refl, refl, refl))

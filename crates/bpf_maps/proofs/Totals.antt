@@ -5,7 +5,7 @@ use Rattle.bpf_maps.specs.Sum.{weight, total}
 use Rattle.bpf_maps.specs.LiveLaws.{total_same}
 
 module _ (f : LiveMap → ℕ) where
-  -- the sums of two lists whose numbers are equal at all places but one
+  -- the sums of two lists whose numbers are equal at all indices but one
   pub total_but_one : (k : ℕ) (xs ys : List (Option LiveMap)) → ((j : ℕ) → j ≢ k → weight f (get_or ys j None) ≡ weight f (get_or xs j None)) → total f ys + weight f (get_or xs k None) ≡ total f xs + weight f (get_or ys k None)
   unfolding total
   total_but_one zero [] [] h = refl

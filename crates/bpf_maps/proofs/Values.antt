@@ -1,4 +1,4 @@
--- The values at the places of a map.
+-- The values of the elements of a map.
 use Rattle.std.proofs.Common.{◌≡◌, ℕ, zero, suc, ◌+◌, ◌<◌, ◌≤◌, ◌==◌, Bool, true, false, cond, List, [], ◌∷◌, map, Some, refl, ap, ◌∙◌, nat_eq, nat_lt, if◌then◌else◌, arith, eq-eqb}
 use Rattle.std.proofs.lemmas.Option.{same_Some}
 use Rattle.std.specs.Map.{values_of, set_value}
@@ -6,15 +6,15 @@ use Rattle.tagged_model.specs.declared.shape.MapKind.{MapKind}
 use Rattle.tagged_model.specs.declared.shape.MapKind.TheVariants.{Hash, Array}
 use Rattle.tagged_model.specs.declared.shape.MapShape.{MapShape}
 use Rattle.tagged_model.specs.Table.{Table, is_key, found, index_key, indexed, new_entries, new_table, with_object, with_values}
-use Rattle.bpf_maps.specs.Places.{PlaceTable, table_of, new_places, IsSound, occurrences}
-use Rattle.bpf_maps.specs.Live.{LiveMaps, places_at, value_in, map_in}
+use Rattle.bpf_maps.specs.KeyTable.{KeyTable, table_of, new_keys, IsSound, occurrences}
+use Rattle.bpf_maps.specs.Live.{LiveMaps, keys_at, value_in, map_in}
 use Rattle.bpf_maps.proofs.Counts.{in_use}
 
 module _ {B : Type 0} (value : ℕ → B) where
   abbrev pub valued : List (List ℕ × ℕ) → List (List ℕ × B)
   valued es = map (λ e. (e.0, value e.1)) es
 
--- ---- values that agree on the places in use
+-- ---- values that agree on the elements in use
 
 module _ {B : Type 0} (f g : ℕ → B) where
   in_front : (p n : ℕ) → p ≡ p → 1 ≤ (if nat_eq p p then 1 else 0) + n
@@ -27,17 +27,17 @@ module _ {B : Type 0} (f g : ℕ → B) where
       let rest = agreeing es (λ p used. h p (omega arith)) in
       λ i. (e.0, head i) ∷ rest i
 
-  pub agreeing_tables : (t : PlaceTable) → ((p : ℕ) → 1 ≤ occurrences p (values_of t.entries) → f p ≡ g p) → with_values f (table_of t) ≡ with_values g (table_of t)
+  pub agreeing_tables : (t : KeyTable) → ((p : ℕ) → 1 ≤ occurrences p (values_of t.entries) → f p ≡ g p) → with_values f (table_of t) ≡ with_values g (table_of t)
   agreeing_tables t h = ap (λ (es : List (List ℕ × B)). let m : Table B = record { shape = t.shape; entries = es; deleted = (table_of t).deleted } in m) (agreeing t.entries h)
 
--- a place in use is one of the map
+-- an element in use is one of the map
 used_below : (p n m k : ℕ) → n + m ≤ (if nat_lt p k then 1 else 0) → 1 ≤ n + m → p < k
 used_below p n m k h used = grind arith
 
-pub used_within : (t : PlaceTable) (p : ℕ) → IsSound t → 1 ≤ occurrences p (values_of t.entries) + occurrences p t.kept → p < t.shape.max_entries
+pub used_within : (t : KeyTable) (p : ℕ) → IsSound t → 1 ≤ occurrences p (values_of t.entries) + occurrences p t.kept → p < t.shape.max_entries
 used_within t p sound used = used_below p (occurrences p (values_of t.entries)) (occurrences p t.kept) t.shape.max_entries (sound.once p) used
 
-pub used_in_entries : (t : PlaceTable) (p : ℕ) → IsSound t → 1 ≤ occurrences p (values_of t.entries) → p < t.shape.max_entries
+pub used_in_entries : (t : KeyTable) (p : ℕ) → IsSound t → 1 ≤ occurrences p (values_of t.entries) → p < t.shape.max_entries
 used_in_entries t p sound used = used_within t p sound (omega arith)
 
 -- ---- a value is written
@@ -82,13 +82,13 @@ module _ {B : Type 0} (value : ℕ → B) (p : ℕ) (bytes : B) where
 once_at_most : (p n m k : ℕ) → n + m ≤ (if nat_lt p k then 1 else 0) → n ≤ 1
 once_at_most p n m k h = grind arith
 
-pub places_once : (t : PlaceTable) → IsSound t → (p : ℕ) → occurrences p (values_of t.entries) ≤ 1
-places_once t sound p = once_at_most p (occurrences p (values_of t.entries)) (occurrences p t.kept) t.shape.max_entries (sound.once p)
+pub elements_once : (t : KeyTable) → IsSound t → (p : ℕ) → occurrences p (values_of t.entries) ≤ 1
+elements_once t sound p = once_at_most p (occurrences p (values_of t.entries)) (occurrences p t.kept) t.shape.max_entries (sound.once p)
 
-pub table_written : {B : Type 0} (value : ℕ → B) (t : PlaceTable) (key : List ℕ) (place : ℕ) (bytes : B) → IsSound t → found key t.entries ≡ Some place
-    → with_values (written value place bytes) (table_of t) ≡ with_object (with_values value (table_of t)) key bytes
-table_written {B} value t key place bytes sound h =
-    ap (λ (es : List (List ℕ × B)). let m : Table B = record { shape = t.shape; entries = es; deleted = (table_of t).deleted } in m) (valued_written value place bytes key t.entries (places_once t sound place) h)
+pub table_written : {B : Type 0} (value : ℕ → B) (t : KeyTable) (key : List ℕ) (element : ℕ) (bytes : B) → IsSound t → found key t.entries ≡ Some element
+    → with_values (written value element bytes) (table_of t) ≡ with_object (with_values value (table_of t)) key bytes
+table_written {B} value t key element bytes sound h =
+    ap (λ (es : List (List ℕ × B)). let m : Table B = record { shape = t.shape; entries = es; deleted = (table_of t).deleted } in m) (valued_written value element bytes key t.entries (elements_once t sound element) h)
 
 -- ---- a new map
 
@@ -102,10 +102,10 @@ module _ (value : ℕ → List ℕ) (bytes : List ℕ) where
       let rest = valued_indices (first + 1) n (λ i lt. h i (omega (arith, lt))) in
       λ i. (index_key first, head i) ∷ rest i
 
-pub new_map_in : (part : List ℕ) (t : LiveMaps) (k : ℕ) (shape : MapShape) (bytes : List ℕ) → places_at t k ≡ new_places shape
+pub new_map_in : (part : List ℕ) (t : LiveMaps) (k : ℕ) (shape : MapShape) (bytes : List ℕ) → keys_at t k ≡ new_keys shape
     → (shape.kind ≡ Array → (p : ℕ) → p < shape.max_entries → value_in part t k p ≡ bytes) → map_in part t k ≡ new_table (λ i. bytes) shape
-new_map_in part t k shape bytes places cleared =
-    ap (λ (q : PlaceTable). with_values (value_in part t k) (table_of q)) places
+new_map_in part t k shape bytes keys cleared =
+    ap (λ (q : KeyTable). with_values (value_in part t k) (table_of q)) keys
     ∙ ap (λ es. let m : Table (List ℕ) = record { shape = shape; entries = es; deleted = 0 } in m) (by shape.kind refl)
   where
     by : (d : MapKind) → shape.kind ≡ d → valued (value_in part t k) (new_entries (λ i. i) d shape.max_entries) ≡ new_entries (λ i. bytes) d shape.max_entries

@@ -7,15 +7,15 @@ use Rattle.bpf_maps.specs.declared.part.TheConstants.{STACK_AND_CONTEXT, LARGEST
 use Rattle.bpf_maps.specs.declared.stored_map.StoredMap.{StoredMap}
 use Rattle.bpf_maps.specs.declared.spare_maps.SpareMaps.{SpareMaps}
 use Rattle.bpf_maps.specs.declared.maps.Maps.TheInside.{Inside}
-use Rattle.bpf_maps.specs.BpfMap.{places_of}
-use Rattle.bpf_maps.specs.Places.{IsSound}
+use Rattle.bpf_maps.specs.BpfMap.{keys_in}
+use Rattle.bpf_maps.specs.KeyTable.{IsSound}
 use Rattle.bpf_maps.specs.Elements.{elements_of, word_of}
-use Rattle.bpf_maps.specs.Live.{LiveMap, live_at, live_or, places_at, offset, LiesInPart, IsLaid, IsPacked, area_of, areas, StandsBefore, start_without, map_without}
+use Rattle.bpf_maps.specs.Live.{LiveMap, live_at, live_or, keys_at, offset, LiesInPart, IsLaid, IsPacked, area_of, areas, StandsBefore, start_without, map_without}
 use Rattle.bpf_maps.specs.Sum.{weight}
 use Rattle.bpf_maps.specs.InMaps.{live_of, live_maps_of, stored_in, as_live_maps, AreKeys, closed_up, IsInItsArea, IsWellFormedMaps}
 use Rattle.bpf_maps.proofs.Slots.{at_lives, stored_of, some_stored, live_by, none_by, others_by, same_or_other, same_at}
 use Rattle.bpf_maps.proofs.Totals.{total_but_one}
-use Rattle.bpf_maps.proofs.InAreas.{area_aligned, value_ends, place_inside, apart_places, before_or_behind, apart_still}
+use Rattle.bpf_maps.proofs.InAreas.{area_aligned, value_ends, element_inside, apart_elements, before_or_behind, apart_still}
 
 -- ---- the values do not overlap
 
@@ -34,33 +34,33 @@ unfolding offset
 offset_without gone e p = refl
 
 abbrev IsApart : LiveMap → LiveMap → ℕ → ℕ → Type 0
-IsApart l m p q = (offset l p + l.places.shape.value_size ≤ offset m q) ⊎ (offset m q + m.places.shape.value_size ≤ offset l p)
+IsApart l m p q = (offset l p + l.keys.shape.value_size ≤ offset m q) ⊎ (offset m q + m.keys.shape.value_size ≤ offset l p)
 
 module _ {a : Inside} (h : IsWellFormedMaps a) where
-  inside : (k p : ℕ) (e : StoredMap) → stored_at a k e → p < (places_of e.map).shape.max_entries → LiesInPart (offset (live_of e) p) (places_of e.map).shape.value_size
+  inside : (k p : ℕ) (e : StoredMap) → stored_at a k e → p < (keys_in e.map).shape.max_entries → LiesInPart (offset (live_of e) p) (keys_in e.map).shape.value_size
   inside k p e at l =
       let i = h.placed k e at in
-      let s = (places_of e.map).shape in
-      subst (λ (o : ℕ). LiesInPart o s.value_size) (sym (offset_of e p)) (place_inside s.value_size s.max_entries e.stride i.stride e.start a.bytes p i.behind i.aligned i.within h.few l)
+      let s = (keys_in e.map).shape in
+      subst (λ (o : ℕ). LiesInPart o s.value_size) (sym (offset_of e p)) (element_inside s.value_size s.max_entries e.stride i.stride e.start a.bytes p i.behind i.aligned i.within h.few l)
 
   apart_in_one : (k p q : ℕ) (e : StoredMap) → stored_at a k e → p ≢ q → IsApart (live_of e) (live_of e) p q
   apart_in_one k p q e at ne =
       let i = h.placed k e at in
       let op = offset_of e p in
       let oq = offset_of e q in
-      ⊎_elim (λ x. inl (omega arith)) (λ x. inr (omega arith)) (apart_places (places_of e.map).shape.value_size e.stride e.start p q i.stride ne)
+      ⊎_elim (λ x. inl (omega arith)) (λ x. inr (omega arith)) (apart_elements (keys_in e.map).shape.value_size e.stride e.start p q i.stride ne)
 
-  apart_in_two : (k j p q : ℕ) (e f : StoredMap) → stored_at a k e → stored_at a j f → k ≢ j → p < (places_of e.map).shape.max_entries → q < (places_of f.map).shape.max_entries → IsApart (live_of e) (live_of f) p q
+  apart_in_two : (k j p q : ℕ) (e f : StoredMap) → stored_at a k e → stored_at a j f → k ≢ j → p < (keys_in e.map).shape.max_entries → q < (keys_in f.map).shape.max_entries → IsApart (live_of e) (live_of f) p q
   apart_in_two k j p q e f at bt ne l m =
-      let s = (places_of e.map).shape in
-      let t = (places_of f.map).shape in
+      let s = (keys_in e.map).shape in
+      let t = (keys_in f.map).shape in
       let op = offset_of e p in
       let oq = offset_of f q in
       let x = value_ends s.value_size s.max_entries e.stride (h.placed k e at).stride p l in
       let y = value_ends t.value_size t.max_entries f.stride (h.placed j f bt).stride q m in
       ⊎_elim (λ z. inl (omega arith)) (λ z. inr (omega arith)) (h.apart k j e f at bt ne)
 
-  apart : (k j p q : ℕ) (e f : StoredMap) → stored_at a k e → stored_at a j f → (k ≡ j → p ≢ q) → p < (places_of e.map).shape.max_entries → q < (places_of f.map).shape.max_entries → IsApart (live_of e) (live_of f) p q
+  apart : (k j p q : ℕ) (e f : StoredMap) → stored_at a k e → stored_at a j f → (k ≡ j → p ≢ q) → p < (keys_in e.map).shape.max_entries → q < (keys_in f.map).shape.max_entries → IsApart (live_of e) (live_of f) p q
   apart k j p q e f at bt ne l m =
       same_or_other k j
       (λ (s : k ≡ j).
@@ -72,12 +72,12 @@ module _ {a : Inside} (h : IsWellFormedMaps a) where
   laid = record {
     inside = λ k p l at lt.
         let e = stored_of (stored_in a) k l at in
-        subst (λ (x : LiveMap). p < x.places.shape.max_entries → LiesInPart (offset x p) x.places.shape.value_size) e.2 (inside k p e.0 e.1) lt;
+        subst (λ (x : LiveMap). p < x.keys.shape.max_entries → LiesInPart (offset x p) x.keys.shape.value_size) e.2 (inside k p e.0 e.1) lt;
     apart = λ k p j q l m at bt pl ql ne.
         let e = stored_of (stored_in a) k l at in
         let f = stored_of (stored_in a) j m bt in
-        subst (λ (x : LiveMap). p < x.places.shape.max_entries → IsApart x m p q) e.2
-        (λ (x : p < (places_of e.0.map).shape.max_entries). subst (λ (y : LiveMap). q < y.places.shape.max_entries → IsApart (live_of e.0) y p q) f.2 (λ (y : q < (places_of f.0.map).shape.max_entries). apart k j p q e.0 f.0 e.1 f.1 ne x y) ql) pl;
+        subst (λ (x : LiveMap). p < x.keys.shape.max_entries → IsApart x m p q) e.2
+        (λ (x : p < (keys_in e.0.map).shape.max_entries). subst (λ (y : LiveMap). q < y.keys.shape.max_entries → IsApart (live_of e.0) y p q) f.2 (λ (y : q < (keys_in f.0.map).shape.max_entries). apart k j p q e.0 f.0 e.1 f.1 ne x y) ql) pl;
   }
 
   pub packed : IsPacked (as_live_maps a)
@@ -93,14 +93,14 @@ module _ {a : Inside} (h : IsWellFormedMaps a) where
         subst (λ (x : LiveMap). AreApart x m) e.2 (subst (λ (y : LiveMap). AreApart (live_of e.0) y) f.2 (h.apart k j e.0 f.0 e.1 f.1 ne));
     stride = λ k l at.
         let e = stored_of (stored_in a) k l at in
-        subst (λ (x : LiveMap). x.stride ≡ (x.places.shape.value_size + 7) / 8 * 8) e.2 (h.placed k e.0 e.1).stride;
+        subst (λ (x : LiveMap). x.stride ≡ (x.keys.shape.value_size + 7) / 8 * 8) e.2 (h.placed k e.0 e.1).stride;
   }
 
--- no two keys of a live map have one place
-pub sound_at : {a : Inside} (h : IsWellFormedMaps a) (k : ℕ) → IsSome (live_at (as_live_maps a) k) → IsSound (places_at (as_live_maps a) k)
+-- no two keys of a live map have one element
+pub sound_at : {a : Inside} (h : IsWellFormedMaps a) (k : ℕ) → IsSome (live_at (as_live_maps a) k) → IsSound (keys_at (as_live_maps a) k)
 sound_at {a} h k live =
     let e = some_stored (stored_in a) k live in
-    subst (λ (o : Option LiveMap). IsSound (live_or o).places) (sym (live_by (stored_in a) (stored_in a) k e.0 e.1)) (h.placed k e.0 e.1).sound
+    subst (λ (o : Option LiveMap). IsSound (live_or o).keys) (sym (live_by (stored_in a) (stored_in a) k e.0 e.1)) (h.placed k e.0 e.1).sound
 
 -- no field but `refused` and the spare maps is changed
 pub whole_refused : {a : Inside} {refused : Bool} {spares : SpareMaps} → IsWellFormedMaps a → IsWellFormedMaps (record a { refused = refused; spares = spares })
@@ -120,7 +120,7 @@ module _ {a : Inside} (b : Inside) (k : ℕ) (h : IsWellFormedMaps a) (others : 
   changed = total_but_one area_of k (live_maps_of (stored_in a)) (live_maps_of (stored_in b)) (λ j ne. ap (weight area_of) (others_by (stored_in a) (stored_in b) k others j ne))
 
   -- a map that keeps its area
-  module _ (e f : StoredMap) (at : stored_at a k e) (bt : stored_at b k f) (start : f.start ≡ e.start) (stride : f.stride ≡ e.stride) (elements : f.elements ≡ e.elements) (shape : (places_of f.map).shape ≡ (places_of e.map).shape) (held : 1 ≤ f.holds) (sound : IsSound (places_of f.map)) (bytes : b.bytes ≡ a.bytes) where
+  module _ (e f : StoredMap) (at : stored_at a k e) (bt : stored_at b k f) (start : f.start ≡ e.start) (stride : f.stride ≡ e.stride) (elements : f.elements ≡ e.elements) (shape : (keys_in f.map).shape ≡ (keys_in e.map).shape) (held : 1 ≤ f.holds) (sound : IsSound (keys_in f.map)) (bytes : b.bytes ≡ a.bytes) where
     same_area : area_of (live_of f) ≡ area_of (live_of e)
     same_area = ap (λ (s : MapShape). area s.value_size s.max_entries) shape
 
@@ -188,9 +188,9 @@ module _ {a : Inside} (b : Inside) (k : ℕ) (h : IsWellFormedMaps a) (others : 
         omega arith
 
   -- its area is after the others
-  module _ (e : StoredMap) (at : get_or (stored_in a) k None ≡ None) (bt : stored_at b k e) (start : e.start ≡ STACK_AND_CONTEXT + a.bytes) (stride : e.stride ≡ ((places_of e.map).shape.value_size + 7) / 8 * 8) (elements : e.elements ≡ word_of (elements_of (places_of e.map).shape)) (held : 1 ≤ e.holds) (sound : IsSound (places_of e.map)) (bytes : b.bytes ≡ a.bytes + area_of (live_of e)) (few : b.bytes ≤ LARGEST_SUM) where
+  module _ (e : StoredMap) (at : get_or (stored_in a) k None ≡ None) (bt : stored_at b k e) (start : e.start ≡ STACK_AND_CONTEXT + a.bytes) (stride : e.stride ≡ ((keys_in e.map).shape.value_size + 7) / 8 * 8) (elements : e.elements ≡ word_of (elements_of (keys_in e.map).shape)) (held : 1 ≤ e.holds) (sound : IsSound (keys_in e.map)) (bytes : b.bytes ≡ a.bytes + area_of (live_of e)) (few : b.bytes ≤ LARGEST_SUM) where
     aligned_now : (a.bytes + area_of (live_of e)) % 8 ≡ 0
-    aligned_now = let al = h.aligned in let r = area_aligned (places_of e.map).shape.value_size (places_of e.map).shape.max_entries in omega arith
+    aligned_now = let al = h.aligned in let r = area_aligned (keys_in e.map).shape.value_size (keys_in e.map).shape.max_entries in omega arith
 
     placed_added : (j : ℕ) (g : StoredMap) → stored_at b j g → IsInItsArea b.bytes g
     placed_added =
@@ -268,7 +268,7 @@ module _ {a : Inside} (b : Inside) (k : ℕ) (h : IsWellFormedMaps a) (e : Store
   placed_closed j f ne ft =
       let i = h.placed j f ft in
       let p = h.placed k e at in
-      let round = area_aligned (places_of e.map).shape.value_size (places_of e.map).shape.max_entries in
+      let round = area_aligned (keys_in e.map).shape.value_size (keys_in e.map).shape.max_entries in
       let c = before_or_behind e.start size f.start (area_of (live_of f)) (beside j f ne ft) in
       record {
         behind = ⊎_elim (λ x. let s = x.1 in let b = i.behind in omega arith) (λ x. let l = x.0 in let s = x.1 in let b = p.behind in omega arith) c;
@@ -299,5 +299,5 @@ module _ {a : Inside} (b : Inside) (k : ℕ) (h : IsWellFormedMaps a) (e : Store
     apart = apart_removed;
     sum = let s = h.sum in let m = less_areas in omega arith;
     few = let f = h.few in omega arith;
-    aligned = let al = h.aligned in let r = area_aligned (places_of e.map).shape.value_size (places_of e.map).shape.max_entries in omega arith;
+    aligned = let al = h.aligned in let r = area_aligned (keys_in e.map).shape.value_size (keys_in e.map).shape.max_entries in omega arith;
   }

@@ -51,9 +51,9 @@ module _ (size : ℕ) (key : List ℕ) (small : AreBytes key) (long : length key
 
 -- ---- all numbers are below the bound
 
-pub below-append : (bound word place : ℕ) (es : List (ℕ × ℕ)) → AreBelow bound es → word < bound → AreBelow bound (es ++ (word, place) ∷ [])
-below-append bound word place [] h l = (l, tt)
-below-append bound word place (e ∷ es) h l = (h.0, below-append bound word place es h.1 l)
+pub below-append : (bound word element : ℕ) (es : List (ℕ × ℕ)) → AreBelow bound es → word < bound → AreBelow bound (es ++ (word, element) ∷ [])
+below-append bound word element [] h l = (l, tt)
+below-append bound word element (e ∷ es) h l = (h.0, below-append bound word element es h.1 l)
 
 pub below-remove : (bound : ℕ) (test : ℕ → Bool) (es : List (ℕ × ℕ)) → AreBelow bound es → AreBelow bound (remove_entry test es)
 below-remove bound test [] h = tt

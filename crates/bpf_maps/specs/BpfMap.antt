@@ -1,8 +1,8 @@
 -- A map of either kind. The kinds are those of bpf(2), BPF_MAP_TYPE_ARRAY and BPF_MAP_TYPE_HASH.
 use Rattle.bpf_maps.specs.declared.bpf_map.BpfMap.{BpfMap}
 use Rattle.bpf_maps.specs.declared.bpf_map.BpfMap.TheVariants.{Array, Hash}
-use Rattle.bpf_maps.specs.Places.{PlaceTable}
+use Rattle.bpf_maps.specs.KeyTable.{KeyTable}
 
-abbrev pub places_of : BpfMap → PlaceTable
-places_of (Array t) = t
-places_of (Hash t) = t
+abbrev pub keys_in : BpfMap → KeyTable
+keys_in (Array t) = t
+keys_in (Hash t) = t

@@ -6,15 +6,15 @@ use Rattle.bpf_maps.specs.Limits.{most_maps, most_bytes}
 use Rattle.bpf_maps.specs.declared.stored_map.StoredMap.{StoredMap}
 use Rattle.bpf_maps.specs.declared.maps.Maps.TheInside.{Inside}
 use Rattle.slab.specs.Slab.{Slab, get, ContainsKey, slab_len}
-use Rattle.bpf_maps.specs.Places.{IsSound}
-use Rattle.bpf_maps.specs.BpfMap.{places_of}
+use Rattle.bpf_maps.specs.KeyTable.{IsSound}
+use Rattle.bpf_maps.specs.BpfMap.{keys_in}
 use Rattle.bpf_maps.specs.Elements.{elements_of, word_of}
 use Rattle.bpf_maps.specs.Live.{LiveMap, LiveMaps, areas, area_of, StandsBefore, start_without}
 
 -- ---- what contracts see
 
 abbrev pub live_of : StoredMap → LiveMap
-live_of e = record { places = places_of e.map; start = e.start; stride = e.stride; holds = e.holds }
+live_of e = record { keys = keys_in e.map; start = e.start; stride = e.stride; holds = e.holds }
 
 abbrev pub live_maps_of : List (Option StoredMap) → List (Option LiveMap)
 live_maps_of xs = map (λ o. option_map live_of o) xs
@@ -43,15 +43,15 @@ abbrev pub closed_up : ℕ → ℕ → StoredMap → StoredMap
 closed_up end size e = record { map = e.map; start = start_without end size e.start; stride = e.stride; elements = e.elements; holds = e.holds }
 
 -- a map's area lies in the `bytes` bytes after the stack and the context, its values begin at multiples of eight, its elements are
--- those of its shape, it has a reference, and no two of its keys have the same place
+-- those of its shape, it has a reference, and no two of its keys have the same element
 pub record IsInItsArea (bytes : ℕ) (e : StoredMap) : Type 0 where
   pub behind : STACK_AND_CONTEXT ≤ e.start
   pub within : e.start + area_of (live_of e) ≤ STACK_AND_CONTEXT + bytes
   pub aligned : e.start % 8 ≡ 0
-  pub stride : e.stride ≡ ((places_of e.map).shape.value_size + 7) / 8 * 8
-  pub elements : e.elements ≡ word_of (elements_of (places_of e.map).shape)
+  pub stride : e.stride ≡ ((keys_in e.map).shape.value_size + 7) / 8 * 8
+  pub elements : e.elements ≡ word_of (elements_of (keys_in e.map).shape)
   pub held : 1 ≤ e.holds
-  pub sound : IsSound (places_of e.map)
+  pub sound : IsSound (keys_in e.map)
 
 -- the keys are those of the slab, which has room for `most_maps` maps; the areas don't overlap, and lie after the stack and the context
 -- in as many bytes as they take together, `bytes`

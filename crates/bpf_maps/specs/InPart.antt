@@ -4,12 +4,12 @@ use Rattle.std.specs.Prelude.{◌≡◌, ◌≢◌, ℕ, ◌<◌, List, length, 
 use Rattle.words.specs.Bytes.{written_at}
 use Rattle.tagged_model.specs.Table as map
 use Rattle.bpf_maps.specs.declared.part.TheConstants.{STACK_AND_CONTEXT, PART}
-use Rattle.bpf_maps.specs.Places.{table_of, Claims, with_kept, after_run}
-use Rattle.bpf_maps.specs.Live.{LiveMaps, live_at, places_at, shape_at, offset_at, value_in, map_in, IsLaid, AreSound, SameAreas}
+use Rattle.bpf_maps.specs.KeyTable.{table_of, Claims, with_kept, after_run}
+use Rattle.bpf_maps.specs.Live.{LiveMaps, live_at, keys_at, shape_at, offset_at, value_in, map_in, IsLaid, AreSound, SameAreas}
 
 -- ---- a value is written
 
--- these bytes have the size of the value at place p of the live map of handle k
+-- these bytes have the size of the value of element p of the live map of handle k
 pub record IsValueAt (part : List ℕ) (t : LiveMaps) (k p : ℕ) (bytes : List ℕ) : Type 0 where
   pub whole : length part ≡ PART
   pub laid : IsLaid t
@@ -18,16 +18,16 @@ pub record IsValueAt (part : List ℕ) (t : LiveMaps) (k p : ℕ) (bytes : List 
   pub within : p < (shape_at t k).max_entries
   pub size : length bytes ≡ (shape_at t k).value_size
 
--- the part with these bytes as the value at place p of the map of handle k
+-- the part with these bytes as the value of element p of the map of handle k
 abbrev pub with_value : List ℕ → LiveMaps → ℕ → ℕ → List ℕ → List ℕ
 with_value part t k p bytes = written_at part (offset_at t k p) bytes
 
--- these bytes are the value at the place, and that of the place's key; no other value of a live map changes, nor do the stack and
+-- these bytes are the value of the element, and that of the element's key; no other value of a live map changes, nor do the stack and
 -- the context
 pub record ValueIsWritten (part : List ℕ) (t : LiveMaps) (k p : ℕ) (bytes : List ℕ) : Type 0 where
   pub here : value_in (with_value part t k p bytes) t k p ≡ bytes
   pub elsewhere : (j q : ℕ) → IsSome (live_at t j) → q < (shape_at t j).max_entries → (j ≡ k → q ≢ p) → value_in (with_value part t k p bytes) t j q ≡ value_in part t j q
-  pub key : (key : List ℕ) → map.look_up (table_of (places_at t k)) key ≡ Some p → map_in (with_value part t k p bytes) t k ≡ map.with_object (map_in part t k) key bytes
+  pub key : (key : List ℕ) → map.look_up (table_of (keys_at t k)) key ≡ Some p → map_in (with_value part t k p bytes) t k ≡ map.with_object (map_in part t k) key bytes
   pub others : (other : ℕ) → other ≢ k → IsSome (live_at t other) → map_in (with_value part t k p bytes) t other ≡ map_in part t other
   pub front : take STACK_AND_CONTEXT (with_value part t k p bytes) ≡ take STACK_AND_CONTEXT part
   pub size : length (with_value part t k p bytes) ≡ PART
@@ -46,12 +46,12 @@ updated map.New t key value = map.with_new t key value
 abbrev pub updated_in : List ℕ → LiveMaps → ℕ → List ℕ → List ℕ → ℕ → map.Table (List ℕ)
 updated_in part t k key value flags = updated (map.verdict (map_in part t k) key flags) (map_in part t k) key value
 
--- the map of values changes as that of places does; in an update, a claim is followed by the write of the value
+-- the map of values changes as that of elements does; in an update, a claim is followed by the write of the value
 pub record RefinesValues (part : List ℕ) (old new : LiveMaps) (k : ℕ) : Type 0 where
-  pub same : places_at new k ≡ places_at old k → map_in part new k ≡ map_in part old k
-  pub delete : (key : List ℕ) (place : ℕ) → places_at new k ≡ with_kept (places_at old k) key place → map_in part new k ≡ map.with_deleted (map_in part old k) key
-  pub end : places_at new k ≡ after_run (places_at old k) → map_in part new k ≡ map.after_run (map_in part old k)
-  pub update : (flags p : ℕ) (key bytes : List ℕ) → IsValueAt part new k p bytes → Claims (map.verdict (table_of (places_at old k)) key flags) key (places_at old k) (Ok p) (places_at new k)
+  pub same : keys_at new k ≡ keys_at old k → map_in part new k ≡ map_in part old k
+  pub delete : (key : List ℕ) (element : ℕ) → keys_at new k ≡ with_kept (keys_at old k) key element → map_in part new k ≡ map.with_deleted (map_in part old k) key
+  pub end : keys_at new k ≡ after_run (keys_at old k) → map_in part new k ≡ map.after_run (map_in part old k)
+  pub update : (flags p : ℕ) (key bytes : List ℕ) → IsValueAt part new k p bytes → Claims (map.verdict (table_of (keys_at old k)) key flags) key (keys_at old k) (Ok p) (keys_at new k)
       → map_in (with_value part new k p bytes) new k ≡ updated_in part old k key bytes flags
 
 abbrev pub LiveMapsRefineValues : Type 0

@@ -1,19 +1,19 @@
--- The fields of a hash map: its keys with their places, and its invariant. This project's own.
+-- The fields of a hash map: its keys with their elements, and its invariant. This project's own.
 use Rattle.std.specs.Prelude.{◌≡◌, ℕ, ◌+◌, ◌≤◌, List, length, take, nat_lt, if◌then◌else◌, vec_capacity}
 use Rattle.std.specs.Map.{values_of}
 use Rattle.tagged_model.specs.declared.shape.MapKind.TheVariants.{Hash}
-use Rattle.bpf_maps.specs.Places.{PlaceTable, occurrences, IsSized}
+use Rattle.bpf_maps.specs.KeyTable.{KeyTable, occurrences, IsSized}
 use Rattle.bpf_maps.specs.declared.key_index.KeyIndex.{KeyIndex}
 use Rattle.bpf_maps.specs.declared.key_index.KeyIndex.TheVariants.{Words, Middle, Long}
 use Rattle.bpf_maps.specs.declared.hash_map.HashMap.TheInside.{Inside}
 
--- the bytes of each key, with its place
+-- the bytes of each key, with its element
 abbrev pub entries_of : KeyIndex → List (List ℕ × ℕ)
 entries_of (Words keys) = keys.entries
 entries_of (Middle keys) = keys.entries
 entries_of (Long keys) = keys.entries
 
--- its places are less than this
+-- its elements are less than this
 abbrev pub bound_of : KeyIndex → ℕ
 bound_of (Words keys) = keys.bound
 bound_of (Middle keys) = keys.bound
@@ -25,11 +25,11 @@ TakesKeys (Words keys) size = size ≡ keys.size
 TakesKeys (Middle keys) size = size ≤ 64
 TakesKeys (Long keys) size = size ≤ 512
 
--- the first of the spare places are kept apart, and the others are free
-abbrev pub shown : Inside → PlaceTable
+-- the first of the spare elements are kept apart, and the others are free
+abbrev pub shown : Inside → KeyTable
 shown a = record { shape = a.shape; entries = entries_of a.index; kept = take a.kept a.spare.items }
 
--- each place is in use or spare, and there is room for all places
+-- each element is in use or spare, and there is room for all elements
 pub record IsWellFormedHash (a : Inside) : Type 0 where
   pub kind : a.shape.kind ≡ Hash
   pub takes : TakesKeys a.index a.shape.key_size

@@ -8,6 +8,6 @@ abbrev pub key_bytes : KeyRef → List ℕ
 key_bytes (Short bytes) = bytes
 key_bytes (Lent bytes) = bytes.now
 
--- a key and its place
+-- a key and its element
 abbrev pub shown_entry : KeyRef × ℕ → List ℕ × ℕ
 shown_entry e = (key_bytes e.0, e.1)

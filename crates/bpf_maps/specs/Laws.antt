@@ -1,49 +1,49 @@
--- Laws of tables of places and of live maps: they change as the definition of a map says, as a map of places and as one of values.
+-- Laws of tables of keys and of live maps: they change as the definition of a map says, as a map of elements and as one of values.
 -- This project's own.
 use Rattle.std.specs.Prelude.{◌≡◌, ℕ, ◌+◌, ◌<◌, ◌≤◌, ◌==◌, if◌then◌else◌, List, Some, IsSome}
 use Rattle.std.specs.Map.{values_of}
 use Rattle.tagged_model.specs.declared.shape.MapShape.{MapShape}
 use Rattle.tagged_model.specs.Table as map
 pub use Rattle.tagged_model.specs.MapLaws.{CallsRefineValues}
-use Rattle.bpf_maps.specs.Places.{PlaceTable, table_of, occurrences, IsSound, new_places, with_place, with_kept, after_run}
+use Rattle.bpf_maps.specs.KeyTable.{KeyTable, table_of, occurrences, IsSound, new_keys, with_entry, with_kept, after_run}
 use Rattle.bpf_maps.specs.declared.part.TheConstants.{PART}
 use Rattle.bpf_maps.specs.Live.{LiveMaps, live_at, offset_at, SameAreas}
 
--- the changes of a table of places are those of a map of places
+-- the changes of a table of keys are those of a map of elements
 
 pub record CallsAreThoseOfAMap : Type 0 where
-  pub new : (shape : MapShape) → table_of (new_places shape) ≡ map.new_table (λ i. i) shape
-  pub update : (t : PlaceTable) (key : List ℕ) (place : ℕ) → table_of (with_place t key place) ≡ map.with_new (table_of t) key place
-  pub delete : (t : PlaceTable) (key : List ℕ) (place : ℕ) → table_of (with_kept t key place) ≡ map.with_deleted (table_of t) key
-  pub end : (t : PlaceTable) → table_of (after_run t) ≡ map.after_run (table_of t)
+  pub new : (shape : MapShape) → table_of (new_keys shape) ≡ map.new_table (λ i. i) shape
+  pub update : (t : KeyTable) (key : List ℕ) (element : ℕ) → table_of (with_entry t key element) ≡ map.with_new (table_of t) key element
+  pub delete : (t : KeyTable) (key : List ℕ) (element : ℕ) → table_of (with_kept t key element) ≡ map.with_deleted (table_of t) key
+  pub end : (t : KeyTable) → table_of (after_run t) ≡ map.after_run (table_of t)
 
--- a write of the value at a place gives the place's key another object in the map of values
+-- a write of the value of an element gives the element's key another object in the map of values
 abbrev pub WritesRefineValues : Type 0 → Type 0
 WritesRefineValues B =
-    (value : ℕ → B) (t : PlaceTable) (key : List ℕ) (place : ℕ) (bytes : B) → IsSound t → map.look_up (table_of t) key ≡ Some place
-    → map.with_values (λ p. if p == place then bytes else value p) (table_of t) ≡ map.with_object (map.with_values value (table_of t)) key bytes
+    (value : ℕ → B) (t : KeyTable) (key : List ℕ) (element : ℕ) (bytes : B) → IsSound t → map.look_up (table_of t) key ≡ Some element
+    → map.with_values (λ p. if p == element then bytes else value p) (table_of t) ≡ map.with_object (map.with_values value (table_of t)) key bytes
 
--- values that are equal at all places in use give equal maps
+-- values that are equal at all elements in use give equal maps
 abbrev pub ValuesAgree : Type 0 → Type 0
 ValuesAgree B =
-    (f g : ℕ → B) (t : PlaceTable) → ((p : ℕ) → 1 ≤ occurrences p (values_of t.entries) → f p ≡ g p)
+    (f g : ℕ → B) (t : KeyTable) → ((p : ℕ) → 1 ≤ occurrences p (values_of t.entries) → f p ≡ g p)
     → map.with_values f (table_of t) ≡ map.with_values g (table_of t)
 
--- a place in use, or kept apart, is less than `max_entries`
-abbrev pub PlacesAreWithin : Type 0
-PlacesAreWithin = (t : PlaceTable) (p : ℕ) → IsSound t → 1 ≤ occurrences p (values_of t.entries) + occurrences p t.kept → p < t.shape.max_entries
+-- an element in use, or kept apart, is less than `max_entries`
+abbrev pub ElementsAreWithin : Type 0
+ElementsAreWithin = (t : KeyTable) (p : ℕ) → IsSound t → 1 ≤ occurrences p (values_of t.entries) + occurrences p t.kept → p < t.shape.max_entries
 
 -- ---- a tenant's live maps
 
 -- if the areas are unchanged, each value keeps its offset in the part
-abbrev pub AreasKeepPlaces : Type 0
-AreasKeepPlaces = (old new : LiveMaps) (k p : ℕ) → SameAreas old new → IsSome (live_at new k) → offset_at new k p ≡ offset_at old k p
+abbrev pub AreasKeepElements : Type 0
+AreasKeepElements = (old new : LiveMaps) (k p : ℕ) → SameAreas old new → IsSome (live_at new k) → offset_at new k p ≡ offset_at old k p
 
--- a deletion frees no place: that of the key is kept apart
-abbrev pub DeletesKeepPlaces : Type 0
-DeletesKeepPlaces =
-    (t : PlaceTable) (key : List ℕ) (place p : ℕ) → map.look_up (table_of t) key ≡ Some place
-    → occurrences p (values_of (with_kept t key place).entries) + occurrences p (with_kept t key place).kept ≡ occurrences p (values_of t.entries) + occurrences p t.kept
+-- a deletion frees no element: that of the key is kept apart
+abbrev pub DeletesKeepElements : Type 0
+DeletesKeepElements =
+    (t : KeyTable) (key : List ℕ) (element p : ℕ) → map.look_up (table_of t) key ≡ Some element
+    → occurrences p (values_of (with_kept t key element).entries) + occurrences p (with_kept t key element).kept ≡ occurrences p (values_of t.entries) + occurrences p t.kept
 
 -- a key and a value of any shape are at most as long as a part
 abbrev pub SizesFitInParts : Type 0

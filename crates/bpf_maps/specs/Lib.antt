@@ -1,5 +1,5 @@
 pub mod Limits
-pub mod Places
+pub mod KeyTable
 pub mod KeyLists
 pub mod Words
 pub mod InlineKeys

@@ -9,12 +9,12 @@ use Rattle.bpf_maps.specs.declared.part.TheConstants.{STACK_AND_CONTEXT, PART}
 use Rattle.bpf_maps.specs.Limits.{most_bytes}
 use Rattle.tagged_model.specs.Table.{Table, with_values}
 use Rattle.bpf_maps.specs.Sum.{total}
-use Rattle.bpf_maps.specs.Places.{PlaceTable, table_of, new_places, IsSound}
+use Rattle.bpf_maps.specs.KeyTable.{KeyTable, table_of, new_keys, IsSound}
 
 -- a live map, the offset of its area in the part, the distance from the start of one value to that of the next, both in bytes, and
 -- the number of references to it
 pub record LiveMap : Type 0 where
-  pub places : PlaceTable
+  pub keys : KeyTable
   pub start : ℕ
   pub stride : ℕ
   pub holds : ℕ
@@ -33,46 +33,46 @@ free_handle t = position is_none t.maps
 
 -- a placeholder for the map of a handle without one, for the functions below; it means nothing
 abbrev pub no_live : LiveMap
-no_live = record { places = new_places (record { kind = Hash; key_size = 1; value_size = 1; max_entries = 1; listed = refl }); start = 0; stride = 0; holds = 0 }
+no_live = record { keys = new_keys (record { kind = Hash; key_size = 1; value_size = 1; max_entries = 1; listed = refl }); start = 0; stride = 0; holds = 0 }
 
 abbrev pub live_or : Option LiveMap → LiveMap
 live_or None = no_live
 live_or (Some l) = l
 
-abbrev pub places_at : LiveMaps → ℕ → PlaceTable
-places_at t k = (live_or (live_at t k)).places
+abbrev pub keys_at : LiveMaps → ℕ → KeyTable
+keys_at t k = (live_or (live_at t k)).keys
 
 abbrev pub shape_at : LiveMaps → ℕ → MapShape
-shape_at t k = (places_at t k).shape
+shape_at t k = (keys_at t k).shape
 
 abbrev pub holds_at : LiveMaps → ℕ → ℕ
 holds_at t k = (live_or (live_at t k)).holds
 
--- no two keys of a live map have the same place
+-- no two keys of a live map have the same element
 abbrev pub AreSound : LiveMaps → Type 0
-AreSound t = (k : ℕ) → IsSome (live_at t k) → IsSound (places_at t k)
+AreSound t = (k : ℕ) → IsSome (live_at t k) → IsSound (keys_at t k)
 
 -- ---- the addresses of the values
 
--- the offset in the part of the value at a place of a live map
+-- the offset in the part of the value of an element of a live map
 unfoldable pub offset : LiveMap → ℕ → ℕ
 offset l p = l.start + p * l.stride
 
 abbrev pub offset_at : LiveMaps → ℕ → ℕ → ℕ
 offset_at t k p = offset (live_or (live_at t k)) p
 
--- the address of the value at a place, modulo 2 ^ 64, in a part that begins at address `part`; null if there is no place
+-- the address of the value of an element, modulo 2 ^ 64, in a part that begins at address `part`; null if there is no element
 abbrev pub value_address : ℕ → LiveMaps → ℕ → Option ℕ → ℕ
 value_address part t k None = 0
 value_address part t k (Some p) = (part + offset_at t k p) % 2 ^ 64
 
--- the bytes of the value at place p of the map of handle k
+-- the bytes of the value of element p of the map of handle k
 abbrev pub value_in : List ℕ → LiveMaps → ℕ → ℕ → List ℕ
 value_in part t k p = take (shape_at t k).value_size (drop (offset_at t k p) part)
 
 -- the map of a handle, as a list of keys with the bytes of their values
 abbrev pub map_in : List ℕ → LiveMaps → ℕ → Table (List ℕ)
-map_in part t k = with_values (value_in part t k) (table_of (places_at t k))
+map_in part t k = with_values (value_in part t k) (table_of (keys_at t k))
 
 -- `size` bytes at this offset lie in a part after the stack and the context, and the offset is a multiple of eight
 pub record LiesInPart (at size : ℕ) : Type 0 where
@@ -82,15 +82,15 @@ pub record LiesInPart (at size : ℕ) : Type 0 where
 
 -- the values of all live maps lie in the part and don't overlap
 pub record IsLaid (t : LiveMaps) : Type 0 where
-  pub inside : (k p : ℕ) (l : LiveMap) → live_at t k ≡ Some l → p < l.places.shape.max_entries → LiesInPart (offset l p) l.places.shape.value_size
-  pub apart : (k p j q : ℕ) (l m : LiveMap) → live_at t k ≡ Some l → live_at t j ≡ Some m → p < l.places.shape.max_entries → q < m.places.shape.max_entries → (k ≡ j → p ≢ q)
-      → (offset l p + l.places.shape.value_size ≤ offset m q) ⊎ (offset m q + m.places.shape.value_size ≤ offset l p)
+  pub inside : (k p : ℕ) (l : LiveMap) → live_at t k ≡ Some l → p < l.keys.shape.max_entries → LiesInPart (offset l p) l.keys.shape.value_size
+  pub apart : (k p j q : ℕ) (l m : LiveMap) → live_at t k ≡ Some l → live_at t j ≡ Some m → p < l.keys.shape.max_entries → q < m.keys.shape.max_entries → (k ≡ j → p ≢ q)
+      → (offset l p + l.keys.shape.value_size ≤ offset m q) ⊎ (offset m q + m.keys.shape.value_size ≤ offset l p)
 
 -- each live map was live before, with the same shape and the same area
 abbrev pub SameAreas : LiveMaps → LiveMaps → Type 0
-SameAreas old new = (k : ℕ) (l : LiveMap) → live_at new k ≡ Some l → (m : LiveMap) × (live_at old k ≡ Some m) × (l.places.shape ≡ m.places.shape) × (l.start ≡ m.start) × (l.stride ≡ m.stride)
+SameAreas old new = (k : ℕ) (l : LiveMap) → live_at new k ≡ Some l → (m : LiveMap) × (live_at old k ≡ Some m) × (l.keys.shape ≡ m.keys.shape) × (l.start ≡ m.start) × (l.stride ≡ m.stride)
 
--- a map that was and is live has the same values at all its places
+-- a map that was and is live has the same values of all its elements
 abbrev pub SameValues : LiveMaps → List ℕ → LiveMaps → List ℕ → Type 0
 SameValues old bytes new later = (k p : ℕ) → IsSome (live_at old k) → IsSome (live_at new k) → p < (shape_at new k).max_entries → value_in later new k p ≡ value_in bytes old k p
 
@@ -112,7 +112,7 @@ abbrev pub area_by : MapShape → ℕ
 area_by shape = area shape.value_size shape.max_entries
 
 abbrev pub area_of : LiveMap → ℕ
-area_of l = area_by l.places.shape
+area_of l = area_by l.keys.shape
 
 -- the number of bytes of all areas
 abbrev pub areas : LiveMaps → ℕ
@@ -134,14 +134,14 @@ StandsBefore l m = l.start + area_of l ≤ m.start
 pub record IsPacked (t : LiveMaps) : Type 0 where
   pub inside : (k : ℕ) (l : LiveMap) → live_at t k ≡ Some l → (STACK_AND_CONTEXT ≤ l.start) × (l.start + area_of l ≤ STACK_AND_CONTEXT + areas t)
   pub apart : (k j : ℕ) (l m : LiveMap) → live_at t k ≡ Some l → live_at t j ≡ Some m → k ≢ j → StandsBefore l m ⊎ StandsBefore m l
-  pub stride : (k : ℕ) (l : LiveMap) → live_at t k ≡ Some l → l.stride ≡ (l.places.shape.value_size + 7) / 8 * 8
+  pub stride : (k : ℕ) (l : LiveMap) → live_at t k ≡ Some l → l.stride ≡ (l.keys.shape.value_size + 7) / 8 * 8
 
 -- the start of an area after another one, of `size` bytes up to `end`, is removed
 abbrev pub start_without : ℕ → ℕ → ℕ → ℕ
 start_without end size start = if nat_le end start then start - size else start
 
 abbrev pub map_without : LiveMap → LiveMap → LiveMap
-map_without gone l = record { places = l.places; start = start_without (gone.start + area_of gone) (area_of gone) l.start; stride = l.stride; holds = l.holds }
+map_without gone l = record { keys = l.keys; start = start_without (gone.start + area_of gone) (area_of gone) l.start; stride = l.stride; holds = l.holds }
 
 -- the area of the map of handle k is gone: each area after it begins lower by its size, and nothing else has changed of the other
 -- maps; this says nothing of handle k in `new`, nor of `refused`
@@ -150,13 +150,13 @@ ClosesUp k old new = (other : ℕ) → other ≢ k → live_at new other ≡ opt
 
 -- ---- the keys of one map change
 
--- only the map of handle k may have changed, and only in its keys and their places
+-- only the map of handle k may have changed, and only in its keys and their elements
 pub record OnlyKeysChange (k : ℕ) (old new : LiveMaps) : Type 0 where
   pub live : IsSome (live_at new k)
   pub holds : holds_at new k ≡ holds_at old k
   pub shape : shape_at new k ≡ shape_at old k
-  -- no two of its keys have the same place
-  pub sound : IsSound (places_at new k)
+  -- no two of its keys have the same element
+  pub sound : IsSound (keys_at new k)
   pub others : (other : ℕ) → other ≢ k → live_at new other ≡ live_at old other
   pub room : areas new ≡ areas old
   pub areas : SameAreas old new
@@ -175,7 +175,7 @@ pub record IsCreated (old : LiveMaps) (shape : MapShape) (k : ℕ) (new : LiveMa
   pub lowest : free_handle old ≡ Some k
   pub was : live_at old k ≡ None
   pub live : IsSome (live_at new k)
-  pub places : places_at new k ≡ new_places shape
+  pub keys : keys_at new k ≡ new_keys shape
   pub holds : holds_at new k ≡ 1
   pub others : (other : ℕ) → other ≢ k → live_at new other ≡ live_at old other
   pub refused : new.refused ≡ old.refused
@@ -195,20 +195,20 @@ Creates None old shape (Err NoSpace) new = ⊥
 
 -- a live map without its area
 pub record MapWithoutArea : Type 0 where
-  pub places : PlaceTable
+  pub keys : KeyTable
   pub holds : ℕ
 
 abbrev pub without_area : LiveMap → MapWithoutArea
-without_area l = record { places = l.places; holds = l.holds }
+without_area l = record { keys = l.keys; holds = l.holds }
 
 abbrev pub held_at : LiveMaps → ℕ → Option MapWithoutArea
 held_at t k = option_map without_area (live_at t k)
 
 -- with one more reference
 abbrev pub one_more : LiveMap → LiveMap
-one_more l = record { places = l.places; start = l.start; stride = l.stride; holds = l.holds + 1 }
+one_more l = record { keys = l.keys; start = l.start; stride = l.stride; holds = l.holds + 1 }
 
 -- with one reference less; None if that was the last
 abbrev pub one_less : Option MapWithoutArea → Option MapWithoutArea
 one_less None = None
-one_less (Some h) = if nat_le h.holds 1 then None else Some (record { places = h.places; holds = h.holds - 1 })
+one_less (Some h) = if nat_le h.holds 1 then None else Some (record { keys = h.keys; holds = h.holds - 1 })

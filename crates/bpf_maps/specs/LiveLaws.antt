@@ -110,11 +110,11 @@ some_handle_free k tenant within free =
     let most = front_most k tenant.maps within free in
     ap (λ b. is_none (cond b (Some (position_or_len is_none tenant.maps)) None)) (lt-ltb (position_or_len is_none tenant.maps) (length tenant.maps) (omega arith))
 
--- the value at a place of a live map lies in the part
+-- the value of an element of a live map lies in the part
 pub laid_inside : (tenant : LiveMaps) → IsLaid tenant → (k p : ℕ) → IsSome (live_at tenant k) → p < (shape_at tenant k).max_entries → LiesInPart (offset_at tenant k p) (shape_at tenant k).value_size
 laid_inside tenant laid k p live lt = by (live_at tenant k) refl live lt
   where
-    by : (o : Option LiveMap) → live_at tenant k ≡ o → IsSome o → p < (live_or o).places.shape.max_entries → LiesInPart (offset (live_or o) p) (live_or o).places.shape.value_size
+    by : (o : Option LiveMap) → live_at tenant k ≡ o → IsSome o → p < (live_or o).keys.shape.max_entries → LiesInPart (offset (live_or o) p) (live_or o).keys.shape.value_size
     by None e some lt = absurd (false≢true some)
     by (Some l) e some lt = laid.inside k p l e lt
 
@@ -127,7 +127,7 @@ pub same_elements : (old new : LiveMaps) (k : ℕ) → SameAreas old new → IsS
 same_elements old new k areas live = by (live_at new k) refl live
   where
     shown : Option LiveMap → Elements
-    shown o = elements_of (live_or o).places.shape
+    shown o = elements_of (live_or o).keys.shape
 
     by : (o : Option LiveMap) → live_at new k ≡ o → IsSome o → shown (live_at new k) ≡ shown (live_at old k)
     by None e some = absurd (false≢true some)

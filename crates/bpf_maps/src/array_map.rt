@@ -5,7 +5,7 @@ ghost use Rattle.std.specs.Option.{option_map_or};
 ghost use Rattle.ordered_keys.specs.Orders.{next_entry};
 ghost use Rattle.tagged_model.specs.declared.shape.MapKind.TheVariants.{Array};
 ghost use Rattle.tagged_model.specs.Table.{look_up, verdict, next_of, index_key};
-ghost use Rattle.bpf_maps.specs.Places.{PlaceTable, table_of, IsSound, Claims, new_places};
+ghost use Rattle.bpf_maps.specs.KeyTable.{KeyTable, table_of, IsSound, Claims, new_keys};
 ghost use Rattle.bpf_maps.specs.KeyRef.{key_bytes, shown_entry};
 
 use crate::key_ref::{KeyRef, ShortKey};
@@ -16,7 +16,7 @@ use tagged_model::{MapFault, MapShape};
 /// The size of an index in bytes.
 pub const INDEX_SIZE: usize = 4;
 
-/// An array, which has all its indices from the start. The place of an index is the index.
+/// An array, which has all its indices from the start. The element of an index is the index.
 #[derive(Drop)]
 pub struct ArrayMap {
     shape: MapShape,
@@ -27,11 +27,11 @@ pub struct ArrayMap {
 impl Model for ArrayMap {
     ghost use Rattle.std.specs.Prelude.{◌≡◌};
     ghost use Rattle.tagged_model.specs.declared.shape.MapKind.TheVariants.{Array};
-    ghost use Rattle.bpf_maps.specs.Places.{PlaceTable, new_places};
+    ghost use Rattle.bpf_maps.specs.KeyTable.{KeyTable, new_keys};
 
-    ghost Value = { PlaceTable };
+    ghost Value = { KeyTable };
 
-    ghost view = { λ a. new_places a.shape };
+    ghost view = { λ a. new_keys a.shape };
 
     ghost invariant = { λ a. a.shape.kind ≡ Array };
 }
@@ -41,7 +41,7 @@ impl ArrayMap {
     #[inline(always)]
     pub(crate) fn new(shape: MapShape) -> ArrayMap
         requires { shape.kind ≡ Array }
-        ensures { result ≡ new_places shape }
+        ensures { result ≡ new_keys shape }
     {
         ArrayMap { shape, align: [] }
     }
@@ -57,7 +57,7 @@ impl ArrayMap {
     #[inline(always)]
     fn keys_are_its_indices(&self)
         ensures kind { self.now.shape.kind ≡ Array }
-        ensures whole { self.now ≡ new_places self.now.shape }
+        ensures whole { self.now ≡ new_keys self.now.shape }
         ensures key_size { self.now.shape.key_size ≡ 4 }
         ensures sound { IsSound self.now }
     {
@@ -78,9 +78,9 @@ impl ArrayMap {
 
     /// The index of a key; `None` if the array doesn't have it.
     #[inline(always)]
-    fn place_of(&self, key: &[u8]) -> Option<u32>
+    fn element_of(&self, key: &[u8]) -> Option<u32>
         requires { length key.now ≡ self.now.shape.key_size }
-        ensures place { result ≡ look_up (table_of self.now) key.now }
+        ensures element { result ≡ look_up (table_of self.now) key.now }
         ensures within { IfSome result (λ index. index < self.now.shape.max_entries) }
         ensures spelled { IfSome result (λ index. index_key index ≡ key.now) }
     {
@@ -93,18 +93,18 @@ impl ArrayMap {
         }
     }
 
-    /// The place of a key, for an update with these flags.
+    /// The element of a key, for an update with these flags.
     ///
     /// # Errors
     ///
     /// Those of an update: `Invalid` if `flags` is none of `ANY`, `NOEXIST` and `EXIST`, else `TooBig` if the index is out of
     /// range, else `Exists` if `flags` is `NOEXIST`.
     #[inline(always)]
-    fn place_for(&self, key: &[u8], flags: u64) -> Result<u32, MapFault>
+    fn element_for(&self, key: &[u8], flags: u64) -> Result<u32, MapFault>
         requires size { length key.now ≡ self.now.shape.key_size }
         ensures claimed { Claims (verdict (table_of self.now) key.now flags) key.now self.now result
             self.now }
-        ensures within { IfOk result (λ place. place < self.now.shape.max_entries) }
+        ensures within { IfOk result (λ element. element < self.now.shape.max_entries) }
     {
         self.keys_are_its_indices();
         if flags > EXIST {
@@ -130,19 +130,19 @@ impl ArrayMap {
         if key.len() != INDEX_SIZE {
             return 0;
         }
-        match self.place_of(key) {
+        match self.element_of(key) {
             Some(index) => index + 1,
             None => 0,
         }
     }
 
-    /// The key that follows the one of a place, or the first key if no place is given, with its place. `None` if there is none,
-    /// and if no key has the place.
-    pub(crate) fn entry_after(&self, place: Option<u32>) -> Option<(KeyRef<'_>, u32)>
-        ensures { option_map shown_entry result ≡ next_entry place self.now.entries }
+    /// The key that follows the one of an element, or the first key if no element is given, with its element. `None` if there is none,
+    /// and if no key has the element.
+    pub(crate) fn entry_after(&self, element: Option<u32>) -> Option<(KeyRef<'_>, u32)>
+        ensures { option_map shown_entry result ≡ next_entry element self.now.entries }
     {
         self.keys_are_its_indices();
-        let index = index_behind(place);
+        let index = index_behind(element);
         if index >= u64::from(self.shape.max_entries) {
             return None;
         }
@@ -151,29 +151,29 @@ impl ArrayMap {
     }
 }
 
-/// The index that follows a place; 0 if no place is given.
-fn index_behind(place: Option<u32>) -> u64
-    ensures { result ≡ option_map_or (λ p. p + 1) place 0 }
+/// The index that follows an element; 0 if no element is given.
+fn index_behind(element: Option<u32>) -> u64
+    ensures { result ≡ option_map_or (λ p. p + 1) element 0 }
 {
-    match place {
-        Some(place) => u64::from(place) + 1,
+    match element {
+        Some(element) => u64::from(element) + 1,
         None => 0,
     }
 }
 
 impl ValueMap for ArrayMap {
-    ghost places = { λ m. m };
+    ghost keys = { λ m. m };
 
     #[inline(always)]
     fn find(&self, key: &[u8]) -> Option<u32> {
         self.keys_are_its_indices();
-        self.place_of(key)
+        self.element_of(key)
     }
 
     #[inline(always)]
     fn claim(&mut self, key: &[u8], flags: u64) -> Result<u32, MapFault> {
         self.keys_are_its_indices();
-        self.place_for(key, flags)
+        self.element_for(key, flags)
     }
 
     fn remove(&mut self, _key: &[u8]) -> Result<(), MapFault> {

@@ -3,9 +3,9 @@
 ghost use Rattle.std.specs.Prelude.{◌≡◌, ◌<◌, ◌⊎◌, length, [], option_map, IfOk, IfSome};
 ghost use Rattle.ordered_keys.specs.Orders.{next_entry};
 ghost use Rattle.tagged_model.specs.Table.{look_up, verdict, removal, next_of};
-ghost use Rattle.bpf_maps.specs.Places.{PlaceTable, table_of, IsSound, Claims, Removes, new_places, after_run};
+ghost use Rattle.bpf_maps.specs.KeyTable.{KeyTable, table_of, IsSound, Claims, Removes, new_keys, after_run};
 ghost use Rattle.bpf_maps.specs.KeyRef.{key_bytes, shown_entry};
-ghost use Rattle.bpf_maps.specs.BpfMap.{places_of};
+ghost use Rattle.bpf_maps.specs.BpfMap.{keys_in};
 
 use crate::array_map::ArrayMap;
 use crate::hash_map::HashMap;
@@ -26,7 +26,7 @@ pub enum BpfMap {
 impl BpfMap {
     /// Makes a map of this shape. Only a hash map takes the seed and memory. `AllocError`: out of memory.
     pub fn new(alloc: Global, shape: MapShape, seed: HashSeed) -> Result<BpfMap, AllocError>
-        ensures { IfOk result (λ map. places_of map ≡ new_places shape) }
+        ensures { IfOk result (λ map. keys_in map ≡ new_keys shape) }
     {
         match shape.kind {
             MapKind::Array => Ok(BpfMap::Array(ArrayMap::new(shape))),
@@ -43,7 +43,7 @@ impl BpfMap {
         spares: &mut SpareMaps,
         entries: usize,
     ) -> Result<BpfMap, AllocError>
-        ensures { IfOk result (λ map. places_of map ≡ new_places shape) }
+        ensures { IfOk result (λ map. keys_in map ≡ new_keys shape) }
     {
         match shape.kind {
             MapKind::Array => Ok(BpfMap::Array(ArrayMap::new(shape))),
@@ -53,7 +53,7 @@ impl BpfMap {
 
     /// The map's shape.
     pub fn shape(&self) -> MapShape
-        ensures { result ≡ (places_of self.now).shape }
+        ensures { result ≡ (keys_in self.now).shape }
     {
         match self {
             BpfMap::Array(map) => map.shape(),
@@ -61,20 +61,20 @@ impl BpfMap {
         }
     }
 
-    /// The key that follows the one of a place, or the first key if no place is given, with its place. `None` if there is none,
-    /// and if no key has the place.
-    pub(crate) fn entry_after(&self, place: Option<u32>) -> Option<(KeyRef<'_>, u32)>
-        ensures { option_map shown_entry result ≡ next_entry place (places_of self.now).entries }
+    /// The key that follows the one of an element, or the first key if no element is given, with its element. `None` if there is none,
+    /// and if no key has the element.
+    pub(crate) fn entry_after(&self, element: Option<u32>) -> Option<(KeyRef<'_>, u32)>
+        ensures { option_map shown_entry result ≡ next_entry element (keys_in self.now).entries }
     {
         match self {
-            BpfMap::Array(map) => map.entry_after(place),
-            BpfMap::Hash(map) => map.entry_after(place),
+            BpfMap::Array(map) => map.entry_after(element),
+            BpfMap::Hash(map) => map.entry_after(element),
         }
     }
 }
 
 impl ValueMap for BpfMap {
-    ghost places = { places_of };
+    ghost keys = { keys_in };
 
     #[inline(always)]
     fn find(&self, key: &[u8]) -> Option<u32> {

@@ -33,9 +33,9 @@ fn update(
 {
     laws::values_are_written();
     laws::live_maps_refine_values();
-    let place = maps.claim(map, key, flags)?;
+    let element = maps.claim(map, key, flags)?;
     maps.maps_are_laid();
-    let start = maps.value_at(map, place);
+    let start = maps.value_at(map, element);
     part[start..start + value.len()].copy_from_slice(value);
     Ok(())
 }
@@ -55,7 +55,7 @@ fn delete(maps: &mut Maps, map: MapKey, key: &[u8], part: &[u8]) -> Result<(), M
     Ok(())
 }
 
-/// If no value at a place of a map has changed, the map is unchanged.
+/// If no value of an element of a map has changed, the map is unchanged.
 fn is_unchanged(maps: &Maps, map: MapKey, before: &[u8], after: &[u8])
     requires live { IsSome (live_at maps.now map) }
     requires values { SameValues maps.now before.now maps.now after.now }
@@ -65,7 +65,7 @@ fn is_unchanged(maps: &Maps, map: MapKey, before: &[u8], after: &[u8])
     laws::values_agree();
 }
 
-/// Creates a tenant's first map, at place 0, unless out of memory.
+/// Creates a tenant's first map, of handle 0, unless out of memory.
 fn make_first(alloc: Global, shape: MapShape, part: &mut [u8]) -> Result<MapKey, MapFault>
     requires { length part.old ≡ PART }
     ensures room { result ≢ Err NoSpace }
@@ -78,7 +78,7 @@ fn make_first(alloc: Global, shape: MapShape, part: &mut [u8]) -> Result<MapKey,
     maps.create(shape, part)
 }
 
-/// After a map is freed there is room for another of its shape, at its place or a lower one. The other maps are unchanged.
+/// After a map is freed there is room for another of its shape, with its handle or a lower one. The other maps are unchanged.
 fn make_again(maps: &mut Maps, map: MapKey, part: &mut [u8]) -> Result<MapKey, MapFault>
     requires live { IsSome (live_at maps.old map) }
     requires last { holds_at maps.old map ≤ 1 }

@@ -3,8 +3,8 @@
 ghost use Rattle.std.specs.Prelude.{◌≡◌, ◌≢◌, ℕ, ◌+◌, IfSome};
 ghost use Rattle.tagged_model.specs.declared.shape.MapShape.{MapShape as AnyShape};
 ghost use Rattle.tagged_model.specs.Table.{look_up};
-ghost use Rattle.bpf_maps.specs.Places.{table_of};
-ghost use Rattle.bpf_maps.specs.Live.{places_at, shape_at, offset_at, value_address, LiesInPart};
+ghost use Rattle.bpf_maps.specs.KeyTable.{table_of};
+ghost use Rattle.bpf_maps.specs.Live.{keys_at, shape_at, offset_at, value_address, LiesInPart};
 ghost use Rattle.bpf_maps.specs.Elements.{elements_of, AreOfArray, word_of};
 
 use crate::array_map::{INDEX_SIZE, index_of};
@@ -64,10 +64,10 @@ impl Elements {
     pub fn address_of(self, maps: &Maps, map: MapKey, key: &[u8], first: u64) -> u64
         ensures address { AreOfArray self maps.now map → (part : ℕ)
             → first ≡ part + offset_at maps.now map 0 → result ≡ value_address part maps.now map
-            (look_up (table_of (places_at maps.now map)) key.now) }
+            (look_up (table_of (keys_at maps.now map)) key.now) }
         ensures inside { AreOfArray self maps.now map
-            → IfSome (look_up (table_of (places_at maps.now map)) key.now) (λ place.
-            LiesInPart (offset_at maps.now map place) (shape_at maps.now map).value_size) }
+            → IfSome (look_up (table_of (keys_at maps.now map)) key.now) (λ element.
+            LiesInPart (offset_at maps.now map element) (shape_at maps.now map).value_size) }
     {
         let _ = map;
         maps.maps_are_laid();

@@ -6,7 +6,7 @@ ghost use Rattle.tagged_model.specs.declared.shape.MapKind.TheVariants.{Hash};
 ghost use Rattle.tagged_model.specs.Table.{look_up, of_absent, is_full, verdict, removal, next_of};
 ghost use Rattle.bpf_maps.specs.KeyRef.{shown_entry};
 ghost use Rattle.bpf_maps.specs.inside.Spares.{IsLike};
-ghost use Rattle.bpf_maps.specs.Places.{PlaceTable, table_of, IsSound, Claims, Removes, new_places, after_run, occurrences};
+ghost use Rattle.bpf_maps.specs.KeyTable.{KeyTable, table_of, IsSound, Claims, Removes, new_keys, after_run, occurrences};
 
 use crate::key_index::KeyIndex;
 use crate::key_ref::KeyRef;
@@ -16,21 +16,21 @@ use std::alloc::{AllocError, Global};
 use std::marker::Model;
 use tagged_model::{MapFault, MapShape};
 
-/// A map from keys of any bytes to places, in the order in which the keys were added.
+/// A map from keys of any bytes to elements, in the order in which the keys were added.
 #[derive(Drop)]
 pub struct HashMap {
     shape: MapShape,
     index: KeyIndex,
-    // The places that no key has: first those of keys that were removed in this run, and then those that are free.
+    // The elements that no key has: first those of keys that were removed in this run, and then those that are free.
     spare: Vec<u32>,
-    // The number of places of keys that were removed in this run.
+    // The number of elements of keys that were removed in this run.
     kept: usize,
 }
 
 impl Model for HashMap {
-    ghost use Rattle.bpf_maps.specs.Places.{PlaceTable};
+    ghost use Rattle.bpf_maps.specs.KeyTable.{KeyTable};
 
-    ghost Value = { PlaceTable };
+    ghost Value = { KeyTable };
 
     ghost use Rattle.bpf_maps.specs.Index.{shown, IsWellFormedHash};
 
@@ -44,9 +44,9 @@ impl HashMap {
     /// take. `AllocError`: out of memory.
     pub(crate) fn new(alloc: Global, shape: MapShape, seed: HashSeed) -> Result<HashMap, AllocError>
         requires { shape.kind ≡ Hash }
-        ensures { IfOk result (λ map. map ≡ new_places shape) }
+        ensures { IfOk result (λ map. map ≡ new_keys shape) }
     {
-        let spare = all_places(alloc, shape.max_entries)?;
+        let spare = all_elements(alloc, shape.max_entries)?;
         let index = KeyIndex::new(alloc, shape.key_size as usize, shape.max_entries, seed)?;
         Ok(HashMap {
             shape,
@@ -68,10 +68,10 @@ impl HashMap {
         requires kind { shape.kind ≡ Hash }
         requires key_size { shape.key_size ≡ self.old.shape.key_size }
         requires max_entries { shape.max_entries ≡ self.old.shape.max_entries }
-        ensures { self.new ≡ new_places shape }
+        ensures { self.new ≡ new_keys shape }
     {
         self.index.clear();
-        put_places(&mut self.spare, shape.max_entries);
+        put_elements(&mut self.spare, shape.max_entries);
         self.kept = 0;
         self.shape = shape;
     }
@@ -83,34 +83,34 @@ impl HashMap {
         self.shape
     }
 
-    /// A law: no two keys have the same place. It does nothing when it runs.
+    /// A law: no two keys have the same element. It does nothing when it runs.
     #[inline(always)]
-    fn places_are_distinct(&self)
+    fn elements_are_distinct(&self)
         ensures kind { self.now.shape.kind ≡ Hash }
         ensures sound { IsSound self.now }
     {
         let _ = &self.shape;
     }
 
-    /// The place of a key; `None` if the key is absent.
+    /// The element of a key; `None` if the key is absent.
     #[inline(always)]
-    fn place_of(&self, key: &[u8]) -> Option<u32>
+    fn element_of(&self, key: &[u8]) -> Option<u32>
         requires { length key.now ≡ self.now.shape.key_size }
-        ensures place { result ≡ look_up (table_of self.now) key.now }
-        ensures within { IfSome result (λ place. place < self.now.shape.max_entries) }
+        ensures element { result ≡ look_up (table_of self.now) key.now }
+        ensures within { IfSome result (λ element. element < self.now.shape.max_entries) }
     {
         self.index.get(key)
     }
 
-    /// The key that follows the one of a place, or the first key if no place is given, with its place. `None` if there is none,
-    /// and if no key has the place.
-    pub(crate) fn entry_after(&self, place: Option<u32>) -> Option<(KeyRef<'_>, u32)>
-        ensures { option_map shown_entry result ≡ next_entry place self.now.entries }
+    /// The key that follows the one of an element, or the first key if no element is given, with its element. `None` if there is none,
+    /// and if no key has the element.
+    pub(crate) fn entry_after(&self, element: Option<u32>) -> Option<(KeyRef<'_>, u32)>
+        ensures { option_map shown_entry result ≡ next_entry element self.now.entries }
     {
-        self.index.entry_after(place)
+        self.index.entry_after(element)
     }
 
-    /// Claims a free place for a new key, which goes to the end. `TooBig` if no place is free. Then nothing has changed.
+    /// Claims a free element for a new key, which goes to the end. `TooBig` if no element is free. Then nothing has changed.
     #[cold]
     #[inline(never)]
     #[tactic(auto, using(crate::proofs::Kept::sound))]
@@ -124,34 +124,34 @@ impl HashMap {
         if self.spare.len() == self.kept {
             return Err(MapFault::TooBig);
         }
-        let place = self.spare[self.spare.len() - 1];
-        self.index.insert(key, place);
+        let element = self.spare[self.spare.len() - 1];
+        self.index.insert(key, element);
         self.spare.pop();
-        Ok(place)
+        Ok(element)
     }
 }
 
 impl ValueMap for HashMap {
-    ghost places = { λ m. m };
+    ghost keys = { λ m. m };
 
     #[inline(never)]
     fn find(&self, key: &[u8]) -> Option<u32> {
-        self.places_are_distinct();
-        self.place_of(key)
+        self.elements_are_distinct();
+        self.element_of(key)
     }
 
     #[inline(always)]
     fn claim(&mut self, key: &[u8], flags: u64) -> Result<u32, MapFault> {
-        self.places_are_distinct();
+        self.elements_are_distinct();
         if flags > EXIST {
             return Err(MapFault::Invalid);
         }
-        match self.place_of(key) {
-            Some(place) => {
+        match self.element_of(key) {
+            Some(element) => {
                 if flags == NOEXIST {
                     Err(MapFault::Exists)
                 } else {
-                    Ok(place)
+                    Ok(element)
                 }
             }
             None => {
@@ -165,12 +165,12 @@ impl ValueMap for HashMap {
     }
 
     fn remove(&mut self, key: &[u8]) -> Result<(), MapFault> {
-        let Some(place) = self.index.remove(key) else {
+        let Some(element) = self.index.remove(key) else {
             return Err(MapFault::NoEntry);
         };
-        // The place joins those that are kept apart; the first free one, if any, goes to the end.
+        // The element joins those that are kept apart; the first free one, if any, goes to the end.
         let last = self.spare.len();
-        self.spare.push_reserved(place);
+        self.spare.push_reserved(element);
         self.spare.swap(self.kept, last);
         self.kept += 1;
         Ok(())
@@ -185,27 +185,27 @@ impl ValueMap for HashMap {
     }
 }
 
-/// All places less than `count`, each once. `AllocError`: out of memory.
-fn all_places(alloc: Global, count: u32) -> Result<Vec<u32>, AllocError>
+/// All elements less than `count`, each once. `AllocError`: out of memory.
+fn all_elements(alloc: Global, count: u32) -> Result<Vec<u32>, AllocError>
     ensures once { IfOk result (λ all. (p : ℕ) → occurrences p all.items
         ≡ (if nat_lt p count then 1 else 0)) }
     ensures length { IfOk result (λ all. vec_len all ≡ count) }
     ensures room { IfOk result (λ all. count ≤ vec_capacity all) }
 {
     let mut all = Vec::with_capacity(alloc, count as usize)?;
-    put_places(&mut all, count);
+    put_elements(&mut all, count);
     Ok(all)
 }
 
-/// Puts all places less than `count`, each once, in place of those that are in the list, which has room for them.
-fn put_places(all: &mut Vec<u32>, count: u32)
+/// Puts all elements less than `count`, each once, in place of those that are in the list, which has room for them.
+fn put_elements(all: &mut Vec<u32>, count: u32)
     requires { count ≤ vec_capacity all.old }
     ensures once { (p : ℕ) → occurrences p all.new.items ≡ (if nat_lt p count then 1 else 0) }
     ensures length { vec_len all.new ≡ count }
     ensures room { vec_capacity all.new ≡ vec_capacity all.old }
 {
     all.clear();
-    for place in 0..count {
-        all.push_reserved(place);
+    for element in 0..count {
+        all.push_reserved(element);
     }
 }

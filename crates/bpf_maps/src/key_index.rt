@@ -1,4 +1,4 @@
-//! The index of a hash map: the places of keys of one size.
+//! The index of a hash map: the elements of keys of one size.
 
 ghost use Rattle.std.specs.Prelude.{◌≡◌, ℕ, ◌<◌, ◌≤◌, None, IfOk, [], length, option_map};
 ghost use Rattle.std.specs.Map.{values_of};
@@ -6,7 +6,7 @@ ghost use Rattle.ordered_keys.specs.Orders.{next_entry};
 ghost use Rattle.tagged_model.specs.Table.{found, with_key, without, key_after};
 ghost use Rattle.bpf_maps.specs.declared.long_index.TheConstants.{LONGEST_LONG};
 ghost use Rattle.bpf_maps.specs.KeyRef.{key_bytes, shown_entry};
-ghost use Rattle.bpf_maps.specs.Places.{occurrences};
+ghost use Rattle.bpf_maps.specs.KeyTable.{occurrences};
 ghost use Rattle.bpf_maps.specs.Index.{entries_of, bound_of, TakesKeys};
 
 use crate::key_ref::KeyRef;
@@ -16,7 +16,7 @@ use crate::word_index::{LONGEST_WORD, WordIndex};
 use seeded_hash::HashSeed;
 use std::alloc::{AllocError, Global};
 
-/// The keys of a hash map, each with its place, in the order in which they were added. Short keys are kept as numbers, longer ones
+/// The keys of a hash map, each with its element, in the order in which they were added. Short keys are kept as numbers, longer ones
 /// as bytes, in arrays of one of two lengths.
 #[derive(Drop)]
 pub enum KeyIndex {
@@ -26,7 +26,7 @@ pub enum KeyIndex {
 }
 
 impl KeyIndex {
-    /// Makes an index without keys, for keys of `key_size` bytes and places less than `bound`. `AllocError`: out of memory.
+    /// Makes an index without keys, for keys of `key_size` bytes and elements less than `bound`. `AllocError`: out of memory.
     pub(crate) fn new(
         alloc: Global,
         key_size: usize,
@@ -47,7 +47,7 @@ impl KeyIndex {
         }
     }
 
-    /// Returns the place of a key; `None` if the key is absent.
+    /// Returns the element of a key; `None` if the key is absent.
     #[inline(always)]
     pub(crate) fn get(&self, key: &[u8]) -> Option<u32>
         requires { TakesKeys self.now (length key.now) }
@@ -71,42 +71,42 @@ impl KeyIndex {
         }
     }
 
-    /// The key that follows the one of a place, or the first key if no place is given, with its place. `None` if there is none,
-    /// and if no key has the place.
-    pub(crate) fn entry_after(&self, place: Option<u32>) -> Option<(KeyRef<'_>, u32)>
-        ensures { option_map shown_entry result ≡ next_entry place (entries_of self.now) }
+    /// The key that follows the one of an element, or the first key if no element is given, with its element. `None` if there is none,
+    /// and if no key has the element.
+    pub(crate) fn entry_after(&self, element: Option<u32>) -> Option<(KeyRef<'_>, u32)>
+        ensures { option_map shown_entry result ≡ next_entry element (entries_of self.now) }
     {
         match self {
             KeyIndex::Words(words) => {
-                let (key, place) = words.entry_after(place)?;
-                Some((KeyRef::Short(key), place))
+                let (key, element) = words.entry_after(element)?;
+                Some((KeyRef::Short(key), element))
             }
             KeyIndex::Middle(bytes) => {
-                let (key, place) = bytes.entry_after(place)?;
-                Some((KeyRef::Lent(key), place))
+                let (key, element) = bytes.entry_after(element)?;
+                Some((KeyRef::Lent(key), element))
             }
             KeyIndex::Long(bytes) => {
-                let (key, place) = bytes.entry_after(place)?;
-                Some((KeyRef::Lent(key), place))
+                let (key, element) = bytes.entry_after(element)?;
+                Some((KeyRef::Lent(key), element))
             }
         }
     }
 
     /// Adds a new key at the end. It takes no memory.
-    pub(crate) fn insert(&mut self, key: &[u8], place: u32)
+    pub(crate) fn insert(&mut self, key: &[u8], element: u32)
         requires takes { TakesKeys self.old (length key.now) }
         requires absent { found key.now (entries_of self.old) ≡ None }
-        requires within { place < bound_of self.old }
-        requires free { occurrences place (values_of (entries_of self.old)) ≡ 0 }
+        requires within { element < bound_of self.old }
+        requires free { occurrences element (values_of (entries_of self.old)) ≡ 0 }
         requires few { length (entries_of self.old) < bound_of self.old }
-        ensures added { entries_of self.new ≡ with_key key.now place (entries_of self.old) }
+        ensures added { entries_of self.new ≡ with_key key.now element (entries_of self.old) }
         ensures takes { TakesKeys self.new (length key.now) }
         ensures bound { bound_of self.new ≡ bound_of self.old }
     {
         match self {
-            KeyIndex::Words(words) => words.insert(key, place),
-            KeyIndex::Middle(bytes) => bytes.insert(key, place),
-            KeyIndex::Long(bytes) => bytes.insert(key, place),
+            KeyIndex::Words(words) => words.insert(key, element),
+            KeyIndex::Middle(bytes) => bytes.insert(key, element),
+            KeyIndex::Long(bytes) => bytes.insert(key, element),
         }
     }
 
@@ -123,10 +123,10 @@ impl KeyIndex {
         }
     }
 
-    /// Removes a key and returns its place; `None` if the key is absent. The others keep their order.
+    /// Removes a key and returns its element; `None` if the key is absent. The others keep their order.
     pub(crate) fn remove(&mut self, key: &[u8]) -> Option<u32>
         requires { TakesKeys self.old (length key.now) }
-        ensures place { result ≡ found key.now (entries_of self.old) }
+        ensures element { result ≡ found key.now (entries_of self.old) }
         ensures left { entries_of self.new ≡ without key.now (entries_of self.old) }
         ensures takes { TakesKeys self.new (length key.now) }
         ensures bound { bound_of self.new ≡ bound_of self.old }

@@ -1,13 +1,13 @@
-//! The two kinds of map, and a tenant's live maps. A map finds the place of a key; it does not look at the value there.
+//! The two kinds of map, and a tenant's live maps. A map finds the element of a key; it does not look at the value there.
 //!
-//! A map is an ordered list of keys with their objects (`Table` of `tagged_model`), whatever an object is; here it is a place
+//! A map is an ordered list of keys with their objects (`Table` of `tagged_model`), whatever an object is; here it is an element
 //! for a value. Both kinds of map have this one definition. The values of a tenant's live maps are in its part of the memory,
-//! in which each place of a map has bytes of its own.
+//! in which each element of a map has bytes of its own.
 //!
 //! # Words
 //!
-//! - A *key* is the bytes by which a caller finds a value in a map; an *entry* is a key with its place.
-//! - A *place* is the number of a value in its map, from 0 to one less than `max_entries`.
+//! - A *key* is the bytes by which a caller finds a value in a map; an *entry* is a key with its element.
+//! - An *element* is the bytes of one value in a map's area, and their number in the map, from 0 to one less than `max_entries`.
 //! - A map *handle* (`MapKey`) says which of a tenant's live maps is meant, 0 to 15.
 //! - The *area* of a map is the bytes of all its values, in the tenant's *part* of the memory.
 //!
@@ -18,7 +18,7 @@
 //! - A look-up, an update, a delete and a request for the next key return and leave what the definition says, with errors in
 //!   its order, and none of them is refused memory: a map takes all memory that it can ever need when it is created. This holds for
 //!   the calls of `ValueMap`, for `ArrayMap` and `HashMap`.
-//! - The address of a key's value is that of its place in the part, modulo 2^64, at which the whole value is, and 0 if the map has
+//! - The address of a key's value is that of its element in the part, modulo 2^64, at which the whole value is, and 0 if the map has
 //!   no such key: `address`, `inside` of `Maps::address_of`. In an array it is found from the number of its elements, their distance
 //!   and the address of the first: `Elements::of`, `Elements::address_of`.
 //! - A key is the list of its bytes, whether it is stored as a number or as bytes: `entries_of`, in the calls of `KeyIndex` and
@@ -27,9 +27,9 @@
 //!   written at the front of a buffer for the longest key, with nothing changed after it; nothing is written if no key follows:
 //!   `given` of `next_key`.
 //! - Seen as maps, new maps, new keys, deletes and ends of runs are those of the definition: `calls_are_those_of_a_map`.
-//! - Writing a value at a key's place gives the key that value; values that agree on the places in use give one map:
+//! - Writing a value at a key's element gives the key that value; values that agree on the elements in use give one map:
 //!   `writes_refine_values`, `values_agree`.
-//! - No two keys have the same place, an array has all its indices, and the place of a deleted key is given to no key before
+//! - No two keys have the same element, an array has all its indices, and the element of a deleted key is given to no key before
 //!   the run ends: `sound` or `rest` of each call, `claimed` of `claim`.
 //!
 //! The live maps of a tenant:
@@ -41,9 +41,9 @@
 //!   `more` of `create`, `freed`, `room` of `release`, `room` or `rest` of the other calls, `maps`, `bytes` of `new`.
 //! - The values of all live maps are in the tenant's part after the stack and the context, begin at multiples of eight and do
 //!   not overlap: `laid` or `rest` of each call, `inside` of `value_at`.
-//! - The bytes of a value, written at the place of a key, are the value of that key, and of no other key of any live map:
+//! - The bytes of a value, written at the element of a key, are the value of that key, and of no other key of any live map:
 //!   `values_are_written`.
-//! - With the bytes of its values a live map changes as its places do: a delete, the end of a run, and a claim with the write
+//! - With the bytes of its values a live map changes as its elements do: a delete, the end of a run, and a claim with the write
 //!   of its value are those of the definition: `live_maps_refine_values`.
 //! - A new hash map has no key, and the values of a new array are zero; every other live map keeps its keys and values:
 //!   `fresh`, `cleared`, `values`, `maps` of `create`, `values`, `maps`, `kept` of `release`.
@@ -55,8 +55,8 @@
 //! - A new map comes after the others and leaves them unchanged. The last release of a map moves each later map down by its
 //!   area, with its values, and changes nothing else of the others. No other call moves an area: `last`, `older` of `create`,
 //!   `moved`, `values`, `areas` of `release`, `areas` or `rest` of the other calls.
-//! - The values of live maps do not overlap and no two keys of a map have one place; the same areas keep the address of each value; a
-//!   delete keeps the other places: `maps_are_laid`, `areas_keep_places`, `deletes_keep_places`.
+//! - The values of live maps do not overlap and no two keys of a map have one element; the same areas keep the address of each value; a
+//!   delete keeps the other elements: `maps_are_laid`, `areas_keep_elements`, `deletes_keep_elements`.
 //! - A key and a value of any map are no longer than a part: `sizes_fit_in_parts`.
 //! - A map is freed at its last release, and no other map: `less`, `gone`, `others` of `release`.
 //!
@@ -85,13 +85,13 @@
 //!   five machine instructions more.
 //! - The next key is borrowed or returned by value (`KeyRef`): a key that is stored as a number is spelled in eight bytes, a
 //!   longer one is borrowed from the map. So no request clears and fills room for the longest key, 512 bytes.
-//! - Memory is allocated in advance: a hash map allocates its list of places, their order and its table of keys when it is created, and
+//! - Memory is allocated in advance: a hash map allocates its list of elements, their order and its table of keys when it is created, and
 //!   `Maps` room for sixteen maps, so an update, a delete and the end of a run allocate nothing.
 //! - A hash map that is freed keeps its memory for a later one of this tenant, of the same size of keys and as many entries
 //!   (`SpareMaps`): so the last release gives no memory back, and such a new map takes none. Whenever a map takes memory, the spare maps
 //!   and the live ones have at most 32,768 entries, as many as only live ones can have. If there would be more, spare ones are freed,
 //!   those that were kept first before the others. No contract mentions the spare maps.
-//! - The places that no key has are one list: first those of keys that were deleted in this run, then the free ones. A place of
+//! - The elements that no key has are one list: first those of keys that were deleted in this run, then the free ones. An element of
 //!   the first part counts as an entry until the run ends. The end of a run only sets the length of that part to 0, so it takes
 //!   the same time however many keys were deleted.
 //! - The refinement between a map of objects and the map of what they represent is one record for any two kinds of object. No

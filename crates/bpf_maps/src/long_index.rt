@@ -1,10 +1,10 @@
-//! The places of keys of at most 512 bytes.
+//! The elements of keys of at most 512 bytes.
 
 ghost use Rattle.std.specs.Prelude.{◌≡◌, ◌<◌, ◌≤◌, None, IfOk, [], length, option_map};
 ghost use Rattle.std.specs.Map.{values_of};
 ghost use Rattle.ordered_keys.specs.Orders.{lent_entry, next_entry};
 ghost use Rattle.tagged_model.specs.Table.{found, with_key, without, key_after};
-ghost use Rattle.bpf_maps.specs.Places.{occurrences};
+ghost use Rattle.bpf_maps.specs.KeyTable.{occurrences};
 ghost use Rattle.bpf_maps.specs.inside.Keys.{lent_key};
 
 use crate::inline_key::{InlineKey, KeyBytes};
@@ -16,8 +16,8 @@ use std::marker::Model;
 /// The length of the longest key, in bytes.
 pub(crate) const LONGEST_LONG: usize = 512;
 
-/// Keys of at most 512 bytes, each with its place, in the order in which they were added. Contracts see the keys' bytes with their
-/// places.
+/// Keys of at most 512 bytes, each with its element, in the order in which they were added. Contracts see the keys' bytes with their
+/// elements.
 #[derive(Drop)]
 pub struct LongIndex {
     map: OrderedMap<InlineKey<LONGEST_LONG>, HashSeed>,
@@ -36,7 +36,7 @@ impl Model for LongIndex {
 }
 
 impl LongIndex {
-    /// Makes an index without keys, for places less than `bound`. `AllocError`: out of memory.
+    /// Makes an index without keys, for elements less than `bound`. `AllocError`: out of memory.
     pub(crate) fn new(alloc: Global, bound: u32, seed: HashSeed) -> Result<LongIndex, AllocError>
         ensures bound { IfOk result (λ index. index.bound ≡ bound) }
         ensures entries { IfOk result (λ index. index.entries ≡ []) }
@@ -45,7 +45,7 @@ impl LongIndex {
         Ok(LongIndex { map })
     }
 
-    /// Returns the place of a key; `None` if the key is absent.
+    /// Returns the element of a key; `None` if the key is absent.
     #[inline(never)]
     pub(crate) fn get(&self, key: &[u8]) -> Option<u32>
         ensures { result ≡ found key.now self.now.entries }
@@ -61,26 +61,26 @@ impl LongIndex {
         Some(following.bytes())
     }
 
-    /// The key that follows the one of a place, or the first key if no place is given, with its place. `None` if there is none,
-    /// and if no key has the place.
-    pub(crate) fn entry_after(&self, place: Option<u32>) -> Option<(&[u8], u32)>
-        ensures { option_map lent_entry result ≡ next_entry place self.now.entries }
+    /// The key that follows the one of an element, or the first key if no element is given, with its element. `None` if there is none,
+    /// and if no key has the element.
+    pub(crate) fn entry_after(&self, element: Option<u32>) -> Option<(&[u8], u32)>
+        ensures { option_map lent_entry result ≡ next_entry element self.now.entries }
     {
-        let (key, place) = self.map.entry_after(place)?;
-        Some((key.bytes(), place))
+        let (key, element) = self.map.entry_after(element)?;
+        Some((key.bytes(), element))
     }
 
     /// Adds a new key at the end. It takes no memory.
-    pub(crate) fn insert(&mut self, key: &[u8], place: u32)
+    pub(crate) fn insert(&mut self, key: &[u8], element: u32)
         requires short { length key.now ≤ LONGEST_LONG }
         requires absent { found key.now self.old.entries ≡ None }
-        requires within { place < self.old.bound }
-        requires free { occurrences place (values_of self.old.entries) ≡ 0 }
+        requires within { element < self.old.bound }
+        requires free { occurrences element (values_of self.old.entries) ≡ 0 }
         requires few { length self.old.entries < self.old.bound }
-        ensures added { self.new.entries ≡ with_key key.now place self.old.entries }
+        ensures added { self.new.entries ≡ with_key key.now element self.old.entries }
         ensures bound { self.new.bound ≡ self.old.bound }
     {
-        self.map.insert(InlineKey::copy_of(key), place);
+        self.map.insert(InlineKey::copy_of(key), element);
     }
 
     /// Removes all keys, and keeps the memory.
@@ -91,9 +91,9 @@ impl LongIndex {
         self.map.clear();
     }
 
-    /// Removes a key and returns its place; `None` if the key is absent. The others keep their order.
+    /// Removes a key and returns its element; `None` if the key is absent. The others keep their order.
     pub(crate) fn remove(&mut self, key: &[u8]) -> Option<u32>
-        ensures place { result ≡ found key.now self.old.entries }
+        ensures element { result ≡ found key.now self.old.entries }
         ensures left { self.new.entries ≡ without key.now self.old.entries }
         ensures bound { self.new.bound ≡ self.old.bound }
     {

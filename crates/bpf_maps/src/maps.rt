@@ -6,10 +6,10 @@ ghost use Rattle.tagged_model.specs.declared.shape.MapKind.TheVariants.{Array};
 ghost use Rattle.tagged_model.specs.Table.{look_up, verdict, removal, next_of, new_table};
 ghost use Rattle.bpf_maps.specs.declared.part.TheConstants.{PART, STACK_AND_CONTEXT};
 ghost use Rattle.bpf_maps.specs.Limits.{most_maps, most_bytes};
-ghost use Rattle.bpf_maps.specs.Places.{table_of, IsSound, Claims, Removes, GivesKey, after_run};
+ghost use Rattle.bpf_maps.specs.KeyTable.{table_of, IsSound, Claims, Removes, GivesKey, after_run};
 ghost use Rattle.bpf_maps.specs.Elements.{elements_at, word_of};
 ghost use Rattle.bpf_maps.specs.KeyRef.{key_bytes, shown_entry};
-ghost use Rattle.bpf_maps.specs.Live.{live_at, places_at, shape_at, holds_at, held_at, offset_at, value_in, map_in, value_address, LiesInPart, IsLaid, IsPacked, ClosesUp, start_at, AreSound, SameAreas, SameValues, KeepsMap, KeepsMaps, KeepsOthers, area_by, areas, OnlyKeysChange, create_fault, Creates, one_more, one_less};
+ghost use Rattle.bpf_maps.specs.Live.{live_at, keys_at, shape_at, holds_at, held_at, offset_at, value_in, map_in, value_address, LiesInPart, IsLaid, IsPacked, ClosesUp, start_at, AreSound, SameAreas, SameValues, KeepsMap, KeepsMaps, KeepsOthers, area_by, areas, OnlyKeysChange, create_fault, Creates, one_more, one_less};
 ghost use Rattle.bpf_maps.specs.InMaps.{live_of};
 
 use crate::bpf_map::BpfMap;
@@ -94,7 +94,7 @@ impl Maps {
     }
 
     /// A law: the values of all live maps lie in the part and don't overlap, their areas lie without gaps after the stack and the
-    /// context, no two keys of a live map have the same place, and there are `MAPS` handles. The values of the maps take
+    /// context, no two keys of a live map have the same element, and there are `MAPS` handles. The values of the maps take
     /// at most `LARGEST_SUM` bytes. It does nothing when it runs.
     #[inline(always)]
     pub fn maps_are_laid(&self)
@@ -117,17 +117,17 @@ impl Maps {
         &self.maps[key]
     }
 
-    /// The offset of the value at a place of a live map, which is this one, in the tenant's part.
+    /// The offset of the value of an element of a live map, which is this one, in the tenant's part.
     #[inline(always)]
-    fn offset_in(&self, map: MapKey, stored: &StoredMap, place: u32) -> usize
+    fn offset_in(&self, map: MapKey, stored: &StoredMap, element: u32) -> usize
         requires stored { live_at self.now map ≡ Some (live_of stored.now) }
-        requires place { place < (shape_at self.now map).max_entries }
-        ensures offset { result ≡ offset_at self.now map place }
+        requires element { element < (shape_at self.now map).max_entries }
+        ensures offset { result ≡ offset_at self.now map element }
         ensures inside { LiesInPart result (shape_at self.now map).value_size }
         ensures laid { IsLaid self.now }
     {
         self.maps_are_laid();
-        stored.start + place as usize * stored.stride
+        stored.start + element as usize * stored.stride
     }
 
     /// Creates a map with one reference and the lowest free handle. The map gets an area of its own in the tenant's part, `PART`
@@ -197,7 +197,7 @@ impl Maps {
         ensures more { live_at self.new map ≡ option_map one_more (live_at self.old map) }
         ensures live { IsSome (live_at self.new map) }
         ensures holds { holds_at self.new map ≡ holds_at self.old map + 1 }
-        ensures places { places_at self.new map ≡ places_at self.old map }
+        ensures keys { keys_at self.new map ≡ keys_at self.old map }
         ensures shape { shape_at self.new map ≡ shape_at self.old map }
         ensures others { (other : ℕ) → other ≢ map → live_at self.new other
             ≡ live_at self.old other }
@@ -212,7 +212,7 @@ impl Maps {
     }
 
     /// Drops one reference to a map; the last frees the map, its handle and its area. The areas after that one then move down by its
-    /// size, and their maps keep their places, keys and values.
+    /// size, and their maps keep their elements, keys and values.
     pub fn release(&mut self, map: MapKey, part: &mut [u8])
         requires live { IsSome (live_at self.old map) }
         requires length { length part.old ≡ PART }
@@ -295,27 +295,27 @@ impl Maps {
         Some((stored.start, stored.elements))
     }
 
-    /// The offset of the value at a place of a map in the tenant's part, in bytes. The values of all maps lie in the part, after
+    /// The offset of the value of an element of a map in the tenant's part, in bytes. The values of all maps lie in the part, after
     /// the stack and the context, and don't overlap.
     #[inline(always)]
-    pub fn value_at(&self, map: MapKey, place: u32) -> usize
+    pub fn value_at(&self, map: MapKey, element: u32) -> usize
         requires live { IsSome (live_at self.now map) }
-        requires place { place < (shape_at self.now map).max_entries }
-        ensures offset { result ≡ offset_at self.now map place }
+        requires element { element < (shape_at self.now map).max_entries }
+        ensures offset { result ≡ offset_at self.now map element }
         ensures inside { LiesInPart result (shape_at self.now map).value_size }
         ensures laid { IsLaid self.now }
     {
-        self.offset_in(map, self.stored(map), place)
+        self.offset_in(map, self.stored(map), element)
     }
 
-    /// The place of a key; `None` if the map doesn't have the key.
+    /// The element of a key; `None` if the map doesn't have the key.
     #[inline(always)]
     pub fn find(&self, map: MapKey, key: &[u8]) -> Option<u32>
         requires live { IsSome (live_at self.now map) }
         requires size { length key.now ≡ (shape_at self.now map).key_size }
-        ensures place { result ≡ look_up (table_of (places_at self.now map)) key.now }
-        ensures within { IfSome result (λ place. place < (shape_at self.now map).max_entries) }
-        ensures sound { IsSound (places_at self.now map) }
+        ensures element { result ≡ look_up (table_of (keys_at self.now map)) key.now }
+        ensures within { IfSome result (λ element. element < (shape_at self.now map).max_entries) }
+        ensures sound { IsSound (keys_at self.now map) }
     {
         self.stored(map).map.find(key)
     }
@@ -327,19 +327,19 @@ impl Maps {
         requires live { IsSome (live_at self.now map) }
         requires size { length key.now ≡ (shape_at self.now map).key_size }
         ensures address { result ≡ value_address part self.now map
-            (look_up (table_of (places_at self.now map)) key.now) }
-        ensures inside { IfSome (look_up (table_of (places_at self.now map)) key.now) (λ place.
-            LiesInPart (offset_at self.now map place) (shape_at self.now map).value_size) }
+            (look_up (table_of (keys_at self.now map)) key.now) }
+        ensures inside { IfSome (look_up (table_of (keys_at self.now map)) key.now) (λ element.
+            LiesInPart (offset_at self.now map element) (shape_at self.now map).value_size) }
     {
         let stored = self.stored(map);
         match stored.map.find(key) {
-            Some(place) => part.wrapping_add(self.offset_in(map, stored, place) as u64),
+            Some(element) => part.wrapping_add(self.offset_in(map, stored, element) as u64),
             None => 0,
         }
     }
 
-    /// Claims a place for a key; the caller then writes the value there. A present key keeps its place. A new key goes to the end,
-    /// and gets any place that is not in use.
+    /// Claims an element for a key; the caller then writes the value there. A present key keeps its element. A new key goes to the end,
+    /// and gets any element that is not in use.
     ///
     /// # Errors
     ///
@@ -351,9 +351,9 @@ impl Maps {
     pub fn claim(&mut self, map: MapKey, key: &[u8], flags: u64) -> Result<u32, MapFault>
         requires live { IsSome (live_at self.old map) }
         requires size { length key.now ≡ (shape_at self.old map).key_size }
-        ensures claimed { Claims (verdict (table_of (places_at self.old map)) key.now flags) key.now
-            (places_at self.old map) result (places_at self.new map) }
-        ensures within { IfOk result (λ place. place < (shape_at self.new map).max_entries) }
+        ensures claimed { Claims (verdict (table_of (keys_at self.old map)) key.now flags) key.now
+            (keys_at self.old map) result (keys_at self.new map) }
+        ensures within { IfOk result (λ element. element < (shape_at self.new map).max_entries) }
         ensures rest { OnlyKeysChange map self.old self.new }
         ensures refused { self.new.refused ≡ self.old.refused }
     {
@@ -363,7 +363,7 @@ impl Maps {
         stored.map.claim(key, flags)
     }
 
-    /// Removes a key. Its place is kept apart until the run ends: until then no key gets it. Takes no memory.
+    /// Removes a key. Its element is kept apart until the run ends: until then no key gets it. Takes no memory.
     ///
     /// # Errors
     ///
@@ -372,8 +372,8 @@ impl Maps {
     pub fn remove(&mut self, map: MapKey, key: &[u8]) -> Result<(), MapFault>
         requires live { IsSome (live_at self.old map) }
         requires size { length key.now ≡ (shape_at self.old map).key_size }
-        ensures removed { Removes (removal (table_of (places_at self.old map)) key.now) key.now
-            (places_at self.old map) result (places_at self.new map) }
+        ensures removed { Removes (removal (table_of (keys_at self.old map)) key.now) key.now
+            (keys_at self.old map) result (keys_at self.new map) }
         ensures rest { OnlyKeysChange map self.old self.new }
         ensures refused { self.new.refused ≡ self.old.refused }
     {
@@ -386,7 +386,7 @@ impl Maps {
     /// of another size, it is the first.
     pub fn key_after(&self, map: MapKey, key: &[u8]) -> Option<KeyRef<'_>>
         ensures given { option_map key_bytes result
-            ≡ next_of (table_of (places_at self.now map)) key.now }
+            ≡ next_of (table_of (keys_at self.now map)) key.now }
         ensures size { IfSome result (λ given.
             length (key_bytes given) ≡ (shape_at self.now map).key_size) }
     {
@@ -396,18 +396,18 @@ impl Maps {
         self.stored(map).map.key_after(key)
     }
 
-    /// The key that follows the one of a place, or the first key if no place is given, with its place. `None` if there is none,
-    /// if no key has the place, and if the map isn't live.
-    pub fn entry_after(&self, map: MapKey, place: Option<u32>) -> Option<(KeyRef<'_>, u32)>
+    /// The key that follows the one of an element, or the first key if no element is given, with its element. `None` if there is none,
+    /// if no key has the element, and if the map isn't live.
+    pub fn entry_after(&self, map: MapKey, element: Option<u32>) -> Option<(KeyRef<'_>, u32)>
         ensures entry { option_map shown_entry result
-            ≡ next_entry place (places_at self.now map).entries }
+            ≡ next_entry element (keys_at self.now map).entries }
         ensures within { IfSome result (λ e. e.1 < (shape_at self.now map).max_entries) }
     {
         if !self.is_live(map) {
             return None;
         }
         self.maps_are_laid();
-        self.stored(map).map.entry_after(place)
+        self.stored(map).map.entry_after(element)
     }
 
     /// Writes the key that follows a key to the start of `next`. After an empty or absent key it is the first.
@@ -423,16 +423,16 @@ impl Maps {
     ) -> Result<(), MapFault>
         requires live { IsSome (live_at self.now map) }
         requires size { (key.now ≡ []) ⊎ (length key.now ≡ (shape_at self.now map).key_size) }
-        ensures given { GivesKey (next_of (table_of (places_at self.now map)) key.now) next.old
+        ensures given { GivesKey (next_of (table_of (keys_at self.now map)) key.now) next.old
             result next.new }
     {
         self.stored(map).map.next_key(key, next)
     }
 
-    /// Ends a run on a map: the places that were kept apart are free again. Takes no memory.
+    /// Ends a run on a map: the elements that were kept apart are free again. Takes no memory.
     pub fn end_run(&mut self, map: MapKey)
         requires { IsSome (live_at self.old map) }
-        ensures ended { places_at self.new map ≡ after_run (places_at self.old map) }
+        ensures ended { keys_at self.new map ≡ after_run (keys_at self.old map) }
         ensures rest { OnlyKeysChange map self.old self.new }
         ensures refused { self.new.refused ≡ self.old.refused }
     {

@@ -2,7 +2,7 @@
 
 ghost use Rattle.std.specs.Prelude.{◌≡◌, IfOk, IfSome, slice_get};
 ghost use Rattle.tagged_model.specs.declared.shape.MapKind.TheVariants.{Hash};
-ghost use Rattle.bpf_maps.specs.Places.{new_places};
+ghost use Rattle.bpf_maps.specs.KeyTable.{new_keys};
 ghost use Rattle.bpf_maps.specs.inside.Spares.{IsLike};
 
 use crate::bpf_map::BpfMap;
@@ -52,7 +52,7 @@ impl SpareMaps {
         entries: usize,
     ) -> Result<HashMap, AllocError>
         requires { shape.kind ≡ Hash }
-        ensures { IfOk result (λ map. map ≡ new_places shape) }
+        ensures { IfOk result (λ map. map ≡ new_keys shape) }
     {
         if let Some(at) = self.position(shape) {
             let mut map = self.maps.swap_remove(at);

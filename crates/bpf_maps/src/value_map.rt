@@ -2,7 +2,7 @@
 
 ghost use Rattle.std.specs.Prelude.{◌≡◌, ◌≤◌, ◌<◌, ◌⊎◌, length, [], ◌++◌, drop, option_map, IfOk, IfSome};
 ghost use Rattle.tagged_model.specs.Table.{look_up, verdict, removal, next_of};
-ghost use Rattle.bpf_maps.specs.Places.{PlaceTable, table_of, IsSound, Claims, Removes, GivesKey, after_run};
+ghost use Rattle.bpf_maps.specs.KeyTable.{KeyTable, table_of, IsSound, Claims, Removes, GivesKey, after_run};
 ghost use Rattle.bpf_maps.specs.KeyRef.{key_bytes};
 ghost use Rattle.bpf_maps.specs.declared.part.TheConstants.{KEY_ROOM};
 
@@ -19,21 +19,21 @@ pub const NOEXIST: u64 = 1;
 /// The flag of an update whose key must be present (bpf(2), BPF_EXIST).
 pub const EXIST: u64 = 2;
 
-/// A map from keys, in order, to places. A place is a number less than the map's `max_entries`, and no two keys have the same
-/// place.
+/// A map from keys, in order, to elements. An element is a number less than the map's `max_entries`, and no two keys have the same
+/// element.
 pub trait ValueMap {
-    /// The keys in order, each with its place, and the places that are kept apart.
-    ghost places: { Self → PlaceTable };
+    /// The keys in order, each with its element, and the elements that are kept apart.
+    ghost keys: { Self → KeyTable };
 
-    /// Returns the place of a key; `None` if the key is absent.
+    /// Returns the element of a key; `None` if the key is absent.
     fn find(&self, key: &[u8]) -> Option<u32>
-        requires size { length key.now ≡ (places self.now).shape.key_size }
-        ensures place { result ≡ look_up (table_of (places self.now)) key.now }
-        ensures within { IfSome result (λ place. place < (places self.now).shape.max_entries) }
-        ensures sound { IsSound (places self.now) };
+        requires size { length key.now ≡ (keys self.now).shape.key_size }
+        ensures element { result ≡ look_up (table_of (keys self.now)) key.now }
+        ensures within { IfSome result (λ element. element < (keys self.now).shape.max_entries) }
+        ensures sound { IsSound (keys self.now) };
 
-    /// Claims a place for a key; the caller then writes the value there. A present key keeps its place. A new key goes to the end,
-    /// and gets any place that is not in use.
+    /// Claims an element for a key; the caller then writes the value there. A present key keeps its element. A new key goes to the end,
+    /// and gets any element that is not in use.
     ///
     /// # Errors
     ///
@@ -42,32 +42,32 @@ pub trait ValueMap {
     /// `NoEntry` if `flags` is `EXIST`, else `TooBig` if the map is full, counting the keys removed in this run. Then nothing has
     /// changed. Takes no memory.
     fn claim(&mut self, key: &[u8], flags: u64) -> Result<u32, MapFault>
-        requires size { length key.now ≡ (places self.old).shape.key_size }
-        ensures claimed { Claims (verdict (table_of (places self.old)) key.now flags) key.now
-            (places self.old) result (places self.new) }
-        ensures within { IfOk result (λ place. place < (places self.new).shape.max_entries) }
-        ensures shape { (places self.new).shape ≡ (places self.old).shape }
-        ensures sound { IsSound (places self.new) };
+        requires size { length key.now ≡ (keys self.old).shape.key_size }
+        ensures claimed { Claims (verdict (table_of (keys self.old)) key.now flags) key.now
+            (keys self.old) result (keys self.new) }
+        ensures within { IfOk result (λ element. element < (keys self.new).shape.max_entries) }
+        ensures shape { (keys self.new).shape ≡ (keys self.old).shape }
+        ensures sound { IsSound (keys self.new) };
 
-    /// Removes a key. Its place is kept apart until the run ends: until then no key gets it. Takes no memory.
+    /// Removes a key. Its element is kept apart until the run ends: until then no key gets it. Takes no memory.
     ///
     /// # Errors
     ///
     /// Those of a deletion (bpf(2), BPF_MAP_DELETE_ELEM): `Invalid` for an array, `NoEntry` if the key is absent. Then nothing has
     /// changed.
     fn remove(&mut self, key: &[u8]) -> Result<(), MapFault>
-        requires size { length key.now ≡ (places self.old).shape.key_size }
-        ensures removed { Removes (removal (table_of (places self.old)) key.now) key.now
-            (places self.old) result (places self.new) }
-        ensures shape { (places self.new).shape ≡ (places self.old).shape }
-        ensures sound { IsSound (places self.new) };
+        requires size { length key.now ≡ (keys self.old).shape.key_size }
+        ensures removed { Removes (removal (table_of (keys self.old)) key.now) key.now
+            (keys self.old) result (keys self.new) }
+        ensures shape { (keys self.new).shape ≡ (keys self.old).shape }
+        ensures sound { IsSound (keys self.new) };
 
     /// Returns the key that follows a key, if there is one. After an absent key, also one of another size, it is the first.
     fn key_after(&self, key: &[u8]) -> Option<KeyRef<'_>>
         ensures given { option_map key_bytes result
-            ≡ next_of (table_of (places self.now)) key.now }
+            ≡ next_of (table_of (keys self.now)) key.now }
         ensures size { IfSome result (λ given.
-            length (key_bytes given) ≡ (places self.now).shape.key_size) }
+            length (key_bytes given) ≡ (keys self.now).shape.key_size) }
         ensures short { IfSome result (λ given. length (key_bytes given) ≤ KEY_ROOM) };
 
     /// Writes the key that follows a key to the start of `next`. After an empty or absent key it is the first.
@@ -76,8 +76,8 @@ pub trait ValueMap {
     ///
     /// `NoEntry` if no key follows. Then `next` is unchanged.
     fn next_key(&self, key: &[u8], next: &mut [u8; KEY_ROOM]) -> Result<(), MapFault>
-        requires size { (key.now ≡ []) ⊎ (length key.now ≡ (places self.now).shape.key_size) }
-        ensures given { GivesKey (next_of (table_of (places self.now)) key.now) next.old result
+        requires size { (key.now ≡ []) ⊎ (length key.now ≡ (keys self.now).shape.key_size) }
+        ensures given { GivesKey (next_of (table_of (keys self.now)) key.now) next.old result
             next.new }
     {
         let Some(following) = self.key_after(key) else {
@@ -87,10 +87,10 @@ pub trait ValueMap {
         Ok(())
     }
 
-    /// Ends a run: the places that were kept apart are free again. Takes no memory.
+    /// Ends a run: the elements that were kept apart are free again. Takes no memory.
     fn end_run(&mut self)
-        ensures ended { places self.new ≡ after_run (places self.old) }
-        ensures sound { IsSound (places self.new) };
+        ensures ended { keys self.new ≡ after_run (keys self.old) }
+        ensures sound { IsSound (keys self.new) };
 }
 
 /// Writes a key to the start of `next`. The bytes after it are unchanged.

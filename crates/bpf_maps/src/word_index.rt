@@ -1,11 +1,11 @@
-//! The places of keys of at most eight bytes.
+//! The elements of keys of at most eight bytes.
 
 ghost use Rattle.std.specs.Prelude.{◌≡◌, ◌<◌, ◌≤◌, None, IfOk, [], length};
 ghost use Rattle.std.specs.Map.{values_of};
 ghost use Rattle.words.specs.Bytes.{number_of};
 ghost use Rattle.ordered_keys.specs.Orders.{next_entry};
 ghost use Rattle.tagged_model.specs.Table.{found, with_key, without, key_after};
-ghost use Rattle.bpf_maps.specs.Places.{occurrences};
+ghost use Rattle.bpf_maps.specs.KeyTable.{occurrences};
 
 use crate::key_ref::ShortKey;
 use ordered_keys::OrderedMap;
@@ -16,8 +16,8 @@ use std::marker::Model;
 /// The length of the longest key that is kept as a number, in bytes.
 pub(crate) const LONGEST_WORD: usize = 8;
 
-/// Keys of one size, at most eight bytes, each with its place, in the order in which they were added. A key is kept as the number
-/// that its bytes make, little-endian. Contracts see the size and the keys' bytes with their places.
+/// Keys of one size, at most eight bytes, each with its element, in the order in which they were added. A key is kept as the number
+/// that its bytes make, little-endian. Contracts see the size and the keys' bytes with their elements.
 #[derive(Drop)]
 pub struct WordIndex {
     size: usize,
@@ -37,7 +37,7 @@ impl Model for WordIndex {
 }
 
 impl WordIndex {
-    /// Makes an index without keys, for keys of `size` bytes and places less than `bound`. `AllocError`: out of memory.
+    /// Makes an index without keys, for keys of `size` bytes and elements less than `bound`. `AllocError`: out of memory.
     pub(crate) fn new(
         alloc: Global,
         size: usize,
@@ -53,7 +53,7 @@ impl WordIndex {
         Ok(WordIndex { size, map })
     }
 
-    /// Returns the place of a key; `None` if the key is absent.
+    /// Returns the element of a key; `None` if the key is absent.
     #[inline(never)]
     pub(crate) fn get(&self, key: &[u8]) -> Option<u32>
         requires { length key.now ≡ self.now.size }
@@ -74,27 +74,27 @@ impl WordIndex {
         Some(ShortKey::of_word(*word, self.size))
     }
 
-    /// The key that follows the one of a place, or the first key if no place is given, with its place. `None` if there is none,
-    /// and if no key has the place.
-    pub(crate) fn entry_after(&self, place: Option<u32>) -> Option<(ShortKey, u32)>
-        ensures { result ≡ next_entry place self.now.entries }
+    /// The key that follows the one of an element, or the first key if no element is given, with its element. `None` if there is none,
+    /// and if no key has the element.
+    pub(crate) fn entry_after(&self, element: Option<u32>) -> Option<(ShortKey, u32)>
+        ensures { result ≡ next_entry element self.now.entries }
     {
-        let (word, place) = self.map.entry_after(place)?;
-        Some((ShortKey::of_word(*word, self.size), place))
+        let (word, element) = self.map.entry_after(element)?;
+        Some((ShortKey::of_word(*word, self.size), element))
     }
 
     /// Adds a new key at the end. It takes no memory.
-    pub(crate) fn insert(&mut self, key: &[u8], place: u32)
+    pub(crate) fn insert(&mut self, key: &[u8], element: u32)
         requires size { length key.now ≡ self.old.size }
         requires absent { found key.now self.old.entries ≡ None }
-        requires within { place < self.old.bound }
-        requires free { occurrences place (values_of self.old.entries) ≡ 0 }
+        requires within { element < self.old.bound }
+        requires free { occurrences element (values_of self.old.entries) ≡ 0 }
         requires few { length self.old.entries < self.old.bound }
-        ensures added { self.new.entries ≡ with_key key.now place self.old.entries }
+        ensures added { self.new.entries ≡ with_key key.now element self.old.entries }
         ensures size { self.new.size ≡ self.old.size }
         ensures bound { self.new.bound ≡ self.old.bound }
     {
-        self.map.insert(word_of(key), place);
+        self.map.insert(word_of(key), element);
     }
 
     /// Removes all keys, and keeps the memory.
@@ -106,10 +106,10 @@ impl WordIndex {
         self.map.clear();
     }
 
-    /// Removes a key and returns its place; `None` if the key is absent. The others keep their order.
+    /// Removes a key and returns its element; `None` if the key is absent. The others keep their order.
     pub(crate) fn remove(&mut self, key: &[u8]) -> Option<u32>
         requires { length key.now ≡ self.old.size }
-        ensures place { result ≡ found key.now self.old.entries }
+        ensures element { result ≡ found key.now self.old.entries }
         ensures left { self.new.entries ≡ without key.now self.old.entries }
         ensures size { self.new.size ≡ self.old.size }
         ensures bound { self.new.bound ≡ self.old.bound }

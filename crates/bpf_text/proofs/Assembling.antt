@@ -26,13 +26,13 @@ use Rattle.text_line.specs.Line.{Line, blank, label, code, ReadAs}
 use Rattle.text_line.specs.Form.{names_label}
 use Rattle.text_line.specs.Ranges.{form_fits, form_slots, resolved}
 use Rattle.text_line.specs.Written.{written}
-use Rattle.bpf_text.specs.declared.assembler.Place.{Place}
+use Rattle.bpf_text.specs.declared.assembler.Definition.{Definition}
 use Rattle.bpf_text.specs.declared.fault.TextFault.{TextFault}
 use Rattle.bpf_text.specs.declared.fault.TextFaultKind.{TextFaultKind}
 use Rattle.bpf_text.specs.declared.fault.TextFaultKind.TheVariants.{Range, UnknownLabel, LabelTwice, TooLong, Memory}
 use Rattle.bpf_text.specs.Fault.{NoneBelow, IsFirstFaultyLine, memory_fault, empty_fault}
 use Rattle.bpf_text.specs.inside.Faults.{fault_on}
-use Rattle.bpf_text.specs.inside.Labels.{Labels, place_of, place_at, FindsLabels, kept_line, kept_slot, kept_distance, code_fault, label_fault, kept_fault, kept_form, kept_forms, IsFormed}
+use Rattle.bpf_text.specs.inside.Labels.{Labels, definition_of, definition_at, FindsLabels, kept_line, kept_slot, kept_distance, code_fault, label_fault, kept_fault, kept_form, kept_forms, IsFormed}
 use Rattle.bpf_text.specs.Assembly.{AreRead, line_slots, slots_on, label_line, label_slot, distance, passes, is_known, is_twice, line_fault, line_fault_of, fault_at, forms_from, IsAssembled, IsOwnFault}
 use Rattle.bpf_text.specs.Lines.{text_lines}
 use Rattle.bpf_text.proofs.Faults.{fault_on_line}
@@ -41,12 +41,12 @@ use Rattle.bpf_text.proofs.LabelLines.{slots_on-append}
 -- ---- the labels that are kept
 
 abbrev pub Finds : List (Option Line) → Labels → Type 0
-Finds lines labels = (name : List ℕ) → place_of labels name ≡ option_map (place_at lines) (label_line name lines)
+Finds lines labels = (name : List ℕ) → definition_of labels name ≡ option_map (definition_at lines) (label_line name lines)
 
 pub finds_all : (lines : List (Option Line)) (labels : Labels) (n : ℕ) → length lines ≤ n → FindsLabels lines labels n → Finds lines labels
-finds_all lines labels n past finds = λ name. finds name ∙ ap (λ (ls : List (Option Line)). option_map (place_at lines) (label_line name ls)) (take_all n lines past)
+finds_all lines labels n past finds = λ name. finds name ∙ ap (λ (ls : List (Option Line)). option_map (definition_at lines) (label_line name ls)) (take_all n lines past)
 
-kept_line_is : (lines : List (Option Line)) (o : Option ℕ) (i : ℕ) → kept_line (option_map (place_at lines) o) i ≡ unwrap_or o i
+kept_line_is : (lines : List (Option Line)) (o : Option ℕ) (i : ℕ) → kept_line (option_map (definition_at lines) o) i ≡ unwrap_or o i
 kept_line_is lines None i = refl
 kept_line_is lines (Some k) i = refl
 
@@ -54,11 +54,11 @@ no_slots_on : slots_on [] ≡ 0
 unfolding slots_on
 no_slots_on = refl
 
-kept_slot_is : (lines : List (Option Line)) (o : Option ℕ) → kept_slot (option_map (place_at lines) o) ≡ slots_on (take (unwrap_or o 0) lines)
+kept_slot_is : (lines : List (Option Line)) (o : Option ℕ) → kept_slot (option_map (definition_at lines) o) ≡ slots_on (take (unwrap_or o 0) lines)
 kept_slot_is lines None = sym no_slots_on
 kept_slot_is lines (Some k) = refl
 
-is_kept : (lines : List (Option Line)) (o : Option ℕ) → is_some (option_map (place_at lines) o) ≡ is_some o
+is_kept : (lines : List (Option Line)) (o : Option ℕ) → is_some (option_map (definition_at lines) o) ≡ is_some o
 is_kept lines None = refl
 is_kept lines (Some k) = refl
 
@@ -69,10 +69,10 @@ pub fault_is : (lines : List (Option Line)) (labels : Labels) (i before : ℕ) (
 fault_is lines labels i before None finds = refl
 fault_is lines labels i before (Some blank) finds = refl
 fault_is lines labels i before (Some (label name)) finds =
-    ap (λ (o : Option Place). label_fault o i) (finds name)
+    ap (λ (o : Option Definition). label_fault o i) (finds name)
     ∙ ap (λ (k : ℕ). cond (ltb k i) (Some LabelTwice) None) (kept_line_is lines (label_line name lines) i)
 fault_is lines labels i before (Some (code form name)) finds =
-    ap (λ (o : Option Place). code_fault form o before) (finds name)
+    ap (λ (o : Option Definition). code_fault form o before) (finds name)
     ∙ ap (λ (b : Bool). cond (form_fits form) (cond (not (names_label form) || b) (cond (passes before (form_slots form)) (Some TooLong) None) (Some UnknownLabel)) (Some Range)) (is_kept lines (label_line name lines))
 
 code_fault_kind : (fits known long : Bool) (kind : TextFaultKind) → cond fits (cond known (cond long (Some TooLong) None) (Some UnknownLabel)) (Some Range) ≡ Some kind → kind ≢ Memory
@@ -107,9 +107,9 @@ no_fault_past lines below i =
 -- ---- instructions
 
 -- the instruction of a line is its form with the labels that are kept
-pub form_kept : (labels : Labels) (slot : ℕ) (line : Option CodeLine) (form : Form) (name : Bor (List ℕ)) (place : Option Place) (insn : Insn) → line ≡ Some (Code form name) → place ≡ place_of labels name.now → written insn ≡ resolved (kept_distance place slot) form → written insn ∷ [] ≡ kept_form labels slot (seen_option line)
-form_kept labels slot line form name place insn is found e =
-    ap (λ (f : Form). f ∷ []) (e ∙ ap (λ (o : Option Place). resolved (kept_distance o slot) form) found)
+pub form_kept : (labels : Labels) (slot : ℕ) (line : Option CodeLine) (form : Form) (name : Bor (List ℕ)) (definition : Option Definition) (insn : Insn) → line ≡ Some (Code form name) → definition ≡ definition_of labels name.now → written insn ≡ resolved (kept_distance definition slot) form → written insn ∷ [] ≡ kept_form labels slot (seen_option line)
+form_kept labels slot line form name definition insn is found e =
+    ap (λ (f : Form). f ∷ []) (e ∙ ap (λ (o : Option Definition). resolved (kept_distance o slot) form) found)
     ∙ sym (ap (λ (o : Option CodeLine). kept_form labels slot (seen_option o)) is)
 
 pub no_forms : (labels : Labels) (slot : ℕ) → kept_forms labels slot [] ≡ []
@@ -138,11 +138,11 @@ slots_on-take (suc k) [] = omega arith
 slots_on-take (suc k) (l ∷ lines) = let more : slots_on (take k lines) ≤ slots_on lines = slots_on-take k lines in omega arith
 
 -- if the lines have at most as many slots as a program may have, the distance by the labels that are kept is the label's distance
-distance_is : (lines : List (Option Line)) (labels : Labels) (slot : ℕ) (name : List ℕ) → Finds lines labels → slots_on lines ≤ MAX_SLOTS → kept_distance (place_of labels name) slot ≡ distance lines slot name
+distance_is : (lines : List (Option Line)) (labels : Labels) (slot : ℕ) (name : List ℕ) → Finds lines labels → slots_on lines ≤ MAX_SLOTS → kept_distance (definition_of labels name) slot ≡ distance lines slot name
 distance_is lines labels slot name finds room =
-    let at : kept_slot (place_of labels name) ≡ label_slot lines name = ap kept_slot (finds name) ∙ kept_slot_is lines (label_line name lines) in
+    let at : kept_slot (definition_of labels name) ≡ label_slot lines name = ap kept_slot (finds name) ∙ kept_slot_is lines (label_line name lines) in
     let inside : label_slot lines name ≤ MAX_SLOTS = omega (arith, slots_on-take (unwrap_or (label_line name lines) 0) lines) in
-    let same : min (kept_slot (place_of labels name)) MAX_SLOTS ≡ label_slot lines name = omega arith in
+    let same : min (kept_slot (definition_of labels name)) MAX_SLOTS ≡ label_slot lines name = omega arith in
     ap (λ (n : ℕ). pos n -ℤ pos (slot + 1)) same
 
 pub forms_are : (all : List (Option Line)) (labels : Labels) (slot : ℕ) (lines : List (Option Line)) → Finds all labels → slots_on all ≤ MAX_SLOTS → kept_forms labels slot lines ≡ forms_from all slot lines
@@ -210,8 +210,8 @@ code_room true true before slots h e = grind (arith, nat_tests)
 code_room true false before slots h e = absurd (let no : Some UnknownLabel ≡ None = e in cc no)
 code_room false known before slots h e = absurd (let no : Some Range ≡ None = e in cc no)
 
-line_room : (labels : Labels) (here : Place) (line : Option Line) → here.slot ≤ MAX_SLOTS → kept_fault labels here line ≡ None → here.slot + line_slots line ≤ MAX_SLOTS
-line_room labels here (Some (code form name)) h e = code_room (form_fits form) (not (names_label form) || is_some (place_of labels name)) here.slot (form_slots form) h e
+line_room : (labels : Labels) (here : Definition) (line : Option Line) → here.slot ≤ MAX_SLOTS → kept_fault labels here line ≡ None → here.slot + line_slots line ≤ MAX_SLOTS
+line_room labels here (Some (code form name)) h e = code_room (form_fits form) (not (names_label form) || is_some (definition_of labels name)) here.slot (form_slots form) h e
 line_room labels here _ h e = omega arith
 
 pub goes_on : (labels : Labels) (lines : List (Option Line)) (i slot more_slots : ℕ) (line : Option Line) (insns new : List Insn) (one : Option Insn) → Finds lines labels → i < length lines → line ≡ get_or lines i line → more_slots ≡ line_slots line
@@ -219,11 +219,11 @@ pub goes_on : (labels : Labels) (lines : List (Option Line)) (i slot more_slots 
     → Goes labels lines i slot insns → Goes labels lines (i + 1) (slot + more_slots) new
 goes_on labels lines i slot more_slots line insns new one finds inside at more pushed found none so =
     let taken : take (i + 1) lines ≡ take i lines ++ line ∷ [] = take_more lines i line inside ∙ ap (λ (l : Option Line). take i lines ++ l ∷ []) (sym at) in
-    let place : Place = record { line = i; slot = slot } in
+    let definition : Definition = record { line = i; slot = slot } in
     record {
       below = below_more _ _ so.below (fault_here lines i line inside ∙ ap (line_fault lines i (slots_on (take i lines))) (sym at) ∙ ap (λ (n : ℕ). line_fault lines i n line) (sym so.slot_is) ∙ sym (fault_is lines labels i slot line finds) ∙ none);
       slot_is = ap (λ (n : ℕ). n + more_slots) so.slot_is ∙ ap (λ (n : ℕ). slots_on (take i lines) + n) more ∙ sym (slots_on-append (take i lines) line) ∙ ap slots_on (sym taken);
-      room = let fits = line_room labels place line so.room none in omega arith;
+      room = let fits = line_room labels definition line so.room none in omega arith;
       forms = ap (map written) pushed ∙ map-append written insns (option_to_list one)
           ∙ ap (λ (fs : List Form). fs ++ map written (option_to_list one)) so.forms
           ∙ ap (λ (fs : List Form). kept_forms labels 0 (take i lines) ++ fs) (found ∙ ap (λ (n : ℕ). kept_form labels n line) (so.slot_is ∙ from_none (slots_on (take i lines))))

@@ -4,13 +4,13 @@ use Rattle.std.specs.Prelude.{option_map, is_some}
 use Rattle.std.specs.Option.{option_copied}
 use Rattle.text_line.specs.declared.form.Line.{Line as CodeLine}
 use Rattle.text_line.specs.Shown.{seen_option, seen_lines}
-use Rattle.bpf_text.specs.inside.Labels.{or_else, Labels, place_of, place_at, FindsLabels, label_defined}
+use Rattle.bpf_text.specs.inside.Labels.{or_else, Labels, definition_of, definition_at, FindsLabels, label_defined}
 use Rattle.text_line.specs.Line.{Line, blank, label, code, ReadAs}
 use Rattle.std.specs.Str.{bytes_eq}
 use Rattle.std.proofs.lemmas.Slice.Eq.{bytes_eq-Decides}
 use Rattle.std.proofs.lemmas.Bool.{false≢true}
 use Rattle.std.proofs.lemmas.List.{take_more, get_or-map, length-map, length-take, map-append}
-use Rattle.bpf_text.specs.declared.assembler.Place.{Place}
+use Rattle.bpf_text.specs.declared.assembler.Definition.{Definition}
 use Rattle.bpf_text.specs.Assembly.{AreRead, line_slots, slots_on, defines, label_line}
 
 label_line_step : (name : List ℕ) (l x : Option Line) (xs : List (Option Line)) (b : Bool) → label_line name (xs ++ x ∷ []) ≡ or_else (label_line name xs) (cond (defines name x) (Some (length xs)) None)
@@ -43,10 +43,10 @@ bytes_eq-other : (a b : List ℕ) (t : Bool) → bytes_eq a b ≡ false → byte
 bytes_eq-other a b true h k = absurd (false≢true (sym h ∙ bytes_eq-sym b a k))
 bytes_eq-other a b false h k = refl
 
-abbrev some_place : Place → Option Place
-some_place p = Some p
+abbrev some_definition : Definition → Option Definition
+some_definition p = Some p
 
-or_none : (o : Option Place) → or_else o None ≡ o
+or_none : (o : Option Definition) → or_else o None ≡ o
 or_none None = refl
 or_none (Some p) = refl
 
@@ -56,43 +56,43 @@ defines_is q name (Some blank) e = absurd (let no : Some name ≡ None = sym e i
 defines_is q name (Some (label n)) e = let same : n ≡ name = cc in ap (bytes_eq q) same
 defines_is q name (Some (code f n)) e = absurd (let no : Some name ≡ None = sym e in cc no)
 
-noted_step : (old new : Option Place) (place : Place) (name q : List ℕ) (x : Option Line) (b : Bool) → label_defined x ≡ Some name → bytes_eq name q ≡ b → (b ≡ true → old ≡ None) → new ≡ cond b (some_place place) old → new ≡ or_else old (cond (defines q x) (some_place place) None)
-noted_step old new place name q x true is eq none e =
+noted_step : (old new : Option Definition) (definition : Definition) (name q : List ℕ) (x : Option Line) (b : Bool) → label_defined x ≡ Some name → bytes_eq name q ≡ b → (b ≡ true → old ≡ None) → new ≡ cond b (some_definition definition) old → new ≡ or_else old (cond (defines q x) (some_definition definition) None)
+noted_step old new definition name q x true is eq none e =
     let here : defines q x ≡ true = defines_is q name x is ∙ bytes_eq-sym name q eq in
-    e ∙ sym (ap (λ (t : Bool). or_else old (cond t (some_place place) None)) here ∙ ap (λ (o : Option Place). or_else o (some_place place)) (none refl))
-noted_step old new place name q x false is eq none e =
+    e ∙ sym (ap (λ (t : Bool). or_else old (cond t (some_definition definition) None)) here ∙ ap (λ (o : Option Definition). or_else o (some_definition definition)) (none refl))
+noted_step old new definition name q x false is eq none e =
     let there : defines q x ≡ false = defines_is q name x is ∙ bytes_eq-other name q (bytes_eq q name) eq refl in
-    e ∙ sym (ap (λ (t : Bool). or_else old (cond t (some_place place) None)) there ∙ or_none old)
+    e ∙ sym (ap (λ (t : Bool). or_else old (cond t (some_definition definition) None)) there ∙ or_none old)
 
--- the place of a name that had none is kept now
-pub noted : (old new : Labels) (place : Place) (name : List ℕ) (x : Option Line) → label_defined x ≡ Some name → place_of old name ≡ None
-    → ((q : List ℕ) → place_of new q ≡ cond (bytes_eq name q) (some_place place) (place_of old q))
-    → (q : List ℕ) → place_of new q ≡ or_else (place_of old q) (cond (defines q x) (some_place place) None)
-noted old new place name x is none change q =
-    noted_step (place_of old q) (place_of new q) place name q x (bytes_eq name q) is refl (λ t. ap (place_of old) (sym ((bytes_eq-Decides name q).0 t)) ∙ none) (change q)
+-- the definition of a name that had none is kept now
+pub noted : (old new : Labels) (definition : Definition) (name : List ℕ) (x : Option Line) → label_defined x ≡ Some name → definition_of old name ≡ None
+    → ((q : List ℕ) → definition_of new q ≡ cond (bytes_eq name q) (some_definition definition) (definition_of old q))
+    → (q : List ℕ) → definition_of new q ≡ or_else (definition_of old q) (cond (defines q x) (some_definition definition) None)
+noted old new definition name x is none change q =
+    noted_step (definition_of old q) (definition_of new q) definition name q x (bytes_eq name q) is refl (λ t. ap (definition_of old) (sym ((bytes_eq-Decides name q).0 t)) ∙ none) (change q)
 
-pushed_place : (lines : List (Option Line)) (o : Option ℕ) (b : Bool) (i : ℕ) → or_else (option_map (place_at lines) o) (cond b (some_place (place_at lines i)) None) ≡ option_map (place_at lines) (or_else o (cond b (Some i) None))
-pushed_place lines (Some k) b i = refl
-pushed_place lines None true i = refl
-pushed_place lines None false i = refl
+pushed_definition : (lines : List (Option Line)) (o : Option ℕ) (b : Bool) (i : ℕ) → or_else (option_map (definition_at lines) o) (cond b (some_definition (definition_at lines i)) None) ≡ option_map (definition_at lines) (or_else o (cond b (Some i) None))
+pushed_definition lines (Some k) b i = refl
+pushed_definition lines None true i = refl
+pushed_definition lines None false i = refl
 
 -- the labels after one more line
-pub finds_more : (lines : List (Option Line)) (i : ℕ) (x : Option Line) (old new : Labels) (place : Place) → take (i + 1) lines ≡ take i lines ++ x ∷ [] → length (take i lines) ≡ i → FindsLabels lines old i → place ≡ place_at lines i
-    → ((q : List ℕ) → place_of new q ≡ or_else (place_of old q) (cond (defines q x) (some_place place) None))
+pub finds_more : (lines : List (Option Line)) (i : ℕ) (x : Option Line) (old new : Labels) (definition : Definition) → take (i + 1) lines ≡ take i lines ++ x ∷ [] → length (take i lines) ≡ i → FindsLabels lines old i → definition ≡ definition_at lines i
+    → ((q : List ℕ) → definition_of new q ≡ or_else (definition_of old q) (cond (defines q x) (some_definition definition) None))
     → FindsLabels lines new (i + 1)
-finds_more lines i x old new place more len finds is change = λ q.
+finds_more lines i x old new definition more len finds is change = λ q.
     change q
-    ∙ ap (λ (o : Option Place). or_else o (cond (defines q x) (some_place place) None)) (finds q)
-    ∙ ap (λ (p : Place). or_else (option_map (place_at lines) (label_line q (take i lines))) (cond (defines q x) (some_place p) None)) is
-    ∙ pushed_place lines (label_line q (take i lines)) (defines q x) i
-    ∙ ap (λ (n : ℕ). option_map (place_at lines) (or_else (label_line q (take i lines)) (cond (defines q x) (Some n) None))) (sym len)
-    ∙ ap (option_map (place_at lines)) (sym (label_line-append q (take i lines) x))
-    ∙ ap (λ (xs : List (Option Line)). option_map (place_at lines) (label_line q xs)) (sym more)
+    ∙ ap (λ (o : Option Definition). or_else o (cond (defines q x) (some_definition definition) None)) (finds q)
+    ∙ ap (λ (p : Definition). or_else (option_map (definition_at lines) (label_line q (take i lines))) (cond (defines q x) (some_definition p) None)) is
+    ∙ pushed_definition lines (label_line q (take i lines)) (defines q x) i
+    ∙ ap (λ (n : ℕ). option_map (definition_at lines) (or_else (label_line q (take i lines)) (cond (defines q x) (Some n) None))) (sym len)
+    ∙ ap (option_map (definition_at lines)) (sym (label_line-append q (take i lines) x))
+    ∙ ap (λ (xs : List (Option Line)). option_map (definition_at lines) (label_line q xs)) (sym more)
 
 pub slots_more : (lines : List (Option Line)) (i : ℕ) (x : Option Line) (slot : ℕ) → take (i + 1) lines ≡ take i lines ++ x ∷ [] → slot ≡ slots_on (take i lines) → slot + line_slots x ≡ slots_on (take (i + 1) lines)
 slots_more lines i x slot more is = ap (λ (n : ℕ). n + line_slots x) is ∙ sym (slots_on-append (take i lines) x) ∙ ap slots_on (sym more)
 
-pub none_found : (lines : List (Option Line)) (q : List ℕ) → None ≡ option_map (place_at lines) (label_line q [])
+pub none_found : (lines : List (Option Line)) (q : List ℕ) → None ≡ option_map (definition_at lines) (label_line q [])
 unfolding label_line
 none_found lines q = refl
 
@@ -100,7 +100,7 @@ pub no_slots : 0 ≡ slots_on []
 unfolding slots_on
 no_slots = refl
 
-pub none_copied : (o : Option (Bor Place)) → is_some o ≡ false → option_copied o ≡ None
+pub none_copied : (o : Option (Bor Definition)) → is_some o ≡ false → option_copied o ≡ None
 none_copied None h = refl
 none_copied (Some p) h = absurd (false≢true (sym h))
 

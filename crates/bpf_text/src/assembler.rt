@@ -9,7 +9,7 @@ ghost use Rattle.text_line.specs.Shown.{seen_option, seen_lines};
 ghost use Rattle.bpf_text.specs.declared.fault.TextFault.{TextFault as AnyFault};
 ghost use Rattle.bpf_text.specs.Fault.{IsFirstFaultyLine, memory_fault, empty_fault};
 ghost use Rattle.bpf_text.specs.Assembly.{AreRead, IsAssembled, IsOwnFault, line_slots, slots_on, defines, fault_at, forms_from};
-ghost use Rattle.bpf_text.specs.inside.Labels.{label_defined, or_else, place_of, FindsLabels, kept_distance, code_fault, kept_fault, kept_form, IsFormed};
+ghost use Rattle.bpf_text.specs.inside.Labels.{label_defined, or_else, definition_of, FindsLabels, kept_distance, code_fault, kept_fault, kept_form, IsFormed};
 ghost use Rattle.text_line.specs.Form.{IsForm};
 ghost use Rattle.text_line.specs.Ranges.{resolved};
 ghost use Rattle.text_line.specs.Written.{written};
@@ -40,7 +40,7 @@ fn read_lines<'a>(alloc: Global, text: &'a [&'a str]) -> Result<Vec<Option<Line<
 
 /// The index of a line, and the number of slots before it.
 #[derive(Clone, Copy, Debug)]
-struct Place {
+struct Definition {
     line: usize,
     slot: usize,
 }
@@ -66,62 +66,62 @@ fn defined<'a>(line: &Option<Line<'a>>) -> Option<&'a str>
     }
 }
 
-/// Keeps the place of a line that defines a label, unless an earlier line defines it.
+/// Keeps the line and the slot of a label's definition, unless an earlier line defines it.
 fn note<'a>(
-    labels: &mut HashMap<&'a str, Place>,
+    labels: &mut HashMap<&'a str, Definition>,
     line: &Option<Line<'a>>,
-    place: Place,
+    definition: Definition,
 ) -> Result<(), AllocError>
-    ensures { OnOk result ((q : List ℕ) → place_of labels.new q
-        ≡ or_else (place_of labels.old q) (if defines q (seen_option line.now) then Some place
+    ensures { OnOk result ((q : List ℕ) → definition_of labels.new q
+        ≡ or_else (definition_of labels.old q) (if defines q (seen_option line.now) then Some definition
         else None)) }
 {
     let Some(name) = defined(line) else {
         return Ok(());
     };
     if labels.get(name).is_none() {
-        labels.insert(name, place)?;
+        labels.insert(name, definition)?;
     }
     Ok(())
 }
 
-/// The place of the first line that defines each label.
+/// The definition of the first line that defines each label.
 fn labels<'a>(
     alloc: Global,
     lines: &[Option<Line<'a>>],
-) -> Result<HashMap<&'a str, Place>, AllocError>
+) -> Result<HashMap<&'a str, Definition>, AllocError>
     ensures { IfOk result (λ labels. FindsLabels (seen_lines lines.now) labels (length lines.now)) }
 {
     let mut labels = HashMap::new(alloc);
     let mut slot = 0;
     for (index, line) in lines.iter().enumerate() {
-        note(&mut labels, line, Place { line: index, slot })?;
+        note(&mut labels, line, Definition { line: index, slot })?;
         slot += line_slots(line);
     }
     Ok(labels)
 }
 
-/// The place of a label's definition.
-fn place_of_label(labels: &HashMap<&str, Place>, name: &str) -> Option<Place>
-    ensures { result ≡ place_of labels.now name.now }
+/// The definition of a label.
+fn definition_of_label(labels: &HashMap<&str, Definition>, name: &str) -> Option<Definition>
+    ensures { result ≡ definition_of labels.now name.now }
 {
     labels.get(name).copied()
 }
 
 /// The distance in slots from slot `slot + 1` to a label.
-fn distance(label: Option<Place>, slot: usize) -> i16
+fn distance(label: Option<Definition>, slot: usize) -> i16
     requires { slot ≤ MAX_SLOTS }
     ensures { result ≡ kept_distance label slot }
 {
     let to = match label {
-        Some(place) => place.slot.min(MAX_SLOTS),
+        Some(definition) => definition.slot.min(MAX_SLOTS),
         None => 0,
     };
     to as i16 - (slot as i16 + 1)
 }
 
-/// The instruction of a form, given the place of the label that it names and the slots before it.
-fn resolve(form: &Form, label: Option<Place>, slot: usize) -> Result<Insn, TextFaultKind>
+/// The instruction of a form, given the definition of the label that it names and the slots before it.
+fn resolve(form: &Form, label: Option<Definition>, slot: usize) -> Result<Insn, TextFaultKind>
     requires form { IsForm form.now }
     requires room { slot ≤ MAX_SLOTS }
     ensures found { IfOk result (λ insn. written insn
@@ -141,11 +141,11 @@ fn resolve(form: &Form, label: Option<Place>, slot: usize) -> Result<Insn, TextF
     Ok(insn)
 }
 
-/// The instruction on a line at a place; `None` for a blank line or one that defines a label.
+/// The instruction on a line, with its number and slot; `None` for a blank line or one that defines a label.
 fn instruction(
-    labels: &HashMap<&str, Place>,
+    labels: &HashMap<&str, Definition>,
     line: &Option<Line<'_>>,
-    here: Place,
+    here: Definition,
 ) -> Result<Option<Insn>, TextFaultKind>
     requires form { IsFormed (seen_option line.now) }
     requires room { here.slot ≤ MAX_SLOTS }
@@ -159,13 +159,13 @@ fn instruction(
         None => Err(TextFaultKind::Syntax),
         Some(Line::Blank) => Ok(None),
         Some(Line::Label(name)) => {
-            match place_of_label(labels, name) {
+            match definition_of_label(labels, name) {
                 Some(first) if first.line < here.line => Err(TextFaultKind::LabelTwice),
                 _ => Ok(None),
             }
         }
         Some(Line::Code(form, label)) => {
-            let insn = resolve(form, place_of_label(labels, label), here.slot)?;
+            let insn = resolve(form, definition_of_label(labels, label), here.slot)?;
             Ok(Some(insn))
         }
     }
@@ -175,7 +175,7 @@ fn instruction(
 fn instructions(
     alloc: Global,
     lines: &[Option<Line<'_>>],
-    labels: &HashMap<&str, Place>,
+    labels: &HashMap<&str, Definition>,
 ) -> Result<Vec<Insn>, TextFault>
     requires formed { AllByRecursion IsFormed (seen_lines lines.now) }
     requires labels { FindsLabels (seen_lines lines.now) labels.now (length lines.now) }
@@ -191,7 +191,7 @@ fn instructions(
     let mut insns = Vec::new(alloc);
     let mut slot = 0;
     for (index, line) in lines.iter().enumerate() {
-        let insn = match instruction(labels, line, Place { line: index, slot }) {
+        let insn = match instruction(labels, line, Definition { line: index, slot }) {
             Ok(insn) => insn,
             Err(kind) => return Err(TextFault::at(index, kind)),
         };

@@ -18,7 +18,7 @@
 //!
 //! # Decisions
 //!
-//! The place of a label is kept in a map, so that each jump finds its label with one look-up. A label that is defined twice is
+//! The definition of a label is kept in a map, so that each jump finds its label with one look-up. A label that is defined twice is
 //! the first one; the second definition is a fault.
 #![tactic(auto)]
 

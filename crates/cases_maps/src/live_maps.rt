@@ -19,7 +19,7 @@ pub struct LiveMapsPlayer {
     alloc: Global,
     maps: Maps,
     arena: Arena,
-    // The keys of all maps so far, each once. A map's number is the place of its key.
+    // The keys of all maps so far, each once. A map's number is the index of its key.
     keys: Vec<MapKey>,
 }
 
@@ -131,21 +131,21 @@ impl LiveMapsPlayer {
         Ok(format!(in self.alloc; "{kind:?} {key} {value} {entries}")?)
     }
 
-    /// The offset of the value at a place.
-    fn offset(&self, map: MapKey, place: u32) -> Result<usize, CaseError>
+    /// The offset of the value of an element.
+    fn offset(&self, map: MapKey, element: u32) -> Result<usize, CaseError>
         requires { IsSome (live_at self.now map) }
     {
-        if place >= self.maps.shape(map).max_entries {
+        if element >= self.maps.shape(map).max_entries {
             return Err(CaseError::OutOfRange);
         }
-        Ok(self.maps.value_at(map, place))
+        Ok(self.maps.value_at(map, element))
     }
 
-    /// The offset of a value: the map and the place.
+    /// The offset of a value: the map and the element.
     fn at(&self, rest: &str) -> Result<String, CaseError> {
-        let (number, place) = first_word(rest);
+        let (number, element) = first_word(rest);
         let map = self.live_map(number)?;
-        let offset = self.offset(map, place.parse()?)?;
+        let offset = self.offset(map, element.parse()?)?;
         Ok(format!(in self.alloc; "at {offset}")?)
     }
 
@@ -155,10 +155,10 @@ impl LiveMapsPlayer {
         let map = self.live_map(number)?;
         let shape = self.maps.shape(map);
         let key = bytes_of_size(self.alloc, digits, shape.key_size)?;
-        let Some(place) = self.maps.find(map, &key) else {
+        let Some(element) = self.maps.find(map, &key) else {
             return Ok("absent".to_string(self.alloc)?);
         };
-        let start = self.maps.value_at(map, place);
+        let start = self.maps.value_at(map, element);
         let value = &self.arena.part(0)[start..start + shape.value_size as usize];
         Ok(hex_groups(self.alloc, value, GROUP)?)
     }
@@ -174,8 +174,8 @@ impl LiveMapsPlayer {
         let key = bytes_of_size(self.alloc, key, shape.key_size)?;
         let value = bytes_of_size(self.alloc, value, shape.value_size)?;
         match self.maps.claim(map, &key, flags) {
-            Ok(place) => {
-                let start = self.maps.value_at(map, place);
+            Ok(element) => {
+                let start = self.maps.value_at(map, element);
                 self.arena.memory_is_its_parts();
                 let part = self.arena.part_mut(0);
                 part[start..start + value.len()].copy_from_slice(&value);

@@ -5,8 +5,8 @@
 //! | Line | Output |
 //! |---|---|
 //! | `map new KIND:KEY:VALUE:MAX` | nothing: a new map, for the lines that follow |
-//! | `map find KEY` | the place of a key |
-//! | `map claim FLAGS KEY` | whether a place is claimed for the key |
+//! | `map find KEY` | the element of a key |
+//! | `map claim FLAGS KEY` | whether an element is claimed for the key |
 //! | `map remove KEY` | whether the key is removed |
 //! | `map next KEY` | the key that follows this one, which may be left out |
 //! | `map end` | nothing: the run ends |
@@ -19,9 +19,9 @@
 //! | `maps create KIND:KEY:VALUE:MAX HOLDS` | the number of a new map, to which HOLDS references are added, and the offset of its first value |
 //! | `maps release MAP` | whether the map is still live |
 //! | `maps shape MAP` | the shape of a map |
-//! | `maps at MAP PLACE` | the offset of the value at a place |
+//! | `maps at MAP ELEMENT` | the offset of the value of an element |
 //! | `maps find MAP KEY` | the value of a key |
-//! | `maps claim MAP FLAGS KEY VALUE` | whether a place is claimed for the key; the value is written there |
+//! | `maps claim MAP FLAGS KEY VALUE` | whether an element is claimed for the key; the value is written there |
 //! | `maps remove MAP KEY`, `maps next MAP KEY`, `maps end MAP` | as for one map |
 //! | `maps refused` | whether memory was ever refused to a new map |
 //! | `maps run MAP PACKET TEXT` | the result of a test run of a program's text on this packet, with the map at descriptor 3 |

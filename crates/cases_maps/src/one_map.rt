@@ -8,25 +8,25 @@ use cases::{CaseError, bytes_of, bytes_of_size, first_word, shape_of};
 use seeded_hash::HashSeed;
 use std::alloc::Global;
 
-/// The place of a key of this size.
+/// The element of a key of this size.
 fn find<M: ValueMap>(alloc: Global, map: &M, size: u32, digits: &str) -> Result<String, CaseError>
-    requires { size ≡ (M.places map.now).shape.key_size }
+    requires { size ≡ (M.keys map.now).shape.key_size }
 {
     let key = bytes_of_size(alloc, digits, size)?;
     match map.find(&key) {
-        Some(place) => Ok(format!(in alloc; "place {place}")?),
+        Some(element) => Ok(format!(in alloc; "element {element}")?),
         None => Ok("absent".to_string(alloc)?),
     }
 }
 
-/// A claim of a place: the flags, and a key of this size.
+/// A claim of an element: the flags, and a key of this size.
 fn claim<M: ValueMap>(
     alloc: Global,
     map: &mut M,
     size: u32,
     rest: &str,
 ) -> Result<String, CaseError>
-    requires { size ≡ (M.places map.old).shape.key_size }
+    requires { size ≡ (M.keys map.old).shape.key_size }
 {
     let (flags, digits) = first_word(rest);
     let flags = flags.parse()?;
@@ -41,7 +41,7 @@ fn remove<M: ValueMap>(
     size: u32,
     digits: &str,
 ) -> Result<String, CaseError>
-    requires { size ≡ (M.places map.old).shape.key_size }
+    requires { size ≡ (M.keys map.old).shape.key_size }
 {
     let key = bytes_of_size(alloc, digits, size)?;
     Ok(done(alloc, map.remove(&key), "removed")?)
@@ -49,7 +49,7 @@ fn remove<M: ValueMap>(
 
 /// The key that follows one of this size, or none.
 fn next<M: ValueMap>(alloc: Global, map: &M, size: u32, digits: &str) -> Result<String, CaseError>
-    requires { size ≡ (M.places map.now).shape.key_size }
+    requires { size ≡ (M.keys map.now).shape.key_size }
 {
     let key = bytes_of(alloc, digits)?;
     if !key.is_empty() && key.len() != size as usize {
@@ -68,7 +68,7 @@ fn play_call<M: ValueMap>(
     call: &str,
     rest: &str,
 ) -> Result<String, CaseError>
-    requires { size ≡ (M.places map.old).shape.key_size }
+    requires { size ≡ (M.keys map.old).shape.key_size }
 {
     match call {
         "find" => find(alloc, map, size, rest),

@@ -1,8 +1,8 @@
--- Which places are taken, as the bits of a word. This project's own.
+-- Which entries are taken, as the bits of a word. This project's own.
 use Rattle.std.specs.Prelude.{◌≡◌, ℕ, ◌<◌, is_none, List, Option, None, slice_index_or, if◌then◌else◌}
 use Rattle.std.specs.Int.{bit_at}
 use Rattle.fd_table.specs.Table.{most}
 
--- a bit is 0 if its place is free, and 1 if it is taken
+-- a bit is 0 if its entry is free, and 1 if it is taken
 abbrev pub TellsTaken : {A : Type 0} → ℕ → List (Option A) → Type 0
-TellsTaken word places = (place : ℕ) → place < most → bit_at word place ≡ (if is_none (slice_index_or places place None) then 0 else 1)
+TellsTaken word entries = (index : ℕ) → index < most → bit_at word index ≡ (if is_none (slice_index_or entries index None) then 0 else 1)

@@ -11,7 +11,7 @@ abbrev pub most : ℕ
 most = 64
 
 module _ {A : Type 0} where
-  -- what is open at each place; a descriptor is 3 above its place
+  -- what is open at each index; a descriptor is 3 above its index
   abbrev pub nothing_open : List (Option A)
   nothing_open = replicate most None
 
@@ -24,7 +24,7 @@ module _ {A : Type 0} where
 
   -- the lowest descriptor that is not open
   abbrev pub lowest : List (Option A) → Option ℕ
-  lowest table = option_map (λ place. first_descriptor + place) (position is_none table)
+  lowest table = option_map (λ index. first_descriptor + index) (position is_none table)
 
   abbrev pub with_open : List (Option A) → ℕ → A → List (Option A)
   with_open table fd x = slice_set table (fd - first_descriptor) (Some x)

@@ -3,8 +3,8 @@
 //!
 //! # What is proved
 //!
-//! Contracts see the open objects as a list of 64 places, descriptor 3 first (`Table` in its specs). A bit mask marks the
-//! places that are taken; that the two agree is the invariant of the type, and no contract names the mask.
+//! Contracts see the open objects as a list of 64 entries, descriptor 3 first (`Table` in its specs). A bit mask marks the
+//! entries that are taken; that the two agree is the invariant of the type, and no contract names the mask.
 //!
 //! - An object is opened at the lowest free descriptor, from 3 to 66; if none is free, it is returned and nothing changes:
 //!   `placed`, `bounds` of `place`.
@@ -15,14 +15,14 @@
 //! - A new table has nothing open: `new`.
 //!
 //! `new` is the only call with an allocator, and allocates for all descriptors. That no other call allocates is seen in the
-//! code and not proved, since the list of places keeps its allocator.
+//! code and not proved, since the list of entries keeps its allocator.
 //!
 //! # Decisions
 //!
 //! - The open objects are seen as a table of 64 numbers and not as a list of pairs, which would have an order that no reply
 //!   shows.
 //! - The bit mask gives the lowest free descriptor by one count of trailing ones, so `place` and `is_full` never walk over the
-//!   64 places.
+//!   64 entries.
 #![tactic(auto)]
 
 mod table;

@@ -13,12 +13,12 @@ pub const FIRST: u32 = 3;
 /// How many descriptors may be open at once.
 pub const MOST: usize = 64;
 
-/// The open objects by descriptor. Contracts see a list of 64 places, each free or with an object; place 0 is descriptor
+/// The open objects by descriptor. Contracts see a list of 64 entries, each free or with an object; entry 0 is descriptor
 /// 3.
 #[derive(Drop)]
 pub struct FdTable<T> {
-    places: Vec<Option<T>>,
-    /// Bit k is set if place k is taken.
+    entries: Vec<Option<T>>,
+    /// Bit k is set if entry k is taken.
     taken: u64,
 }
 
@@ -29,20 +29,20 @@ impl<T> Model for FdTable<T> {
 
     ghost Value = { List (Option T) };
 
-    ghost view = { λ t. t.places.items };
+    ghost view = { λ t. t.entries.items };
 
-    ghost invariant = { λ t. (vec_len t.places ≡ most) × TellsTaken t.taken t.places.items };
+    ghost invariant = { λ t. (vec_len t.entries ≡ most) × TellsTaken t.taken t.entries.items };
 }
 
-/// `MOST` free places.
-fn free_places<T: Drop>(alloc: Global) -> Result<Vec<Option<T>>, AllocError>
-    ensures { IfOk result (λ places. places.items ≡ nothing_open) }
+/// `MOST` free entries.
+fn free_entries<T: Drop>(alloc: Global) -> Result<Vec<Option<T>>, AllocError>
+    ensures { IfOk result (λ entries. entries.items ≡ nothing_open) }
 {
-    let mut places = Vec::with_capacity(alloc, MOST)?;
+    let mut entries = Vec::with_capacity(alloc, MOST)?;
     for _ in 0..MOST {
-        places.push(None)?;
+        entries.push(None)?;
     }
-    Ok(places)
+    Ok(entries)
 }
 
 impl<T: Drop> FdTable<T> {
@@ -52,25 +52,25 @@ impl<T: Drop> FdTable<T> {
         ensures { IfOk result (λ table. table ≡ nothing_open) }
     {
         Ok(FdTable {
-            places: free_places(alloc)?,
+            entries: free_entries(alloc)?,
             taken: 0,
         })
     }
 
-    /// The lowest free place; `None` if all are taken.
-    fn free_place(&self) -> Option<usize>
+    /// The index of the lowest free entry; `None` if all are taken.
+    fn free_index(&self) -> Option<usize>
         ensures value { result ≡ position is_none self.now }
-        ensures bound { IfSome result (λ place. place < most) }
+        ensures bound { IfSome result (λ index. index < most) }
     {
-        let place = self.taken.trailing_ones() as usize;
-        if place < MOST { Some(place) } else { None }
+        let index = self.taken.trailing_ones() as usize;
+        if index < MOST { Some(index) } else { None }
     }
 
     /// Whether no descriptor is free.
     pub fn is_full(&self) -> bool
         ensures { result ≡ is_none (lowest self.now) }
     {
-        self.free_place().is_none()
+        self.free_index().is_none()
     }
 
     /// Opens `object` at the lowest free descriptor, which it returns.
@@ -83,20 +83,20 @@ impl<T: Drop> FdTable<T> {
         ensures bounds { IfOk result (λ fd.
             (first_descriptor ≤ fd) × (fd < first_descriptor + most)) }
     {
-        let Some(place) = self.free_place() else {
+        let Some(index) = self.free_index() else {
             return Err(object);
         };
-        self.places[place] = Some(object);
-        self.taken |= 1 << place;
-        Ok(FIRST + place as u32)
+        self.entries[index] = Some(object);
+        self.taken |= 1 << index;
+        Ok(FIRST + index as u32)
     }
 
     /// The object that `fd` names; `None` if it is not open.
     pub fn get(&self, fd: u32) -> Option<&T>
         ensures { option_copied result ≡ named self.now fd }
     {
-        let place = fd.checked_sub(FIRST)? as usize;
-        self.places.get(place)?.as_ref()
+        let index = fd.checked_sub(FIRST)? as usize;
+        self.entries.get(index)?.as_ref()
     }
 
     /// Closes `fd`, which is free from then on, and returns what it named; `None` if it is not open.
@@ -104,14 +104,14 @@ impl<T: Drop> FdTable<T> {
         ensures named { result ≡ named self.old fd }
         ensures closed { self.new ≡ with_closed self.old fd }
     {
-        let Some(place) = fd.checked_sub(FIRST) else {
+        let Some(index) = fd.checked_sub(FIRST) else {
             return None;
         };
-        let place = place as usize;
-        if place >= self.places.len() {
+        let index = index as usize;
+        if index >= self.entries.len() {
             return None;
         }
-        self.taken &= !(1 << place);
-        self.places[place].take()
+        self.taken &= !(1 << index);
+        self.entries[index].take()
     }
 }

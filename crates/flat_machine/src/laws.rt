@@ -68,5 +68,5 @@ pub(crate) fn run_premises()
     bpf_helpers::laws::runs_end();
     bpf_helpers::laws::others_stay();
     verifier::laws::maps_are_listed();
-    bpf_maps::laws::areas_keep_places();
+    bpf_maps::laws::areas_keep_elements();
 }

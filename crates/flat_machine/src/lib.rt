@@ -10,7 +10,7 @@
 //! - It takes as many steps as the tagged machine, which are at most as many as the program has slots: `runs`, `few` of `run`.
 //! - Each range of addresses that it requests is in its tenant's part: `ranges` of `run`.
 //! - All live maps stay, with their areas and reference counts. Maps that are not bound keep their keys and all bytes of their
-//!   values; those that are bound have no deleted place left at the end: `maps`, `values` of `run`.
+//!   values; those that are bound have no deleted element left at the end: `maps`, `values` of `run`.
 //! - Every other part is unchanged, and so are the sizes: `memory` of `run`.
 //! - `run_with`, which a tenant calls, promises what `run` does. It is given room for the table of the program's maps, which
 //!   means nothing afterwards.
@@ -23,8 +23,8 @@
 //!   bytes or too long: `packets`, `fault` of `Packets::new`.
 //!
 //! Preconditions of a call: the tenant is one of the arena's parts, which have the size that live maps need; and for each
-//! descriptor that the program loads, in order, the key of a live map of the verified shape is bound, no map twice, and none
-//! with a deleted place.
+//! descriptor that the program loads, in order, the handle of a live map of the verified shape is bound, no map twice, and none
+//! with a deleted element.
 //!
 //! A definition of `bpf_helpers` says which words and bytes simulate a tagged state. It is for proofs, and no contract of `run`
 //! names it.

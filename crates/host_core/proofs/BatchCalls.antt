@@ -14,16 +14,16 @@ use Rattle.host_core.specs.Batch.{ChangesTenant, BatchIsItsCalls}
 use Rattle.host_core.specs.Handled.{Handles, Turn}
 use Rattle.host_core.proofs.Tenants.{slice_get-set_same, slice_get-set_other}
 
--- lists with the same element at each place
-same_places : {X : Type 0} (xs ys : List X) → length ys ≡ length xs → ((i : ℕ) → slice_get ys i ≡ slice_get xs i) → ys ≡ xs
-same_places [] [] long each = refl
-same_places [] (y ∷ ys) long each = let wrong : suc (length ys) ≡ 0 = long in absurd (omega arith)
-same_places (x ∷ xs) [] long each = let wrong : 0 ≡ suc (length xs) = long in absurd (omega arith)
-same_places {X} (x ∷ xs) (y ∷ ys) long each =
+-- lists with the same element at each index
+same_indices : {X : Type 0} (xs ys : List X) → length ys ≡ length xs → ((i : ℕ) → slice_get ys i ≡ slice_get xs i) → ys ≡ xs
+same_indices [] [] long each = refl
+same_indices [] (y ∷ ys) long each = let wrong : suc (length ys) ≡ 0 = long in absurd (omega arith)
+same_indices (x ∷ xs) [] long each = let wrong : 0 ≡ suc (length xs) = long in absurd (omega arith)
+same_indices {X} (x ∷ xs) (y ∷ ys) long each =
     let more : suc (length ys) ≡ suc (length xs) = long in
     let first : Some y ≡ Some x = each 0 in
     let same : y ≡ x = cc in
-    ap (λ (z : X). z ∷ ys) same ∙ ap (λ (zs : List X). x ∷ zs) (same_places xs ys (omega arith) (λ i. each (suc i)))
+    ap (λ (z : X). z ∷ ys) same ∙ ap (λ (zs : List X). x ∷ zs) (same_indices xs ys (omega arith) (λ i. each (suc i)))
 
 within : {X : Type 0} (xs : List X) (i : ℕ) (x : X) → slice_get xs i ≡ Some x → i < length xs
 within [] i x found = let wrong : None ≡ Some x = found in cc
@@ -36,7 +36,7 @@ result_is_no_fault frame payload e = let same : 0 ≡ 242 = ap (λ (b : List ℕ
 
 -- no packet was run
 none_run : (t : ℕ) (before after : List TenantState) (s last : TenantState) → slice_get before t ≡ Some s → last ≡ s → slice_get after t ≡ Some last → ChangesTenant t before after → after ≡ before
-none_run t before after s last found same left changes = same_places before after changes.count (λ i. by i (cases_eq i t))
+none_run t before after s last found same left changes = same_indices before after changes.count (λ i. by i (cases_eq i t))
   where
     by : (i : ℕ) → (i ≡ t) ⊎ (i ≡ t → ⊥) → slice_get after i ≡ slice_get before i
     by i (inl here) =

@@ -99,7 +99,7 @@
 //!   This is part of the contract: a `Sink` reports whether everything is flushed. The reader can fail in any call, so the
 //!   clause holds before each read.
 //! - `serve` allocates its buffers once. After that only these commands allocate: a load (the program, copied once, and what is
-//!   missing in the host's memory for verdicts), and the creation of a hash map (room for its keys and places).
+//!   missing in the host's memory for verdicts), and the creation of a hash map (room for its keys and elements).
 //! - The loads of all tenants are verified in one memory of the host's, at most 5.1 MB, which stays from one load to the next. No
 //!   contract names what is in it, so no reply depends on it, unless memory is refused.
 //! - All parts of the arena are zeroed when the host starts, since the library has no zeroed allocation with pages on demand.

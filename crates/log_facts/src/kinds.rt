@@ -31,8 +31,8 @@ pub fn write_range(text: &mut String, range: Range) -> Result<(), AllocError> {
     }
 }
 
-/// Writes an offset from a named place.
-fn write_place(text: &mut String, name: &str, offset: i32) -> Result<(), AllocError> {
+/// Writes an offset from a named base.
+fn write_offset_from(text: &mut String, name: &str, offset: i32) -> Result<(), AllocError> {
     let distance = offset.unsigned_abs();
     if offset == 0 {
         text.push_str(name)
@@ -64,7 +64,7 @@ pub fn write_kind(text: &mut String, kind: Kind) -> Result<(), AllocError> {
         Kind::Unreadable => text.push_str("not readable"),
         Kind::Scalar(range) => write_range(text, range),
         Kind::MapRef(map) => write!(text, "map {map}"),
-        Kind::Stack(offset) => write_place(text, "stack", offset),
+        Kind::Stack(offset) => write_offset_from(text, "stack", offset),
         Kind::Ctx => text.push_str("context"),
         Kind::Value(pointer) => write_value_pointer(text, pointer),
         Kind::MaybeValue { map, site } => {

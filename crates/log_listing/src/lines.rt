@@ -27,7 +27,7 @@ pub(crate) struct Story<'a> {
 
 /// How far the lines have been written.
 #[derive(Drop)]
-struct Place {
+struct Cursor {
     /// The indexes of the next step and of the next jump.
     step: usize,
     jump: usize,
@@ -67,11 +67,11 @@ fn write_sources(
     text: &mut String,
     line: Line,
     story: &Story<'_>,
-    place: &mut Place,
+    cursor: &mut Cursor,
     slot: usize,
 ) -> Result<(), AllocError> {
     let mut are_more = false;
-    for index in place.jump..story.jumps.len() {
+    for index in cursor.jump..story.jumps.len() {
         let JumpEdge { to, from } = story.jumps[index];
         if to != slot {
             break;
@@ -83,9 +83,9 @@ fn write_sources(
             write!(text, "from {from}")?;
         }
         are_more = true;
-        place.jump = index + 1;
+        cursor.jump = index + 1;
     }
-    match place.falls_from {
+    match cursor.falls_from {
         Some(before) if are_more => write!(text, ", {before}"),
         _ => Ok(()),
     }
@@ -119,13 +119,13 @@ fn write_step(
     text: &mut String,
     line: Line,
     story: &Story<'_>,
-    place: &mut Place,
+    cursor: &mut Cursor,
     insn: &Insn,
     step: &Step,
 ) -> Result<(), AllocError> {
-    write_sources(text, line, story, place, step.slot)?;
+    write_sources(text, line, story, cursor, step.slot)?;
     write_note(text, line, &step.known)?;
-    place.falls_from = step.falling.as_ref().map(|_| step.slot);
+    cursor.falls_from = step.falling.as_ref().map(|_| step.slot);
     match insn.profile().successors {
         Successors::NextOrJump(_) => write_edges(text, line, story.program, step),
         Successors::Next | Successors::Jump(_) | Successors::Nothing => Ok(()),
@@ -136,19 +136,19 @@ fn write_step(
 fn write_notes(
     text: &mut String,
     story: &Story<'_>,
-    place: &mut Place,
+    cursor: &mut Cursor,
     insn: &Insn,
     slot: usize,
     line: Line,
 ) -> Result<(), AllocError> {
-    match story.steps.get(place.step) {
+    match story.steps.get(cursor.step) {
         Some(step) if step.slot == slot => {
-            write_step(text, line, story, place, insn, step)?;
-            place.step = place.step.saturating_add(1);
+            write_step(text, line, story, cursor, insn, step)?;
+            cursor.step = cursor.step.saturating_add(1);
             Ok(())
         }
         _ => {
-            place.falls_from = None;
+            cursor.falls_from = None;
             if story.is_told {
                 write_note(text, line, "not reached")
             } else {
@@ -162,7 +162,7 @@ fn write_notes(
 fn write_line(
     text: &mut String,
     story: &Story<'_>,
-    place: &mut Place,
+    cursor: &mut Cursor,
     insn: &Insn,
     slot: usize,
 ) -> Result<(), AllocError>
@@ -172,7 +172,7 @@ fn write_line(
     write!(text, "{slot}: ")?;
     write_insn(text, insn)?;
     let end = text.len();
-    write_notes(text, story, place, insn, slot, Line { begin, end })?;
+    write_notes(text, story, cursor, insn, slot, Line { begin, end })?;
     text.push_str("\n")
 }
 
@@ -185,7 +185,7 @@ pub(crate) fn write_lines(
     requires { AreLines (string_bytes text.old) }
     ensures { OnOk result (AreLines (string_bytes text.new)) }
 {
-    let mut place = Place {
+    let mut cursor = Cursor {
         step: 0,
         jump: 0,
         falls_from: None,
@@ -194,7 +194,7 @@ pub(crate) fn write_lines(
         if slot <= last
             && let Some(insn) = story.program.get(slot)
         {
-            write_line(text, story, &mut place, insn, slot)?;
+            write_line(text, story, &mut cursor, insn, slot)?;
         }
     }
     Ok(())

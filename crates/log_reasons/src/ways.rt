@@ -21,14 +21,14 @@ pub(crate) enum Wanted {
 
 /// Whether a byte of the stack is written, by its offset from the upper end.
 pub(crate) fn is_written(facts: &Facts, byte: i64) -> bool {
-    let Ok(place) = usize::try_from(byte.saturating_add(8 * STACK_SLOTS as i64)) else {
+    let Ok(byte_index) = usize::try_from(byte.saturating_add(8 * STACK_SLOTS as i64)) else {
         return false;
     };
-    if place >= 8 * STACK_SLOTS {
+    if byte_index >= 8 * STACK_SLOTS {
         return false;
     }
-    match facts.slots[place / 8] {
-        Slot::Bytes(mask) => mask & (1 << (place % 8)) != 0,
+    match facts.slots[byte_index / 8] {
+        Slot::Bytes(mask) => mask & (1 << (byte_index % 8)) != 0,
         Slot::Spill(_) => true,
     }
 }

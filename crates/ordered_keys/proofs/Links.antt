@@ -1,12 +1,12 @@
--- The ring after a place is put last, and after one is taken out.
+-- The ring after an element is put last, and after one is taken out.
 use Rattle.std.proofs.Common.{◌≡◌, ◌≢◌, ℕ, zero, suc, ◌+◌, ◌-◌, ◌^◌, ◌<◌, ◌≤◌, ◌⊎◌, inl, inr, Bool, true, false, List, [], ◌∷◌, ◌++◌, length, vec_len, refl, sym, ap, subst, ◌∙◌, nat_eq, if◌then◌else◌, arith, eqb-true, eq-eqb, length-append}
 use Rattle.std.proofs.Math.ListN.{set, get_or, length-set}
 use Rattle.std.proofs.lemmas.List.{get_or-set_same, get_or-set_other, get_or_read_under}
 use Rattle.std.specs.Vec.{with_item}
 use Rattle.ordered_keys.specs.Orders.{Order, occurrences, taken_out}
-use Rattle.ordered_keys.specs.declared.place_order.Link.{Link}
-use Rattle.ordered_keys.specs.declared.place_order.PlaceOrder.TheInside.{Inside}
-use Rattle.ordered_keys.specs.inside.Links.{lone_link, link_at, after_in, before_in, chain, places_in, order_of, IsPath, AreWithin, IsRing}
+use Rattle.ordered_keys.specs.declared.element_order.Link.{Link}
+use Rattle.ordered_keys.specs.declared.element_order.ElementOrder.TheInside.{Inside}
+use Rattle.ordered_keys.specs.inside.Links.{lone_link, link_at, after_in, before_in, chain, elements_in, order_of, IsPath, AreWithin, IsRing}
 use Rattle.ordered_keys.proofs.Rings.{IsPushed, IsUnlinked, within_at, bound_outside, times-append, taken_length, taken_times, taken_within, within-append, chain_of_path, path_pushed, path_unlinked, before_member, after_member, before_end, unequal}
 
 pub decided : (a b : ℕ) → (a ≡ b) ⊎ (a ≢ b)
@@ -28,53 +28,53 @@ written ls i x l = get_or-set_same ls i x (lone_link 0) l
 unwritten : (ls : List Link) (i q : ℕ) (x : Link) → q ≢ i → link_at (set ls i x) q ≡ link_at ls q
 unwritten ls i q x d = get_or-set_other ls i q x (lone_link 0) d
 
--- ---- a place is put last, before the bound
+-- ---- an element is put last, before the bound
 
-module _ (ls : List Link) (bound place u : ℕ) (x y : Link) where
+module _ (ls : List Link) (bound element u : ℕ) (x y : Link) where
   abbrev l1 : List Link
-  l1 = set ls u (record { before = x.before; after = place })
+  l1 = set ls u (record { before = x.before; after = element })
 
   abbrev l2 : List Link
-  l2 = set l1 place (record { before = u; after = bound })
+  l2 = set l1 element (record { before = u; after = bound })
 
   abbrev pub pushed : List Link
-  pushed = set l2 bound (record { before = place; after = y.after })
+  pushed = set l2 bound (record { before = element; after = y.after })
 
-  pub is_pushed : length ls ≡ bound + 1 → place < bound → u ≢ place → u ≤ bound → u ≡ before_in ls bound → x ≡ link_at ls u → y ≡ link_at l2 bound → IsPushed (after_in ls) (before_in ls) (after_in pushed) (before_in pushed) place bound
+  pub is_pushed : length ls ≡ bound + 1 → element < bound → u ≢ element → u ≤ bound → u ≡ before_in ls bound → x ≡ link_at ls u → y ≡ link_at l2 bound → IsPushed (after_in ls) (before_in ls) (after_in pushed) (before_in pushed) element bound
   is_pushed long p_b u_p u_b u_is x_is y_is =
-      let long1 : length l1 ≡ bound + 1 = length-set ls u (record { before = x.before; after = place }) ∙ long in
-      let long2 : length l2 ≡ bound + 1 = length-set l1 place (record { before = u; after = bound }) ∙ long1 in
-      let bp : bound ≢ place = (λ e. absurd (omega arith)) in
-      let pb : place ≢ bound = (λ e. absurd (omega arith)) in
-      let at3 : link_at pushed bound ≡ record { before = place; after = y.after } = written l2 bound _ (omega arith) in
-      let at2 : link_at l2 place ≡ record { before = u; after = bound } = written l1 place _ (omega arith) in
-      let at1 : link_at l1 u ≡ record { before = x.before; after = place } = written ls u _ (omega arith) in
+      let long1 : length l1 ≡ bound + 1 = length-set ls u (record { before = x.before; after = element }) ∙ long in
+      let long2 : length l2 ≡ bound + 1 = length-set l1 element (record { before = u; after = bound }) ∙ long1 in
+      let bp : bound ≢ element = (λ e. absurd (omega arith)) in
+      let pb : element ≢ bound = (λ e. absurd (omega arith)) in
+      let at3 : link_at pushed bound ≡ record { before = element; after = y.after } = written l2 bound _ (omega arith) in
+      let at2 : link_at l2 element ≡ record { before = u; after = bound } = written l1 element _ (omega arith) in
+      let at1 : link_at l1 u ≡ record { before = x.before; after = element } = written ls u _ (omega arith) in
       let after : Link → ℕ = λ l. l.after in
       let before : Link → ℕ = λ l. l.before in
-      let end_after : after_in pushed bound ≡ after_in l1 bound = ap after at3 ∙ ap after y_is ∙ ap after (unwritten l1 place bound _ bp) in
+      let end_after : after_in pushed bound ≡ after_in l1 bound = ap after at3 ∙ ap after y_is ∙ ap after (unwritten l1 element bound _ bp) in
       record {
-        last = subst (λ v. after_in pushed v ≡ place) u_is (elim (decided u bound) [
+        last = subst (λ v. after_in pushed v ≡ element) u_is (elim (decided u bound) [
           | inl e ↦ ap (after_in pushed) e ∙ end_after ∙ ap (after_in l1) (sym e) ∙ ap after at1
-          | inr d ↦ ap after (unwritten l2 bound u _ d) ∙ ap after (unwritten l1 place u _ u_p) ∙ ap after at1
+          | inr d ↦ ap after (unwritten l2 bound u _ d) ∙ ap after (unwritten l1 element u _ u_p) ∙ ap after at1
         ]);
-        after = ap after (unwritten l2 bound place _ pb) ∙ ap after at2;
+        after = ap after (unwritten l2 bound element _ pb) ∙ ap after at2;
         afters = λ q q_u q_p.
             let d : q ≢ u = (λ e. q_u (e ∙ u_is)) in
             elim (decided q bound) [
               | inl e ↦ ap (after_in pushed) e ∙ end_after ∙ ap (after_in l1) (sym e) ∙ ap after (unwritten ls u q _ d)
-              | inr n ↦ ap after (unwritten l2 bound q _ n) ∙ ap after (unwritten l1 place q _ q_p) ∙ ap after (unwritten ls u q _ d)
+              | inr n ↦ ap after (unwritten l2 bound q _ n) ∙ ap after (unwritten l1 element q _ q_p) ∙ ap after (unwritten ls u q _ d)
             ];
-        before = ap before (unwritten l2 bound place _ pb) ∙ ap before at2 ∙ u_is;
+        before = ap before (unwritten l2 bound element _ pb) ∙ ap before at2 ∙ u_is;
         end = ap before at3;
         befores = λ q q_p q_b.
-            ap before (unwritten l2 bound q _ q_b) ∙ ap before (unwritten l1 place q _ q_p)
+            ap before (unwritten l2 bound q _ q_b) ∙ ap before (unwritten l1 element q _ q_p)
             ∙ elim (decided q u) [
               | inl e ↦ ap (before_in l1) e ∙ ap before at1 ∙ ap before x_is ∙ ap (before_in ls) (sym e)
               | inr d ↦ ap before (unwritten ls u q _ d)
             ];
       }
 
--- ---- a place is taken out
+-- ---- an element is taken out
 
 module _ (ls : List Link) (u v : ℕ) (x y : Link) where
   abbrev m1 : List Link
@@ -130,31 +130,31 @@ module _ {o : Inside} (h : IsRing o) where
   abbrev g : ℕ → ℕ
   g = before_in o.links.items
 
-  outside : occurrences o.bound (places_in o) ≡ 0
-  outside = bound_outside o.bound (places_in o) h.within
+  outside : occurrences o.bound (elements_in o) ≡ 0
+  outside = bound_outside o.bound (elements_in o) h.within
 
   pub before_bound : g o.bound ≤ o.bound
-  before_bound = elim (before_end f g o.bound (places_in o) o.bound h.linked) [
+  before_bound = elim (before_end f g o.bound (elements_in o) o.bound h.linked) [
     | inl e ↦ omega arith
-    | inr m ↦ let l = within_at o.bound (g o.bound) (places_in o) h.within m in omega arith
+    | inr m ↦ let l = within_at o.bound (g o.bound) (elements_in o) h.within m in omega arith
   ]
 
-  pub before_apart : (p : ℕ) → p < o.bound → occurrences p (places_in o) ≡ 0 → g o.bound ≢ p
-  before_apart p l n e = elim (before_end f g o.bound (places_in o) o.bound h.linked) [
+  pub before_apart : (p : ℕ) → p < o.bound → occurrences p (elements_in o) ≡ 0 → g o.bound ≢ p
+  before_apart p l n e = elim (before_end f g o.bound (elements_in o) o.bound h.linked) [
     | inl q ↦ absurd (omega arith)
-    | inr m ↦ let s : occurrences (g o.bound) (places_in o) ≡ occurrences p (places_in o) = ap (λ q. occurrences q (places_in o)) e in absurd (omega arith)
+    | inr m ↦ let s : occurrences (g o.bound) (elements_in o) ≡ occurrences p (elements_in o) = ap (λ q. occurrences q (elements_in o)) e in absurd (omega arith)
   ]
 
-  pub before_within : (p : ℕ) → 0 < occurrences p (places_in o) → g p ≤ o.bound
-  before_within p m = elim (before_member f g o.bound (places_in o) o.bound p h.linked m) [
+  pub before_within : (p : ℕ) → 0 < occurrences p (elements_in o) → g p ≤ o.bound
+  before_within p m = elim (before_member f g o.bound (elements_in o) o.bound p h.linked m) [
     | inl e ↦ omega arith
-    | inr n ↦ let l = within_at o.bound (g p) (places_in o) h.within n in omega arith
+    | inr n ↦ let l = within_at o.bound (g p) (elements_in o) h.within n in omega arith
   ]
 
-  pub after_within : (p : ℕ) → 0 < occurrences p (places_in o) → f p ≤ o.bound
-  after_within p m = elim (after_member f g o.bound (places_in o) o.bound p h.linked m) [
+  pub after_within : (p : ℕ) → 0 < occurrences p (elements_in o) → f p ≤ o.bound
+  after_within p m = elim (after_member f g o.bound (elements_in o) o.bound p h.linked m) [
     | inl e ↦ omega arith
-    | inr n ↦ let l = within_at o.bound (f p) (places_in o) h.within n in omega arith
+    | inr n ↦ let l = within_at o.bound (f p) (elements_in o) h.within n in omega arith
   ]
 
   module _ (b : Inside) (p : ℕ) (same : b.bound ≡ o.bound) (long : vec_len b.links ≡ vec_len o.links) where
@@ -164,46 +164,46 @@ module _ {o : Inside} (h : IsRing o) where
     abbrev g' : ℕ → ℕ
     g' = before_in b.links.items
 
-    module _ (more : b.count ≡ o.count + 1) (l : p < o.bound) (n : occurrences p (places_in o) ≡ 0) (k : IsPushed f g f' g' p o.bound) where
-      path : IsPath f' g' o.bound (places_in o ++ p ∷ []) o.bound
-      path = path_pushed f g f' g' o.bound (places_in o) o.bound p k h.linked (λ e. absurd (omega arith)) n outside outside h.once
+    module _ (more : b.count ≡ o.count + 1) (l : p < o.bound) (n : occurrences p (elements_in o) ≡ 0) (k : IsPushed f g f' g' p o.bound) where
+      path : IsPath f' g' o.bound (elements_in o ++ p ∷ []) o.bound
+      path = path_pushed f g f' g' o.bound (elements_in o) o.bound p k h.linked (λ e. absurd (omega arith)) n outside outside h.once
 
-      pub places_pushed : places_in b ≡ places_in o ++ p ∷ []
-      places_pushed =
-          let len : length (places_in o ++ p ∷ []) ≡ b.count = length-append (places_in o) (p ∷ []) ∙ ap (λ i. i + 1) (length-chain f o.count o.bound) ∙ sym more in
-          ap (chain f' b.count) same ∙ ap (λ i. chain f' i o.bound) (sym len) ∙ chain_of_path f' g' o.bound (places_in o ++ p ∷ []) o.bound path
+      pub elements_pushed : elements_in b ≡ elements_in o ++ p ∷ []
+      elements_pushed =
+          let len : length (elements_in o ++ p ∷ []) ≡ b.count = length-append (elements_in o) (p ∷ []) ∙ ap (λ i. i + 1) (length-chain f o.count o.bound) ∙ sym more in
+          ap (chain f' b.count) same ∙ ap (λ i. chain f' i o.bound) (sym len) ∙ chain_of_path f' g' o.bound (elements_in o ++ p ∷ []) o.bound path
 
       pub ring_pushed : IsRing b
       ring_pushed =
-          let xs = places_in o ++ p ∷ [] in
+          let xs = elements_in o ++ p ∷ [] in
           record {
             long = let e = h.long in omega arith;
-            linked = subst (λ i. IsPath f' g' i (places_in b) i) (sym same) (subst (λ ys. IsPath f' g' o.bound ys o.bound) (sym places_pushed) path);
-            within = subst (λ i. AreWithin i (places_in b)) (sym same) (subst (AreWithin o.bound) (sym places_pushed) (within-append o.bound p (places_in o) h.within l));
-            once = λ q. subst (λ ys. occurrences q ys ≤ 1) (sym places_pushed) (one q);
+            linked = subst (λ i. IsPath f' g' i (elements_in b) i) (sym same) (subst (λ ys. IsPath f' g' o.bound ys o.bound) (sym elements_pushed) path);
+            within = subst (λ i. AreWithin i (elements_in b)) (sym same) (subst (AreWithin o.bound) (sym elements_pushed) (within-append o.bound p (elements_in o) h.within l));
+            once = λ q. subst (λ ys. occurrences q ys ≤ 1) (sym elements_pushed) (one q);
           }
         where
-          one : (q : ℕ) → occurrences q (places_in o ++ p ∷ []) ≤ 1
-          one q = let t = times-append q (places_in o) (p ∷ []) in let o1 = h.once q in elim (decided q p) [
-            | inl e ↦ let s : occurrences q (places_in o) ≡ occurrences p (places_in o) = ap (λ z. occurrences z (places_in o)) e in let u = single q p in omega arith
+          one : (q : ℕ) → occurrences q (elements_in o ++ p ∷ []) ≤ 1
+          one q = let t = times-append q (elements_in o) (p ∷ []) in let o1 = h.once q in elim (decided q p) [
+            | inl e ↦ let s : occurrences q (elements_in o) ≡ occurrences p (elements_in o) = ap (λ z. occurrences z (elements_in o)) e in let u = single q p in omega arith
             | inr d ↦ let z = none q p d in omega arith
           ]
 
-    module _ (less : b.count + 1 ≡ o.count) (m : 0 < occurrences p (places_in o)) (k : IsUnlinked f g f' g' p) where
-      path_out : IsPath f' g' o.bound (taken_out p (places_in o)) o.bound
-      path_out = path_unlinked f g f' g' o.bound (places_in o) o.bound p k h.linked m outside outside h.once
+    module _ (less : b.count + 1 ≡ o.count) (m : 0 < occurrences p (elements_in o)) (k : IsUnlinked f g f' g' p) where
+      path_out : IsPath f' g' o.bound (taken_out p (elements_in o)) o.bound
+      path_out = path_unlinked f g f' g' o.bound (elements_in o) o.bound p k h.linked m outside outside h.once
 
-      pub places_left : places_in b ≡ taken_out p (places_in o)
-      places_left =
-          let len : length (taken_out p (places_in o)) ≡ b.count = (let t = taken_length p (places_in o) m in let c = length-chain f o.count o.bound in omega arith) in
-          ap (chain f' b.count) same ∙ ap (λ i. chain f' i o.bound) (sym len) ∙ chain_of_path f' g' o.bound (taken_out p (places_in o)) o.bound path_out
+      pub elements_left : elements_in b ≡ taken_out p (elements_in o)
+      elements_left =
+          let len : length (taken_out p (elements_in o)) ≡ b.count = (let t = taken_length p (elements_in o) m in let c = length-chain f o.count o.bound in omega arith) in
+          ap (chain f' b.count) same ∙ ap (λ i. chain f' i o.bound) (sym len) ∙ chain_of_path f' g' o.bound (taken_out p (elements_in o)) o.bound path_out
 
       pub ring_left : IsRing b
       ring_left = record {
         long = let e = h.long in omega arith;
-        linked = subst (λ i. IsPath f' g' i (places_in b) i) (sym same) (subst (λ ys. IsPath f' g' o.bound ys o.bound) (sym places_left) path_out);
-        within = subst (λ i. AreWithin i (places_in b)) (sym same) (subst (AreWithin o.bound) (sym places_left) (taken_within o.bound p (places_in o) h.within));
-        once = λ q. subst (λ ys. occurrences q ys ≤ 1) (sym places_left) (let t = taken_times p q (places_in o) m in let o1 = h.once q in omega arith);
+        linked = subst (λ i. IsPath f' g' i (elements_in b) i) (sym same) (subst (λ ys. IsPath f' g' o.bound ys o.bound) (sym elements_left) path_out);
+        within = subst (λ i. AreWithin i (elements_in b)) (sym same) (subst (AreWithin o.bound) (sym elements_left) (taken_within o.bound p (elements_in o) h.within));
+        once = λ q. subst (λ ys. occurrences q ys ≤ 1) (sym elements_left) (let t = taken_times p q (elements_in o) m in let o1 = h.once q in omega arith);
       }
 
 -- ---- the code's steps
@@ -212,8 +212,8 @@ module _ {o : Inside} (h : IsRing o) where
 pub read : (o : Inside) (p : ℕ) (x : Link) → x ≡ get_or o.links.items p x → p < vec_len o.links → x ≡ link_at o.links.items p
 read o p x e l = get_or_read_under o.links.items p o.links.len x (lone_link 0) e l o.links.ok.0
 
--- a place is put last
-module _ (o : Inside) (h : IsRing o) (t : Order) (view : order_of o ≡ t) (p : ℕ) (within : p < t.bound) (new : occurrences p t.places ≡ 0) (few : length t.places < t.bound) (last : Link) (last_is : last ≡ get_or o.links.items o.bound last) where
+-- an element is put last
+module _ (o : Inside) (h : IsRing o) (t : Order) (view : order_of o ≡ t) (p : ℕ) (within : p < t.bound) (new : occurrences p t.elements ≡ 0) (few : length t.elements < t.bound) (last : Link) (last_is : last ≡ get_or o.links.items o.bound last) where
   bounds : o.bound ≡ t.bound
   bounds = ap (λ (t : Order). t.bound) view
 
@@ -232,12 +232,12 @@ module _ (o : Inside) (h : IsRing o) (t : Order) (view : order_of o ≡ t) (p : 
   pub count_fits : o.bound < 2 ^ 32 → o.count + 1 < 2 ^ 32
   count_fits fits =
       let n = length-chain (after_in o.links.items) o.count o.bound in
-      let m = ap (λ (t : Order). length t.places) view in
+      let m = ap (λ (t : Order). length t.elements) view in
       let b = bounds in
       omega arith
 
-  new_here : occurrences p (places_in o) ≡ 0
-  new_here = ap (λ (t : Order). occurrences p t.places) view ∙ new
+  new_here : occurrences p (elements_in o) ≡ 0
+  new_here = ap (λ (t : Order). occurrences p t.elements) view ∙ new
 
   below : p < o.bound
   below = let b = bounds in omega arith
@@ -264,16 +264,16 @@ module _ (o : Inside) (h : IsRing o) (t : Order) (view : order_of o ≡ t) (p : 
     pub push_ring : IsRing after_push
     push_ring = ring_pushed h after_push p refl refl refl below new_here known
 
-    pub push_places : places_in after_push ≡ t.places ++ p ∷ []
-    push_places = places_pushed h after_push p refl refl refl below new_here known ∙ ap (λ (t : Order). t.places ++ p ∷ []) view
+    pub push_elements : elements_in after_push ≡ t.elements ++ p ∷ []
+    push_elements = elements_pushed h after_push p refl refl refl below new_here known ∙ ap (λ (t : Order). t.elements ++ p ∷ []) view
 
--- a place is taken out
-module _ (o : Inside) (h : IsRing o) (t : Order) (view : order_of o ≡ t) (p : ℕ) (member : 0 < occurrences p t.places) where
-  pub member_here : 0 < occurrences p (places_in o)
-  member_here = subst (λ (t : Order). 0 < occurrences p t.places) (sym view) member
+-- an element is taken out
+module _ (o : Inside) (h : IsRing o) (t : Order) (view : order_of o ≡ t) (p : ℕ) (member : 0 < occurrences p t.elements) where
+  pub member_here : 0 < occurrences p (elements_in o)
+  member_here = subst (λ (t : Order). 0 < occurrences p t.elements) (sym view) member
 
   pub member_within : p < vec_len o.links
-  member_within = let l = within_at o.bound p (places_in o) h.within member_here in let e = h.long in omega arith
+  member_within = let l = within_at o.bound p (elements_in o) h.within member_here in let e = h.long in omega arith
 
   module _ (link : Link) (link_is : link ≡ get_or o.links.items p link) where
     link_here : link ≡ link_at o.links.items p
@@ -294,7 +294,7 @@ module _ (o : Inside) (h : IsRing o) (t : Order) (view : order_of o ≡ t) (p : 
       }
 
       less : o.count - 1 + 1 ≡ o.count
-      less = let t = taken_length p (places_in o) member_here in let c = length-chain (after_in o.links.items) o.count o.bound in omega arith
+      less = let t = taken_length p (elements_in o) member_here in let c = length-chain (after_in o.links.items) o.count o.bound in omega arith
 
       known_out : IsUnlinked (after_in o.links.items) (before_in o.links.items) (after_in after_remove.links.items) (before_in after_remove.links.items) p
       known_out =
@@ -308,10 +308,10 @@ module _ (o : Inside) (h : IsRing o) (t : Order) (view : order_of o ≡ t) (p : 
       pub remove_ring : IsRing after_remove
       remove_ring = ring_left h after_remove p refl refl less member_here known_out
 
-      pub remove_places : places_in after_remove ≡ taken_out p t.places
-      remove_places = places_left h after_remove p refl refl less member_here known_out ∙ ap (λ (t : Order). taken_out p t.places) view
+      pub remove_elements : elements_in after_remove ≡ taken_out p t.elements
+      remove_elements = elements_left h after_remove p refl refl less member_here known_out ∙ ap (λ (t : Order). taken_out p t.elements) view
 
--- all places are taken out: the bound is linked to itself
+-- all elements are taken out: the bound is linked to itself
 module _ (o : Inside) (h : IsRing o) where
   abbrev pub after_clear : Inside
   after_clear = record { links = with_item o.links o.bound (lone_link o.bound); bound = o.bound; count = 0 }

@@ -1,10 +1,10 @@
--- A look-up in the table is one in the order of its places; the table and the order after an insertion and a removal.
+-- A look-up in the table is one in the order of its elements; the table and the order after an insertion and a removal.
 use Rattle.std.proofs.Common.{◌≡◌, ◌≢◌, ℕ, zero, suc, ◌+◌, ◌<◌, ◌⊎◌, inl, inr, Bool, true, false, cond, List, [], ◌∷◌, ◌++◌, length, Option, Some, None, is_some, slice_get, slice_index_or, option_map, option_to_list, IfSome, refl, sym, ap, subst, ◌∙◌, nat_eq, if◌then◌else◌, true≢false, arith, eqb-true, eq-eqb}
 use Rattle.std.specs.List.{IsDistinct, AllByRecursion}
 use Rattle.std.specs.Map.{lookup, remove_entry, keys_of, values_of}
 use Rattle.std.proofs.lemmas.Option.{none-some, same_Some}
 use Rattle.std.proofs.lemmas.Map.Keys.{IsDistinct-head, IsDistinct-tail}
-use Rattle.ordered_keys.specs.Orders.{Order, occurrences, first_place, following, taken_out, first_key_of, key_behind_passing, key_following}
+use Rattle.ordered_keys.specs.Orders.{Order, occurrences, first_element, following, taken_out, first_key_of, key_behind_passing, key_following}
 use Rattle.ordered_keys.specs.inside.Links.{AreWithin}
 use Rattle.ordered_keys.specs.inside.Ordered.{entry_of, key_of, in_order, HaveEntries, IsIndexed}
 use Rattle.ordered_keys.proofs.Rings.{times_head, unequal, here_or_later, within_at}
@@ -78,7 +78,7 @@ module _ {K : Type 0} (es : List (K × ℕ)) (indices : List ℕ) where
   abbrev pub shown : List ℕ → List (K × ℕ)
   shown ps = in_order es indices ps
 
-  -- the places in order
+  -- the elements in order
   pub values_shown : (ps : List ℕ) → HaveEntries es indices ps → values_of (shown ps) ≡ ps
   values_shown [] h = refl
   values_shown (p ∷ ps) h = ap (λ (o : Option (K × ℕ)). values_of (option_to_list o ++ shown ps)) h.0.1 ∙ ap (λ (qs : List ℕ). p ∷ qs) (values_shown ps h.1)
@@ -94,12 +94,12 @@ module _ {K : Type 0} (es : List (K × ℕ)) (indices : List ℕ) where
     | inr l ↦ entry_at ps p h.1 l.1
   ]
 
-  pub first_shown : (ps : List ℕ) → HaveEntries es indices ps → first_key_of (shown ps) ≡ key_of es indices (first_place ps)
+  pub first_shown : (ps : List ℕ) → HaveEntries es indices ps → first_key_of (shown ps) ≡ key_of es indices (first_element ps)
   first_shown [] h = refl
   first_shown (p ∷ ps) h = ap (λ (o : Option (K × ℕ)). first_key_of (option_to_list o ++ shown ps)) h.0.1 ∙ ap (option_map (λ (e : K × ℕ). e.0)) (sym h.0.1)
 
   module _ (test : K → Bool) where
-    -- each place has an entry whose key passes exactly if the place is marked
+    -- each element has an entry whose key passes exactly if the element is marked
     abbrev pub AreMarked : (ℕ → Bool) → List ℕ → Type 0
     AreMarked mark [] = Unit {0}
     AreMarked mark (p ∷ ps) = ((k : K) × (entry_of es indices p ≡ Some (k, p)) × (test k ≡ mark p)) × AreMarked mark ps
@@ -147,13 +147,13 @@ module _ {K : Type 0} (es : List (K × ℕ)) (indices : List ℕ) where
           ap (key_behind_passing test) (head_is q ps h.0.0 h.0.1) ∙ ap (λ (b : Bool). if b then first_key_of (shown ps) else key_behind_passing test (shown ps)) h.0.2
           ∙ by (nat_eq p q) (behind_shown ps h.1)
         where
-          by : (b : Bool) → key_behind_passing test (shown ps) ≡ key_of es indices (following p ps) → (if b then first_key_of (shown ps) else key_behind_passing test (shown ps)) ≡ key_of es indices (if b then first_place ps else following p ps)
+          by : (b : Bool) → key_behind_passing test (shown ps) ≡ key_of es indices (following p ps) → (if b then first_key_of (shown ps) else key_behind_passing test (shown ps)) ≡ key_of es indices (if b then first_element ps else following p ps)
           by true r = first_shown ps (unmarked (nat_eq p) ps h.1)
           by false r = r
 
--- ---- places of the order
+-- ---- elements of the order
 
-pub first_member : (ps : List ℕ) → IfSome (first_place ps) (λ p. 0 < occurrences p ps)
+pub first_member : (ps : List ℕ) → IfSome (first_element ps) (λ p. 0 < occurrences p ps)
 first_member [] = tt
 first_member (p ∷ ps) = times_head p ps
 
@@ -165,8 +165,8 @@ pub following_member : (p : ℕ) (ps : List ℕ) → IfSome (following p ps) (λ
 following_member p [] = tt
 following_member p (q ∷ ps) = by (nat_eq p q) (following_member p ps)
   where
-    by : (b : Bool) → IfSome (following p ps) (λ r. 0 < occurrences r ps) → IfSome (if b then first_place ps else following p ps) (λ r. 0 < occurrences r (q ∷ ps))
-    by true r = later_member q ps (first_place ps) (first_member ps)
+    by : (b : Bool) → IfSome (following p ps) (λ r. 0 < occurrences r ps) → IfSome (if b then first_element ps else following p ps) (λ r. 0 < occurrences r (q ∷ ps))
+    by true r = later_member q ps (first_element ps) (first_member ps)
     by false r = later_member q ps (following p ps) r
 
 pub members_within : (n bound : ℕ) (ps : List ℕ) (o : Option ℕ) → n ≡ bound → AreWithin bound ps → IfSome o (λ p. 0 < occurrences p ps) → IfSome o (λ p. p < n)
@@ -177,18 +177,18 @@ members_within n bound ps (Some p) e w h = let l = within_at bound p ps w h in o
 
 module _ {K : Type 0} (es : List (K × ℕ)) (indices : List ℕ) (order : Order) (h : IsIndexed es indices order) (test : K → Bool) where
   abbrev pub entries : List (K × ℕ)
-  entries = in_order es indices order.places
+  entries = in_order es indices order.elements
 
-  pub absent_marked : lookup test es ≡ None → AreMarked es indices test (λ p. false) order.places
-  absent_marked none = marked es indices test (λ p. false) order.places h.placed (λ p k m at. none_passes test es none (slice_index_or indices p 0) (k, p) at)
+  pub absent_marked : lookup test es ≡ None → AreMarked es indices test (λ p. false) order.elements
+  absent_marked none = marked es indices test (λ p. false) order.elements h.placed (λ p k m at. none_passes test es none (slice_index_or indices p 0) (k, p) at)
 
   pub absent_in_order : lookup test es ≡ None → lookup test entries ≡ None
-  absent_in_order none = none_shown es indices test order.places (absent_marked none)
+  absent_in_order none = none_shown es indices test order.elements (absent_marked none)
 
   -- a key that is absent in the order is absent in the table
   pub absent_in_table : lookup test entries ≡ None → lookup test es ≡ None
   absent_in_table none = passes_none test es (λ i e at. let l = h.listed i e at in
-      entry_fails order.places h.placed none e (omega arith) (ap (slice_get es) l.1 ∙ at))
+      entry_fails order.elements h.placed none e (omega arith) (ap (slice_get es) l.1 ∙ at))
     where
       entry_fails : (ps : List ℕ) → HaveEntries es indices ps → lookup test (in_order es indices ps) ≡ None → (e : K × ℕ) → 0 < occurrences e.1 ps → entry_of es indices e.1 ≡ Some e → test e.0 ≡ false
       entry_fails [] hs n e m at = absurd (omega arith)
@@ -207,14 +207,14 @@ module _ {K : Type 0} (es : List (K × ℕ)) (indices : List ℕ) (order : Order
     pub at : (i : ℕ) × (k : K) × (slice_get es i ≡ Some (k, p)) × (test k ≡ true)
     at = found_entry test es p found
 
-    pub found_member : occurrences p order.places ≡ 1
+    pub found_member : occurrences p order.elements ≡ 1
     found_member = (h.listed at.0 (at.1, p) at.2).0
 
     pub found_index : slice_index_or indices p 0 ≡ at.0
     found_index = (h.listed at.0 (at.1, p) at.2).1
 
-    pub found_marked : AreMarked es indices test (nat_eq p) order.places
-    found_marked = marked es indices test (nat_eq p) order.places h.placed (λ q k m q_at. by q k q_at (test k) refl (nat_eq p q) refl)
+    pub found_marked : AreMarked es indices test (nat_eq p) order.elements
+    found_marked = marked es indices test (nat_eq p) order.elements h.placed (λ q k m q_at. by q k q_at (test k) refl (nat_eq p q) refl)
       where
         by : (q : ℕ) (k : K) → entry_of es indices q ≡ Some (k, q) → (a : Bool) → test k ≡ a → (b : Bool) → nat_eq p q ≡ b → a ≡ b
         by q k q_at true t true e = refl
@@ -229,15 +229,15 @@ module _ {K : Type 0} (es : List (K × ℕ)) (indices : List ℕ) (order : Order
             sym t ∙ ap (λ (x : K × ℕ). test x.0) pair ∙ at.3
 
     pub found_in_order : lookup test entries ≡ Some p
-    found_in_order = found_shown es indices test p order.places found_marked (let m = found_member in omega arith)
+    found_in_order = found_shown es indices test p order.elements found_marked (let m = found_member in omega arith)
 
-    pub removed_in_order : remove_entry test entries ≡ in_order es indices (taken_out p order.places)
-    removed_in_order = removed_shown es indices test p order.places found_marked
+    pub removed_in_order : remove_entry test entries ≡ in_order es indices (taken_out p order.elements)
+    removed_in_order = removed_shown es indices test p order.elements found_marked
 
-    pub following_in_order : key_following test entries ≡ key_of es indices (following p order.places)
+    pub following_in_order : key_following test entries ≡ key_of es indices (following p order.elements)
     following_in_order =
         ap (λ (o : Option ℕ). if is_some o then key_behind_passing test entries else first_key_of entries) found_in_order
-        ∙ behind_shown es indices test p order.places found_marked
+        ∙ behind_shown es indices test p order.elements found_marked
 
   pub following_absent : lookup test es ≡ None → key_following test entries ≡ first_key_of entries
   following_absent none = ap (λ (o : Option ℕ). if is_some o then key_behind_passing test entries else first_key_of entries) (absent_in_order none)

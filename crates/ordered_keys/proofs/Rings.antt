@@ -1,9 +1,9 @@
--- A ring of links: the place after another, a place that is put last, and a place that is taken out.
+-- A ring of links: the element after another, an element that is put last, and an element that is taken out.
 use Rattle.std.proofs.Common.{◌≡◌, ◌≢◌, ℕ, zero, suc, ◌+◌, ◌<◌, ◌≤◌, ◌⊎◌, inl, inr, Bool, true, false, List, [], ◌∷◌, ◌++◌, length, Option, Some, None, refl, sym, ap, subst, ◌∙◌, nat_eq, if◌then◌else◌, arith, eqb-true, eq-eqb}
-use Rattle.ordered_keys.specs.Orders.{occurrences, first_place, following, taken_out}
+use Rattle.ordered_keys.specs.Orders.{occurrences, first_element, following, taken_out}
 use Rattle.ordered_keys.specs.inside.Links.{chain, IsPath, AreWithin}
 
--- ---- how often a place occurs in a list
+-- ---- how often an element occurs in a list
 
 pub times_head : (p : ℕ) (xs : List ℕ) → 0 < occurrences p (p ∷ xs)
 times_head p xs = let e : nat_eq p p ≡ true = eq-eqb p p refl in let P : Bool → Type 0 = λ b. 0 < (if b then 1 else 0) + occurrences p xs in subst P (sym e) (omega arith)
@@ -12,7 +12,7 @@ pub times-append : (p : ℕ) (xs ys : List ℕ) → occurrences p (xs ++ ys) ≡
 times-append p [] ys = omega arith
 times-append p (x ∷ xs) ys = let h = times-append p xs ys in omega arith
 
--- a place that is not in the list is not its first
+-- an element that is not in the list is not its first
 pub not_head : (p x : ℕ) (xs : List ℕ) → occurrences p (x ∷ xs) ≡ 0 → p ≢ x
 not_head p x xs h e = let t = times_head x xs in let s : occurrences p (x ∷ xs) ≡ occurrences x (x ∷ xs) = ap (λ q. occurrences q (x ∷ xs)) e in omega arith
 
@@ -42,14 +42,14 @@ bound_outside bound xs w = by (occurrences bound xs) refl
     by zero e = refl
     by (suc n) e = let l = within_at bound bound xs w (omega arith) in absurd (omega arith)
 
--- ---- the places of a path
+-- ---- the elements of a path
 
 module _ (after before : ℕ → ℕ) where
   pub chain_of_path : (a : ℕ) (xs : List ℕ) (b : ℕ) → IsPath after before a xs b → chain after (length xs) a ≡ xs
   chain_of_path a [] b h = refl
   chain_of_path a (x ∷ xs) b h = ap (λ q. q ∷ chain after (length xs) q) h.0 ∙ ap (λ ys. x ∷ ys) (chain_of_path x xs b h.2)
 
-  -- the place before p
+  -- the element before p
   pub before_member : (a : ℕ) (xs : List ℕ) (b p : ℕ) → IsPath after before a xs b → 0 < occurrences p xs → (before p ≡ a) ⊎ (0 < occurrences (before p) xs)
   before_member a [] b p h m = absurd (omega arith)
   before_member a (x ∷ xs) b p h m = elim (here_or_later p x xs m) [
@@ -60,7 +60,7 @@ module _ (after before : ℕ → ℕ) where
     ]
   ]
 
-  -- the place before the end
+  -- the element before the end
   pub before_end : (a : ℕ) (xs : List ℕ) (b : ℕ) → IsPath after before a xs b → (before b ≡ a) ⊎ (0 < occurrences (before b) xs)
   before_end a [] b h = inl h.1
   before_end a (x ∷ xs) b h = elim (before_end x xs b h.2) [
@@ -68,7 +68,7 @@ module _ (after before : ℕ → ℕ) where
     | inr g ↦ inr (omega arith)
   ]
 
-  -- the place after the start of a path is on the path or at its end
+  -- the element after the start of a path is on the path or at its end
   after_start : (a : ℕ) (xs : List ℕ) (b : ℕ) → IsPath after before a xs b → (after a ≡ b) ⊎ (0 < occurrences (after a) xs)
   after_start a [] b h = inl h.0
   after_start a (x ∷ xs) b h = inr (subst (λ q. 0 < occurrences q (x ∷ xs)) (sym h.0) (times_head x xs))
@@ -84,13 +84,13 @@ module _ (after before : ℕ → ℕ) where
       later s (inl f) = inl (s ∙ f)
       later {q} s (inr g) = inr (subst (λ r. 0 < occurrences r (x ∷ xs)) (sym s) (let t : occurrences (after q) (x ∷ xs) ≡ (if nat_eq (after q) x then 1 else 0) + occurrences (after q) xs = refl in omega arith))
 
-  -- ---- the place that follows, in a list of places
+  -- ---- the element that follows, in a list of elements
 
   abbrev pub unless_end : ℕ → ℕ → Option ℕ
   unless_end b p = if nat_eq p b then None else Some p
 
-  same_place : (b p q : ℕ) → p ≡ q → unless_end b p ≡ unless_end b q
-  same_place b p q e = ap (unless_end b) e
+  same_element : (b p q : ℕ) → p ≡ q → unless_end b p ≡ unless_end b q
+  same_element b p q e = ap (unless_end b) e
 
   at_end : (b : ℕ) → unless_end b b ≡ None
   at_end b = ap (λ (t : Bool). if t then None else Some b) (eq-eqb b b refl)
@@ -98,15 +98,15 @@ module _ (after before : ℕ → ℕ) where
   elsewhere : (b p : ℕ) → p < b → unless_end b p ≡ Some p
   elsewhere b p l = ap (λ (t : Bool). if t then None else Some p) (unequal p b (λ e. absurd (omega arith)))
 
-  pub first_is : (a : ℕ) (xs : List ℕ) (b : ℕ) → IsPath after before a xs b → AreWithin b xs → unless_end b (after a) ≡ first_place xs
-  first_is a [] b h w = same_place b (after a) b h.0 ∙ at_end b
-  first_is a (x ∷ xs) b h w = same_place b (after a) x h.0 ∙ elsewhere b x w.0
+  pub first_is : (a : ℕ) (xs : List ℕ) (b : ℕ) → IsPath after before a xs b → AreWithin b xs → unless_end b (after a) ≡ first_element xs
+  first_is a [] b h w = same_element b (after a) b h.0 ∙ at_end b
+  first_is a (x ∷ xs) b h w = same_element b (after a) x h.0 ∙ elsewhere b x w.0
 
   pub following_is : (a : ℕ) (xs : List ℕ) (b p : ℕ) → IsPath after before a xs b → AreWithin b xs → 0 < occurrences p xs → unless_end b (after p) ≡ following p xs
   following_is a [] b p h w m = absurd (omega arith)
   following_is a (x ∷ xs) b p h w m = elim (here_or_later p x xs m) [
-    | inl e ↦ same_place b (after p) (after x) (ap after e) ∙ first_is x xs b h.2 w.1 ∙ ap (λ (t : Bool). if t then first_place xs else following p xs) (sym (eq-eqb p x e))
-    | inr l ↦ following_is x xs b p h.2 w.1 l.1 ∙ ap (λ (t : Bool). if t then first_place xs else following p xs) (sym (unequal p x l.0))
+    | inl e ↦ same_element b (after p) (after x) (ap after e) ∙ first_is x xs b h.2 w.1 ∙ ap (λ (t : Bool). if t then first_element xs else following p xs) (sym (eq-eqb p x e))
+    | inr l ↦ following_is x xs b p h.2 w.1 l.1 ∙ ap (λ (t : Bool). if t then first_element xs else following p xs) (sym (unequal p x l.0))
   ]
 
 -- ---- a path depends only on its own links
@@ -120,9 +120,9 @@ path_stays f g f' g' a (x ∷ xs) b h fa fs gs gb =
       path_stays f g f' g' x xs b h.2 (fs x t) (λ q m. fs q (let s : occurrences q (x ∷ xs) ≡ (if nat_eq q x then 1 else 0) + occurrences q xs = refl in omega arith)) (λ q m. gs q (let s : occurrences q (x ∷ xs) ≡ (if nat_eq q x then 1 else 0) + occurrences q xs = refl in omega arith)) gb,
     )
 
--- ---- a place put last
+-- ---- an element put last
 
--- the links after the place is put last
+-- the links after the element is put last
 pub record IsPushed (f g f' g' : ℕ → ℕ) (p b : ℕ) : Type 0 where
   pub last : f' (g b) ≡ p
   pub after : f' p ≡ b
@@ -147,7 +147,7 @@ path_pushed f g f' g' a (x ∷ xs) b p k h a_p np na nb once =
       path_pushed f g f' g' x xs b p k h.2 x_p (omega arith) x_new (omega arith) (λ q. let o = once q in omega arith),
     )
 
--- ---- a place taken out
+-- ---- an element taken out
 
 pub record IsUnlinked (f g f' g' : ℕ → ℕ) (p : ℕ) : Type 0 where
   pub after : f' (g p) ≡ f p
@@ -206,7 +206,7 @@ path_unlinked f g f' g' a (x ∷ xs) b p k h m na nb once = elim (here_or_later 
           rest,
         )
 
--- ---- the places that are left
+-- ---- the elements that are left
 
 pub taken_length : (p : ℕ) (xs : List ℕ) → 0 < occurrences p xs → length (taken_out p xs) + 1 ≡ length xs
 taken_length p [] m = absurd (omega arith)

@@ -15,7 +15,7 @@ use Rattle.ordered_keys.proofs.Ordered.{entry_at}
 
 -- ---- entries that are not changed
 
--- the entries of these places are in the other table as well
+-- the entries of these elements are in the other table as well
 module _ {K : Type 0} (es fs : List (K × ℕ)) (is js : List ℕ) where
   abbrev pub Stay : List ℕ → Type 0
   Stay ps = (p : ℕ) (e : K × ℕ) → 0 < occurrences p ps → entry_of es is p ≡ Some e → entry_of fs js p ≡ Some e
@@ -71,49 +71,49 @@ unwritten xs i j x d = get_or-set_other xs i j x 0 d
 
 -- ---- an insertion
 
-module _ {K : Type 0} (es : List (K × ℕ)) (is : List ℕ) (order : Order) (h : IsIndexed es is order) (key : K) (p : ℕ) (l : p < order.bound) (new : occurrences p order.places ≡ 0) (room : length order.places < order.bound) where
+module _ {K : Type 0} (es : List (K × ℕ)) (is : List ℕ) (order : Order) (h : IsIndexed es is order) (key : K) (p : ℕ) (l : p < order.bound) (new : occurrences p order.elements ≡ 0) (room : length order.elements < order.bound) where
   abbrev es' : List (K × ℕ)
   es' = es ++ (key, p) ∷ []
 
   abbrev is' : List ℕ
   is' = set is p (length es)
 
-  other : (q : ℕ) → 0 < occurrences q order.places → q ≢ p
-  other q m e = let s : occurrences q order.places ≡ occurrences p order.places = ap (λ r. occurrences r order.places) e in absurd (omega arith)
+  other : (q : ℕ) → 0 < occurrences q order.elements → q ≢ p
+  other q m e = let s : occurrences q order.elements ≡ occurrences p order.elements = ap (λ r. occurrences r order.elements) e in absurd (omega arith)
 
-  stay : Stay es es' is is' order.places
+  stay : Stay es es' is is' order.elements
   stay q e m at = ap (slice_get es') (unwritten is p q (length es) (other q m)) ∙ front_stays es (key, p) (slice_index_or is q 0) e at
 
   here : entry_of es' is' p ≡ Some (key, p)
   here = ap (slice_get es') (written is p (length es) (let e = h.long in omega arith)) ∙ last_here es (key, p)
 
-  have : HaveEntries es' is' order.places
-  have = have_entries es es' is is' order.places h.placed stay
+  have : HaveEntries es' is' order.elements
+  have = have_entries es es' is is' order.elements h.placed stay
 
-  pub shown_inserted : in_order es' is' (order.places ++ p ∷ []) ≡ in_order es is order.places ++ (key, p) ∷ []
-  shown_inserted = in_order-append es es' is is' order.places p key have here ∙ ap (λ (ys : List (K × ℕ)). ys ++ (key, p) ∷ []) (same_entries es es' is is' order.places h.placed stay)
+  pub shown_inserted : in_order es' is' (order.elements ++ p ∷ []) ≡ in_order es is order.elements ++ (key, p) ∷ []
+  shown_inserted = in_order-append es es' is is' order.elements p key have here ∙ ap (λ (ys : List (K × ℕ)). ys ++ (key, p) ∷ []) (same_entries es es' is is' order.elements h.placed stay)
 
-  pub indexed_inserted : (after : Order) → after.bound ≡ order.bound → after.places ≡ order.places ++ p ∷ [] → IsIndexed es' is' after
-  indexed_inserted after bound places = record {
+  pub indexed_inserted : (after : Order) → after.bound ≡ order.bound → after.elements ≡ order.elements ++ p ∷ [] → IsIndexed es' is' after
+  indexed_inserted after bound elements = record {
     long = length-set is p (length es) ∙ h.long ∙ sym bound;
     small = subst (λ n. n < 2 ^ 32) (sym bound) h.small;
-    many = let m = h.many in let a = length-append es ((key, p) ∷ []) in let b = length-append order.places (p ∷ []) in let c = ap length places in omega arith;
-    few = let b = length-append order.places (p ∷ []) in let c = ap length places in omega arith;
-    within = subst (λ n. AreWithin n after.places) (sym bound) (subst (AreWithin order.bound) (sym places) (within-append order.bound p order.places h.within l));
-    placed = subst (HaveEntries es' is') (sym places) (have_append es es' is is' order.places p key have here);
-    listed = λ i e at. subst (λ (ps : List ℕ). (occurrences e.1 ps ≡ 1) × (slice_index_or is' e.1 0 ≡ i)) (sym places) (found i e at);
+    many = let m = h.many in let a = length-append es ((key, p) ∷ []) in let b = length-append order.elements (p ∷ []) in let c = ap length elements in omega arith;
+    few = let b = length-append order.elements (p ∷ []) in let c = ap length elements in omega arith;
+    within = subst (λ n. AreWithin n after.elements) (sym bound) (subst (AreWithin order.bound) (sym elements) (within-append order.bound p order.elements h.within l));
+    placed = subst (HaveEntries es' is') (sym elements) (have_append es es' is is' order.elements p key have here);
+    listed = λ i e at. subst (λ (ps : List ℕ). (occurrences e.1 ps ≡ 1) × (slice_index_or is' e.1 0 ≡ i)) (sym elements) (found i e at);
   }
     where
-      found : (i : ℕ) (e : K × ℕ) → slice_get es' i ≡ Some e → (occurrences e.1 (order.places ++ p ∷ []) ≡ 1) × (slice_index_or is' e.1 0 ≡ i)
+      found : (i : ℕ) (e : K × ℕ) → slice_get es' i ≡ Some e → (occurrences e.1 (order.elements ++ p ∷ []) ≡ 1) × (slice_index_or is' e.1 0 ≡ i)
       found i e at = elim (front_or_last es (key, p) i e at) [
         | inl f ↦ let k = h.listed i e f in let d = other e.1 (omega arith) in
-            let t = times-append e.1 order.places (p ∷ []) in let z = none e.1 p d in
+            let t = times-append e.1 order.elements (p ∷ []) in let z = none e.1 p d in
             (omega arith, unwritten is p e.1 (length es) d ∙ k.1)
         | inr r ↦
             let q : p ≡ e.1 = ap (λ (x : K × ℕ). x.1) r.1 in
-            let one : occurrences p (order.places ++ p ∷ []) ≡ 1 = (let t = times-append p order.places (p ∷ []) in let s = times_head p [] in let u = single p p in omega arith) in
+            let one : occurrences p (order.elements ++ p ∷ []) ≡ 1 = (let t = times-append p order.elements (p ∷ []) in let s = times_head p [] in let u = single p p in omega arith) in
             let at_p : slice_index_or is' p 0 ≡ length es = written is p (length es) (let e = h.long in omega arith) in
-            (subst (λ x. occurrences x (order.places ++ p ∷ []) ≡ 1) q one, ap (λ x. slice_index_or is' x 0) (sym q) ∙ at_p ∙ sym r.0)
+            (subst (λ x. occurrences x (order.elements ++ p ∷ []) ≡ 1) q one, ap (λ x. slice_index_or is' x 0) (sym q) ∙ at_p ∙ sym r.0)
       ]
 
 -- ---- an entry leaves, and the last takes its place
@@ -165,7 +165,7 @@ module _ {K : Type 0} (es : List (K × ℕ)) (is : List ℕ) (order : Order) (h 
   abbrev last : ℕ
   last = length es - 1
 
-  pub member : occurrences p order.places ≡ 1
+  pub member : occurrences p order.elements ≡ 1
   member = (h.listed i (key, p) at).0
 
   index : slice_index_or is p 0 ≡ i
@@ -174,7 +174,7 @@ module _ {K : Type 0} (es : List (K × ℕ)) (is : List ℕ) (order : Order) (h 
   pub index_small : i < 2 ^ 32
   index_small = let l = slice_get_within es i (key, p) at in let m = h.many in let f = h.few in let s = h.small in omega arith
 
-  -- the place that is moved is that of the last entry, or p if the last entry has left
+  -- the element that is moved is that of the last entry, or p if the last entry has left
   moved_is : ((k : K) × (i < last) × (slice_get es last ≡ Some (k, moved))) ⊎ ((moved ≡ p) × (i ≡ last))
   moved_is = by (slice_get left i) refl
     where
@@ -192,16 +192,16 @@ module _ {K : Type 0} (es : List (K × ℕ)) (is : List ℕ) (order : Order) (h 
               before_last w d = omega arith
       by (Some e) t = let l = swapped_within es i (key, p) at i e t in inl (e.0, l, sym (swapped_here es i (key, p) at l) ∙ t)
 
-  moved_member : 0 < occurrences moved order.places
+  moved_member : 0 < occurrences moved order.elements
   moved_member = elim moved_is [
     | inl m ↦ let k = h.listed last (m.0, moved) m.2 in omega arith
-    | inr s ↦ subst (λ q. 0 < occurrences q order.places) (sym s.0) (let m = member in omega arith)
+    | inr s ↦ subst (λ q. 0 < occurrences q order.elements) (sym s.0) (let m = member in omega arith)
   ]
 
   pub moved_within : moved < length is
-  moved_within = let w = within_at order.bound moved order.places h.within moved_member in let e = h.long in omega arith
+  moved_within = let w = within_at order.bound moved order.elements h.within moved_member in let e = h.long in omega arith
 
-  stay_left : (q : ℕ) (e : K × ℕ) → q ≢ p → 0 < occurrences q order.places → entry_of es is q ≡ Some e → entry_of left left_indices q ≡ Some e
+  stay_left : (q : ℕ) (e : K × ℕ) → q ≢ p → 0 < occurrences q order.elements → entry_of es is q ≡ Some e → entry_of left left_indices q ≡ Some e
   stay_left q e d m q_at = elim (decided q moved) [
     | inl same ↦ elim moved_is [
       | inl k ↦
@@ -211,7 +211,7 @@ module _ {K : Type 0} (es : List (K × ℕ)) (is : List ℕ) (order : Order) (h 
       | inr s ↦ absurd (d (same ∙ s.0))
     ]
     | inr apart ↦
-        let entry = entry_at es is order.places q h.placed m in
+        let entry = entry_at es is order.elements q h.placed m in
         let j : ℕ = slice_index_or is q 0 in
         let j_i : j ≢ i = (λ f. d (ap (λ (x : K × ℕ). x.1) (same_Some (entry.0, q) (key, p) (sym entry.1 ∙ ap (slice_get es) f ∙ at)))) in
         let w = slice_get_within es j (entry.0, q) entry.1 in
@@ -225,23 +225,23 @@ module _ {K : Type 0} (es : List (K × ℕ)) (is : List ℕ) (order : Order) (h 
       below : (j : ℕ) → j < length es → j ≢ last → j < last
       below j w d = omega arith
 
-  one_left : (q : ℕ) → 0 < occurrences q (taken_out p order.places) → (q ≢ p) × (0 < occurrences q order.places)
+  one_left : (q : ℕ) → 0 < occurrences q (taken_out p order.elements) → (q ≢ p) × (0 < occurrences q order.elements)
   one_left q m =
       let o = member in
-      let t = taken_counts p q order.places (omega arith) in
+      let t = taken_counts p q order.elements (omega arith) in
       (apart t o, omega arith)
     where
-      apart : occurrences q (taken_out p order.places) + occurrences q (p ∷ []) ≡ occurrences q order.places → occurrences p order.places ≡ 1 → q ≢ p
+      apart : occurrences q (taken_out p order.elements) + occurrences q (p ∷ []) ≡ occurrences q order.elements → occurrences p order.elements ≡ 1 → q ≢ p
       apart t o e =
-          let s : occurrences q order.places ≡ occurrences p order.places = ap (λ r. occurrences r order.places) e in
+          let s : occurrences q order.elements ≡ occurrences p order.elements = ap (λ r. occurrences r order.elements) e in
           let h : 0 < occurrences q (p ∷ []) = subst (λ r. 0 < occurrences q (r ∷ [])) e (times_head q []) in
           absurd (omega arith)
 
-  stays : Stay es left is left_indices (taken_out p order.places)
+  stays : Stay es left is left_indices (taken_out p order.elements)
   stays q e m q_at = let o = one_left q m in stay_left q e o.0 o.1 q_at
 
-  have_left : HaveEntries es is (taken_out p order.places)
-  have_left = fewer order.places h.placed
+  have_left : HaveEntries es is (taken_out p order.elements)
+  have_left = fewer order.elements h.placed
     where
       fewer : (ps : List ℕ) → HaveEntries es is ps → HaveEntries es is (taken_out p ps)
       fewer [] t = tt
@@ -251,28 +251,28 @@ module _ {K : Type 0} (es : List (K × ℕ)) (is : List ℕ) (order : Order) (h 
           by true r = t.1
           by false r = (t.0, r)
 
-  pub shown_removed : in_order left left_indices (taken_out p order.places) ≡ in_order es is (taken_out p order.places)
-  shown_removed = same_entries es left is left_indices (taken_out p order.places) have_left stays
+  pub shown_removed : in_order left left_indices (taken_out p order.elements) ≡ in_order es is (taken_out p order.elements)
+  shown_removed = same_entries es left is left_indices (taken_out p order.elements) have_left stays
 
-  pub indexed_removed : (after : Order) → after.bound ≡ order.bound → after.places ≡ taken_out p order.places → IsIndexed left left_indices after
-  indexed_removed after bound places = record {
+  pub indexed_removed : (after : Order) → after.bound ≡ order.bound → after.elements ≡ taken_out p order.elements → IsIndexed left left_indices after
+  indexed_removed after bound elements = record {
     long = length-set is moved i ∙ h.long ∙ sym bound;
     small = subst (λ n. n < 2 ^ 32) (sym bound) h.small;
-    many = let m = h.many in let s = swapped_length es i (key, p) at in let t = taken_length p order.places (let o = member in omega arith) in let c = ap length places in omega arith;
-    few = let f = h.few in let t = taken_length p order.places (let o = member in omega arith) in let c = ap length places in omega arith;
-    within = subst (λ n. AreWithin n after.places) (sym bound) (subst (AreWithin order.bound) (sym places) (taken_within order.bound p order.places h.within));
-    placed = subst (HaveEntries left left_indices) (sym places) (have_entries es left is left_indices (taken_out p order.places) have_left stays);
-    listed = λ j e e_at. subst (λ (ps : List ℕ). (occurrences e.1 ps ≡ 1) × (slice_index_or left_indices e.1 0 ≡ j)) (sym places) (found j e e_at (decided j i));
+    many = let m = h.many in let s = swapped_length es i (key, p) at in let t = taken_length p order.elements (let o = member in omega arith) in let c = ap length elements in omega arith;
+    few = let f = h.few in let t = taken_length p order.elements (let o = member in omega arith) in let c = ap length elements in omega arith;
+    within = subst (λ n. AreWithin n after.elements) (sym bound) (subst (AreWithin order.bound) (sym elements) (taken_within order.bound p order.elements h.within));
+    placed = subst (HaveEntries left left_indices) (sym elements) (have_entries es left is left_indices (taken_out p order.elements) have_left stays);
+    listed = λ j e e_at. subst (λ (ps : List ℕ). (occurrences e.1 ps ≡ 1) × (slice_index_or left_indices e.1 0 ≡ j)) (sym elements) (found j e e_at (decided j i));
   }
     where
-      kept : (q : ℕ) → q ≢ p → occurrences q order.places ≡ 1 → occurrences q (taken_out p order.places) ≡ 1
+      kept : (q : ℕ) → q ≢ p → occurrences q order.elements ≡ 1 → occurrences q (taken_out p order.elements) ≡ 1
       kept q d o =
           let m = member in
-          let t = taken_counts p q order.places (omega arith) in
+          let t = taken_counts p q order.elements (omega arith) in
           let z = none q p d in
           omega arith
 
-      found : (j : ℕ) (e : K × ℕ) → slice_get left j ≡ Some e → (j ≡ i) ⊎ (j ≢ i) → (occurrences e.1 (taken_out p order.places) ≡ 1) × (slice_index_or left_indices e.1 0 ≡ j)
+      found : (j : ℕ) (e : K × ℕ) → slice_get left j ≡ Some e → (j ≡ i) ⊎ (j ≢ i) → (occurrences e.1 (taken_out p order.elements) ≡ 1) × (slice_index_or left_indices e.1 0 ≡ j)
       found j e e_at (inl same) =
           let here : slice_get left i ≡ Some e = ap (slice_get left) (sym same) ∙ e_at in
           let l = swapped_within es i (key, p) at i e here in
@@ -315,7 +315,7 @@ nothing : {X : Type 0} (i : ℕ) → slice_get (let none : List X = [] in none) 
 nothing zero = refl
 nothing (suc i) = refl
 
-pub indexed_cleared : {K : Type 0} (es : List (K × ℕ)) (is : List ℕ) (order : Order) → es ≡ [] → order.places ≡ [] → length is ≡ order.bound → order.bound < 2 ^ 32 → IsIndexed es is order
+pub indexed_cleared : {K : Type 0} (es : List (K × ℕ)) (is : List ℕ) (order : Order) → es ≡ [] → order.elements ≡ [] → length is ≡ order.bound → order.bound < 2 ^ 32 → IsIndexed es is order
 indexed_cleared es is order cleared none long small = record {
   long = long;
   small = small;

@@ -1,29 +1,29 @@
--- Places and keys in an order. This project's own.
+-- Elements and keys in an order. This project's own.
 use Rattle.std.specs.Prelude.{◌≡◌, ℕ, ◌+◌, Bool, true, nat_eq, if◌then◌else◌, List, [], ◌∷◌, Option, Some, None, is_some, refl}
 use Rattle.std.specs.Borrow.{Bor}
 use Rattle.std.specs.Coded.{Coded, code_by, coded×, coded_list, coded_ℕ}
 use Rattle.std.specs.Map.{lookup}
 
--- ---- places
+-- ---- elements
 
--- the number of times that a list has a place
+-- the number of times that a list has an element
 abbrev pub occurrences : ℕ → List ℕ → ℕ
 occurrences p [] = 0
 occurrences p (x ∷ xs) = (if nat_eq p x then 1 else 0) + occurrences p xs
 
--- places less than a bound, in order
+-- elements less than a bound, in order
 pub record Order : Type 0 where
   pub bound : ℕ
-  pub places : List ℕ
+  pub elements : List ℕ
 
-abbrev pub first_place : List ℕ → Option ℕ
-first_place [] = None
-first_place (x ∷ xs) = Some x
+abbrev pub first_element : List ℕ → Option ℕ
+first_element [] = None
+first_element (x ∷ xs) = Some x
 
--- the place that follows p
+-- the element that follows p
 abbrev pub following : ℕ → List ℕ → Option ℕ
 following p [] = None
-following p (x ∷ xs) = if nat_eq p x then first_place xs else following p xs
+following p (x ∷ xs) = if nat_eq p x then first_element xs else following p xs
 
 -- without p; the others keep their order
 abbrev pub taken_out : ℕ → List ℕ → List ℕ
@@ -32,7 +32,7 @@ taken_out p (x ∷ xs) = if nat_eq p x then xs else x ∷ taken_out p xs
 
 -- ---- keys
 
--- keys with their places, which are less than a bound, in order
+-- keys with their elements, which are less than a bound, in order
 pub record BoundedKeys (K : Type 0) : Type 0 where
   pub bound : ℕ
   pub entries : List (K × ℕ)
@@ -58,7 +58,7 @@ module _ {K : Type 0} where
     abbrev pub key_following : List (K × ℕ) → Option K
     key_following es = if is_some (lookup test es) then key_behind_passing es else first_key_of es
 
-  -- a borrowed key, with its place
+  -- a borrowed key, with its element
   abbrev pub lent_entry : Bor K × ℕ → K × ℕ
   lent_entry e = (e.0.now, e.1)
 
@@ -66,12 +66,12 @@ module _ {K : Type 0} where
   first_entry [] = None
   first_entry (e ∷ es) = Some e
 
-  -- the entry that follows the one at place p; None if there is none, and if no entry is at p
+  -- the entry that follows the one at element p; None if there is none, and if no entry is at p
   abbrev pub entry_behind : ℕ → List (K × ℕ) → Option (K × ℕ)
   entry_behind p [] = None
   entry_behind p (e ∷ es) = if nat_eq p e.1 then first_entry es else entry_behind p es
 
-  -- without a place, it is the first
+  -- without an element, it is the first
   abbrev pub next_entry : Option ℕ → List (K × ℕ) → Option (K × ℕ)
   next_entry None es = first_entry es
   next_entry (Some p) es = entry_behind p es

@@ -1,16 +1,16 @@
-//! Keys in the order in which they were added, each with a place of its own below a bound (`BoundedKeys`), for any type of keys
+//! Keys in the order in which they were added, each with an element of its own below a bound (`BoundedKeys`), for any type of keys
 //! and any hash function. A removal costs as much as an insertion.
 //!
-//! The implementation has a table of the keys in any order, the index of each place's key in it, and the order of the places
-//! (`PlaceOrder`), a ring of links. That they agree is the invariant of the type.
+//! The implementation has a table of the keys in any order, the index of each element's key in it, and the order of the elements
+//! (`ElementOrder`), a ring of links. That they agree is the invariant of the type.
 //!
 //! # What is proved
 //!
-//! - A key's place is found, and none for an absent key: `get` of `OrderedMap`.
+//! - A key's element is found, and none for an absent key: `get` of `OrderedMap`.
 //! - The key after a key is the next one of the order, and after an absent key the first: `key_after`, `first` of `OrderedMap`.
-//! - A new key goes to the end with its place: `added` of `insert`. All memory is taken when the map is made, so neither `insert` nor
+//! - A new key goes to the end with its element: `added` of `insert`. All memory is taken when the map is made, so neither `insert` nor
 //!   `remove` can run out of it.
-//! - A removal returns the place of the key, and the others keep their order: `place`, `left` of `remove`.
+//! - A removal returns the element of the key, and the others keep their order: `element`, `left` of `remove`.
 //!
 //! A caller may look up with another type than that of the keys (`Equivalent`, whose laws say that all keys which it is equivalent to
 //! are equal). That a removal costs as much as an insertion is seen in the code, but for the removal that fills the
@@ -18,14 +18,14 @@
 //!
 //! # Decisions
 //!
-//! - The order of the keys is a ring of links over places, and not the order of the index map. The keys of a map already have
-//!   places: numbers below the map's size, one for each key, that never move. So the order is one of small numbers, with two
-//!   links for each place and for the ends of the ring. The index map has its keys in any order: a delete swaps its last key
+//! - The order of the keys is a ring of links over elements, and not the order of the index map. The keys of a map already have
+//!   elements: numbers below the map's size, one for each key, that never move. So the order is one of small numbers, with two
+//!   links for each element and for the ends of the ring. The index map has its keys in any order: a delete swaps its last key
 //!   into the gap. Keeping the order in the index map itself, a delete would move all later keys, as it did before.
 //! - Now each operation costs the same for any number of keys, and nothing is deferred to a later sweep. A delete and an update of the
 //!   oldest key together took 2,076 machine instructions with 64 keys and 52,114 with 4,096, and then took 1,207 to 1,283 with either
 //!   (bench/FIGURES.md).
-//! - The links take 12 bytes for each place and 8 more, 48 KiB for 4,096 places, all of it allocated when the map is created: a
+//! - The links take 12 bytes for each element and 8 more, 48 KiB for 4,096 elements, all of it allocated when the map is created: a
 //!   new key takes the memory that it took before, and a delete none.
 //! - Alternatives: entries that are freed in place, which the index map does not allow; a log of deleted keys, which has to be
 //!   swept in one long step, and until then slows down the next key; two generations, with two look-ups each time; a tree by
@@ -39,11 +39,11 @@
 //!   with inserts, one of four times the bound not once in 300,000; it takes 64 KiB more (bench/FIGURES.md).
 //! - A table that grows was used before. The longest step in a fill with 4,096 keys took 353,239 machine instructions, and the longest
 //!   of 24,000 deletes and updates after it 622,103; they now take some 2,000 and 1,700.
-//! - A map of 4,096 places without a key has 128 KiB of slots. Keys and rows are written only as keys come.
+//! - A map of 4,096 elements without a key has 128 KiB of slots. Keys and rows are written only as keys come.
 #![tactic(auto)]
 
+mod element_order;
 mod ordered_map;
-mod place_order;
 
 pub use indexmap::Equivalent;
 pub use ordered_map::OrderedMap;

@@ -1,28 +1,28 @@
-//! A map from keys to places that keeps its keys in the order in which they were added. A removal costs as much as an insertion.
+//! A map from keys to elements that keeps its keys in the order in which they were added. A removal costs as much as an insertion.
 
 ghost use Rattle.std.specs.Prelude.{◌≡◌, ℕ, ◌+◌, ◌*◌, ◌<◌, ◌≤◌, true, [], ◌∷◌, ◌++◌, length, drop, option_map, slice_get, None, Some, IfSome, IfOk, vec_len, vec_capacity, swap_remove};
 ghost use Rattle.std.specs.Option.{option_map_or};
 ghost use Rattle.std.specs.Map.{lookup, remove_entry, values_of};
 ghost use Rattle.ordered_keys.specs.Orders.{occurrences, first_key_of, key_following, lent_entry, next_entry};
 ghost use Rattle.indexmap.specs.IndexMap.{index_map_len, spare};
-ghost use Rattle.ordered_keys.specs.inside.Ordered.{IsIndexed, AreApart, HasRoom, entry_of, is_entry_of, key_of, next_of_places};
+ghost use Rattle.ordered_keys.specs.inside.Ordered.{IsIndexed, AreApart, HasRoom, entry_of, is_entry_of, key_of, next_of_elements};
 
-use crate::place_order::PlaceOrder;
+use crate::element_order::ElementOrder;
 use indexmap::{Equivalent, IndexMap};
 use std::alloc::{AllocError, Global};
 use std::hash::{BuildHasher, Hash};
 use std::marker::Model;
 
-/// Keys, each with a place of its own less than a bound, in the order in which they were added.
+/// Keys, each with an element of its own less than a bound, in the order in which they were added.
 ///
 /// The table has the keys in any order: the last key takes the index of one that is removed. The order of the keys is that of their
-/// places.
+/// elements.
 #[derive(Drop)]
 pub struct OrderedMap<K: Eq + Hash + Copy, S: BuildHasher> {
     table: IndexMap<K, u32, S>,
-    // The index in the table of the key of each place.
+    // The index in the table of the key of each element.
     indices: Vec<u32>,
-    order: PlaceOrder,
+    order: ElementOrder,
     // Empty; room for half of the entries, which `rebuild_without` moves through it.
     rows: Vec<(K, u32)>,
 }
@@ -39,13 +39,13 @@ impl<K: Eq + Hash + Copy, S: BuildHasher> Model for OrderedMap<K, S> {
     ghost use Rattle.ordered_keys.specs.inside.Ordered.{in_order, IsWhole};
 
     ghost view = { λ m. bounded_keys m.order.bound
-        (in_order m.table.entries m.indices.items m.order.places) };
+        (in_order m.table.entries m.indices.items m.order.elements) };
 
     ghost invariant = { λ m. IsWhole m.table m.indices.items m.order (vec_len m.rows) (vec_capacity m.rows) };
 }
 
 impl<K: Eq + Hash + Copy, S: BuildHasher> OrderedMap<K, S> {
-    /// A map without keys, for places less than `bound`. Allocates room for their order. `AllocError`: out of memory.
+    /// A map without keys, for elements less than `bound`. Allocates room for their order. `AllocError`: out of memory.
     pub fn new(alloc: Global, bound: u32, hash_builder: S) -> Result<OrderedMap<K, S>, AllocError>
     where
         S: Drop,
@@ -53,7 +53,7 @@ impl<K: Eq + Hash + Copy, S: BuildHasher> OrderedMap<K, S> {
         ensures entries { IfOk result (λ map. map.entries ≡ []) }
     {
         let indices = vec![in alloc; 0; bound as usize]?;
-        let order = PlaceOrder::new(alloc, bound)?;
+        let order = ElementOrder::new(alloc, bound)?;
         let rows = Vec::with_capacity(alloc, bound as usize / 2 + 1)?;
         let room = 4 * bound as usize;
         let table = IndexMap::with_capacity_and_hasher(alloc, room, hash_builder)?;
@@ -70,7 +70,7 @@ impl<K: Eq + Hash + Copy, S: BuildHasher> OrderedMap<K, S> {
         *self.table.allocator()
     }
 
-    /// The place of a key; `None` if the key is absent.
+    /// The element of a key; `None` if the key is absent.
     #[inline(always)]
     pub fn get<Q: Equivalent<K>>(&self, key: Q) -> Option<u32>
         ensures { result ≡ lookup (Q.equivalent key) self.now.entries }
@@ -86,10 +86,10 @@ impl<K: Eq + Hash + Copy, S: BuildHasher> OrderedMap<K, S> {
             ≡ key_following (Q.equivalent key) self.now.entries }
     {
         let _len = self.table.len();
-        let Some(place) = self.table.get(key) else {
+        let Some(element) = self.table.get(key) else {
             return self.first();
         };
-        key_at(&self.table, &self.indices, self.order.after(*place))
+        key_at(&self.table, &self.indices, self.order.after(*element))
     }
 
     /// The first key, if there is one.
@@ -99,29 +99,29 @@ impl<K: Eq + Hash + Copy, S: BuildHasher> OrderedMap<K, S> {
         key_at(&self.table, &self.indices, self.order.first())
     }
 
-    /// The key that follows the one of a place, or the first key if no place is given, with its place. `None` if there is none,
-    /// and if no key has the place.
-    pub fn entry_after(&self, place: Option<u32>) -> Option<(&K, u32)>
-        ensures { option_map lent_entry result ≡ next_entry place self.now.entries }
+    /// The key that follows the one of an element, or the first key if no element is given, with its element. `None` if there is none,
+    /// and if no key has the element.
+    pub fn entry_after(&self, element: Option<u32>) -> Option<(&K, u32)>
+        ensures { option_map lent_entry result ≡ next_entry element self.now.entries }
     {
-        let next = next_place(&self.table, &self.indices, &self.order, place)?;
+        let next = next_element(&self.table, &self.indices, &self.order, element)?;
         let key = key_at(&self.table, &self.indices, Some(next))?;
         Some((key, next))
     }
 
     /// Adds a new key at the end. It takes no memory.
-    pub fn insert(&mut self, key: K, place: u32)
+    pub fn insert(&mut self, key: K, element: u32)
         requires absent { lookup (K.eq key) self.old.entries ≡ None }
-        requires within { place < self.old.bound }
-        requires free { occurrences place (values_of self.old.entries) ≡ 0 }
+        requires within { element < self.old.bound }
+        requires free { occurrences element (values_of self.old.entries) ≡ 0 }
         requires few { length self.old.entries < self.old.bound }
-        ensures added { self.new.entries ≡ self.old.entries ++ (key, place) ∷ [] }
+        ensures added { self.new.entries ≡ self.old.entries ++ (key, element) ∷ [] }
         ensures bound { self.new.bound ≡ self.old.bound }
     {
         let index = self.table.len() as u32;
-        put_last(&mut self.table, key, place);
-        self.indices[place as usize] = index;
-        self.order.push(place);
+        put_last(&mut self.table, key, element);
+        self.indices[element as usize] = index;
+        self.order.push(element);
     }
 
     /// Removes all keys, and keeps the memory.
@@ -133,51 +133,51 @@ impl<K: Eq + Hash + Copy, S: BuildHasher> OrderedMap<K, S> {
         self.order.clear();
     }
 
-    /// Removes a key and returns its place; `None` if the key is absent. The others keep their order.
+    /// Removes a key and returns its element; `None` if the key is absent. The others keep their order.
     pub fn remove<Q: Equivalent<K>>(&mut self, key: Q) -> Option<u32>
-        ensures place { result ≡ lookup (Q.equivalent key) self.old.entries }
+        ensures element { result ≡ lookup (Q.equivalent key) self.old.entries }
         ensures left { self.new.entries ≡ remove_entry (Q.equivalent key) self.old.entries }
         ensures bound { self.new.bound ≡ self.old.bound }
     {
         let index = self.table.get_index_of(key)?;
-        let (_key, place) = take_out(&mut self.table, &mut self.rows, self.indices.len(), index);
-        let moved = place_at(&self.table, index, place);
+        let (_key, element) = take_out(&mut self.table, &mut self.rows, self.indices.len(), index);
+        let moved = element_at(&self.table, index, element);
         self.indices[moved as usize] = index as u32;
-        self.order.remove(place);
-        Some(place)
+        self.order.remove(element);
+        Some(element)
     }
 }
 
-/// Whether a key has this place.
-fn has_place<K: Eq + Hash, S: BuildHasher>(
+/// Whether a key has this element.
+fn has_element<K: Eq + Hash, S: BuildHasher>(
     table: &IndexMap<K, u32, S>,
     indices: &[u32],
-    place: u32,
+    element: u32,
 ) -> bool
-    ensures { result ≡ is_entry_of place (entry_of table.now.entries indices.now place) }
+    ensures { result ≡ is_entry_of element (entry_of table.now.entries indices.now element) }
 {
-    let index = indices.get(place as usize).copied().unwrap_or(0);
+    let index = indices.get(element as usize).copied().unwrap_or(0);
     match table.get_index(index as usize) {
-        Some((_, at)) => *at == place,
+        Some((_, at)) => *at == element,
         None => false,
     }
 }
 
-/// The place that follows one, or the first if none is given. `None` if there is none, and if no key has the one given.
-fn next_place<K: Eq + Hash, S: BuildHasher>(
+/// The element that follows one, or the first if none is given. `None` if there is none, and if no key has the one given.
+fn next_element<K: Eq + Hash, S: BuildHasher>(
     table: &IndexMap<K, u32, S>,
     indices: &[u32],
-    order: &PlaceOrder,
-    place: Option<u32>,
+    order: &ElementOrder,
+    element: Option<u32>,
 ) -> Option<u32>
     requires { IsIndexed table.now.entries indices.now order.now }
-    ensures { result ≡ next_of_places place order.now.places }
+    ensures { result ≡ next_of_elements element order.now.elements }
 {
-    match place {
+    match element {
         None => order.first(),
-        Some(place) => {
-            if has_place(table, indices, place) {
-                order.after(place)
+        Some(element) => {
+            if has_element(table, indices, element) {
+                order.after(element)
             } else {
                 None
             }
@@ -185,22 +185,22 @@ fn next_place<K: Eq + Hash, S: BuildHasher>(
     }
 }
 
-/// The key of a place, by its index in the table.
+/// The key of an element, by its index in the table.
 fn key_at<'a, K: Eq + Hash, S: BuildHasher>(
     table: &'a IndexMap<K, u32, S>,
     indices: &[u32],
-    place: Option<u32>,
+    element: Option<u32>,
 ) -> Option<&'a K>
-    requires { IfSome place (λ p. p < length indices.now) }
-    ensures { option_map (λ k. k.now) result ≡ key_of table.now.entries indices.now place }
+    requires { IfSome element (λ p. p < length indices.now) }
+    ensures { option_map (λ k. k.now) result ≡ key_of table.now.entries indices.now element }
 {
-    let index = indices[place? as usize];
+    let index = indices[element? as usize];
     let (key, _) = table.get_index(index as usize)?;
     Some(key)
 }
 
-/// The place of the entry at an index of the table; `otherwise` if there is none.
-fn place_at<K: Eq + Hash, S: BuildHasher>(
+/// The element of the entry at an index of the table; `otherwise` if there is none.
+fn element_at<K: Eq + Hash, S: BuildHasher>(
     table: &IndexMap<K, u32, S>,
     index: usize,
     otherwise: u32,
@@ -208,7 +208,7 @@ fn place_at<K: Eq + Hash, S: BuildHasher>(
     ensures { result ≡ option_map_or (λ e. e.1) (slice_get table.now.entries index) otherwise }
 {
     match table.get_index(index) {
-        Some((_, place)) => *place,
+        Some((_, element)) => *element,
         None => otherwise,
     }
 }
@@ -217,14 +217,14 @@ fn place_at<K: Eq + Hash, S: BuildHasher>(
 fn put_last<K: Eq + Hash + Copy, S: BuildHasher>(
     table: &mut IndexMap<K, u32, S>,
     key: K,
-    place: u32,
+    element: u32,
 )
     requires absent { lookup (K.eq key) table.old.entries ≡ None }
     requires room { 0 < spare table.old }
-    ensures entries { table.new.entries ≡ table.old.entries ++ (key, place) ∷ [] }
+    ensures entries { table.new.entries ≡ table.old.entries ++ (key, element) ∷ [] }
     ensures room { spare table.old ≤ spare table.new + 1 }
 {
-    let added = table.insert(key, place);
+    let added = table.insert(key, element);
     let Ok(_) = added else { unreachable!() };
 }
 
@@ -316,10 +316,10 @@ fn copy_entries<K: Eq + Hash + Copy, S: BuildHasher>(
     ensures buffer { vec_capacity rows.new ≡ vec_capacity rows.old }
 {
     for at in 0..table.len() - start {
-        let Some((key, place)) = table.get_index(start + at) else {
+        let Some((key, element)) = table.get_index(start + at) else {
             unreachable!()
         };
-        rows.push_reserved((*key, *place));
+        rows.push_reserved((*key, *element));
     }
 }
 
@@ -331,7 +331,7 @@ fn put_all<K: Eq + Hash + Copy, S: BuildHasher>(table: &mut IndexMap<K, u32, S>,
     ensures room { spare table.old ≤ length rows.now + spare table.new }
 {
     for index in 0..rows.len() {
-        let (key, place) = rows[index];
-        put_last(table, key, place);
+        let (key, element) = rows[index];
+        put_last(table, key, element);
     }
 }

@@ -12,7 +12,7 @@ use Rattle.reg_kinds.specs.declared.facts.Facts.{Facts}
 use Rattle.reg_kinds.specs.declared.reason.Reason.{Reason}
 use Rattle.reg_kinds.specs.declared.reason.Reason.TheVariants.{OutsideStack, UnwrittenStack, PartOfSpill}
 use Rattle.reg_kinds.specs.Kinds.{slot_at}
-use Rattle.words.specs.Stack.{is_in_stack, place, touches}
+use Rattle.words.specs.Stack.{is_in_stack, byte_index, touches}
 use Rattle.reg_kinds.specs.BitLaws.{ones_small}
 use Rattle.reg_kinds.specs.Many.{any_below, is_touched_spill, lacks, bits_in, stack_input}
 
@@ -79,16 +79,16 @@ missing_at f n p = any_below 64 (λ i. lacks (slot_at f i) (bits_in p n i))
 abbrev pub told_of : Bool → Bool → Result (Unit {0}) Reason
 told_of a b = if a then Err PartOfSpill else (if b then Err UnwrittenStack else Ok tt)
 
-input_at : (f : Facts) (x : ℤ) (n p : ℕ) (a b : Bool) → (if is_in_stack x n then Some (place x) else None) ≡ Some p → a ≡ spill_at f n p → b ≡ missing_at f n p → told_of a b ≡ stack_input f x n
+input_at : (f : Facts) (x : ℤ) (n p : ℕ) (a b : Bool) → (if is_in_stack x n then Some (byte_index x) else None) ≡ Some p → a ≡ spill_at f n p → b ≡ missing_at f n p → told_of a b ≡ stack_input f x n
 input_at f x n p a b at e g =
-    let h = cond_some (is_in_stack x n) (place x) p at in
+    let h = cond_some (is_in_stack x n) (byte_index x) p at in
     ap (λ a. told_of a b) e
     ∙ ap (told_of (spill_at f n p)) g
     ∙ sym (ap (λ q. told_of (spill_at f n q) (missing_at f n q)) h.1)
-    ∙ sym (ap (λ t. if not t then Err OutsideStack else told_of (spill_at f n (place x)) (missing_at f n (place x))) h.0)
+    ∙ sym (ap (λ t. if not t then Err OutsideStack else told_of (spill_at f n (byte_index x)) (missing_at f n (byte_index x))) h.0)
 
-pub input_is : (f : Facts) (x y : ℤ) (n p : ℕ) (a b : Bool) → y ≡ x → (if is_in_stack y n then Some (place y) else None) ≡ Some p → a ≡ spill_at f n p → b ≡ missing_at f n p → told_of a b ≡ stack_input f x n
-input_is f x y n p a b same at e g = input_at f x n p a b (subst (λ z. (if is_in_stack z n then Some (place z) else None) ≡ Some p) same at) e g
+pub input_is : (f : Facts) (x y : ℤ) (n p : ℕ) (a b : Bool) → y ≡ x → (if is_in_stack y n then Some (byte_index y) else None) ≡ Some p → a ≡ spill_at f n p → b ≡ missing_at f n p → told_of a b ≡ stack_input f x n
+input_is f x y n p a b same at e g = input_at f x n p a b (subst (λ z. (if is_in_stack z n then Some (byte_index z) else None) ≡ Some p) same at) e g
 
 -- ---- bits
 

@@ -1,7 +1,7 @@
--- Byte ranges of the stack that may span many slots: what a helper reads and writes. Places count from the stack's lower
+-- Byte ranges of the stack that may span many slots: what a helper reads and writes. Starts count from the stack's lower
 -- end; a mask has bit k for byte k of a slot. The rules are this project's own.
 use Rattle.std.specs.Prelude.{ℕ, zero, suc, ◌+◌, ◌-◌, ◌*◌, ◌^◌, ◌==◌, ℤ, min, bit_and, nat_le, Bool, false, not, ◌||◌, if◌then◌else◌, Result, Ok, Err}
-use Rattle.words.specs.Stack.{stack_slots, is_in_stack, place, touches}
+use Rattle.words.specs.Stack.{stack_slots, is_in_stack, byte_index, touches}
 use Rattle.reg_kinds.specs.declared.kind.Kind.{Kind}
 use Rattle.reg_kinds.specs.declared.kind.Kind.TheVariants.{Unreadable}
 use Rattle.reg_kinds.specs.declared.kind.Slot.{Slot}
@@ -12,7 +12,7 @@ use Rattle.reg_kinds.specs.declared.reason.Reason.TheVariants.{OutsideStack, Unw
 use Rattle.reg_kinds.specs.Kinds.{kind_at, slot_at, with_registers, with_slots}
 use Rattle.reg_kinds.specs.Stack.{bytes_over}
 
--- the mask of those of n bytes at place p that lie in slot i
+-- the mask of those of n bytes at start p that lie in slot i
 abbrev pub bits_in : ℕ → ℕ → ℕ → ℕ
 bits_in p n i = (2 ^ (min 8 (p + n - 8 * i) - (p - 8 * i)) - 1) * 2 ^ (p - 8 * i)
 
@@ -33,12 +33,12 @@ lacks (Spill k) bits = false
 abbrev pub stack_input : Facts → ℤ → ℕ → Result (Unit {0}) Reason
 stack_input f x n =
     if not (is_in_stack x n) then Err OutsideStack else
-    (if any_below stack_slots (λ i. is_touched_spill (slot_at f i) (touches (place x) n i)) then Err PartOfSpill else
-    (if any_below stack_slots (λ i. lacks (slot_at f i) (bits_in (place x) n i)) then Err UnwrittenStack else Ok tt))
+    (if any_below stack_slots (λ i. is_touched_spill (slot_at f i) (touches (byte_index x) n i)) then Err PartOfSpill else
+    (if any_below stack_slots (λ i. lacks (slot_at f i) (bits_in (byte_index x) n i)) then Err UnwrittenStack else Ok tt))
 
 -- after a write of lo to hi bytes the first lo count as written, and of a spill that may be touched no other byte does
 abbrev pub filled : Facts → ℤ → ℕ → ℕ → Facts
-filled f x lo hi = with_slots f (λ i. if touches (place x) hi i then bytes_over (slot_at f i) (bits_in (place x) lo i) else slot_at f i)
+filled f x lo hi = with_slots f (λ i. if touches (byte_index x) hi i then bytes_over (slot_at f i) (bits_in (byte_index x) lo i) else slot_at f i)
 
 abbrev pub stack_filled : Facts → ℤ → ℕ → ℕ → Result Facts Reason
 stack_filled f x lo hi = if is_in_stack x hi then Ok (filled f x lo hi) else Err OutsideStack

@@ -1,7 +1,7 @@
 -- Loads from the stack, and stores to it. Offsets count from its upper end. The rules are this project's own.
 use Rattle.std.specs.Prelude.{◌≡◌, ◌≢◌, ◌<◌, ℕ, ◌-◌, ◌*◌, ◌/◌, ◌%◌, ◌^◌, ◌==◌, ℤ, bit_and, bit_or, Bool, true, false, not, if◌then◌else◌, Result, Ok, Err, Option, Some, None}
 use Rattle.words.specs.declared.stack.AccessSize.{AccessSize}
-use Rattle.words.specs.Stack.{stack_slots, bytes_of, is_double, is_in_stack, place, is_aligned}
+use Rattle.words.specs.Stack.{stack_slots, bytes_of, is_double, is_in_stack, byte_index, is_aligned}
 use Rattle.interval.specs.Ranges.{full}
 use Rattle.reg_kinds.specs.declared.kind.Kind.{Kind}
 use Rattle.reg_kinds.specs.declared.kind.Kind.TheVariants.{Unreadable, Scalar}
@@ -13,7 +13,7 @@ use Rattle.reg_kinds.specs.declared.reason.Reason.TheVariants.{UnreadableRegiste
 use Rattle.reg_kinds.specs.Reason.{and_then_ok}
 use Rattle.reg_kinds.specs.Kinds.{is_pointer, slot_at, with_slot}
 
--- the mask, within their slot, of n bytes at a place
+-- the mask, within their slot, of n bytes at a start
 abbrev pub byte_bits : ℕ → ℕ → ℕ
 byte_bits at n = (2 ^ n - 1) * 2 ^ (at % 8)
 
@@ -22,7 +22,7 @@ abbrev pub touched : ℤ → AccessSize → Result (ℕ × ℕ) Reason
 touched offset size =
     if not (is_in_stack offset (bytes_of size)) then Err OutsideStack else
     (if not (is_aligned offset (bytes_of size)) then Err UnalignedStack else
-    Ok (place offset / 8, byte_bits (place offset) (bytes_of size)))
+    Ok (byte_index offset / 8, byte_bits (byte_index offset) (bytes_of size)))
 
 -- ---- loads
 

@@ -1,8 +1,8 @@
-//! Byte ranges of the stack that may span many slots, and the facts after a call. A place is an offset from the stack's lower
+//! Byte ranges of the stack that may span many slots, and the facts after a call. A start is an offset from the stack's lower
 //! end; a mask has bit k for byte k of a slot.
 
 ghost use Rattle.std.specs.Prelude.{◌≡◌, ◌+◌, ◌-◌, ◌*◌, ◌^◌, ◌<◌, ◌≤◌, ◌==◌, nat_le, if◌then◌else◌, IfSome, MatchResult, Ok, Err, Some, None};
-ghost use Rattle.words.specs.Stack.{stack_size, stack_slots, is_in_stack, place, touches};
+ghost use Rattle.words.specs.Stack.{stack_size, stack_slots, is_in_stack, byte_index, touches};
 ghost use Rattle.reg_kinds.specs.Kinds.{slot_at, with_slots};
 ghost use Rattle.reg_kinds.specs.Stack.{bytes_over};
 ghost use Rattle.reg_kinds.specs.Many.{bits_in, any_below, is_touched_spill, lacks, stack_input, stack_filled, called_facts};
@@ -14,13 +14,13 @@ use crate::reason::Reason;
 use crate::stack::{LOWEST, bytes_over};
 use words::{REGISTERS, STACK_SLOTS};
 
-/// Whether `count` bytes at `place` touch slot `index`.
-fn touches(place: usize, count: usize, index: usize) -> bool
-    requires within { place + count ≤ stack_size }
+/// Whether `count` bytes at `start` touch slot `index`.
+fn touches(start: usize, count: usize, index: usize) -> bool
+    requires within { start + count ≤ stack_size }
     requires slot { index < stack_slots }
-    ensures { result ≡ touches place count index }
+    ensures { result ≡ touches start count index }
 {
-    place < 8 * index + 8 && 8 * index < place + count
+    start < 8 * index + 8 && 8 * index < start + count
 }
 
 /// `count` one bits, from bit `from` on.
@@ -31,21 +31,21 @@ fn ones(count: usize, from: usize) -> u8
     (((1_u16 << count) - 1) << from) as u8
 }
 
-/// The mask of those of `count` bytes at `place` that lie in slot `index`.
-fn bits_in(place: usize, count: usize, index: usize) -> u8
-    requires place { place ≤ stack_size }
+/// The mask of those of `count` bytes at `start` that lie in slot `index`.
+fn bits_in(start: usize, count: usize, index: usize) -> u8
+    requires start { start ≤ stack_size }
     requires count { count < 2 ^ 32 }
     requires slot { index < stack_slots }
-    ensures { result ≡ bits_in place count index }
+    ensures { result ≡ bits_in start count index }
 {
-    let from = place.saturating_sub(8 * index);
-    let to = (place + count).saturating_sub(8 * index).min(8);
+    let from = start.saturating_sub(8 * index);
+    let to = (start + count).saturating_sub(8 * index).min(8);
     if from < to { ones(to - from, from) } else { 0 }
 }
 
-/// The place of `count` bytes at `offset` from the stack's upper end; `None` if they don't all lie in the stack.
-fn place_of(offset: i32, count: u32) -> Option<usize>
-    ensures value { result ≡ (if is_in_stack offset count then Some (place offset) else None) }
+/// The start of `count` bytes at `offset` from the stack's upper end; `None` if they don't all lie in the stack.
+fn start_of(offset: i32, count: u32) -> Option<usize>
+    ensures value { result ≡ (if is_in_stack offset count then Some (byte_index offset) else None) }
     ensures within { IfSome result (λ p. p + count ≤ stack_size) }
 {
     if offset < LOWEST || i64::from(offset) + i64::from(count) > 0 {
@@ -75,37 +75,37 @@ fn lacks(slot: Slot, bits: u8) -> bool
     }
 }
 
-/// The slot after the last one that `count` bytes at `place` touch.
-fn past_touched(place: usize, count: usize) -> usize
-    requires { place + count ≤ stack_size }
-    ensures bytes { place + count ≤ 8 * result }
+/// The slot after the last one that `count` bytes at `start` touch.
+fn past_touched(start: usize, count: usize) -> usize
+    requires { start + count ≤ stack_size }
+    ensures bytes { start + count ≤ 8 * result }
     ensures slots { result ≤ stack_slots }
 {
-    (place + count).div_ceil(8)
+    (start + count).div_ceil(8)
 }
 
-/// Whether `count` bytes at `place` touch a spill.
-fn touch_a_spill(facts: &Facts, place: usize, count: usize) -> bool
-    requires { place + count ≤ stack_size }
+/// Whether `count` bytes at `start` touch a spill.
+fn touch_a_spill(facts: &Facts, start: usize, count: usize) -> bool
+    requires { start + count ≤ stack_size }
     ensures { result ≡ any_below stack_slots
-        (λ i. is_touched_spill (slot_at facts.now i) (touches place count i)) }
+        (λ i. is_touched_spill (slot_at facts.now i) (touches start count i)) }
 {
-    for index in place / 8..past_touched(place, count) {
-        if is_touched_spill(facts.slot(index), touches(place, count, index)) {
+    for index in start / 8..past_touched(start, count) {
+        if is_touched_spill(facts.slot(index), touches(start, count, index)) {
             return true;
         }
     }
     false
 }
 
-/// Whether one of `count` bytes at `place` may be unwritten.
-fn are_missing(facts: &Facts, place: usize, count: usize) -> bool
-    requires { place + count ≤ stack_size }
+/// Whether one of `count` bytes at `start` may be unwritten.
+fn are_missing(facts: &Facts, start: usize, count: usize) -> bool
+    requires { start + count ≤ stack_size }
     ensures { result ≡ any_below stack_slots
-        (λ i. lacks (slot_at facts.now i) (bits_in place count i)) }
+        (λ i. lacks (slot_at facts.now i) (bits_in start count i)) }
 {
-    for index in place / 8..past_touched(place, count) {
-        if lacks(facts.slot(index), bits_in(place, count, index)) {
+    for index in start / 8..past_touched(start, count) {
+        if lacks(facts.slot(index), bits_in(start, count, index)) {
             return true;
         }
     }
@@ -117,12 +117,12 @@ fn are_missing(facts: &Facts, place: usize, count: usize) -> bool
 pub fn read_many(facts: &Facts, offset: i32, count: u32) -> Result<(), Reason>
     ensures { result ≡ stack_input facts.now offset count }
 {
-    let Some(place) = place_of(offset, count) else {
+    let Some(start) = start_of(offset, count) else {
         return Err(Reason::OutsideStack);
     };
-    if touch_a_spill(facts, place, count as usize) {
+    if touch_a_spill(facts, start, count as usize) {
         Err(Reason::PartOfSpill)
-    } else if are_missing(facts, place, count as usize) {
+    } else if are_missing(facts, start, count as usize) {
         Err(Reason::UnwrittenStack)
     } else {
         Ok(())
@@ -137,35 +137,35 @@ pub fn fill_stack(facts: &mut Facts, offset: i32, least: u32, most: u32) -> Resu
         (λ after. (result ≡ Ok tt) × (facts.new ≡ after))
         (λ reason. (result ≡ Err reason) × (facts.new ≡ facts.old)) }
 {
-    let place = place_of(offset, most).ok_or(Reason::OutsideStack)?;
-    fill_slots(facts, place, least as usize, most as usize);
+    let start = start_of(offset, most).ok_or(Reason::OutsideStack)?;
+    fill_slots(facts, start, least as usize, most as usize);
     Ok(())
 }
 
 /// Slot `index` after that write.
-fn filled_slot(slot: Slot, place: usize, least: usize, most: usize, index: usize) -> Slot
+fn filled_slot(slot: Slot, start: usize, least: usize, most: usize, index: usize) -> Slot
     requires least { least < 2 ^ 32 }
-    requires within { place + most ≤ stack_size }
+    requires within { start + most ≤ stack_size }
     requires slot { index < stack_slots }
-    ensures { result ≡ (if touches place most index then bytes_over slot (bits_in place least index)
+    ensures { result ≡ (if touches start most index then bytes_over slot (bits_in start least index)
         else slot) }
 {
-    if touches(place, most, index) {
-        bytes_over(slot, bits_in(place, least, index))
+    if touches(start, most, index) {
+        bytes_over(slot, bits_in(start, least, index))
     } else {
         slot
     }
 }
 
-fn fill_slots(facts: &mut Facts, place: usize, least: usize, most: usize)
+fn fill_slots(facts: &mut Facts, start: usize, least: usize, most: usize)
     requires least { least < 2 ^ 32 }
-    requires within { place + most ≤ stack_size }
+    requires within { start + most ≤ stack_size }
     ensures { facts.new ≡ with_slots facts.old
-        (λ i. if touches place most i then bytes_over (slot_at facts.old i) (bits_in place least i)
+        (λ i. if touches start most i then bytes_over (slot_at facts.old i) (bits_in start least i)
         else slot_at facts.old i) }
 {
     for i in 0..STACK_SLOTS {
-        facts.slots[i] = filled_slot(facts.slot(i), place, least, most, i);
+        facts.slots[i] = filled_slot(facts.slot(i), start, least, most, i);
     }
 }
 

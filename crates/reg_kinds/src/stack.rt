@@ -74,22 +74,22 @@ fn touched(offset: i32, size: AccessSize) -> Result<(usize, u8), Reason>
     if offset < LOWEST || offset > -bytes {
         return Err(Reason::OutsideStack);
     }
-    let place = (offset - LOWEST) as usize;
-    if place % usize::from(size.bytes()) != 0 {
+    let start = (offset - LOWEST) as usize;
+    if start % usize::from(size.bytes()) != 0 {
         return Err(Reason::UnalignedStack);
     }
-    Ok((place / 8, byte_bits(place, size)))
+    Ok((start / 8, byte_bits(start, size)))
 }
 
-/// The mask, within their slot, of `size` aligned bytes at `place`.
-fn byte_bits(place: usize, size: AccessSize) -> u8
-    requires { place % bytes_of size ≡ 0 }
-    ensures { result ≡ byte_bits place (bytes_of size) }
+/// The mask, within their slot, of `size` aligned bytes at `start`.
+fn byte_bits(start: usize, size: AccessSize) -> u8
+    requires { start % bytes_of size ≡ 0 }
+    ensures { result ≡ byte_bits start (bytes_of size) }
 {
     match size {
-        AccessSize::Byte => 1 << (place % 8),
-        AccessSize::Half => 3 << (place % 8),
-        AccessSize::Word => 0xf << (place % 8),
+        AccessSize::Byte => 1 << (start % 8),
+        AccessSize::Half => 3 << (start % 8),
+        AccessSize::Word => 0xf << (start % 8),
         AccessSize::Double => 0xff,
     }
 }

@@ -23,11 +23,11 @@ use Rattle.tenant.specs.Loaded.{LoadedProgram}
 use Rattle.tenant.specs.State.{Map, TenantState, new_tenant, live, is_named, shape_area, with_objects}
 use Rattle.insn_set.specs.declared.insn.Insn.{Insn}
 use Rattle.verifier.specs.declared.refusal.Refusal.{Refusal}
-use Rattle.tenant.specs.Machine.{Answer, cause_errno, Answers, refuses, refuses_for_memory, kind_of, asked_shape, new_map, room_for, created_at, created_as, created_under, created, places_from, named_place, loaded_program, answer_of_judgement, LoadsAs, LoadsUnder, Loads, closed, on_map, of_object, of_place, gives_if_found, element_put, element_taken_out, outcome_answer, run_of, longest_packet, maps_given}
+use Rattle.tenant.specs.Machine.{Answer, cause_errno, Answers, refuses, refuses_for_memory, kind_of, asked_shape, new_map, room_for, created_at, created_as, created_under, created, handles_from, named_handle, loaded_program, answer_of_judgement, LoadsAs, LoadsUnder, Loads, closed, on_map, of_object, of_handle, gives_if_found, element_put, element_taken_out, outcome_answer, run_of, longest_packet, maps_given}
 use Rattle.saving.specs.Alike.{HoldsItsMaps}
 use Rattle.saving.specs.Births.{Birth, OfMap, OfProgram, number, birth_of, latest_at, is_of_map, is_of_program, IsBorn, AreInOrder, AreBirths, is_open_program, lives, with_birth, with_opened, births_after}
 use Rattle.saving.specs.Laws.{MapsAreHeld, BirthsAreKept}
-use Rattle.saving.proofs.Lists.{there_is, not_none, set_by_place}
+use Rattle.saving.proofs.Lists.{there_is, not_none, set_by_index}
 use Rattle.saving.proofs.Moved.{or_parts, or_left, or_right, flattened-get, named_by, stands_at}
 use Rattle.saving.proofs.Pairs.{with_new_map, IsFree, free_at}
 use Rattle.saving.proofs.Held.{descriptor_free}
@@ -38,15 +38,15 @@ use Rattle.saving.proofs.Tables.{IsDescriptor}
 -- ---- members of a list of births
 
 module _ (s : TenantState) where
-  born_map_lives : (bs : List Birth) (place : ℕ) → AreInOrder s bs → list_any (is_of_map place) bs ≡ true → IsSome (live s place)
-  born_map_lives [] place order e = absurd (true≢false (sym e))
-  born_map_lives (b ∷ older) place order e = by (or_parts (is_of_map place b) (list_any (is_of_map place) older) e) (born_map_lives older place order.4)
+  born_map_lives : (bs : List Birth) (handle : ℕ) → AreInOrder s bs → list_any (is_of_map handle) bs ≡ true → IsSome (live s handle)
+  born_map_lives [] handle order e = absurd (true≢false (sym e))
+  born_map_lives (b ∷ older) handle order e = by (or_parts (is_of_map handle b) (list_any (is_of_map handle) older) e) (born_map_lives older handle order.4)
     where
-      here : (b : Birth) → IsBorn s older b → is_of_map place b ≡ true → IsSome (live s place)
-      here (OfMap p fd) is e = subst (λ (q : ℕ). IsSome (live s q)) (eqb-true p place e) is.0
+      here : (b : Birth) → IsBorn s older b → is_of_map handle b ≡ true → IsSome (live s handle)
+      here (OfMap p fd) is e = subst (λ (q : ℕ). IsSome (live s q)) (eqb-true p handle e) is.0
       here (OfProgram fd) is e = absurd (true≢false (sym e))
 
-      by : (is_of_map place b ≡ true) ⊎ (list_any (is_of_map place) older ≡ true) → (list_any (is_of_map place) older ≡ true → IsSome (live s place)) → IsSome (live s place)
+      by : (is_of_map handle b ≡ true) ⊎ (list_any (is_of_map handle) older ≡ true) → (list_any (is_of_map handle) older ≡ true → IsSome (live s handle)) → IsSome (live s handle)
       by (inl e) rest = here b order.3 e
       by (inr e) rest = rest e
 
@@ -68,13 +68,13 @@ not_true false h = refl
 
 abbrev bind : Option ℕ → ℕ → List (ℕ × ℕ) → List (ℕ × ℕ)
 bind None fd rest = rest
-bind (Some place) fd rest = (fd, place) ∷ rest
+bind (Some handle) fd rest = (fd, handle) ∷ rest
 
 -- ---- the same births in a different state
 
 -- the maps that were live and the programs that were open are still so
 pub record KeepsBorn (s t : TenantState) : Type 0 where
-  pub maps : (place : ℕ) → IsSome (live s place) → IsSome (live t place)
+  pub maps : (handle : ℕ) → IsSome (live s handle) → IsSome (live t handle)
   pub programs : (fd : ℕ) (l : LoadedProgram) → table.named s.objects fd ≡ Some (object.Program l) → table.named t.objects fd ≡ Some (object.Program l)
 
 pub order_kept : (s t : TenantState) → KeepsBorn s t → (bs : List Birth) → AreInOrder s bs → AreInOrder t bs
@@ -82,10 +82,10 @@ order_kept s t keeps [] order = tt
 order_kept s t keeps (b ∷ older) (low, high, apart, is, order) = (low, high, apart, by b is, order_kept s t keeps older order)
   where
     by : (b : Birth) → IsBorn s older b → IsBorn t older b
-    by (OfMap place fd) (live_so, new) = (keeps.maps place live_so, new)
+    by (OfMap handle fd) (live_so, new) = (keeps.maps handle live_so, new)
     by (OfProgram fd) (l, there, maps) = (l, keeps.programs fd l there, maps)
 
-pub same_births : (s t : TenantState) (bs : List Birth) → t.objects ≡ s.objects → ((place : ℕ) → IsSome (live s place) → IsSome (live t place)) → AreBirths s bs → AreBirths t bs
+pub same_births : (s t : TenantState) (bs : List Birth) → t.objects ≡ s.objects → ((handle : ℕ) → IsSome (live s handle) → IsSome (live t handle)) → AreBirths s bs → AreBirths t bs
 same_births s t bs objects maps are = record {
   order = order_kept s t (record { maps = maps; programs = λ fd l there. ap (λ (os : List (Option OpenObject)). table.named os fd) objects ∙ there }) bs are.order;
   latest = λ fd o there. are.latest fd o (ap (λ (os : List (Option OpenObject)). table.named os fd) (sym objects) ∙ there);
@@ -96,7 +96,7 @@ same_births s t bs objects maps are = record {
 lowest_low : (objects : List (Option OpenObject)) (fd : ℕ) → table.lowest objects ≡ Some fd → table.first_descriptor ≤ fd
 lowest_low objects fd e = by (position is_none objects) e
   where
-    by : (o : Option ℕ) → option_map (λ place. table.first_descriptor + place) o ≡ Some fd → table.first_descriptor ≤ fd
+    by : (o : Option ℕ) → option_map (λ handle. table.first_descriptor + handle) o ≡ Some fd → table.first_descriptor ≤ fd
     by None e = absurd (none-some fd e)
     by (Some n) e = let same = same_Some (3 + n) fd e in omega arith
 
@@ -156,7 +156,7 @@ module _ {s : TenantState} (h : HoldsItsMaps s) (bs : List Birth) (are : AreBirt
     no_program = not_true (list_any (is_of_program fd) bs) (λ e. not_none (born_program_opens s bs fd are.order e) free)
 
     opened_births : (ms : List (Option Map)) → let t : TenantState = record s { objects = table.with_open s.objects fd o; maps = ms } in
-        ((place : ℕ) → IsSome (live s place) → IsSome (get_or ms place None)) → number (birth_of fd o) ≡ fd → IsBorn t bs (birth_of fd o) → AreBirths t (birth_of fd o ∷ bs)
+        ((handle : ℕ) → IsSome (live s handle) → IsSome (get_or ms handle None)) → number (birth_of fd o) ≡ fd → IsBorn t bs (birth_of fd o) → AreBirths t (birth_of fd o ∷ bs)
     opened_births ms maps numbered born_so = record {
       order = (
         subst (λ (n : ℕ). table.first_descriptor ≤ n) (sym numbered) is.low,
@@ -197,7 +197,7 @@ module _ {s : TenantState} (h : HoldsItsMaps s) (bs : List Birth) (are : AreBirt
   refused_births NoSpace t is = is
 
   flagged : (b : Bool) → AreBirths (record s { refused = b }) bs
-  flagged b = same_births s (record s { refused = b }) bs refl (λ place some. some) are
+  flagged b = same_births s (record s { refused = b }) bs refl (λ handle some. some) are
 
   -- ---- MAP_CREATE
 
@@ -208,26 +208,26 @@ module _ {s : TenantState} (h : HoldsItsMaps s) (bs : List Birth) (are : AreBirt
   created_births refused (Err errno) = refused_births errno s are
   created_births refused (Ok shape) = under (table.lowest s.objects) refl
     where
-      at_place : (refused : Bool) (fd place : ℕ) → table.lowest s.objects ≡ Some fd → IsFree s place → Born (created_at refused s shape fd place)
-      at_place true fd place low is_free = flagged true
-      at_place false fd place low is_free =
-          after_opening fd (object.Map place) low (with_new_map s fd place (new_map shape)) refl
-          (opened_births fd (object.Map place) low (set s.maps place (Some (new_map shape)))
-          (λ p some. still p some (set_by_place s.maps place p (Some (new_map shape)) is_free.within)) refl
-          (there_is (get_or-set_same s.maps place (Some (new_map shape)) None is_free.within), not_true (list_any (is_of_map place) bs) (λ e. not_none (born_map_lives s bs place are.order e) is_free.none)))
+      at_handle : (refused : Bool) (fd handle : ℕ) → table.lowest s.objects ≡ Some fd → IsFree s handle → Born (created_at refused s shape fd handle)
+      at_handle true fd handle low is_free = flagged true
+      at_handle false fd handle low is_free =
+          after_opening fd (object.Map handle) low (with_new_map s fd handle (new_map shape)) refl
+          (opened_births fd (object.Map handle) low (set s.maps handle (Some (new_map shape)))
+          (λ p some. still p some (set_by_index s.maps handle p (Some (new_map shape)) is_free.within)) refl
+          (there_is (get_or-set_same s.maps handle (Some (new_map shape)) None is_free.within), not_true (list_any (is_of_map handle) bs) (λ e. not_none (born_map_lives s bs handle are.order e) is_free.none)))
         where
-          still : (p : ℕ) → IsSome (live s p) → ((p ≡ place) × (get_or (set s.maps place (Some (new_map shape))) p None ≡ Some (new_map shape))) ⊎ ((p ≢ place) × (get_or (set s.maps place (Some (new_map shape))) p None ≡ get_or s.maps p None))
-              → IsSome (get_or (set s.maps place (Some (new_map shape))) p None)
+          still : (p : ℕ) → IsSome (live s p) → ((p ≡ handle) × (get_or (set s.maps handle (Some (new_map shape))) p None ≡ Some (new_map shape))) ⊎ ((p ≢ handle) × (get_or (set s.maps handle (Some (new_map shape))) p None ≡ get_or s.maps p None))
+              → IsSome (get_or (set s.maps handle (Some (new_map shape))) p None)
           still p some (inl (at, e)) = there_is e
           still p some (inr (other, e)) = ap is_some e ∙ some
 
-      free_of : (o : Option ℕ) (full : Bool) (place : ℕ) → ((place : ℕ) → o ≡ Some place → IsFree s place) → (if full then None else o) ≡ Some place → IsFree s place
-      free_of o true place is_free e = absurd (none-some place e)
-      free_of o false place is_free e = is_free place e
+      free_of : (o : Option ℕ) (full : Bool) (handle : ℕ) → ((handle : ℕ) → o ≡ Some handle → IsFree s handle) → (if full then None else o) ≡ Some handle → IsFree s handle
+      free_of o true handle is_free e = absurd (none-some handle e)
+      free_of o false handle is_free e = is_free handle e
 
       room : (fd : ℕ) (o : Option ℕ) → table.lowest s.objects ≡ Some fd → room_for s (shape_area shape) ≡ o → Born (created_as refused s shape fd o)
       room fd None low is = are
-      room fd (Some place) low is = at_place refused fd place low (free_of (position is_none s.maps) _ place (free_at s) is)
+      room fd (Some handle) low is = at_handle refused fd handle low (free_of (position is_none s.maps) _ handle (free_at s) is)
 
       under : (o : Option ℕ) → table.lowest s.objects ≡ o → Born (created_under refused s shape o)
       under None low = are
@@ -236,16 +236,16 @@ module _ {s : TenantState} (h : HoldsItsMaps s) (bs : List Birth) (are : AreBirt
   -- ---- PROG_LOAD
 
   -- each map of a new program has the latest birth at its descriptor
-  maps_born : (fd : ℕ) → table.lowest s.objects ≡ Some fd → (fds : List ℕ) → AllByRecursion (λ m. (m.0 ≢ fd) × (latest_at bs m.0 ≡ Some (OfMap m.1 m.0))) (places_from s.objects fds)
-  unfolding places_from
+  maps_born : (fd : ℕ) → table.lowest s.objects ≡ Some fd → (fds : List ℕ) → AllByRecursion (λ m. (m.0 ≢ fd) × (latest_at bs m.0 ≡ Some (OfMap m.1 m.0))) (handles_from s.objects fds)
+  unfolding handles_from
   maps_born fd low [] = tt
   maps_born fd low (n ∷ fds) = by (table.named s.objects n) refl (maps_born fd low fds)
     where
-      by : (o : Option OpenObject) → table.named s.objects n ≡ o → AllByRecursion (λ m. (m.0 ≢ fd) × (latest_at bs m.0 ≡ Some (OfMap m.1 m.0))) (places_from s.objects fds)
-          → AllByRecursion (λ m. (m.0 ≢ fd) × (latest_at bs m.0 ≡ Some (OfMap m.1 m.0))) (bind (named_place o) n (places_from s.objects fds))
+      by : (o : Option OpenObject) → table.named s.objects n ≡ o → AllByRecursion (λ m. (m.0 ≢ fd) × (latest_at bs m.0 ≡ Some (OfMap m.1 m.0))) (handles_from s.objects fds)
+          → AllByRecursion (λ m. (m.0 ≢ fd) × (latest_at bs m.0 ≡ Some (OfMap m.1 m.0))) (bind (named_handle o) n (handles_from s.objects fds))
       by None is rest = rest
       by (Some (object.Program l)) is rest = rest
-      by (Some (object.Map place)) is rest = ((apart_from fd (object.Map place) low n (object.Map place) is, are.latest n (object.Map place) is), rest)
+      by (Some (object.Map handle)) is rest = ((apart_from fd (object.Map handle) low n (object.Map handle) is, are.latest n (object.Map handle) is), rest)
 
   judged_births : (fd : ℕ) (j : Result (List Insn) Refusal) → table.lowest s.objects ≡ Some fd → Born (answer_of_judgement s fd j)
   judged_births fd (Err refusal) low = refused_births (cause_errno refusal.cause) s are
@@ -274,7 +274,7 @@ module _ {s : TenantState} (h : HoldsItsMaps s) (bs : List Birth) (are : AreBirt
 
 -- the object of each birth is live
 birth_lives : (s : TenantState) (older : List Birth) (b : Birth) → IsBorn s older b → lives s b ≡ true
-birth_lives s older (OfMap place fd) is = is.0
+birth_lives s older (OfMap handle fd) is = is.0
 birth_lives s older (OfProgram fd) (l, there, maps) = ap is_open_program there
 
 all_live : (s : TenantState) (bs : List Birth) → AreInOrder s bs → filter (lives s) bs ≡ bs
@@ -345,7 +345,7 @@ still_program s fd other e = closed_there s.objects fd other (λ none. true≢fa
 
 program_of : (o : Option OpenObject) → is_open_program o ≡ true → (l : LoadedProgram) × (o ≡ Some (object.Program l))
 program_of None e = absurd (true≢false (sym e))
-program_of (Some (object.Map place)) e = absurd (true≢false (sym e))
+program_of (Some (object.Map handle)) e = absurd (true≢false (sym e))
 program_of (Some (object.Program l)) e = (l, refl)
 
 -- the state after a descriptor is closed
@@ -357,20 +357,20 @@ module _ (s : TenantState) (h : HoldsItsMaps s) (fd : ℕ) where
   left_held = fewer_held h (table.with_closed s.objects fd) (closed_length s.objects fd) (closed_fewer s.objects fd)
 
   -- the maps of a program that is still open are live
-  maps_live : (other : ℕ) (l : LoadedProgram) → table.named (table.with_closed s.objects fd) other ≡ Some (object.Program l) → (place : ℕ) → list_any (λ m. m.1 == place) l.maps ≡ true → IsSome (live (left_by s fd) place)
-  maps_live other l there place e =
-      left_held.live_if_named place (named_by (table.with_closed s.objects fd) (other - table.first_descriptor) (object.Program l) place (stands_at (table.with_closed s.objects fd) other (object.Program l) there) e)
+  maps_live : (other : ℕ) (l : LoadedProgram) → table.named (table.with_closed s.objects fd) other ≡ Some (object.Program l) → (handle : ℕ) → list_any (λ m. m.1 == handle) l.maps ≡ true → IsSome (live (left_by s fd) handle)
+  maps_live other l there handle e =
+      left_held.live_if_named handle (named_by (table.with_closed s.objects fd) (other - table.first_descriptor) (object.Program l) handle (stands_at (table.with_closed s.objects fd) other (object.Program l) there) e)
 
-  each_latest : (older : List Birth) (other : ℕ) (ms : List (ℕ × ℕ)) → ((place : ℕ) → list_any (λ m. m.1 == place) ms ≡ true → IsSome (live (left_by s fd) place)) → AllByRecursion (λ m. (m.0 ≢ other) × (latest_at older m.0 ≡ Some (OfMap m.1 m.0))) ms
+  each_latest : (older : List Birth) (other : ℕ) (ms : List (ℕ × ℕ)) → ((handle : ℕ) → list_any (λ m. m.1 == handle) ms ≡ true → IsSome (live (left_by s fd) handle)) → AllByRecursion (λ m. (m.0 ≢ other) × (latest_at older m.0 ≡ Some (OfMap m.1 m.0))) ms
       → AllByRecursion (λ m. (m.0 ≢ other) × (latest_at (filter (lives (left_by s fd)) older) m.0 ≡ Some (OfMap m.1 m.0))) ms
   each_latest older other [] lives_so all = tt
   each_latest older other (m ∷ ms) lives_so all = (
     (all.0.0, latest_filter (lives (left_by s fd)) older m.0 (OfMap m.1 m.0) all.0.1 (lives_so m.1 (or_left (m.1 == m.1) (list_any (λ k. k.1 == m.1) ms) (eq-eqb m.1 m.1 refl)))),
-    each_latest older other ms (λ place e. lives_so place (or_right (m.1 == place) (list_any (λ k. k.1 == place) ms) e)) all.1,
+    each_latest older other ms (λ handle e. lives_so handle (or_right (m.1 == handle) (list_any (λ k. k.1 == handle) ms) e)) all.1,
   )
 
   born_left : (older : List Birth) (b : Birth) → lives (left_by s fd) b ≡ true → IsBorn s older b → IsBorn (left_by s fd) (filter (lives (left_by s fd)) older) b
-  born_left older (OfMap place n) e (live_so, new) = (e, any_filter (lives (left_by s fd)) (is_of_map place) older new)
+  born_left older (OfMap handle n) e (live_so, new) = (e, any_filter (lives (left_by s fd)) (is_of_map handle) older new)
   born_left older (OfProgram n) e (l, there, maps) =
       let still = still_program s fd n e ∙ there in
       (l, still, each_latest older n l.maps (maps_live n l still) maps)
@@ -391,23 +391,23 @@ module _ (s : TenantState) (h : HoldsItsMaps s) (fd : ℕ) where
   }
     where
       lives_now : (other : ℕ) (o : OpenObject) → table.named (table.with_closed s.objects fd) other ≡ Some o → lives (left_by s fd) (birth_of other o) ≡ true
-      lives_now other (object.Map place) there = left_held.live_if_named place (named_by (table.with_closed s.objects fd) (other - table.first_descriptor) (object.Map place) place (stands_at (table.with_closed s.objects fd) other (object.Map place) there) (eq-eqb place place refl))
+      lives_now other (object.Map handle) there = left_held.live_if_named handle (named_by (table.with_closed s.objects fd) (other - table.first_descriptor) (object.Map handle) handle (stands_at (table.with_closed s.objects fd) other (object.Map handle) there) (eq-eqb handle handle refl))
       lives_now other (object.Program l) there = ap is_open_program there
 
 -- ---- commands that neither open nor close an object
 
 module _ (s : TenantState) where
-  on_map_same : (fd : ℕ) (f : ℕ → Map → Answer) → ((place : ℕ) (m : Map) → (f place m).after.objects ≡ s.objects) → (on_map s fd f).after.objects ≡ s.objects
+  on_map_same : (fd : ℕ) (f : ℕ → Map → Answer) → ((handle : ℕ) (m : Map) → (f handle m).after.objects ≡ s.objects) → (on_map s fd f).after.objects ≡ s.objects
   on_map_same fd f each = by (table.named s.objects fd)
     where
-      there : (place : ℕ) (o : Option Map) → (of_place s place f o).after.objects ≡ s.objects
-      there place None = refl
-      there place (Some m) = each place m
+      there : (handle : ℕ) (o : Option Map) → (of_handle s handle f o).after.objects ≡ s.objects
+      there handle None = refl
+      there handle (Some m) = each handle m
 
       by : (o : Option OpenObject) → (of_object s f o).after.objects ≡ s.objects
       by None = refl
       by (Some (object.Program l)) = refl
-      by (Some (object.Map place)) = there place (live s place)
+      by (Some (object.Map handle)) = there handle (live s handle)
 
   if_same : (x : Bool) (a b : Answer) → a.after.objects ≡ s.objects → b.after.objects ≡ s.objects → (if x then a else b).after.objects ≡ s.objects
   if_same true a b p q = p
@@ -417,14 +417,14 @@ module _ (s : TenantState) where
   found_same None = refl
   found_same (Some value) = refl
 
-  put_same : (place : ℕ) (m : Map) (key value : List ℕ) (v : call.Verdict (List ℕ)) → (element_put s place m key value v).after.objects ≡ s.objects
-  put_same place m key value (call.Refused fault) = refl
-  put_same place m key value (call.Present old) = refl
-  put_same place m key value call.New = refl
+  put_same : (handle : ℕ) (m : Map) (key value : List ℕ) (v : call.Verdict (List ℕ)) → (element_put s handle m key value v).after.objects ≡ s.objects
+  put_same handle m key value (call.Refused fault) = refl
+  put_same handle m key value (call.Present old) = refl
+  put_same handle m key value call.New = refl
 
-  taken_same : (place : ℕ) (m : Map) (key : List ℕ) (r : Result (List ℕ) MapFault) → (element_taken_out s place m key r).after.objects ≡ s.objects
-  taken_same place m key (Err fault) = refl
-  taken_same place m key (Ok value) = refl
+  taken_same : (handle : ℕ) (m : Map) (key : List ℕ) (r : Result (List ℕ) MapFault) → (element_taken_out s handle m key r).after.objects ≡ s.objects
+  taken_same handle m key (Err fault) = refl
+  taken_same handle m key (Ok value) = refl
 
   outcome_same : (o : Outcome) (t : TenantState) → t.objects ≡ s.objects → (outcome_answer o t).after.objects ≡ s.objects
   outcome_same (Value n) t e = e
@@ -432,7 +432,7 @@ module _ (s : TenantState) where
 
   run_same : (words packet : List ℕ) (o : Option OpenObject) → (run_of s words packet o).after.objects ≡ s.objects
   run_same words packet None = refl
-  run_same words packet (Some (object.Map place)) = refl
+  run_same words packet (Some (object.Map handle)) = refl
   run_same words packet (Some (object.Program l)) =
       if_same (nat_lt longest_packet (length packet)) _ _ refl (outcome_same (result_of l.insns (maps_given s l) (length packet ∷ words) packet) _ refl)
 
@@ -445,7 +445,7 @@ births_kept held refused s command a births h are is = by command is (held.kept 
     quiet : (b : Answer) → a ≡ b → b.after.objects ≡ s.objects → HoldsItsMaps a.after → AreBirths a.after births
     quiet b e objects now =
         let same = ap (λ (x : Answer). x.after.objects) e ∙ objects in
-        same_births s a.after births same (λ place some. now.live_if_named place (ap (λ (os : List (Option OpenObject)). is_named os place) same ∙ h.named_if_live place some)) are
+        same_births s a.after births same (λ handle some. now.live_if_named handle (ap (λ (os : List (Option OpenObject)). is_named os handle) same ∙ h.named_if_live handle some)) are
 
     closes : (fd : ℕ) (o : Option OpenObject) → table.named s.objects fd ≡ o → AreBirths (closed s fd o).after (filter (lives (closed s fd o).after) births)
     closes fd (Some o) there = close_births s h fd births are
@@ -455,12 +455,12 @@ births_kept held refused s command a births h are is = by command is (held.kept 
     by (map_create kind key value max flags) is now = subst (λ (x : Answer). AreBirths x.after (with_opened x.status x.after births)) (sym is) (created_births h births are refused (asked_shape (kind_of kind) key value max flags))
     by (prog_load kind slots) is now = loads_births h births are refused kind slots a is
     by (close fd) is now = subst (λ (x : Answer). AreBirths x.after (filter (lives x.after) births)) (sym is) (closes fd (table.named s.objects fd) refl)
-    by (map_lookup fd key) is now = quiet _ is (on_map_same s fd _ (λ place m. if_same s (length key == m.shape.key_size) _ _ (found_same s (look_up m key)) refl)) now
+    by (map_lookup fd key) is now = quiet _ is (on_map_same s fd _ (λ handle m. if_same s (length key == m.shape.key_size) _ _ (found_same s (look_up m key)) refl)) now
     by (map_update fd flags bytes) is now =
-        quiet _ is (on_map_same s fd _ (λ place m. if_same s (length bytes == m.shape.key_size + m.shape.value_size) _ _
-        (put_same s place m (take m.shape.key_size bytes) (drop m.shape.key_size bytes) (verdict m (take m.shape.key_size bytes) flags)) refl)) now
-    by (map_delete fd key) is now = quiet _ is (on_map_same s fd _ (λ place m. if_same s (length key == m.shape.key_size) _ _ (taken_same s place m key (removal m key)) refl)) now
-    by (map_next_key fd key) is now = quiet _ is (on_map_same s fd _ (λ place m. if_same s (length key == 0 || length key == m.shape.key_size) _ _ (found_same s (next_of m key)) refl)) now
+        quiet _ is (on_map_same s fd _ (λ handle m. if_same s (length bytes == m.shape.key_size + m.shape.value_size) _ _
+        (put_same s handle m (take m.shape.key_size bytes) (drop m.shape.key_size bytes) (verdict m (take m.shape.key_size bytes) flags)) refl)) now
+    by (map_delete fd key) is now = quiet _ is (on_map_same s fd _ (λ handle m. if_same s (length key == m.shape.key_size) _ _ (taken_same s handle m key (removal m key)) refl)) now
+    by (map_next_key fd key) is now = quiet _ is (on_map_same s fd _ (λ handle m. if_same s (length key == 0 || length key == m.shape.key_size) _ _ (found_same s (next_of m key)) refl)) now
     by (prog_test_run fd words packet) is now = quiet _ is (run_same s words packet (table.named s.objects fd)) now
 
 -- a new tenant has no open objects

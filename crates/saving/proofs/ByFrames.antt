@@ -71,9 +71,9 @@ module _ (tenant : ℕ) where
   -- ---- the walk
 
   made_carried : (s : TenantState) → IsRestorable s → (older : List Birth) (b : Birth) → number b < first_descriptor + most → IsBorn s older b → AreCarried (made s b)
-  made_carried s whole older (OfMap place fd) lt (live_so, new) =
-      let (m, there) = is_there (live s place) live_so in
-      let is = whole.maps place m there in
+  made_carried s whole older (OfMap handle fd) lt (live_so, new) =
+      let (m, there) = is_there (live s handle) live_so in
+      let is = whole.maps handle m there in
       subst (λ (o : Option Map). AreCarried (made_map fd o)) (sym there) (create_carried m.shape, puts_carried m.shape fd m.entries lt is.table.keys is.values)
   made_carried s whole older (OfProgram fd) lt (l, there, maps) =
       subst (λ (o : Option OpenObject). AreCarried (made_program o)) (sym there) (program_carried l.insns (whole.programs fd l there).program, tt)

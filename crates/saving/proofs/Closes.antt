@@ -1,4 +1,4 @@
--- The state after a close, and the places that are named.
+-- The state after a close, and the handles that are named.
 use Rattle.std.proofs.Common.{◌≡◌, ℕ, zero, suc, ◌+◌, ◌-◌, ◌<◌, Bool, true, false, List, [], ◌∷◌, length, set, get_or, Option, Some, None, IsSome, is_some, refl, sym, ap, ◌∙◌, inl, inr, arith, length-set}
 use Rattle.std.specs.Prelude.{◌⊎◌, ◌||◌, nat_lt, if◌then◌else◌}
 use Rattle.fd_table.specs.Table.{first_descriptor, with_closed}
@@ -11,61 +11,61 @@ use Rattle.saving.proofs.Pairs.{ArePair}
 
 -- ---- the maps that are named
 
-pub length_named : (objects : List (Option OpenObject)) (place : ℕ) (ms : List (Option Map)) → length (named_from objects place ms) ≡ length ms
+pub length_named : (objects : List (Option OpenObject)) (handle : ℕ) (ms : List (Option Map)) → length (named_from objects handle ms) ≡ length ms
 unfolding named_from
-length_named objects place [] = refl
-length_named objects place (m ∷ ms) = let rest = length_named objects (place + 1) ms in omega arith
+length_named objects handle [] = refl
+length_named objects handle (m ∷ ms) = let rest = length_named objects (handle + 1) ms in omega arith
 
 nothing : (b : Bool) → let none : Option Map = None in (if b then none else none) ≡ none
 nothing true = refl
 nothing false = refl
 
-named_get : (objects : List (Option OpenObject)) (place i : ℕ) (ms : List (Option Map)) → get_or (named_from objects place ms) i None ≡ (if is_named objects (place + i) then get_or ms i None else None)
+named_get : (objects : List (Option OpenObject)) (handle i : ℕ) (ms : List (Option Map)) → get_or (named_from objects handle ms) i None ≡ (if is_named objects (handle + i) then get_or ms i None else None)
 unfolding named_from
-named_get objects place i [] = sym (nothing (is_named objects (place + i)))
-named_get objects place zero (m ∷ ms) = let e : place ≡ place + 0 = omega arith in ap (λ (p : ℕ). if is_named objects p then m else None) e
-named_get objects place (suc i) (m ∷ ms) =
-    let e : place + 1 + i ≡ place + suc i = omega arith in
-    named_get objects (place + 1) i ms ∙ ap (λ (p : ℕ). if is_named objects p then get_or ms i None else None) e
+named_get objects handle i [] = sym (nothing (is_named objects (handle + i)))
+named_get objects handle zero (m ∷ ms) = let e : handle ≡ handle + 0 = omega arith in ap (λ (p : ℕ). if is_named objects p then m else None) e
+named_get objects handle (suc i) (m ∷ ms) =
+    let e : handle + 1 + i ≡ handle + suc i = omega arith in
+    named_get objects (handle + 1) i ms ∙ ap (λ (p : ℕ). if is_named objects p then get_or ms i None else None) e
 
--- the map that is live at a place with these open objects
-pub live_with : (s : TenantState) (objects : List (Option OpenObject)) (place : ℕ) → live (with_objects s objects) place ≡ (if is_named objects place then live s place else None)
-live_with s objects place =
-    let e : 0 + place ≡ place = omega arith in
-    named_get objects 0 place s.maps ∙ ap (λ (p : ℕ). if is_named objects p then live s place else None) e
+-- the map that is live under a handle with these open objects
+pub live_with : (s : TenantState) (objects : List (Option OpenObject)) (handle : ℕ) → live (with_objects s objects) handle ≡ (if is_named objects handle then live s handle else None)
+live_with s objects handle =
+    let e : 0 + handle ≡ handle = omega arith in
+    named_get objects 0 handle s.maps ∙ ap (λ (p : ℕ). if is_named objects p then live s handle else None) e
 
-pub live_if : (s : TenantState) (objects : List (Option OpenObject)) (place : ℕ) → is_named objects place ≡ true → live (with_objects s objects) place ≡ live s place
-live_if s objects place e = live_with s objects place ∙ ap (λ (b : Bool). if b then live s place else None) e
+pub live_if : (s : TenantState) (objects : List (Option OpenObject)) (handle : ℕ) → is_named objects handle ≡ true → live (with_objects s objects) handle ≡ live s handle
+live_if s objects handle e = live_with s objects handle ∙ ap (λ (b : Bool). if b then live s handle else None) e
 
 -- a map that is live with fewer open objects is named and was live
-pub live_parts : (s : TenantState) (objects : List (Option OpenObject)) (place : ℕ) → IsSome (live (with_objects s objects) place) → (is_named objects place ≡ true) × IsSome (live s place)
-live_parts s objects place some = by (is_named objects place) refl
+pub live_parts : (s : TenantState) (objects : List (Option OpenObject)) (handle : ℕ) → IsSome (live (with_objects s objects) handle) → (is_named objects handle ≡ true) × IsSome (live s handle)
+live_parts s objects handle some = by (is_named objects handle) refl
   where
-    by : (b : Bool) → is_named objects place ≡ b → (is_named objects place ≡ true) × IsSome (live s place)
-    by true e = (e, ap is_some (sym (live_if s objects place e)) ∙ some)
-    by false e = absurd (not_none some (live_with s objects place ∙ ap (λ (b : Bool). if b then live s place else None) e))
+    by : (b : Bool) → is_named objects handle ≡ b → (is_named objects handle ≡ true) × IsSome (live s handle)
+    by true e = (e, ap is_some (sym (live_if s objects handle e)) ∙ some)
+    by false e = absurd (not_none some (live_with s objects handle ∙ ap (λ (b : Bool). if b then live s handle else None) e))
 
 -- ---- fewer open objects
 
--- each place that is named now was named before
+-- each handle that is named now was named before
 abbrev pub NamesFewer : List (Option OpenObject) → List (Option OpenObject) → Type 0
-NamesFewer fewer objects = (place : ℕ) → is_named fewer place ≡ true → is_named objects place ≡ true
+NamesFewer fewer objects = (handle : ℕ) → is_named fewer handle ≡ true → is_named objects handle ≡ true
 
 unset_fewer : (objects : List (Option OpenObject)) (n : ℕ) → NamesFewer (set objects n None) objects
-unset_fewer [] n place e = e
-unset_fewer (o ∷ os) zero place e = names_later o os place e
-unset_fewer (o ∷ os) (suc n) place e = by (unset_fewer os n place) (or_parts (first_names o place) (is_named (set os n None) place) e)
+unset_fewer [] n handle e = e
+unset_fewer (o ∷ os) zero handle e = names_later o os handle e
+unset_fewer (o ∷ os) (suc n) handle e = by (unset_fewer os n handle) (or_parts (first_names o handle) (is_named (set os n None) handle) e)
   where
-    by : (is_named (set os n None) place ≡ true → is_named os place ≡ true) → (first_names o place ≡ true) ⊎ (is_named (set os n None) place ≡ true) → is_named (o ∷ os) place ≡ true
-    by rest (inl here) = names_here o os place here
-    by rest (inr later) = names_later o os place (rest later)
+    by : (is_named (set os n None) handle ≡ true → is_named os handle ≡ true) → (first_names o handle ≡ true) ⊎ (is_named (set os n None) handle ≡ true) → is_named (o ∷ os) handle ≡ true
+    by rest (inl here) = names_here o os handle here
+    by rest (inr later) = names_later o os handle (rest later)
 
 pub closed_fewer : (objects : List (Option OpenObject)) (fd : ℕ) → NamesFewer (with_closed objects fd) objects
 closed_fewer objects fd = by (nat_lt fd first_descriptor)
   where
     by : (low : Bool) → NamesFewer (if low then objects else set objects (fd - first_descriptor) None) objects
-    by true place e = e
-    by false place e = unset_fewer objects (fd - first_descriptor) place e
+    by true handle e = e
+    by false handle e = unset_fewer objects (fd - first_descriptor) handle e
 
 pub closed_length : (objects : List (Option OpenObject)) (fd : ℕ) → length (with_closed objects fd) ≡ length objects
 closed_length objects fd = by (nat_lt fd first_descriptor)
@@ -77,13 +77,13 @@ closed_length objects fd = by (nat_lt fd first_descriptor)
 pub fewer_pair : {move : ℕ → ℕ} {s t : TenantState} → ArePair move s t → (objects : List (Option OpenObject)) → NamesFewer objects s.objects → IsMovedBy move (with_objects s objects) (with_objects t (moved_objects move objects))
 fewer_pair {move} {s} {t} h objects fewer = record {
   objects = refl;
-  same = λ place some. let (named, was) = live_parts s objects place some in live_if t (moved_objects move objects) (move place) (named_there place was ∙ named) ∙ h.by.same place was ∙ sym (live_if s objects place named);
+  same = λ handle some. let (named, was) = live_parts s objects handle some in live_if t (moved_objects move objects) (move handle) (named_there handle was ∙ named) ∙ h.by.same handle was ∙ sym (live_if s objects handle named);
   apart = λ p q x y e. h.by.apart p q (live_parts s objects p x).1 (live_parts s objects q y).1 e;
   only = λ q some. by q some (live_parts t (moved_objects move objects) q some);
 }
   where
-    named_there : (place : ℕ) → IsSome (live s place) → is_named (moved_objects move objects) (move place) ≡ is_named objects place
-    named_there place some = is_named_moved move place objects (λ p named e. h.by.apart p place (h.one.live_if_named p (fewer p named)) some e)
+    named_there : (handle : ℕ) → IsSome (live s handle) → is_named (moved_objects move objects) (move handle) ≡ is_named objects handle
+    named_there handle some = is_named_moved move handle objects (λ p named e. h.by.apart p handle (h.one.live_if_named p (fewer p named)) some e)
 
     by : (q : ℕ) → IsSome (live (with_objects t (moved_objects move objects)) q) → (is_named (moved_objects move objects) q ≡ true) × IsSome (live t q) → (p : ℕ) × IsSome (live (with_objects s objects) p) × (move p ≡ q)
     by q some (named, was) =
@@ -94,18 +94,18 @@ fewer_pair {move} {s} {t} h objects fewer = record {
 pub fewer_held : {s : TenantState} → HoldsItsMaps s → (objects : List (Option OpenObject)) → length objects ≡ length s.objects → NamesFewer objects s.objects → HoldsItsMaps (with_objects s objects)
 fewer_held {s} h objects long fewer = record {
   descriptors = long ∙ h.descriptors;
-  places = length_named objects 0 s.maps ∙ h.places;
-  live_if_named = λ place e. ap is_some (live_if s objects place e) ∙ h.live_if_named place (fewer place e);
-  named_if_live = λ place some. (live_parts s objects place some).0;
+  handles = length_named objects 0 s.maps ∙ h.handles;
+  live_if_named = λ handle e. ap is_some (live_if s objects handle e) ∙ h.live_if_named handle (fewer handle e);
+  named_if_live = λ handle some. (live_parts s objects handle some).0;
 }
 
 -- ---- one more open object
 
-pub named_open : (objects : List (Option OpenObject)) (n : ℕ) (o : OpenObject) (place : ℕ) → n < length objects → get_or objects n None ≡ None → is_named (set objects n (Some o)) place ≡ (names place o || is_named objects place)
-named_open [] n o place within free = absurd (omega arith)
-named_open (x ∷ xs) zero o place within free = ap (λ (y : Option OpenObject). names place o || (first_names y place || is_named xs place)) (sym free)
-named_open (x ∷ xs) (suc n) o place within free =
-    ap (λ (b : Bool). first_names x place || b) (named_open xs n o place (omega arith) free) ∙ swap (first_names x place) (names place o) (is_named xs place)
+pub named_open : (objects : List (Option OpenObject)) (n : ℕ) (o : OpenObject) (handle : ℕ) → n < length objects → get_or objects n None ≡ None → is_named (set objects n (Some o)) handle ≡ (names handle o || is_named objects handle)
+named_open [] n o handle within free = absurd (omega arith)
+named_open (x ∷ xs) zero o handle within free = ap (λ (y : Option OpenObject). names handle o || (first_names y handle || is_named xs handle)) (sym free)
+named_open (x ∷ xs) (suc n) o handle within free =
+    ap (λ (b : Bool). first_names x handle || b) (named_open xs n o handle (omega arith) free) ∙ swap (first_names x handle) (names handle o) (is_named xs handle)
   where
     swap : (a b c : Bool) → (a || (b || c)) ≡ (b || (a || c))
     swap true true c = refl

@@ -28,22 +28,22 @@ use Rattle.tenant.specs.State.{Map, TenantState, live, is_named, shape_area, wit
 use Rattle.insn_set.specs.declared.insn.Insn.{Insn}
 use Rattle.verifier.specs.declared.refusal.Refusal.{Refusal}
 use Rattle.verifier.specs.Judgement.{Judges}
-use Rattle.tenant.specs.Machine.{Answer, refuses, refuses_for_memory, gives, opens, kind_of, asked_shape, new_map, room_for, created_at, created_as, created_under, created, of_place, of_object, on_map, gives_if_found, element_put, element_taken_out, targets, targets_from, places_from, loaded_program, answer_of_judgement, LoadsAs, LoadsUnder, Loads, longest_packet, maps_given, maps_left, outcome_answer, ran, run_of, closed, Answers}
+use Rattle.tenant.specs.Machine.{Answer, refuses, refuses_for_memory, gives, opens, kind_of, asked_shape, new_map, room_for, created_at, created_as, created_under, created, of_handle, of_object, on_map, gives_if_found, element_put, element_taken_out, targets, targets_from, handles_from, loaded_program, answer_of_judgement, LoadsAs, LoadsUnder, Loads, longest_packet, maps_given, maps_left, outcome_answer, ran, run_of, closed, Answers}
 use Rattle.saving.specs.Alike.{moved_maps, moved_object, IsMovedBy, IsAlikeAnswer}
 use Rattle.saving.specs.Laws.{AlikeIsBisimulation}
-use Rattle.saving.proofs.Moved.{named_moved, lowest_moved, open_moved, closed_moved, named_by, stands_at, named_place_is_named, lookup_names, targets_moved, places_moved}
+use Rattle.saving.proofs.Moved.{named_moved, lowest_moved, open_moved, closed_moved, named_by, stands_at, named_handle_is_named, lookup_names, targets_moved, handles_moved}
 use Rattle.saving.proofs.Pairs.{ArePair, same_named, unchanged, any_flag, changed, changed_one, created_pair, SameRoom, same_room_for, IsFree}
 use Rattle.saving.proofs.RunMaps.{left_same}
-use Rattle.saving.proofs.Left.{AreLeft, program_left, left_places, left_moved}
+use Rattle.saving.proofs.Left.{AreLeft, program_left, left_handles, left_moved}
 use Rattle.saving.proofs.Closes.{closed_fewer, fewer_pair}
 
 -- the state names the maps of a program
 abbrev IsIn : TenantState → LoadedProgram → Type 0
-IsIn s l = (place : ℕ) → list_any (λ m. m.1 == place) l.maps ≡ true → is_named s.objects place ≡ true
+IsIn s l = (handle : ℕ) → list_any (λ m. m.1 == handle) l.maps ≡ true → is_named s.objects handle ≡ true
 
 -- the state names the maps of each of its programs
 program_in : (s : TenantState) (fd : ℕ) (l : LoadedProgram) → table.named s.objects fd ≡ Some (object.Program l) → IsIn s l
-program_in s fd l is place e = named_by s.objects (fd - table.first_descriptor) (object.Program l) place (stands_at s.objects fd (object.Program l) is) e
+program_in s fd l is handle e = named_by s.objects (fd - table.first_descriptor) (object.Program l) handle (stands_at s.objects fd (object.Program l) is) e
 
 module _ {move : ℕ → ℕ} {s t : TenantState} (h : ArePair move s t) where
   refused_too : (errno : Errno) → IsAlikeAnswer (refuses errno s) (refuses errno t)
@@ -68,13 +68,13 @@ module _ {move : ℕ → ℕ} {s t : TenantState} (h : ArePair move s t) where
       (sym (lowest_moved move s.objects) ∙ sym (ap table.lowest h.by.objects))
       (under (table.lowest s.objects))
     where
-      at_places : (refused : Bool) (fd p q : ℕ) → IsFree s p → IsFree t q → IsAlikeAnswer (created_at refused s shape fd p) (created_at refused t shape fd q)
-      at_places true fd p q a b = no_memory
-      at_places false fd p q a b = record { status = refl; payload = refl; after = (set_at move p q, created_pair h fd p q (new_map shape) a b) }
+      at_handles : (refused : Bool) (fd p q : ℕ) → IsFree s p → IsFree t q → IsAlikeAnswer (created_at refused s shape fd p) (created_at refused t shape fd q)
+      at_handles true fd p q a b = no_memory
+      at_handles false fd p q a b = record { status = refl; payload = refl; after = (set_at move p q, created_pair h fd p q (new_map shape) a b) }
 
       room : (fd : ℕ) → SameRoom s t (shape_area shape) → IsAlikeAnswer (created_as refused s shape fd (room_for s (shape_area shape))) (created_as refused t shape fd (room_for t (shape_area shape)))
       room fd (inl (a, b)) = simp (a, b) (refused_too NoSpace)
-      room fd (inr (p, q, a, b, free_p, free_q)) = simp (a, b) (at_places refused fd p q free_p free_q)
+      room fd (inr (p, q, a, b, free_p, free_q)) = simp (a, b) (at_handles refused fd p q free_p free_q)
 
       under : (o : Option ℕ) → IsAlikeAnswer (created_under refused s shape o) (created_under refused t shape o)
       under None = refused_too TooManyOpen
@@ -82,38 +82,38 @@ module _ {move : ℕ → ℕ} {s t : TenantState} (h : ArePair move s t) where
 
   -- ---- the calls of a map
 
-  on_map_too : (fd : ℕ) (f g : ℕ → Map → Answer) → ((place : ℕ) (m : Map) → is_named s.objects place ≡ true → IsAlikeAnswer (f place m) (g (move place) m)) → IsAlikeAnswer (on_map s fd f) (on_map t fd g)
+  on_map_too : (fd : ℕ) (f g : ℕ → Map → Answer) → ((handle : ℕ) (m : Map) → is_named s.objects handle ≡ true → IsAlikeAnswer (f handle m) (g (move handle) m)) → IsAlikeAnswer (on_map s fd f) (on_map t fd g)
   on_map_too fd f g each =
       subst (λ (o : Option OpenObject). IsAlikeAnswer (on_map s fd f) (of_object t g o)) (sym (named_moved move s.objects fd) ∙ sym (ap (λ (os : List (Option OpenObject)). table.named os fd) h.by.objects))
       (by (table.named s.objects fd) refl)
     where
-      there : (place : ℕ) (o : Option Map) → is_named s.objects place ≡ true → IsAlikeAnswer (of_place s place f o) (of_place t (move place) g o)
-      there place None named = refused_too BadDescriptor
-      there place (Some m) named = each place m named
+      there : (handle : ℕ) (o : Option Map) → is_named s.objects handle ≡ true → IsAlikeAnswer (of_handle s handle f o) (of_handle t (move handle) g o)
+      there handle None named = refused_too BadDescriptor
+      there handle (Some m) named = each handle m named
 
       by : (o : Option OpenObject) → table.named s.objects fd ≡ o → IsAlikeAnswer (of_object s f o) (of_object t g (option_map (moved_object move) o))
       by None is = refused_too BadDescriptor
       by (Some (object.Program l)) is = refused_too Invalid
-      by (Some (object.Map place)) is =
-          let named = named_place_is_named s.objects fd place is in
-          subst (λ (o : Option Map). IsAlikeAnswer (of_place s place f (live s place)) (of_place t (move place) g o)) (sym (same_named h place named)) (there place (live s place) named)
+      by (Some (object.Map handle)) is =
+          let named = named_handle_is_named s.objects fd handle is in
+          subst (λ (o : Option Map). IsAlikeAnswer (of_handle s handle f (live s handle)) (of_handle t (move handle) g o)) (sym (same_named h handle named)) (there handle (live s handle) named)
 
   found_too : (o : Option (List ℕ)) → IsAlikeAnswer (gives_if_found s o) (gives_if_found t o)
   found_too None = refused_too NoEntry
   found_too (Some value) = given_too value
 
-  one_too : (place : ℕ) (m : Map) → is_named s.objects place ≡ true → IsAlikeAnswer (gives [] (with_map_at s place m)) (gives [] (with_map_at t (move place) m))
-  one_too place m named = record { status = refl; payload = refl; after = (move, changed_one h place m named) }
+  one_too : (handle : ℕ) (m : Map) → is_named s.objects handle ≡ true → IsAlikeAnswer (gives [] (with_map_at s handle m)) (gives [] (with_map_at t (move handle) m))
+  one_too handle m named = record { status = refl; payload = refl; after = (move, changed_one h handle m named) }
 
-  put_too : (place : ℕ) (m : Map) (key value : List ℕ) (v : call.Verdict (List ℕ)) → is_named s.objects place ≡ true
-      → IsAlikeAnswer (element_put s place m key value v) (element_put t (move place) m key value v)
-  put_too place m key value (call.Refused fault) named = refused_too (map_errno fault)
-  put_too place m key value (call.Present old) named = one_too place (with_object m key value) named
-  put_too place m key value call.New named = one_too place (with_new m key value) named
+  put_too : (handle : ℕ) (m : Map) (key value : List ℕ) (v : call.Verdict (List ℕ)) → is_named s.objects handle ≡ true
+      → IsAlikeAnswer (element_put s handle m key value v) (element_put t (move handle) m key value v)
+  put_too handle m key value (call.Refused fault) named = refused_too (map_errno fault)
+  put_too handle m key value (call.Present old) named = one_too handle (with_object m key value) named
+  put_too handle m key value call.New named = one_too handle (with_new m key value) named
 
-  taken_too : (place : ℕ) (m : Map) (key : List ℕ) (r : Result (List ℕ) MapFault) → is_named s.objects place ≡ true → IsAlikeAnswer (element_taken_out s place m key r) (element_taken_out t (move place) m key r)
-  taken_too place m key (Err fault) named = refused_too (map_errno fault)
-  taken_too place m key (Ok value) named = one_too place (after_run (with_deleted m key)) named
+  taken_too : (handle : ℕ) (m : Map) (key : List ℕ) (r : Result (List ℕ) MapFault) → is_named s.objects handle ≡ true → IsAlikeAnswer (element_taken_out s handle m key r) (element_taken_out t (move handle) m key r)
+  taken_too handle m key (Err fault) named = refused_too (map_errno fault)
+  taken_too handle m key (Ok value) named = one_too handle (after_run (with_deleted m key)) named
 
   -- ---- PROG_LOAD
 
@@ -142,7 +142,7 @@ module _ {move : ℕ → ℕ} {s t : TenantState} (h : ArePair move s t) where
       opened_too fd (loaded_program s insns) (loaded_program t insns)
       (ap₂ (λ (ns : List Named) (ms : List (ℕ × ℕ)). object.Program (record { insns = insns; named = ns; maps = ms }))
       (ap (entries_of (maps_of insns)) same_targets)
-      (ap (λ (os : List (Option OpenObject)). places_from os (maps_of insns)) h.by.objects ∙ places_moved move s.objects (maps_of insns)))
+      (ap (λ (os : List (Option OpenObject)). handles_from os (maps_of insns)) h.by.objects ∙ handles_moved move s.objects (maps_of insns)))
 
   loads_as_too : (refused : Bool) (fd : ℕ) (slots : List ℕ) (a : Answer) → LoadsAs refused s fd slots a → (b : Answer) × LoadsAs refused t fd slots b × IsAlikeAnswer a b
   loads_as_too true fd slots a is = (refuses_for_memory t, refl, subst (λ (x : Answer). IsAlikeAnswer x (refuses_for_memory t)) (sym is) no_memory)
@@ -173,7 +173,7 @@ module _ {move : ℕ → ℕ} {s t : TenantState} (h : ArePair move s t) where
     where
       by : (fd : ℕ) (o : Option ℕ) → lookup (λ m. m == fd) l.maps ≡ o → and_then (option_map move o) (live t) ≡ and_then o (live s)
       by fd None is = refl
-      by fd (Some place) is = same_named h place (named place (lookup_names l.maps fd place is))
+      by fd (Some handle) is = same_named h handle (named handle (lookup_names l.maps fd handle is))
 
   -- the reply to a run that leaves these maps
   abbrev came_to : Outcome → TenantState → MapsByDescriptor → LoadedProgram → Answer
@@ -186,18 +186,18 @@ module _ {move : ℕ → ℕ} {s t : TenantState} (h : ArePair move s t) where
       → IsAlikeAnswer (came_to o s left l) (came_to o t left (with_moved l))
   came_too l named named_too left same o = by o
     where
-      places : AreLeft left l.maps s.maps
-      places = program_left l h.one named left same
+      handles : AreLeft left l.maps s.maps
+      handles = program_left l h.one named left same
 
-      places_too : AreLeft left (moved_maps move l.maps) t.maps
-      places_too = program_left (with_moved l) h.two named_too left (λ fd. same fd ∙ sym (ap (λ (given : MapsByDescriptor). is_some (given fd)) (same_given l named)))
+      handles_too : AreLeft left (moved_maps move l.maps) t.maps
+      handles_too = program_left (with_moved l) h.two named_too left (λ fd. same fd ∙ sym (ap (λ (given : MapsByDescriptor). is_some (given fd)) (same_given l named)))
 
       moved : IsMovedBy move (record s { maps = maps_left left l.maps s.maps }) (record t { maps = maps_left left (moved_maps move l.maps) t.maps })
       moved =
           changed h (maps_left left l.maps s.maps) (maps_left left (moved_maps move l.maps) t.maps) s.refused t.refused
-          (left_places left l.maps s.maps places)
-          (left_places left (moved_maps move l.maps) t.maps places_too)
-          (λ p e. left_moved move left l.maps s.maps t.maps p places places_too (λ q listed at. h.by.apart q p (h.one.live_if_named q (named q listed)) (h.one.live_if_named p e) at) (same_named h p e))
+          (left_handles left l.maps s.maps handles)
+          (left_handles left (moved_maps move l.maps) t.maps handles_too)
+          (λ p e. left_moved move left l.maps s.maps t.maps p handles handles_too (λ q listed at. h.by.apart q p (h.one.live_if_named q (named q listed)) (h.one.live_if_named p e) at) (same_named h p e))
 
       by : (o : Outcome) → IsAlikeAnswer (came_to o s left l) (came_to o t left (with_moved l))
       by (Value n) = record { status = refl; payload = refl; after = (move, moved) }
@@ -214,7 +214,7 @@ module _ {move : ℕ → ℕ} {s t : TenantState} (h : ArePair move s t) where
   run_too : (words packet : List ℕ) (o : Option OpenObject) → ((l : LoadedProgram) → o ≡ Some (object.Program l) → IsIn s l × IsIn t (with_moved l))
       → IsAlikeAnswer (run_of s words packet o) (run_of t words packet (option_map (moved_object move) o))
   run_too words packet None named = refused_too BadDescriptor
-  run_too words packet (Some (object.Map place)) named = refused_too Invalid
+  run_too words packet (Some (object.Map handle)) named = refused_too Invalid
   run_too words packet (Some (object.Program l)) named = let both = named l refl in if_too (nat_lt longest_packet (length packet)) (refused_too TooBig) (ran_too l words packet both.0 both.1)
 
   -- ---- CLOSE
@@ -246,13 +246,13 @@ module _ {move : ℕ → ℕ} {s t : TenantState} (h : ArePair move s t) where
 
   answers_too : (refused : Bool) (command : Command) (a : Answer) → Answers refused s command a → AnswersToo refused command a
   answers_too refused (map_create kind key value max flags) a is = as_told a _ _ is (created_too refused (asked_shape (kind_of kind) key value max flags))
-  answers_too refused (map_lookup fd key) a is = as_told a _ _ is (on_map_too fd _ _ (λ place m named. if_too (length key == m.shape.key_size) (found_too (look_up m key)) (refused_too Invalid)))
+  answers_too refused (map_lookup fd key) a is = as_told a _ _ is (on_map_too fd _ _ (λ handle m named. if_too (length key == m.shape.key_size) (found_too (look_up m key)) (refused_too Invalid)))
   answers_too refused (map_update fd flags bytes) a is =
-      as_told a _ _ is (on_map_too fd _ _ (λ place m named. if_too (length bytes == m.shape.key_size + m.shape.value_size)
-      (put_too place m (take m.shape.key_size bytes) (drop m.shape.key_size bytes) (verdict m (take m.shape.key_size bytes) flags) named)
+      as_told a _ _ is (on_map_too fd _ _ (λ handle m named. if_too (length bytes == m.shape.key_size + m.shape.value_size)
+      (put_too handle m (take m.shape.key_size bytes) (drop m.shape.key_size bytes) (verdict m (take m.shape.key_size bytes) flags) named)
       (refused_too Invalid)))
-  answers_too refused (map_delete fd key) a is = as_told a _ _ is (on_map_too fd _ _ (λ place m named. if_too (length key == m.shape.key_size) (taken_too place m key (removal m key) named) (refused_too Invalid)))
-  answers_too refused (map_next_key fd key) a is = as_told a _ _ is (on_map_too fd _ _ (λ place m named. if_too (length key == 0 || length key == m.shape.key_size) (found_too (next_of m key)) (refused_too Invalid)))
+  answers_too refused (map_delete fd key) a is = as_told a _ _ is (on_map_too fd _ _ (λ handle m named. if_too (length key == m.shape.key_size) (taken_too handle m key (removal m key) named) (refused_too Invalid)))
+  answers_too refused (map_next_key fd key) a is = as_told a _ _ is (on_map_too fd _ _ (λ handle m named. if_too (length key == 0 || length key == m.shape.key_size) (found_too (next_of m key)) (refused_too Invalid)))
   answers_too refused (prog_load kind slots) a is = loads_too refused kind slots a is
   answers_too refused (prog_test_run fd words packet) a is =
       as_told a _ _ is (subst (λ (o : Option OpenObject). IsAlikeAnswer (run_of s words packet (table.named s.objects fd)) (run_of t words packet o)) (moved_named fd)

@@ -1,4 +1,4 @@
--- There are at most as many births as descriptors and places.
+-- There are at most as many births as descriptors and handles.
 use Rattle.std.proofs.Common.{◌≡◌, ℕ, zero, suc, ◌+◌, ◌-◌, ◌≤◌, ◌<◌, Bool, true, false, List, [], ◌∷◌, length, set, get_or, replicate, Option, Some, None, refl, sym, ap, subst, ◌∙◌, inl, inr, arith, true≢false}
 use Rattle.std.specs.Prelude.{◌⊎◌, nat_lt, if◌then◌else◌}
 use Rattle.std.specs.List.{list_any}
@@ -74,7 +74,7 @@ still_marked mark test n k (b ∷ older) lt tests none =
 -- ---- maps, and programs
 
 map_mark : Birth → Option ℕ
-map_mark (OfMap place fd) = Some place
+map_mark (OfMap handle fd) = Some handle
 map_mark (OfProgram fd) = None
 
 -- the index of a descriptor in the table; a number below the first descriptor has an index after the table
@@ -94,13 +94,13 @@ one_slot fd k e lt = by (cases_lt fd first_descriptor)
     by (inr low) = let there : fd - first_descriptor ≡ k = sym (ap (λ (b : Bool). if b then most + fd else fd - first_descriptor) (le-ltb fd first_descriptor low)) ∙ e in omega arith
 
 program_mark : Birth → Option ℕ
-program_mark (OfMap place fd) = None
+program_mark (OfMap handle fd) = None
 program_mark (OfProgram fd) = Some (slot_of fd)
 
 both_counted : (bs : List Birth) → count_of map_mark bs + count_of program_mark bs ≡ length bs
 unfolding map_mark program_mark
 both_counted [] = refl
-both_counted (OfMap place fd ∷ older) = let rest = both_counted older in omega arith
+both_counted (OfMap handle fd ∷ older) = let rest = both_counted older in omega arith
 both_counted (OfProgram fd ∷ older) = let rest = both_counted older in omega arith
 
 same_some : (m n : ℕ) → Some m ≡ Some n → m ≡ n
@@ -112,15 +112,15 @@ module _ {s : TenantState} (h : HoldsItsMaps s) where
   maps_taken [] order = tt
   maps_taken (b ∷ older) (low, high, apart, is, order) = (by b is, maps_taken older order)
     where
-      test : (place : ℕ) (x : Birth) → map_mark x ≡ Some place → is_of_map place x ≡ true
-      test place (OfMap p fd) e = eq-eqb p place (same_some p place e)
-      test place (OfProgram fd) e = absurd (let wrong : (let none : Option ℕ = None in none) ≡ Some place = e in cc wrong)
+      test : (handle : ℕ) (x : Birth) → map_mark x ≡ Some handle → is_of_map handle x ≡ true
+      test handle (OfMap p fd) e = eq-eqb p handle (same_some p handle e)
+      test handle (OfProgram fd) e = absurd (let wrong : (let none : Option ℕ = None in none) ≡ Some handle = e in cc wrong)
 
       by : (x : Birth) → IsBorn s older x → (k : ℕ) → map_mark x ≡ Some k → get_or (marks_of map_mark most_maps older) k None ≡ marked
-      by (OfMap place fd) (live_so, new) k e =
-          let within = there_within s.maps place live_so in
-          let long = h.places in
-          subst (λ (j : ℕ). get_or (marks_of map_mark most_maps older) j None ≡ marked) (same_some place k e) (still_marked map_mark (is_of_map place) most_maps place older (omega arith) (test place) new)
+      by (OfMap handle fd) (live_so, new) k e =
+          let within = there_within s.maps handle live_so in
+          let long = h.handles in
+          subst (λ (j : ℕ). get_or (marks_of map_mark most_maps older) j None ≡ marked) (same_some handle k e) (still_marked map_mark (is_of_map handle) most_maps handle older (omega arith) (test handle) new)
       by (OfProgram fd) is k e = absurd (let wrong : (let none : Option ℕ = None in none) ≡ Some k = e in cc wrong)
 
   programs_taken : (bs : List Birth) → AreInOrder s bs → AreTaken program_mark most bs
@@ -133,7 +133,7 @@ module _ {s : TenantState} (h : HoldsItsMaps s) where
       test n k same lt (OfProgram fd) e = eq-eqb fd n (one_slot fd k (same_some (slot_of fd) k e) lt ∙ sym same)
 
       by : (x : Birth) → first_descriptor ≤ number x → number x < first_descriptor + most → list_any (is_of_program (number x)) older ≡ false → (k : ℕ) → program_mark x ≡ Some k → get_or (marks_of program_mark most older) k None ≡ marked
-      by (OfMap place fd) low high apart k e = absurd (let wrong : (let none : Option ℕ = None in none) ≡ Some k = e in cc wrong)
+      by (OfMap handle fd) low high apart k e = absurd (let wrong : (let none : Option ℕ = None in none) ≡ Some k = e in cc wrong)
       by (OfProgram fd) low high apart k e =
           let at = sym (slot_is fd low) ∙ same_some (slot_of fd) k e in
           still_marked program_mark (is_of_program fd) most k older (omega arith) (test fd k (omega arith) (omega arith)) apart

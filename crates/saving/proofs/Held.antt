@@ -24,15 +24,15 @@ use Rattle.bpf_maps.specs.Limits.{most_maps}
 use Rattle.tenant.specs.State.{Map, TenantState, new_tenant, live, names, is_named, shape_area, with_map_at}
 use Rattle.insn_set.specs.declared.insn.Insn.{Insn}
 use Rattle.verifier.specs.declared.refusal.Refusal.{Refusal}
-use Rattle.tenant.specs.Machine.{Answer, refuses, kind_of, asked_shape, new_map, room_for, created_at, created_as, created_under, created, of_place, of_object, on_map, gives_if_found, element_put, element_taken_out, loaded_program, answer_of_judgement, LoadsAs, LoadsUnder, Loads, longest_packet, maps_given, maps_left, outcome_answer, run_of, closed, Answers}
+use Rattle.tenant.specs.Machine.{Answer, refuses, kind_of, asked_shape, new_map, room_for, created_at, created_as, created_under, created, of_handle, of_object, on_map, gives_if_found, element_put, element_taken_out, loaded_program, answer_of_judgement, LoadsAs, LoadsUnder, Loads, longest_packet, maps_given, maps_left, outcome_answer, run_of, closed, Answers}
 use Rattle.saving.specs.Alike.{HoldsItsMaps}
 use Rattle.saving.specs.Laws.{MapsAreHeld}
-use Rattle.saving.proofs.Lists.{not_none, there_is, set_by_place}
-use Rattle.saving.proofs.Moved.{or_parts, or_left, or_right, named_by, stands_at, named_place_is_named, places_named}
+use Rattle.saving.proofs.Lists.{not_none, there_is, set_by_index}
+use Rattle.saving.proofs.Moved.{or_parts, or_left, or_right, named_by, stands_at, named_handle_is_named, handles_named}
 use Rattle.saving.proofs.Pairs.{with_new_map, SetAt, IsFree, free_at}
 use Rattle.saving.proofs.RunMaps.{left_same}
 use Rattle.saving.proofs.Closes.{closed_fewer, closed_length, fewer_held, named_open}
-use Rattle.saving.proofs.Left.{length_left, SamePlaces, program_left, left_places, set_places}
+use Rattle.saving.proofs.Left.{length_left, SameHandles, program_left, left_handles, set_handles}
 
 -- ---- a free descriptor
 
@@ -43,27 +43,27 @@ none_is (Some x) e = absurd (true≢false (sym e))
 pub descriptor_free : (objects : List (Option OpenObject)) (fd : ℕ) → table.lowest objects ≡ Some fd → (fd - table.first_descriptor < length objects) × (get_or objects (fd - table.first_descriptor) None ≡ None)
 descriptor_free objects fd e = by (position is_none objects) refl e
   where
-    place_of : (n : ℕ) → Some (3 + n) ≡ Some fd → n ≡ fd - 3
-    place_of n e = let same = same_Some (3 + n) fd e in omega arith
+    handle_of : (n : ℕ) → Some (3 + n) ≡ Some fd → n ≡ fd - 3
+    handle_of n e = let same = same_Some (3 + n) fd e in omega arith
 
-    by : (o : Option ℕ) → position is_none objects ≡ o → option_map (λ place. table.first_descriptor + place) o ≡ Some fd
+    by : (o : Option ℕ) → position is_none objects ≡ o → option_map (λ handle. table.first_descriptor + handle) o ≡ Some fd
         → (fd - table.first_descriptor < length objects) × (get_or objects (fd - table.first_descriptor) None ≡ None)
     by None p e = absurd (none-some fd e)
     by (Some n) p e =
-        let same : n ≡ fd - table.first_descriptor = place_of n e in
+        let same : n ≡ fd - table.first_descriptor = handle_of n e in
         let (within, free, lower) = position-Some is_none objects n None p in
         (omega (arith, within, same), ap (λ (m : ℕ). get_or objects m None) (sym same) ∙ none_is (get_or objects n None) free)
 
 -- ---- a new tenant
 
-no_map : (n place : ℕ) → let none : Option Map = None in get_or (replicate n none) place none ≡ none
-no_map zero place = refl
+no_map : (n handle : ℕ) → let none : Option Map = None in get_or (replicate n none) handle none ≡ none
+no_map zero handle = refl
 no_map (suc n) zero = refl
-no_map (suc n) (suc place) = no_map n place
+no_map (suc n) (suc handle) = no_map n handle
 
-no_name : (n place : ℕ) → is_named (replicate n None) place ≡ false
-no_name zero place = refl
-no_name (suc n) place = no_name n place
+no_name : (n handle : ℕ) → is_named (replicate n None) handle ≡ false
+no_name zero handle = refl
+no_name (suc n) handle = no_name n handle
 
 long : {A : Type 0} (n : ℕ) (x : A) → length (replicate n x) ≡ n
 long zero x = refl
@@ -72,65 +72,65 @@ long (suc n) x = let rest = long n x in omega arith
 new_held : HoldsItsMaps new_tenant
 new_held = record {
   descriptors = long {A = Option OpenObject} table.most None;
-  places = long {A = Option Map} most_maps None;
-  live_if_named = λ place e. absurd (true≢false (sym e ∙ no_name table.most place));
-  named_if_live = λ place some. absurd (not_none some (no_map most_maps place));
+  handles = long {A = Option Map} most_maps None;
+  live_if_named = λ handle e. absurd (true≢false (sym e ∙ no_name table.most handle));
+  named_if_live = λ handle some. absurd (not_none some (no_map most_maps handle));
 }
 
 -- ---- changed contents of maps
 
 module _ {s : TenantState} (h : HoldsItsMaps s) where
   flag_held : (b : Bool) → HoldsItsMaps (record s { refused = b })
-  flag_held b = record { descriptors = h.descriptors; places = h.places; live_if_named = h.live_if_named; named_if_live = h.named_if_live }
+  flag_held b = record { descriptors = h.descriptors; handles = h.handles; live_if_named = h.live_if_named; named_if_live = h.named_if_live }
 
-  changed_held : (ms : List (Option Map)) (b : Bool) → length ms ≡ length s.maps → SamePlaces s.maps ms → HoldsItsMaps (record s { maps = ms; refused = b })
+  changed_held : (ms : List (Option Map)) (b : Bool) → length ms ≡ length s.maps → SameHandles s.maps ms → HoldsItsMaps (record s { maps = ms; refused = b })
   changed_held ms b size same = record {
     descriptors = h.descriptors;
-    places = size ∙ h.places;
-    live_if_named = λ place e. same place ∙ h.live_if_named place e;
-    named_if_live = λ place some. h.named_if_live place (sym (same place) ∙ some);
+    handles = size ∙ h.handles;
+    live_if_named = λ handle e. same handle ∙ h.live_if_named handle e;
+    named_if_live = λ handle some. h.named_if_live handle (sym (same handle) ∙ some);
   }
 
-  one_held : (place : ℕ) (m : Map) → is_named s.objects place ≡ true → HoldsItsMaps (with_map_at s place m)
-  one_held place m named = changed_held (set s.maps place (Some m)) s.refused (length-set {A = Option Map} s.maps place (Some m)) (set_places s.maps place (Some m) refl (h.live_if_named place named))
+  one_held : (handle : ℕ) (m : Map) → is_named s.objects handle ≡ true → HoldsItsMaps (with_map_at s handle m)
+  one_held handle m named = changed_held (set s.maps handle (Some m)) s.refused (length-set {A = Option Map} s.maps handle (Some m)) (set_handles s.maps handle (Some m) refl (h.live_if_named handle named))
 
   -- ---- MAP_CREATE
 
-  pub created_held : (fd place : ℕ) (m : Map) → table.lowest s.objects ≡ Some fd → IsFree s place → HoldsItsMaps (with_new_map s fd place m)
-  created_held fd place m low free = record {
-    descriptors = length-set {A = Option OpenObject} s.objects (fd - table.first_descriptor) (Some (object.Map place)) ∙ h.descriptors;
-    places = length-set {A = Option Map} s.maps place (Some m) ∙ h.places;
-    live_if_named = λ p e. live_p p (or_parts (place == p) (is_named s.objects p) (sym (named_is p) ∙ e)) (set_by_place s.maps place p (Some m) free.within);
-    named_if_live = λ p some. named_is p ∙ named_p p some (set_by_place s.maps place p (Some m) free.within);
+  pub created_held : (fd handle : ℕ) (m : Map) → table.lowest s.objects ≡ Some fd → IsFree s handle → HoldsItsMaps (with_new_map s fd handle m)
+  created_held fd handle m low free = record {
+    descriptors = length-set {A = Option OpenObject} s.objects (fd - table.first_descriptor) (Some (object.Map handle)) ∙ h.descriptors;
+    handles = length-set {A = Option Map} s.maps handle (Some m) ∙ h.handles;
+    live_if_named = λ p e. live_p p (or_parts (handle == p) (is_named s.objects p) (sym (named_is p) ∙ e)) (set_by_index s.maps handle p (Some m) free.within);
+    named_if_live = λ p some. named_is p ∙ named_p p some (set_by_index s.maps handle p (Some m) free.within);
   }
     where
-      named_is : (p : ℕ) → is_named (table.with_open s.objects fd (object.Map place)) p ≡ (place == p || is_named s.objects p)
-      named_is p = let (within, none) = descriptor_free s.objects fd low in named_open s.objects (fd - table.first_descriptor) (object.Map place) p within none
+      named_is : (p : ℕ) → is_named (table.with_open s.objects fd (object.Map handle)) p ≡ (handle == p || is_named s.objects p)
+      named_is p = let (within, none) = descriptor_free s.objects fd low in named_open s.objects (fd - table.first_descriptor) (object.Map handle) p within none
 
-      live_p : (p : ℕ) → ((place == p) ≡ true) ⊎ (is_named s.objects p ≡ true) → SetAt s.maps place m p → IsSome (get_or (set s.maps place (Some m)) p None)
+      live_p : (p : ℕ) → ((handle == p) ≡ true) ⊎ (is_named s.objects p ≡ true) → SetAt s.maps handle m p → IsSome (get_or (set s.maps handle (Some m)) p None)
       live_p p named (inl (at, e)) = there_is e
-      live_p p (inl same) (inr (other, e)) = absurd (other (sym (eqb-true place p same)))
+      live_p p (inl same) (inr (other, e)) = absurd (other (sym (eqb-true handle p same)))
       live_p p (inr named) (inr (other, e)) = ap is_some e ∙ h.live_if_named p named
 
-      named_p : (p : ℕ) → IsSome (get_or (set s.maps place (Some m)) p None) → SetAt s.maps place m p → (place == p || is_named s.objects p) ≡ true
-      named_p p some (inl (at, e)) = or_left (place == p) (is_named s.objects p) (eq-eqb place p (sym at))
-      named_p p some (inr (other, e)) = or_right (place == p) (is_named s.objects p) (h.named_if_live p (sym (ap is_some e) ∙ some))
+      named_p : (p : ℕ) → IsSome (get_or (set s.maps handle (Some m)) p None) → SetAt s.maps handle m p → (handle == p || is_named s.objects p) ≡ true
+      named_p p some (inl (at, e)) = or_left (handle == p) (is_named s.objects p) (eq-eqb handle p (sym at))
+      named_p p some (inr (other, e)) = or_right (handle == p) (is_named s.objects p) (h.named_if_live p (sym (ap is_some e) ∙ some))
 
   create_held : (refused : Bool) (r : Result MapShape Errno) → HoldsItsMaps (created refused s r).after
   create_held refused (Err errno) = h
   create_held refused (Ok shape) = under (table.lowest s.objects) refl
     where
-      at_place : (refused : Bool) (fd place : ℕ) → table.lowest s.objects ≡ Some fd → IsFree s place → HoldsItsMaps (created_at refused s shape fd place).after
-      at_place true fd place low free = flag_held true
-      at_place false fd place low free = created_held fd place (new_map shape) low free
+      at_handle : (refused : Bool) (fd handle : ℕ) → table.lowest s.objects ≡ Some fd → IsFree s handle → HoldsItsMaps (created_at refused s shape fd handle).after
+      at_handle true fd handle low free = flag_held true
+      at_handle false fd handle low free = created_held fd handle (new_map shape) low free
 
-      free_of : (o : Option ℕ) → (full : Bool) (place : ℕ) → ((place : ℕ) → o ≡ Some place → IsFree s place) → (if full then None else o) ≡ Some place → IsFree s place
-      free_of o true place free e = absurd (none-some place e)
-      free_of o false place free e = free place e
+      free_of : (o : Option ℕ) → (full : Bool) (handle : ℕ) → ((handle : ℕ) → o ≡ Some handle → IsFree s handle) → (if full then None else o) ≡ Some handle → IsFree s handle
+      free_of o true handle free e = absurd (none-some handle e)
+      free_of o false handle free e = free handle e
 
       room : (fd : ℕ) (o : Option ℕ) → table.lowest s.objects ≡ Some fd → room_for s (shape_area shape) ≡ o → HoldsItsMaps (created_as refused s shape fd o).after
       room fd None low is = h
-      room fd (Some place) low is = at_place refused fd place low (free_of (position is_none s.maps) _ place (free_at s) is)
+      room fd (Some handle) low is = at_handle refused fd handle low (free_of (position is_none s.maps) _ handle (free_at s) is)
 
       under : (o : Option ℕ) → table.lowest s.objects ≡ o → HoldsItsMaps (created_under refused s shape o).after
       under None low = h
@@ -142,30 +142,30 @@ module _ {s : TenantState} (h : HoldsItsMaps s) where
   if_held true a b p q = p
   if_held false a b p q = q
 
-  on_map_held : (fd : ℕ) (f : ℕ → Map → Answer) → ((place : ℕ) (m : Map) → is_named s.objects place ≡ true → HoldsItsMaps (f place m).after) → HoldsItsMaps (on_map s fd f).after
+  on_map_held : (fd : ℕ) (f : ℕ → Map → Answer) → ((handle : ℕ) (m : Map) → is_named s.objects handle ≡ true → HoldsItsMaps (f handle m).after) → HoldsItsMaps (on_map s fd f).after
   on_map_held fd f each = by (table.named s.objects fd) refl
     where
-      there : (place : ℕ) (o : Option Map) → is_named s.objects place ≡ true → HoldsItsMaps (of_place s place f o).after
-      there place None named = h
-      there place (Some m) named = each place m named
+      there : (handle : ℕ) (o : Option Map) → is_named s.objects handle ≡ true → HoldsItsMaps (of_handle s handle f o).after
+      there handle None named = h
+      there handle (Some m) named = each handle m named
 
       by : (o : Option OpenObject) → table.named s.objects fd ≡ o → HoldsItsMaps (of_object s f o).after
       by None is = h
       by (Some (object.Program l)) is = h
-      by (Some (object.Map place)) is = there place (live s place) (named_place_is_named s.objects fd place is)
+      by (Some (object.Map handle)) is = there handle (live s handle) (named_handle_is_named s.objects fd handle is)
 
   found_held : (o : Option (List ℕ)) → HoldsItsMaps (gives_if_found s o).after
   found_held None = h
   found_held (Some value) = h
 
-  put_held : (place : ℕ) (m : Map) (key value : List ℕ) (v : call.Verdict (List ℕ)) → is_named s.objects place ≡ true → HoldsItsMaps (element_put s place m key value v).after
-  put_held place m key value (call.Refused fault) named = h
-  put_held place m key value (call.Present old) named = one_held place (with_object m key value) named
-  put_held place m key value call.New named = one_held place (with_new m key value) named
+  put_held : (handle : ℕ) (m : Map) (key value : List ℕ) (v : call.Verdict (List ℕ)) → is_named s.objects handle ≡ true → HoldsItsMaps (element_put s handle m key value v).after
+  put_held handle m key value (call.Refused fault) named = h
+  put_held handle m key value (call.Present old) named = one_held handle (with_object m key value) named
+  put_held handle m key value call.New named = one_held handle (with_new m key value) named
 
-  taken_held : (place : ℕ) (m : Map) (key : List ℕ) (r : Result (List ℕ) MapFault) → is_named s.objects place ≡ true → HoldsItsMaps (element_taken_out s place m key r).after
-  taken_held place m key (Err fault) named = h
-  taken_held place m key (Ok value) named = one_held place (after_run (with_deleted m key)) named
+  taken_held : (handle : ℕ) (m : Map) (key : List ℕ) (r : Result (List ℕ) MapFault) → is_named s.objects handle ≡ true → HoldsItsMaps (element_taken_out s handle m key r).after
+  taken_held handle m key (Err fault) named = h
+  taken_held handle m key (Ok value) named = one_held handle (after_run (with_deleted m key)) named
 
   -- ---- PROG_LOAD
 
@@ -174,7 +174,7 @@ module _ {s : TenantState} (h : HoldsItsMaps s) where
       → HoldsItsMaps (record s { objects = table.with_open s.objects fd (object.Program l) })
   opened_held fd l low named = record {
     descriptors = length-set {A = Option OpenObject} s.objects (fd - table.first_descriptor) (Some (object.Program l)) ∙ h.descriptors;
-    places = h.places;
+    handles = h.handles;
     live_if_named = λ p e. h.live_if_named p (was p (or_parts (names p (object.Program l)) (is_named s.objects p) (sym (named_is p) ∙ e)));
     named_if_live = λ p some. named_is p ∙ or_right (names p (object.Program l)) (is_named s.objects p) (h.named_if_live p some);
   }
@@ -188,7 +188,7 @@ module _ {s : TenantState} (h : HoldsItsMaps s) where
 
   judged_held : (fd : ℕ) (j : Result (List Insn) Refusal) → table.lowest s.objects ≡ Some fd → HoldsItsMaps (answer_of_judgement s fd j).after
   judged_held fd (Err refusal) low = h
-  judged_held fd (Ok insns) low = opened_held fd (loaded_program s insns) low (λ p e. places_named s.objects (maps_of insns) p e)
+  judged_held fd (Ok insns) low = opened_held fd (loaded_program s insns) low (λ p e. handles_named s.objects (maps_of insns) p e)
 
   loads_held : (refused : Bool) (kind : ℕ) (slots : List ℕ) (a : Answer) → Loads refused s kind slots a → HoldsItsMaps a.after
   loads_held refused kind slots a is = by (kind == 1) is
@@ -210,15 +210,15 @@ module _ {s : TenantState} (h : HoldsItsMaps s) where
 
   -- ---- PROG_TEST_RUN
 
-  left_held : (l : LoadedProgram) (left : MapsByDescriptor) → ((place : ℕ) → list_any (λ m. m.1 == place) l.maps ≡ true → is_named s.objects place ≡ true) → ((fd : ℕ) → is_some (left fd) ≡ is_some (maps_given s l fd)) → (o : Outcome)
+  left_held : (l : LoadedProgram) (left : MapsByDescriptor) → ((handle : ℕ) → list_any (λ m. m.1 == handle) l.maps ≡ true → is_named s.objects handle ≡ true) → ((fd : ℕ) → is_some (left fd) ≡ is_some (maps_given s l fd)) → (o : Outcome)
       → HoldsItsMaps (outcome_answer o (record s { maps = maps_left left l.maps s.maps })).after
-  left_held l left named same (Value n) = changed_held (maps_left left l.maps s.maps) s.refused (length_left left l.maps s.maps) (left_places left l.maps s.maps (program_left l h named left same))
-  left_held l left named same Fault = changed_held (maps_left left l.maps s.maps) s.refused (length_left left l.maps s.maps) (left_places left l.maps s.maps (program_left l h named left same))
+  left_held l left named same (Value n) = changed_held (maps_left left l.maps s.maps) s.refused (length_left left l.maps s.maps) (left_handles left l.maps s.maps (program_left l h named left same))
+  left_held l left named same Fault = changed_held (maps_left left l.maps s.maps) s.refused (length_left left l.maps s.maps) (left_handles left l.maps s.maps (program_left l h named left same))
 
-  run_held : (words packet : List ℕ) (o : Option OpenObject) → ((l : LoadedProgram) → o ≡ Some (object.Program l) → (place : ℕ) → list_any (λ m. m.1 == place) l.maps ≡ true → is_named s.objects place ≡ true)
+  run_held : (words packet : List ℕ) (o : Option OpenObject) → ((l : LoadedProgram) → o ≡ Some (object.Program l) → (handle : ℕ) → list_any (λ m. m.1 == handle) l.maps ≡ true → is_named s.objects handle ≡ true)
       → HoldsItsMaps (run_of s words packet o).after
   run_held words packet None named = h
-  run_held words packet (Some (object.Map place)) named = h
+  run_held words packet (Some (object.Map handle)) named = h
   run_held words packet (Some (object.Program l)) named =
       if_held (nat_lt longest_packet (length packet)) _ _ h
       (left_held l (left_of l.insns (maps_given s l) (length packet ∷ words) packet) (named l refl) (left_same l.insns (maps_given s l) (length packet ∷ words) packet)
@@ -235,16 +235,16 @@ module _ {s : TenantState} (h : HoldsItsMaps s) where
 
   answer_held : (refused : Bool) (command : Command) (a : Answer) → Answers refused s command a → HoldsItsMaps a.after
   answer_held refused (map_create kind key value max flags) a is = as_held a _ is (create_held refused (asked_shape (kind_of kind) key value max flags))
-  answer_held refused (map_lookup fd key) a is = as_held a _ is (on_map_held fd _ (λ place m named. if_held (length key == m.shape.key_size) _ _ (found_held (look_up m key)) h))
+  answer_held refused (map_lookup fd key) a is = as_held a _ is (on_map_held fd _ (λ handle m named. if_held (length key == m.shape.key_size) _ _ (found_held (look_up m key)) h))
   answer_held refused (map_update fd flags bytes) a is =
-      as_held a _ is (on_map_held fd _ (λ place m named. if_held (length bytes == m.shape.key_size + m.shape.value_size) _ _
-      (put_held place m (take m.shape.key_size bytes) (drop m.shape.key_size bytes) (verdict m (take m.shape.key_size bytes) flags) named)
+      as_held a _ is (on_map_held fd _ (λ handle m named. if_held (length bytes == m.shape.key_size + m.shape.value_size) _ _
+      (put_held handle m (take m.shape.key_size bytes) (drop m.shape.key_size bytes) (verdict m (take m.shape.key_size bytes) flags) named)
       h))
-  answer_held refused (map_delete fd key) a is = as_held a _ is (on_map_held fd _ (λ place m named. if_held (length key == m.shape.key_size) _ _ (taken_held place m key (removal m key) named) h))
-  answer_held refused (map_next_key fd key) a is = as_held a _ is (on_map_held fd _ (λ place m named. if_held (length key == 0 || length key == m.shape.key_size) _ _ (found_held (next_of m key)) h))
+  answer_held refused (map_delete fd key) a is = as_held a _ is (on_map_held fd _ (λ handle m named. if_held (length key == m.shape.key_size) _ _ (taken_held handle m key (removal m key) named) h))
+  answer_held refused (map_next_key fd key) a is = as_held a _ is (on_map_held fd _ (λ handle m named. if_held (length key == 0 || length key == m.shape.key_size) _ _ (found_held (next_of m key)) h))
   answer_held refused (prog_load kind slots) a is = loads_held refused kind slots a is
   answer_held refused (prog_test_run fd words packet) a is =
-      as_held a _ is (run_held words packet (table.named s.objects fd) (λ l here place e. named_by s.objects (fd - table.first_descriptor) (object.Program l) place (stands_at s.objects fd (object.Program l) here) e))
+      as_held a _ is (run_held words packet (table.named s.objects fd) (λ l here handle e. named_by s.objects (fd - table.first_descriptor) (object.Program l) handle (stands_at s.objects fd (object.Program l) here) e))
   answer_held refused (close fd) a is = as_held a _ is (close_held fd (table.named s.objects fd))
 
 pub maps_are_held : MapsAreHeld

@@ -25,10 +25,10 @@ use Rattle.tenant.specs.declared.object.OpenObject.TheVariants as object
 use Rattle.tenant.specs.Loaded.{LoadedProgram}
 use Rattle.bpf_maps.specs.Limits.{most_bytes}
 use Rattle.tenant.specs.State.{Map, TenantState, live, is_named, shape_area, map_area}
-use Rattle.tenant.specs.Machine.{object_target, entry_of, targets_from, targets, named_place, places_from, loaded_program, maps_left}
+use Rattle.tenant.specs.Machine.{object_target, entry_of, targets_from, targets, named_handle, handles_from, loaded_program, maps_left}
 use Rattle.saving.specs.Alike.{HoldsItsMaps}
 use Rattle.saving.specs.Restorable.{IsWholeMap, shapes_from, IsWholeProgram, IsRestorable}
-use Rattle.saving.proofs.Lists.{set_by_place, there_within, there_is}
+use Rattle.saving.proofs.Lists.{set_by_index, there_within, there_is}
 use Rattle.saving.proofs.Moved.{or_left, or_right, flattened-get, named_by, stands_at, lookup_names}
 use Rattle.saving.proofs.Wholes.{none_of}
 use Rattle.saving.proofs.Tables.{IsDescriptor, table_of}
@@ -40,7 +40,7 @@ use Rattle.saving.proofs.RunMaps.{LeavesMap, IsLeftOf}
 unfoldable pub shape_of : Option Map → Option MapShape
 shape_of o = option_map (λ t. t.shape) o
 
-shapes_same : (s t : TenantState) (ms : List (ℕ × ℕ)) (fd n : ℕ) → ((other place : ℕ) → lookup (λ m. m == other) ms ≡ Some place → shape_of (live t place) ≡ shape_of (live s place)) → shapes_from t ms fd n ≡ shapes_from s ms fd n
+shapes_same : (s t : TenantState) (ms : List (ℕ × ℕ)) (fd n : ℕ) → ((other handle : ℕ) → lookup (λ m. m == other) ms ≡ Some handle → shape_of (live t handle) ≡ shape_of (live s handle)) → shapes_from t ms fd n ≡ shapes_from s ms fd n
 unfolding shapes_from shape_of
 shapes_same s t ms fd zero h = refl
 shapes_same s t ms fd (suc n) h = ap₂ (λ (a b : List Named). a ++ b) (by (lookup (λ m. m == fd) ms) refl) (shapes_same s t ms (fd + 1) n h)
@@ -53,9 +53,9 @@ shapes_same s t ms fd (suc n) h = ap₂ (λ (a b : List Named). a ++ b) (by (loo
 
     by : (o : Option ℕ) → lookup (λ m. m == fd) ms ≡ o → entry_of fd (option_map (λ x. target.Map x.shape) (and_then o (live t))) ≡ entry_of fd (option_map (λ x. target.Map x.shape) (and_then o (live s)))
     by None e = refl
-    by (Some place) e = seen (live t place) (live s place) (h fd place e)
+    by (Some handle) e = seen (live t handle) (live s handle) (h fd handle e)
 
-pub program_kept : (s t : TenantState) (l : LoadedProgram) → IsWholeProgram s l → ((fd place : ℕ) → lookup (λ m. m == fd) l.maps ≡ Some place → shape_of (live t place) ≡ shape_of (live s place)) → IsWholeProgram t l
+pub program_kept : (s t : TenantState) (l : LoadedProgram) → IsWholeProgram s l → ((fd handle : ℕ) → lookup (λ m. m == fd) l.maps ≡ Some handle → shape_of (live t handle) ≡ shape_of (live s handle)) → IsWholeProgram t l
 program_kept s t l whole h = record {
   program = whole.program;
   named = whole.named;
@@ -65,9 +65,9 @@ program_kept s t l whole h = record {
   bound = whole.bound;
 }
 
--- the places of a program's maps are named
-pub program_names : (s : TenantState) (n : ℕ) (l : LoadedProgram) → table.named s.objects n ≡ Some (object.Program l) → (fd place : ℕ) → lookup (λ m. m == fd) l.maps ≡ Some place → is_named s.objects place ≡ true
-program_names s n l there fd place e = named_by s.objects (n - table.first_descriptor) (object.Program l) place (stands_at s.objects n (object.Program l) there) (lookup_names l.maps fd place e)
+-- the handles of a program's maps are named
+pub program_names : (s : TenantState) (n : ℕ) (l : LoadedProgram) → table.named s.objects n ≡ Some (object.Program l) → (fd handle : ℕ) → lookup (λ m. m == fd) l.maps ≡ Some handle → is_named s.objects handle ≡ true
+program_names s n l there fd handle e = named_by s.objects (n - table.first_descriptor) (object.Program l) handle (stands_at s.objects n (object.Program l) there) (lookup_names l.maps fd handle e)
 
 -- ---- changed contents of the same maps
 
@@ -102,25 +102,25 @@ sums_same (x ∷ xs) [] h = let rest = sums_same xs [] (λ i. h (suc i)) in let 
 sums_same (x ∷ xs) (y ∷ ys) h = let rest = sums_same xs ys (λ i. h (suc i)) in let here = h zero in omega arith
 
 -- each map is the same as before or has changed contents
-pub contents_kept : {s : TenantState} → IsRestorable s → (ms : List (Option Map)) (b : Bool) → HoldsItsMaps (record s { maps = ms; refused = b }) → ((place : ℕ) → LeavesMap (live s place) (get_or ms place None)) → IsRestorable (record s { maps = ms; refused = b })
+pub contents_kept : {s : TenantState} → IsRestorable s → (ms : List (Option Map)) (b : Bool) → HoldsItsMaps (record s { maps = ms; refused = b }) → ((handle : ℕ) → LeavesMap (live s handle) (get_or ms handle None)) → IsRestorable (record s { maps = ms; refused = b })
 contents_kept {s} can ms b holds each = record {
   held = holds;
   area = subst (λ (n : ℕ). n ≤ most_bytes) (sym (sums_same s.maps ms (λ i. leaves_weight (live s i) (get_or ms i None) (each i)))) can.area;
-  maps = λ place t there. leaves_whole (live s place) (get_or ms place None) t (each place) (can.maps place) there;
-  programs = λ fd l there. program_kept s (record s { maps = ms; refused = b }) l (can.programs fd l there) (λ other place e. leaves_shape (live s place) (get_or ms place None) (each place));
+  maps = λ handle t there. leaves_whole (live s handle) (get_or ms handle None) t (each handle) (can.maps handle) there;
+  programs = λ fd l there. program_kept s (record s { maps = ms; refused = b }) l (can.programs fd l there) (λ other handle e. leaves_shape (live s handle) (get_or ms handle None) (each handle));
 }
 
 -- one map has changed contents
-pub one_left : (xs : List (Option Map)) (place : ℕ) (t u : Map) → get_or xs place None ≡ Some t → IsLeftOf t u → (p : ℕ) → LeavesMap (get_or xs p None) (get_or (set xs place (Some u)) p None)
-one_left xs place t u there left p = by (set_by_place xs place p (Some u) (there_within xs place (there_is there)))
+pub one_left : (xs : List (Option Map)) (handle : ℕ) (t u : Map) → get_or xs handle None ≡ Some t → IsLeftOf t u → (p : ℕ) → LeavesMap (get_or xs p None) (get_or (set xs handle (Some u)) p None)
+one_left xs handle t u there left p = by (set_by_index xs handle p (Some u) (there_within xs handle (there_is there)))
   where
-    by : ((p ≡ place) × (get_or (set xs place (Some u)) p None ≡ Some u)) ⊎ ((p ≢ place) × (get_or (set xs place (Some u)) p None ≡ get_or xs p None)) → LeavesMap (get_or xs p None) (get_or (set xs place (Some u)) p None)
+    by : ((p ≡ handle) × (get_or (set xs handle (Some u)) p None ≡ Some u)) ⊎ ((p ≢ handle) × (get_or (set xs handle (Some u)) p None ≡ get_or xs p None)) → LeavesMap (get_or xs p None) (get_or (set xs handle (Some u)) p None)
     by (inl (at, e)) = subst (λ (o : Option Map). LeavesMap (get_or xs p None) o) (sym e) (subst (λ (o : Option Map). LeavesMap o (Some u)) (sym (ap (λ (q : ℕ). get_or xs q None) at ∙ there)) left)
     by (inr (other, e)) = subst (λ (o : Option Map). LeavesMap (get_or xs p None) o) (sym e) (leaves_self (get_or xs p None))
 
 -- ---- a test run
 
--- each of these maps is at its place after the run
+-- each of these maps has its handle after the run
 unfoldable pub AreLeftOf : MapsByDescriptor → List (ℕ × ℕ) → List (Option Map) → Type 0
 AreLeftOf left [] xs = Unit {0}
 AreLeftOf left (m ∷ ms) xs = LeavesMap (get_or xs m.1 None) (left m.0) × AreLeftOf left ms xs
@@ -133,7 +133,7 @@ run_left left (m ∷ ms) xs ys all long each p =
     run_left left ms xs (set ys m.1 (left m.0)) all.1 (length-set {A = Option Map} ys m.1 (left m.0) ∙ long) (λ q. one q (cases_lt m.1 (length ys))) p
   where
     one : (q : ℕ) → (m.1 < length ys) ⊎ (length ys ≤ m.1) → LeavesMap (get_or xs q None) (get_or (set ys m.1 (left m.0)) q None)
-    one q (inl within) = by (set_by_place ys m.1 q (left m.0) within)
+    one q (inl within) = by (set_by_index ys m.1 q (left m.0) within)
       where
         by : ((q ≡ m.1) × (get_or (set ys m.1 (left m.0)) q None ≡ left m.0)) ⊎ ((q ≢ m.1) × (get_or (set ys m.1 (left m.0)) q None ≡ get_or ys q None)) → LeavesMap (get_or xs q None) (get_or (set ys m.1 (left m.0)) q None)
         by (inl (at, e)) = subst (λ (o : Option Map). LeavesMap (get_or xs q None) o) (sym e) (subst (λ (k : ℕ). LeavesMap (get_or xs k None) (left m.0)) (sym at) all.0)
@@ -236,16 +236,16 @@ named_get objects fd low =
     ap (λ (b : Bool). if b then None else table.flattened (slice_get objects (fd - table.first_descriptor))) (le-ltb fd table.first_descriptor low) ∙ flattened-get objects (fd - table.first_descriptor)
 
 -- a descriptor that has a shape names an open map
-shaped_is_map : (s : TenantState) (fd : ℕ) → length s.objects ≡ table.most → IsSome (shapes_named (targets s) fd) → IsDescriptor fd × (place : ℕ) × (table.named s.objects fd ≡ Some (object.Map place))
+shaped_is_map : (s : TenantState) (fd : ℕ) → length s.objects ≡ table.most → IsSome (shapes_named (targets s) fd) → IsDescriptor fd × (handle : ℕ) × (table.named s.objects fd ≡ Some (object.Map handle))
 shaped_is_map s fd long some = by_low (cases_lt fd table.first_descriptor)
   where
-    here : (o : Option OpenObject) → table.first_descriptor ≤ fd → get_or s.objects (fd - table.first_descriptor) None ≡ o → IsSome (shape_in (and_then o (object_target s))) → IsDescriptor fd × (place : ℕ) × (table.named s.objects fd ≡ Some (object.Map place))
+    here : (o : Option OpenObject) → table.first_descriptor ≤ fd → get_or s.objects (fd - table.first_descriptor) None ≡ o → IsSome (shape_in (and_then o (object_target s))) → IsDescriptor fd × (handle : ℕ) × (table.named s.objects fd ≡ Some (object.Map handle))
     here None low is some = absurd (true≢false (sym some))
     here (Some (object.Program l)) low is some = absurd (true≢false (sym some))
-    here (Some (object.Map place)) low is some =
-        (record { low = low; high = let within = there_within s.objects (fd - table.first_descriptor) (there_is is) in omega (arith, long) }, place, named_get s.objects fd low ∙ is)
+    here (Some (object.Map handle)) low is some =
+        (record { low = low; high = let within = there_within s.objects (fd - table.first_descriptor) (there_is is) in omega (arith, long) }, handle, named_get s.objects fd low ∙ is)
 
-    by_low : (fd < table.first_descriptor) ⊎ (table.first_descriptor ≤ fd) → IsDescriptor fd × (place : ℕ) × (table.named s.objects fd ≡ Some (object.Map place))
+    by_low : (fd < table.first_descriptor) ⊎ (table.first_descriptor ≤ fd) → IsDescriptor fd × (handle : ℕ) × (table.named s.objects fd ≡ Some (object.Map handle))
     by_low (inl low) = absurd (true≢false (sym some ∙ ap (λ (o : Option Target). is_some (shape_in o)) (targets_below s table.first_descriptor fd s.objects low)))
     by_low (inr low) =
         here (get_or s.objects (fd - table.first_descriptor) None) low refl
@@ -253,23 +253,23 @@ shaped_is_map s fd long some = by_low (cases_lt fd table.first_descriptor)
 
 abbrev bind : Option ℕ → ℕ → List (ℕ × ℕ) → List (ℕ × ℕ)
 bind None fd rest = rest
-bind (Some place) fd rest = (fd, place) ∷ rest
+bind (Some handle) fd rest = (fd, handle) ∷ rest
 
--- each map that an accepted program loads is bound to its place
+-- each map that an accepted program loads is bound to its handle
 record AreBound (s : TenantState) (fds : List ℕ) (ms : List (ℕ × ℕ)) : Type 0 where
   keys : keys_of ms ≡ fds
   opened : AreOpen (table.named s.objects) ms
 
-all_bound : (s : TenantState) → length s.objects ≡ table.most → (fds : List ℕ) → AllByRecursion (λ fd. IsSome (shapes_named (targets s) fd)) fds → AreBound s fds (places_from s.objects fds)
-unfolding places_from
+all_bound : (s : TenantState) → length s.objects ≡ table.most → (fds : List ℕ) → AllByRecursion (λ fd. IsSome (shapes_named (targets s) fd)) fds → AreBound s fds (handles_from s.objects fds)
+unfolding handles_from
 all_bound s long [] h = record { keys = refl; opened = tt }
 all_bound s long (fd ∷ fds) h =
-    let (descriptor, place, there) = shaped_is_map s fd long h.0 in
-    by descriptor place there (all_bound s long fds h.1)
+    let (descriptor, handle, there) = shaped_is_map s fd long h.0 in
+    by descriptor handle there (all_bound s long fds h.1)
   where
-    by : IsDescriptor fd → (place : ℕ) → table.named s.objects fd ≡ Some (object.Map place) → AreBound s fds (places_from s.objects fds) → AreBound s (fd ∷ fds) (bind (named_place (table.named s.objects fd)) fd (places_from s.objects fds))
-    by descriptor place there rest =
-        subst (λ (o : Option OpenObject). AreBound s (fd ∷ fds) (bind (named_place o) fd (places_from s.objects fds))) (sym there)
+    by : IsDescriptor fd → (handle : ℕ) → table.named s.objects fd ≡ Some (object.Map handle) → AreBound s fds (handles_from s.objects fds) → AreBound s (fd ∷ fds) (bind (named_handle (table.named s.objects fd)) fd (handles_from s.objects fds))
+    by descriptor handle there rest =
+        subst (λ (o : Option OpenObject). AreBound s (fd ∷ fds) (bind (named_handle o) fd (handles_from s.objects fds))) (sym there)
         (record { keys = ap (λ (ks : List ℕ). fd ∷ ks) rest.keys; opened = ((descriptor, there), rest.opened) })
 
 -- a program that is loaded is whole
@@ -282,7 +282,7 @@ loaded_whole law s long insns program accepted =
       accepted = accepted;
       picked = refl;
       shaped = ap (λ (fds : List ℕ). entries_of fds (targets s)) (sym is.keys)
-          ∙ ap (λ (os : List (Option OpenObject)). entries_of (keys_of (places_from s.objects (maps_of insns))) (targets_from s table.first_descriptor os)) (sym (table_of s.objects long))
-          ∙ seen s s (table.named s.objects) (places_from s.objects (maps_of insns)) is.opened (λ place e. refl);
+          ∙ ap (λ (os : List (Option OpenObject)). entries_of (keys_of (handles_from s.objects (maps_of insns))) (targets_from s table.first_descriptor os)) (sym (table_of s.objects long))
+          ∙ seen s s (table.named s.objects) (handles_from s.objects (maps_of insns)) is.opened (λ handle e. refl);
       bound = is.keys;
     }

@@ -25,15 +25,15 @@ use Rattle.tenant.specs.declared.object.OpenObject.{OpenObject}
 use Rattle.tenant.specs.declared.object.OpenObject.TheVariants as object
 use Rattle.tenant.specs.Loaded.{LoadedProgram}
 use Rattle.bpf_maps.specs.Limits.{most_bytes, most_maps}
-use Rattle.tenant.specs.State.{Map, TenantState, new_tenant, free_place, live, is_named, shape_area, map_area, maps_area, with_map_at, with_objects}
+use Rattle.tenant.specs.State.{Map, TenantState, new_tenant, free_handle, live, is_named, shape_area, map_area, maps_area, with_map_at, with_objects}
 use Rattle.insn_set.specs.declared.insn.Insn.{Insn}
 use Rattle.verifier.specs.declared.refusal.Refusal.{Refusal}
 use Rattle.verifier.specs.Judgement.{Judges}
-use Rattle.tenant.specs.Machine.{Answer, Answers, refuses, refuses_for_memory, kind_of, asked_shape, new_map, room_for, created_at, created_as, created_under, created, of_place, of_object, on_map, gives_if_found, element_put, element_taken_out, targets, loaded_program, answer_of_judgement, LoadsAs, LoadsUnder, Loads, longest_packet, maps_given, maps_left, outcome_answer, run_of, closed}
+use Rattle.tenant.specs.Machine.{Answer, Answers, refuses, refuses_for_memory, kind_of, asked_shape, new_map, room_for, created_at, created_as, created_under, created, of_handle, of_object, on_map, gives_if_found, element_put, element_taken_out, targets, loaded_program, answer_of_judgement, LoadsAs, LoadsUnder, Loads, longest_packet, maps_given, maps_left, outcome_answer, run_of, closed}
 use Rattle.saving.specs.Alike.{HoldsItsMaps}
 use Rattle.saving.specs.Restorable.{AreDistinct, IsWholeTable, IsWholeMap, IsWholeProgram, IsRestorable}
 use Rattle.saving.specs.Laws.{MapsAreHeld, RestorableIsKept}
-use Rattle.saving.proofs.Lists.{total_in, there_is, not_none, set_by_place}
+use Rattle.saving.proofs.Lists.{total_in, there_is, not_none, set_by_index}
 use Rattle.saving.proofs.Wholes.{from_keys, indexed_keys, index_length, indexed_distinct, indexed_long, whole_with_new, whole_with_object, whole_with_deleted, whole_after_run, all_end, all_without}
 use Rattle.saving.proofs.Limits.{limited, array_key}
 use Rattle.saving.proofs.Moved.{named_by, stands_at, lookup_names}
@@ -138,22 +138,22 @@ module _ {s : TenantState} (can : IsRestorable s) where
   Keeps a = HoldsItsMaps a.after → IsRestorable a.after
 
   flag_kept : (b : Bool) → HoldsItsMaps (record s { refused = b }) → IsRestorable (record s { refused = b })
-  flag_kept b holds = contents_kept can s.maps b holds (λ place. leaves_self (live s place))
+  flag_kept b holds = contents_kept can s.maps b holds (λ handle. leaves_self (live s handle))
 
-  one_kept : (place : ℕ) (t u : Map) → live s place ≡ Some t → IsLeftOf t u → HoldsItsMaps (with_map_at s place u) → IsRestorable (with_map_at s place u)
-  one_kept place t u there left holds = contents_kept can (set s.maps place (Some u)) s.refused holds (one_left s.maps place t u there left)
+  one_kept : (handle : ℕ) (t u : Map) → live s handle ≡ Some t → IsLeftOf t u → HoldsItsMaps (with_map_at s handle u) → IsRestorable (with_map_at s handle u)
+  one_kept handle t u there left holds = contents_kept can (set s.maps handle (Some u)) s.refused holds (one_left s.maps handle t u there left)
 
   -- ---- the calls of a map
 
-  put_kept : (place : ℕ) (t : Map) (key value : List ℕ) (flags : ℕ) (v : call.Verdict (List ℕ)) → live s place ≡ Some t → length key ≡ t.shape.key_size → length value ≡ t.shape.value_size → verdict t key flags ≡ v
-      → Keeps (element_put s place t key value v)
-  put_kept place t key value flags (call.Refused fault) there key_size value_size e holds = can
-  put_kept place t key value flags (call.Present old) there key_size value_size e holds = one_kept place t (with_object t key value) there (old_left t key value value_size) holds
-  put_kept place t key value flags call.New there key_size value_size e holds = one_kept place t (with_new t key value) there (new_left t key value flags key_size value_size e) holds
+  put_kept : (handle : ℕ) (t : Map) (key value : List ℕ) (flags : ℕ) (v : call.Verdict (List ℕ)) → live s handle ≡ Some t → length key ≡ t.shape.key_size → length value ≡ t.shape.value_size → verdict t key flags ≡ v
+      → Keeps (element_put s handle t key value v)
+  put_kept handle t key value flags (call.Refused fault) there key_size value_size e holds = can
+  put_kept handle t key value flags (call.Present old) there key_size value_size e holds = one_kept handle t (with_object t key value) there (old_left t key value value_size) holds
+  put_kept handle t key value flags call.New there key_size value_size e holds = one_kept handle t (with_new t key value) there (new_left t key value flags key_size value_size e) holds
 
-  taken_kept : (place : ℕ) (t : Map) (key : List ℕ) (r : Result (List ℕ) MapFault) → live s place ≡ Some t → removal t key ≡ r → Keeps (element_taken_out s place t key r)
-  taken_kept place t key (Err fault) there e holds = can
-  taken_kept place t key (Ok value) there e holds = one_kept place t (after_run (with_deleted t key)) there (gone_left t key value e) holds
+  taken_kept : (handle : ℕ) (t : Map) (key : List ℕ) (r : Result (List ℕ) MapFault) → live s handle ≡ Some t → removal t key ≡ r → Keeps (element_taken_out s handle t key r)
+  taken_kept handle t key (Err fault) there e holds = can
+  taken_kept handle t key (Ok value) there e holds = one_kept handle t (after_run (with_deleted t key)) there (gone_left t key value e) holds
 
   found_kept : (o : Option (List ℕ)) → Keeps (gives_if_found s o)
   found_kept None holds = can
@@ -163,24 +163,24 @@ module _ {s : TenantState} (can : IsRestorable s) where
   if_kept true a b p q = p refl
   if_kept false a b p q = q
 
-  on_map_kept : (fd : ℕ) (f : ℕ → Map → Answer) → ((place : ℕ) (t : Map) → live s place ≡ Some t → Keeps (f place t)) → Keeps (on_map s fd f)
+  on_map_kept : (fd : ℕ) (f : ℕ → Map → Answer) → ((handle : ℕ) (t : Map) → live s handle ≡ Some t → Keeps (f handle t)) → Keeps (on_map s fd f)
   on_map_kept fd f each = by (table.named s.objects fd)
     where
-      there : (place : ℕ) (o : Option Map) → live s place ≡ o → Keeps (of_place s place f o)
-      there place None is = λ holds. can
-      there place (Some t) is = each place t is
+      there : (handle : ℕ) (o : Option Map) → live s handle ≡ o → Keeps (of_handle s handle f o)
+      there handle None is = λ holds. can
+      there handle (Some t) is = each handle t is
 
       by : (o : Option OpenObject) → Keeps (of_object s f o)
       by None = λ holds. can
       by (Some (object.Program l)) = λ holds. can
-      by (Some (object.Map place)) = there place (live s place) refl
+      by (Some (object.Map handle)) = there handle (live s handle) refl
 
-  update_kept : (flags : ℕ) (bytes : List ℕ) (place : ℕ) (t : Map) → live s place ≡ Some t
-      → Keeps (if length bytes == t.shape.key_size + t.shape.value_size then element_put s place t (take t.shape.key_size bytes) (drop t.shape.key_size bytes) (verdict t (take t.shape.key_size bytes) flags) else refuses Invalid s)
-  update_kept flags bytes place t there =
+  update_kept : (flags : ℕ) (bytes : List ℕ) (handle : ℕ) (t : Map) → live s handle ≡ Some t
+      → Keeps (if length bytes == t.shape.key_size + t.shape.value_size then element_put s handle t (take t.shape.key_size bytes) (drop t.shape.key_size bytes) (verdict t (take t.shape.key_size bytes) flags) else refuses Invalid s)
+  update_kept flags bytes handle t there =
       if_kept (length bytes == t.shape.key_size + t.shape.value_size) _ (refuses Invalid s)
       (λ e. let size = eqb-true (length bytes) (t.shape.key_size + t.shape.value_size) e in
-      put_kept place t (take t.shape.key_size bytes) (drop t.shape.key_size bytes) flags (verdict t (take t.shape.key_size bytes) flags) there
+      put_kept handle t (take t.shape.key_size bytes) (drop t.shape.key_size bytes) flags (verdict t (take t.shape.key_size bytes) flags) there
       (length-take-le t.shape.key_size bytes (omega arith)) (let long = length-drop t.shape.key_size bytes in omega arith) refl)
       (λ holds. can)
 
@@ -205,7 +205,7 @@ module _ {s : TenantState} (can : IsRestorable s) where
 
   run_kept : (words packet : List ℕ) (fd : ℕ) (o : Option OpenObject) → table.named s.objects fd ≡ o → Keeps (run_of s words packet o)
   run_kept words packet fd None there = λ holds. can
-  run_kept words packet fd (Some (object.Map place)) there = λ holds. can
+  run_kept words packet fd (Some (object.Map handle)) there = λ holds. can
   run_kept words packet fd (Some (object.Program l)) there =
       if_kept (nat_lt longest_packet (length packet)) (refuses TooBig s) _ (λ e holds. can)
       (ran_kept l fd there (left_of l.insns (maps_given s l) (length packet ∷ words) packet) (leaves_maps l.insns (maps_given s l) (length packet ∷ words) packet)
@@ -213,47 +213,47 @@ module _ {s : TenantState} (can : IsRestorable s) where
 
   -- ---- MAP_CREATE
 
-  created_kept : (fd place : ℕ) (shape : MapShape) → table.lowest s.objects ≡ Some fd → IsFree s place → maps_area s.maps + shape_area shape ≤ most_bytes → HoldsItsMaps (with_new_map s fd place (new_map shape)) → IsRestorable (with_new_map s fd place (new_map shape))
-  created_kept fd place shape low free fits holds = record {
+  created_kept : (fd handle : ℕ) (shape : MapShape) → table.lowest s.objects ≡ Some fd → IsFree s handle → maps_area s.maps + shape_area shape ≤ most_bytes → HoldsItsMaps (with_new_map s fd handle (new_map shape)) → IsRestorable (with_new_map s fd handle (new_map shape))
+  created_kept fd handle shape low free fits holds = record {
     held = holds;
-    area = let sum = total_in map_area s.maps place (new_map shape) free.within free.none in omega (arith, fits);
-    maps = λ p t there. maps_at p t there (set_by_place s.maps place p (Some (new_map shape)) free.within);
-    programs = λ n l there. program_kept s (with_new_map s fd place (new_map shape)) l (can.programs n l (was n l there)) (λ other p e. ap shape_of (older p (program_names s n l (was n l there) other p e)));
+    area = let sum = total_in map_area s.maps handle (new_map shape) free.within free.none in omega (arith, fits);
+    maps = λ p t there. maps_at p t there (set_by_index s.maps handle p (Some (new_map shape)) free.within);
+    programs = λ n l there. program_kept s (with_new_map s fd handle (new_map shape)) l (can.programs n l (was n l there)) (λ other p e. ap shape_of (older p (program_names s n l (was n l there) other p e)));
   }
     where
-      maps_at : (p : ℕ) (t : Map) → get_or (set s.maps place (Some (new_map shape))) p None ≡ Some t → SetAt s.maps place (new_map shape) p → IsWholeMap t
+      maps_at : (p : ℕ) (t : Map) → get_or (set s.maps handle (Some (new_map shape))) p None ≡ Some t → SetAt s.maps handle (new_map shape) p → IsWholeMap t
       maps_at p t there (inl (at, e)) = subst IsWholeMap (same_Some (new_map shape) t (sym e ∙ there)) (new_map_whole shape)
       maps_at p t there (inr (other, e)) = can.maps p t (sym e ∙ there)
 
-      older : (p : ℕ) → is_named s.objects p ≡ true → get_or (set s.maps place (Some (new_map shape))) p None ≡ live s p
-      older p named = by (set_by_place s.maps place p (Some (new_map shape)) free.within)
+      older : (p : ℕ) → is_named s.objects p ≡ true → get_or (set s.maps handle (Some (new_map shape))) p None ≡ live s p
+      older p named = by (set_by_index s.maps handle p (Some (new_map shape)) free.within)
         where
-          by : SetAt s.maps place (new_map shape) p → get_or (set s.maps place (Some (new_map shape))) p None ≡ live s p
+          by : SetAt s.maps handle (new_map shape) p → get_or (set s.maps handle (Some (new_map shape))) p None ≡ live s p
           by (inl (at, e)) = absurd (not_none (can.held.live_if_named p named) (ap (live s) at ∙ free.none))
           by (inr (other, e)) = e
 
-      was : (n : ℕ) (l : LoadedProgram) → table.named (table.with_open s.objects fd (object.Map place)) n ≡ Some (object.Program l) → table.named s.objects n ≡ Some (object.Program l)
-      was n l there = by (opened_program s.objects fd n (object.Map place) l low there)
+      was : (n : ℕ) (l : LoadedProgram) → table.named (table.with_open s.objects fd (object.Map handle)) n ≡ Some (object.Program l) → table.named s.objects n ≡ Some (object.Program l)
+      was n l there = by (opened_program s.objects fd n (object.Map handle) l low there)
         where
-          by : (let o : OpenObject = object.Map place in o ≡ object.Program l) ⊎ (table.named s.objects n ≡ Some (object.Program l)) → table.named s.objects n ≡ Some (object.Program l)
-          by (inl wrong) = absurd (let no : (let o : OpenObject = object.Map place in o) ≡ object.Program l = wrong in cc no)
+          by : (let o : OpenObject = object.Map handle in o ≡ object.Program l) ⊎ (table.named s.objects n ≡ Some (object.Program l)) → table.named s.objects n ≡ Some (object.Program l)
+          by (inl wrong) = absurd (let no : (let o : OpenObject = object.Map handle in o) ≡ object.Program l = wrong in cc no)
           by (inr same) = same
 
   create_kept : (refused : Bool) (r : Result MapShape Errno) → Keeps (created refused s r)
   create_kept refused (Err errno) = λ holds. can
   create_kept refused (Ok shape) = under (table.lowest s.objects) refl
     where
-      at_place : (refused : Bool) (fd place : ℕ) → table.lowest s.objects ≡ Some fd → IsFree s place → maps_area s.maps + shape_area shape ≤ most_bytes → Keeps (created_at refused s shape fd place)
-      at_place true fd place low free fits = λ holds. flag_kept true holds
-      at_place false fd place low free fits = λ holds. created_kept fd place shape low free fits holds
+      at_handle : (refused : Bool) (fd handle : ℕ) → table.lowest s.objects ≡ Some fd → IsFree s handle → maps_area s.maps + shape_area shape ≤ most_bytes → Keeps (created_at refused s shape fd handle)
+      at_handle true fd handle low free fits = λ holds. flag_kept true holds
+      at_handle false fd handle low free fits = λ holds. created_kept fd handle shape low free fits holds
 
-      by_room : (full : Bool) (fd place : ℕ) → nat_lt most_bytes (maps_area s.maps + shape_area shape) ≡ full → table.lowest s.objects ≡ Some fd → (if full then None else free_place s) ≡ Some place → Keeps (created_at refused s shape fd place)
-      by_room true fd place is low e = absurd (none-some place e)
-      by_room false fd place is low e = at_place refused fd place low (free_at s place e) (ltb-false most_bytes (maps_area s.maps + shape_area shape) is)
+      by_room : (full : Bool) (fd handle : ℕ) → nat_lt most_bytes (maps_area s.maps + shape_area shape) ≡ full → table.lowest s.objects ≡ Some fd → (if full then None else free_handle s) ≡ Some handle → Keeps (created_at refused s shape fd handle)
+      by_room true fd handle is low e = absurd (none-some handle e)
+      by_room false fd handle is low e = at_handle refused fd handle low (free_at s handle e) (ltb-false most_bytes (maps_area s.maps + shape_area shape) is)
 
       room : (fd : ℕ) (o : Option ℕ) → table.lowest s.objects ≡ Some fd → room_for s (shape_area shape) ≡ o → Keeps (created_as refused s shape fd o)
       room fd None low is = λ holds. can
-      room fd (Some place) low is = by_room (nat_lt most_bytes (maps_area s.maps + shape_area shape)) fd place refl low is
+      room fd (Some handle) low is = by_room (nat_lt most_bytes (maps_area s.maps + shape_area shape)) fd handle refl low is
 
       under : (o : Option ℕ) → table.lowest s.objects ≡ o → Keeps (created_under refused s shape o)
       under None low = λ holds. can
@@ -319,10 +319,10 @@ answer_kept held law refused s command a can is = by command is (held.kept refus
 
     by : (c : Command) → Answers refused s c a → HoldsItsMaps a.after → IsRestorable a.after
     by (map_create kind key value max flags) is = told _ is (create_kept can refused (asked_shape (kind_of kind) key value max flags))
-    by (map_lookup fd key) is = told _ is (on_map_kept can fd _ (λ place t there. if_kept can (length key == t.shape.key_size) _ _ (λ e. found_kept can (look_up t key)) (λ holds. can)))
+    by (map_lookup fd key) is = told _ is (on_map_kept can fd _ (λ handle t there. if_kept can (length key == t.shape.key_size) _ _ (λ e. found_kept can (look_up t key)) (λ holds. can)))
     by (map_update fd flags bytes) is = told _ is (on_map_kept can fd _ (update_kept can flags bytes))
-    by (map_delete fd key) is = told _ is (on_map_kept can fd _ (λ place t there. if_kept can (length key == t.shape.key_size) _ _ (λ e. taken_kept can place t key (removal t key) there refl) (λ holds. can)))
-    by (map_next_key fd key) is = told _ is (on_map_kept can fd _ (λ place t there. if_kept can (length key == 0 || length key == t.shape.key_size) _ _ (λ e. found_kept can (next_of t key)) (λ holds. can)))
+    by (map_delete fd key) is = told _ is (on_map_kept can fd _ (λ handle t there. if_kept can (length key == t.shape.key_size) _ _ (λ e. taken_kept can handle t key (removal t key) there refl) (λ holds. can)))
+    by (map_next_key fd key) is = told _ is (on_map_kept can fd _ (λ handle t there. if_kept can (length key == 0 || length key == t.shape.key_size) _ _ (λ e. found_kept can (next_of t key)) (λ holds. can)))
     by (prog_load kind slots) is = loads_kept can law refused kind slots a is
     by (prog_test_run fd words packet) is = told _ is (run_kept can words packet fd (table.named s.objects fd) refl)
     by (close fd) is = told _ is (close_kept can fd (table.named s.objects fd))
@@ -343,7 +343,7 @@ restorable_is_kept held law = record {
   new = record {
     held = held.new;
     area = let sum = none_sum most_maps in omega arith;
-    maps = λ place t there. absurd (none-some t (sym (none_at most_maps place) ∙ there));
+    maps = λ handle t there. absurd (none-some t (sym (none_at most_maps handle) ∙ there));
     programs = λ fd l there. absurd (none-some (object.Program l) (sym (none_at table.most (fd - table.first_descriptor)) ∙ stands_at new_tenant.objects fd (object.Program l) there));
   };
   kept = answer_kept held law;

@@ -24,9 +24,9 @@ not_none some none = true≢false (sym some ∙ ap is_some none)
 
 -- ---- an element that is set
 
-pub set_by_place : {A : Type 0} (xs : List (Option A)) (n i : ℕ) (x : Option A) → n < length xs
+pub set_by_index : {A : Type 0} (xs : List (Option A)) (n i : ℕ) (x : Option A) → n < length xs
     → ((i ≡ n) × (get_or (set xs n x) i None ≡ x)) ⊎ ((i ≢ n) × (get_or (set xs n x) i None ≡ get_or xs i None))
-set_by_place xs n i x within = by (cases_eq i n)
+set_by_index xs n i x within = by (cases_eq i n)
   where
     by : (i ≡ n) ⊎ (i ≡ n → ⊥) → ((i ≡ n) × (get_or (set xs n x) i None ≡ x)) ⊎ ((i ≢ n) × (get_or (set xs n x) i None ≡ get_or xs i None))
     by (inl same) = inl (same, ap (λ (j : ℕ). get_or (set xs n x) j None) same ∙ get_or-set_same xs n x None within)
@@ -88,7 +88,7 @@ total_nothing f (o ∷ os) h =
     let here : weight f o ≡ 0 = ap (weight f) (h zero) in
     omega arith
 
--- a second list with exactly the elements of the first, at other places
+-- a second list with exactly the elements of the first, at other indices
 pub record IsShuffled {A : Type 0} (move : ℕ → ℕ) (xs ys : List (Option A)) : Type 0 where
   pub same : (i : ℕ) → IsSome (get_or xs i None) → get_or ys (move i) None ≡ get_or xs i None
   pub apart : (i j : ℕ) → IsSome (get_or xs i None) → IsSome (get_or xs j None) → move i ≡ move j → i ≡ j
@@ -124,7 +124,7 @@ rest_none {A} move xs ys h = record {
     by k (zero, some, at) = absurd (true≢false (sym some))
     by k (suc i, some, at) = (i, some, at)
 
--- a sum does not depend on the places
+-- a sum does not depend on the indices
 pub total_shuffled : {A : Type 0} (f : A → ℕ) (move : ℕ → ℕ) (xs ys : List (Option A)) → IsShuffled move xs ys → total f ys ≡ total f xs
 unfolding total
 total_shuffled f move [] ys h = total_nothing f ys (λ k. by k (some_or_none (get_or ys k None)))

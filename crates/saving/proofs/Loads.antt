@@ -20,7 +20,7 @@ use Rattle.tenant.specs.declared.object.OpenObject.{OpenObject}
 use Rattle.tenant.specs.declared.object.OpenObject.TheVariants as object
 use Rattle.tenant.specs.Loaded.{LoadedProgram}
 use Rattle.tenant.specs.State.{Map, TenantState, live, names, is_named}
-use Rattle.tenant.specs.Machine.{Answers, opens, object_target, entry_of, targets_from, targets, places_from, named_place, loaded_program, LoadsUnder}
+use Rattle.tenant.specs.Machine.{Answers, opens, object_target, entry_of, targets_from, targets, handles_from, named_handle, loaded_program, LoadsUnder}
 use Rattle.saving.specs.Restored.{load_of}
 use Rattle.saving.specs.Restorable.{shapes_from, IsWholeProgram}
 use Rattle.saving.proofs.Moved.{or_parts}
@@ -36,25 +36,25 @@ SameEntriesSameVerdict = (code : List Insn) (a b : List Named) → entries_of (m
 abbrev pub AreOpen : Opened → List (ℕ × ℕ) → Type 0
 AreOpen f ms = AllByRecursion (λ m. IsDescriptor m.0 × (f m.0 ≡ Some (object.Map m.1))) ms
 
--- ---- the places of its maps
+-- ---- the handles of its maps
 
 abbrev bind : Option ℕ → ℕ → List (ℕ × ℕ) → List (ℕ × ℕ)
 bind None fd rest = rest
-bind (Some place) fd rest = (fd, place) ∷ rest
+bind (Some handle) fd rest = (fd, handle) ∷ rest
 
-pub same_places : (f : Opened) (ms : List (ℕ × ℕ)) → AreOpen f ms → places_from (table f) (keys_of ms) ≡ ms
-unfolding places_from
-same_places f [] h = refl
-same_places f (m ∷ ms) h =
-    ap (λ (o : Option OpenObject). bind (named_place o) m.0 (places_from (table f) (keys_of ms))) (named-table f m.0 h.0.0 ∙ h.0.1)
-    ∙ ap (λ (ns : List (ℕ × ℕ)). m ∷ ns) (same_places f ms h.1)
+pub same_handles : (f : Opened) (ms : List (ℕ × ℕ)) → AreOpen f ms → handles_from (table f) (keys_of ms) ≡ ms
+unfolding handles_from
+same_handles f [] h = refl
+same_handles f (m ∷ ms) h =
+    ap (λ (o : Option OpenObject). bind (named_handle o) m.0 (handles_from (table f) (keys_of ms))) (named-table f m.0 h.0.0 ∙ h.0.1)
+    ∙ ap (λ (ns : List (ℕ × ℕ)). m ∷ ns) (same_handles f ms h.1)
 
-open_at : (f : Opened) (ms : List (ℕ × ℕ)) (fd place : ℕ) → AreOpen f ms → lookup (λ m. m == fd) ms ≡ Some place → f fd ≡ Some (object.Map place)
-open_at f [] fd place h e = absurd (none-some place e)
-open_at f (m ∷ ms) fd place h e = by (m.0 == fd) refl (open_at f ms fd place h.1) e
+open_at : (f : Opened) (ms : List (ℕ × ℕ)) (fd handle : ℕ) → AreOpen f ms → lookup (λ m. m == fd) ms ≡ Some handle → f fd ≡ Some (object.Map handle)
+open_at f [] fd handle h e = absurd (none-some handle e)
+open_at f (m ∷ ms) fd handle h e = by (m.0 == fd) refl (open_at f ms fd handle h.1) e
   where
-    by : (here : Bool) → (m.0 == fd) ≡ here → (lookup (λ k. k == fd) ms ≡ Some place → f fd ≡ Some (object.Map place)) → (if here then Some m.1 else lookup (λ k. k == fd) ms) ≡ Some place → f fd ≡ Some (object.Map place)
-    by true is rest e = ap f (sym (eqb-true m.0 fd is)) ∙ h.0.1 ∙ ap (λ (p : ℕ). Some (object.Map p)) (same_Some m.1 place e)
+    by : (here : Bool) → (m.0 == fd) ≡ here → (lookup (λ k. k == fd) ms ≡ Some handle → f fd ≡ Some (object.Map handle)) → (if here then Some m.1 else lookup (λ k. k == fd) ms) ≡ Some handle → f fd ≡ Some (object.Map handle)
+    by true is rest e = ap f (sym (eqb-true m.0 fd is)) ∙ h.0.1 ∙ ap (λ (p : ℕ). Some (object.Map p)) (same_Some m.1 handle e)
     by false is rest e = rest e
 
 -- ---- the targets that the verifier reads
@@ -74,14 +74,14 @@ filter_entry p fd (Some t) rest = by (p fd)
     by true = refl
     by false = refl
 
-module _ (x s : TenantState) (f : Opened) (ms : List (ℕ × ℕ)) (are_open : AreOpen f ms) (agree : (place : ℕ) → is_named (table f) place ≡ true → live x place ≡ live s place) where
+module _ (x s : TenantState) (f : Opened) (ms : List (ℕ × ℕ)) (are_open : AreOpen f ms) (agree : (handle : ℕ) → is_named (table f) handle ≡ true → live x handle ≡ live s handle) where
   -- the target of the program's map with this descriptor
   abbrev shape_at : ℕ → Option Target
   shape_at fd = option_map (λ t. target.Map t.shape) (and_then (lookup (λ m. m == fd) ms) (live s))
 
-  -- the places of these maps are named
-  named_too : (fd place : ℕ) → IsDescriptor fd → f fd ≡ Some (object.Map place) → is_named (table f) place ≡ true
-  named_too fd place is there = named_from_at f place (record { fd = fd; descriptor = is; o = object.Map place; at = there; named = eq-eqb place place refl })
+  -- the handles of these maps are named
+  named_too : (fd handle : ℕ) → IsDescriptor fd → f fd ≡ Some (object.Map handle) → is_named (table f) handle ≡ true
+  named_too fd handle is there = named_from_at f handle (record { fd = fd; descriptor = is; o = object.Map handle; at = there; named = eq-eqb handle handle refl })
 
   seen_at : (fd : ℕ) → IsDescriptor fd → (if is_among (keys_of ms) fd then entry_of fd (and_then (f fd) (object_target x)) else []) ≡ entry_of fd (shape_at fd)
   seen_at fd is = by (lookup (λ m. m == fd) ms) refl
@@ -90,12 +90,12 @@ module _ (x s : TenantState) (f : Opened) (ms : List (ℕ × ℕ)) (are_open : A
       by None e =
           let no : is_among (keys_of ms) fd ≡ false = sym (is_some-lookup (λ m. m == fd) ms) ∙ ap is_some e in
           ap (λ (b : Bool). if b then entry_of fd (and_then (f fd) (object_target x)) else []) no
-      by (Some place) e =
+      by (Some handle) e =
           let yes : is_among (keys_of ms) fd ≡ true = sym (is_some-lookup (λ m. m == fd) ms) ∙ ap is_some e in
-          let there = open_at f ms fd place are_open e in
+          let there = open_at f ms fd handle are_open e in
           ap (λ (b : Bool). if b then entry_of fd (and_then (f fd) (object_target x)) else []) yes
           ∙ ap (λ (o : Option OpenObject). entry_of fd (and_then o (object_target x))) there
-          ∙ ap (λ (o : Option Map). entry_of fd (option_map (λ t. target.Map t.shape) o)) (agree place (named_too fd place is there))
+          ∙ ap (λ (o : Option Map). entry_of fd (option_map (λ t. target.Map t.shape) o)) (agree handle (named_too fd handle is there))
 
   seen_from : (fd n : ℕ) → first_descriptor ≤ fd → fd + n ≤ first_descriptor + most → filter (λ e. is_among (keys_of ms) e.fd) (targets_from x fd (tabled f fd n)) ≡ shapes_from s ms fd n
   unfolding tabled targets_from shapes_from
@@ -109,29 +109,29 @@ module _ (x s : TenantState) (f : Opened) (ms : List (ℕ × ℕ)) (are_open : A
 
 -- ---- the load
 
-pub open_named : (f : Opened) (ms : List (ℕ × ℕ)) (place : ℕ) → AreOpen f ms → list_any (λ m. m.1 == place) ms ≡ true → is_named (table f) place ≡ true
-open_named f [] place h e = absurd (true≢false (sym e))
-open_named f (m ∷ ms) place h e = by (or_parts (m.1 == place) (list_any (λ k. k.1 == place) ms) e) (open_named f ms place h.1)
+pub open_named : (f : Opened) (ms : List (ℕ × ℕ)) (handle : ℕ) → AreOpen f ms → list_any (λ m. m.1 == handle) ms ≡ true → is_named (table f) handle ≡ true
+open_named f [] handle h e = absurd (true≢false (sym e))
+open_named f (m ∷ ms) handle h e = by (or_parts (m.1 == handle) (list_any (λ k. k.1 == handle) ms) e) (open_named f ms handle h.1)
   where
-    by : ((m.1 == place) ≡ true) ⊎ (list_any (λ k. k.1 == place) ms ≡ true) → (list_any (λ k. k.1 == place) ms ≡ true → is_named (table f) place ≡ true) → is_named (table f) place ≡ true
-    by (inl here) rest = named_from_at f place (record { fd = m.0; descriptor = h.0.0; o = object.Map m.1; at = h.0.1; named = here })
+    by : ((m.1 == handle) ≡ true) ⊎ (list_any (λ k. k.1 == handle) ms ≡ true) → (list_any (λ k. k.1 == handle) ms ≡ true → is_named (table f) handle ≡ true) → is_named (table f) handle ≡ true
+    by (inl here) rest = named_from_at f handle (record { fd = m.0; descriptor = h.0.0; o = object.Map m.1; at = h.0.1; named = here })
     by (inr later) rest = rest later
 
 module _ (s : TenantState) (f : Opened) (l : LoadedProgram) (whole : IsWholeProgram s l) (are_open : AreOpen f l.maps) where
   entries : entries_of (maps_of l.insns) (targets (state_of s f)) ≡ l.named
-  entries = ap (λ (fds : List ℕ). entries_of fds (targets (state_of s f))) (sym whole.bound) ∙ seen (state_of s f) s f l.maps are_open (λ place e. live_if s (table f) place e) ∙ sym whole.shaped
+  entries = ap (λ (fds : List ℕ). entries_of fds (targets (state_of s f))) (sym whole.bound) ∙ seen (state_of s f) s f l.maps are_open (λ handle e. live_if s (table f) handle e) ∙ sym whole.shaped
 
   loaded : loaded_program (state_of s f) l.insns ≡ l
   loaded =
       ap₂ (λ (ns : List Named) (ms : List (ℕ × ℕ)). record { insns = l.insns; named = ns; maps = ms }) entries
-      (ap (places_from (table f)) (sym whole.bound) ∙ same_places f l.maps are_open)
+      (ap (handles_from (table f)) (sym whole.bound) ∙ same_handles f l.maps are_open)
 
   accepted_again : SameEntriesSameVerdict → IsAccepted l.insns (targets (state_of s f))
   accepted_again same = same l.insns whole.named (targets (state_of s f)) (sym whole.picked ∙ sym entries) whole.accepted
 
-  -- the places that the program names were named before
-  names_old : (place : ℕ) → names place (object.Program l) ≡ true → is_named (table f) place ≡ true
-  names_old place e = open_named f l.maps place are_open e
+  -- the handles that the program names were named before
+  names_old : (handle : ℕ) → names handle (object.Program l) ≡ true → is_named (table f) handle ≡ true
+  names_old handle e = open_named f l.maps handle are_open e
 
   pub load_answer : SameEntriesSameVerdict → (fd : ℕ) → IsOnlyFree f fd → Answers false (state_of s f) (load_of l.insns) (opens fd (state_of s (set_at f fd (Some (object.Program l)))))
   load_answer same fd free =
@@ -147,5 +147,5 @@ module _ (s : TenantState) (f : Opened) (l : LoadedProgram) (whole : IsWholeProg
           same_state s (set_at f fd (Some (object.Program l))) (record (state_of s f) { objects = with_open (table f) fd (object.Program (loaded_program (state_of s f) l.insns)) })
           (ap (λ (k : LoadedProgram). with_open (table f) fd (object.Program k)) loaded ∙ table-open f fd (object.Program l) free.descriptor)
           (length_named (table f) 0 s.maps)
-          (λ place. live_with s (table f) place ∙ ap (λ (b : Bool). if b then live s place else None) (sym (opened_names f fd (object.Program l) place free ∙ either (names place (object.Program l)) (is_named (table f) place) (names_old place))))
+          (λ handle. live_with s (table f) handle ∙ ap (λ (b : Bool). if b then live s handle else None) (sym (opened_names f fd (object.Program l) handle free ∙ either (names handle (object.Program l)) (is_named (table f) handle) (names_old handle))))
           refl

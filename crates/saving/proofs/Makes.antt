@@ -24,12 +24,12 @@ use Rattle.tenant.specs.declared.errno.Errno.TheVariants.{Invalid}
 use Rattle.tenant.specs.declared.object.OpenObject.{OpenObject}
 use Rattle.tenant.specs.declared.object.OpenObject.TheVariants as object
 use Rattle.bpf_maps.specs.Limits.{most_bytes}
-use Rattle.tenant.specs.State.{Map, TenantState, live, is_named, named_from, map_area, maps_area, shape_area, free_place, with_map_at}
-use Rattle.tenant.specs.Machine.{Answer, Answers, opens, gives, refuses, kind_of, asked_shape, shape_where, new_map, room_for, created, created_under, created_as, of_object, of_place, element_put}
+use Rattle.tenant.specs.State.{Map, TenantState, live, is_named, named_from, map_area, maps_area, shape_area, free_handle, with_map_at}
+use Rattle.tenant.specs.Machine.{Answer, Answers, opens, gives, refuses, kind_of, asked_shape, shape_where, new_map, room_for, created, created_under, created_as, of_object, of_handle, element_put}
 use Rattle.saving.specs.Restored.{create_of, kind_number, put_of, Leads}
 use Rattle.saving.specs.Restorable.{AreDistinct, IsWholeMap}
 use Rattle.saving.specs.Laws.{MapsAreHeld, AlikeIsBisimulation}
-use Rattle.saving.proofs.Lists.{set_by_place, there_within, there_is}
+use Rattle.saving.proofs.Lists.{set_by_index, there_within, there_is}
 use Rattle.saving.proofs.Wholes.{same_key, not_found, mid_apart, keys_append}
 use Rattle.saving.proofs.Moved.{lowest_moved, or_left}
 use Rattle.saving.proofs.Pairs.{with_new_map, IsFree, SetAt, SameRoom, same_room_for, created_pair}
@@ -189,11 +189,11 @@ put_all t whole = by t.shape.kind refl
 
 -- ---- the updates
 
-put_answer : (x : TenantState) (fd place : ℕ) (t u : Map) (e : Pair) → named x.objects fd ≡ Some (object.Map place) → live x place ≡ Some t → IsPut t e u → length e.0 ≡ t.shape.key_size → length e.1 ≡ t.shape.value_size
-    → Answers false x (put_of fd e) (gives [] (with_map_at x place u))
-put_answer x fd place t u e opened there put key_size value_size =
-    sym (ap (of_object x update) opened ∙ ap (of_place x place update) there ∙ ap (λ (b : Bool). if b then element_put x place t (take t.shape.key_size (e.0 ++ e.1)) (drop t.shape.key_size (e.0 ++ e.1)) (verdict t (take t.shape.key_size (e.0 ++ e.1)) 0) else refuses Invalid x) fits_both
-    ∙ ap₂ (λ (key value : List ℕ). element_put x place t key value (verdict t key 0)) front back ∙ by put)
+put_answer : (x : TenantState) (fd handle : ℕ) (t u : Map) (e : Pair) → named x.objects fd ≡ Some (object.Map handle) → live x handle ≡ Some t → IsPut t e u → length e.0 ≡ t.shape.key_size → length e.1 ≡ t.shape.value_size
+    → Answers false x (put_of fd e) (gives [] (with_map_at x handle u))
+put_answer x fd handle t u e opened there put key_size value_size =
+    sym (ap (of_object x update) opened ∙ ap (of_handle x handle update) there ∙ ap (λ (b : Bool). if b then element_put x handle t (take t.shape.key_size (e.0 ++ e.1)) (drop t.shape.key_size (e.0 ++ e.1)) (verdict t (take t.shape.key_size (e.0 ++ e.1)) 0) else refuses Invalid x) fits_both
+    ∙ ap₂ (λ (key value : List ℕ). element_put x handle t key value (verdict t key 0)) front back ∙ by put)
   where
     update : ℕ → Map → Answer
     update p m =
@@ -210,9 +210,9 @@ put_answer x fd place t u e opened there put key_size value_size =
     back : drop t.shape.key_size (e.0 ++ e.1) ≡ e.1
     back = ap (λ (n : ℕ). drop n (e.0 ++ e.1)) (sym key_size) ∙ drop-append_seam e.0 e.1
 
-    by : IsPut t e u → element_put x place t e.0 e.1 (verdict t e.0 0) ≡ gives [] (with_map_at x place u)
-    by (inl (new, is)) = ap (element_put x place t e.0 e.1) new ∙ ap (λ (m : Map). gives [] (with_map_at x place m)) (sym is)
-    by (inr (old, present, is)) = ap (element_put x place t e.0 e.1) present ∙ ap (λ (m : Map). gives [] (with_map_at x place m)) (sym is)
+    by : IsPut t e u → element_put x handle t e.0 e.1 (verdict t e.0 0) ≡ gives [] (with_map_at x handle u)
+    by (inl (new, is)) = ap (element_put x handle t e.0 e.1) new ∙ ap (λ (m : Map). gives [] (with_map_at x handle m)) (sym is)
+    by (inr (old, present, is)) = ap (element_put x handle t e.0 e.1) present ∙ ap (λ (m : Map). gives [] (with_map_at x handle m)) (sym is)
 
 -- ---- room for the map
 
@@ -245,19 +245,19 @@ area_more objects from (suc i) (m ∷ ms) t there unnamed =
     fewer true o = omega arith
     fewer false o = omega arith
 
--- if some place is free, there is a lowest free place
+-- if some handle is free, there is a lowest free handle
 free_prefix : (xs : List (Option Map)) (n : ℕ) → n < length xs → get_or xs n None ≡ None → prefix_len (λ o. not (is_none o)) xs < length xs
 free_prefix [] n within free = absurd (omega arith)
 free_prefix (None ∷ xs) n within free = omega arith
 free_prefix (Some x ∷ xs) zero within free = absurd (none-some x (sym free))
 free_prefix (Some x ∷ xs) (suc n) within free = let rest = free_prefix xs n (omega arith) free in omega arith
 
-room_of : (x : TenantState) (place size : ℕ) → IsFree x place → maps_area x.maps + size ≤ most_bytes → (p : ℕ) × (room_for x size ≡ Some p)
-room_of x place size free fits =
+room_of : (x : TenantState) (handle size : ℕ) → IsFree x handle → maps_area x.maps + size ≤ most_bytes → (p : ℕ) × (room_for x size ≡ Some p)
+room_of x handle size free fits =
     let n = prefix_len (λ (o : Option Map). not (is_none o)) x.maps in (
       n,
-      ap (λ (b : Bool). if b then None else free_place x) (le-ltb most_bytes (maps_area x.maps + size) fits)
-          ∙ ap (λ (b : Bool). cond b (Some n) None) (lt-ltb n (length x.maps) (free_prefix x.maps place free.within free.none)),
+      ap (λ (b : Bool). if b then None else free_handle x) (le-ltb most_bytes (maps_area x.maps + size) fits)
+          ∙ ap (λ (b : Bool). cond b (Some n) None) (lt-ltb n (length x.maps) (free_prefix x.maps handle free.within free.none)),
     )
 
 -- ---- the whole map
@@ -269,36 +269,36 @@ pub record LeadsTo (t : TenantState) (commands : List Command) (x : TenantState)
   pub after : Follows x end
 
 module _ (held : MapsAreHeld) (bisimulation : AlikeIsBisimulation) where
-  puts_lead : (es : List Pair) (x t : TenantState) (fd place : ℕ) (m u : Map) → Follows x t → named x.objects fd ≡ Some (object.Map place) → place < length x.maps → live x place ≡ Some m
-      → AllByRecursion (λ e. length e.0 ≡ m.shape.key_size) es → AllByRecursion (λ e. length e.1 ≡ m.shape.value_size) es → ArePut m es u → LeadsTo t (map (put_of fd) es) (with_map_at x place u)
-  puts_lead [] x t fd place m u h opened within there keys values put = record {
+  puts_lead : (es : List Pair) (x t : TenantState) (fd handle : ℕ) (m u : Map) → Follows x t → named x.objects fd ≡ Some (object.Map handle) → handle < length x.maps → live x handle ≡ Some m
+      → AllByRecursion (λ e. length e.0 ≡ m.shape.key_size) es → AllByRecursion (λ e. length e.1 ≡ m.shape.value_size) es → ArePut m es u → LeadsTo t (map (put_of fd) es) (with_map_at x handle u)
+  puts_lead [] x t fd handle m u h opened within there keys values put = record {
     end = t;
     leads = refl;
-    after = subst (λ (y : TenantState). Follows y t) (ap (λ (ms : List (Option Map)). record x { maps = ms }) (sym (ap (set x.maps place) (ap (λ (v : Map). Some v) put ∙ sym there) ∙ set-get_or x.maps place None))) h;
+    after = subst (λ (y : TenantState). Follows y t) (ap (λ (ms : List (Option Map)). record x { maps = ms }) (sym (ap (set x.maps handle) (ap (λ (v : Map). Some v) put ∙ sym there) ∙ set-get_or x.maps handle None))) h;
   }
-  puts_lead (e ∷ es) x t fd place m u h opened within there keys values (v, put, shaped, rest) =
-      let one = follows held bisimulation x t (put_of fd e) (gives [] (with_map_at x place v)) h (put_answer x fd place m v e opened there put keys.0 values.0) in
-      let later = puts_lead es (with_map_at x place v) one.b.after fd place v u one.after opened
-      (let long = length-set {A = Option Map} x.maps place (Some v) in omega arith)
-      (get_or-set_same x.maps place (Some v) None within)
+  puts_lead (e ∷ es) x t fd handle m u h opened within there keys values (v, put, shaped, rest) =
+      let one = follows held bisimulation x t (put_of fd e) (gives [] (with_map_at x handle v)) h (put_answer x fd handle m v e opened there put keys.0 values.0) in
+      let later = puts_lead es (with_map_at x handle v) one.b.after fd handle v u one.after opened
+      (let long = length-set {A = Option Map} x.maps handle (Some v) in omega arith)
+      (get_or-set_same x.maps handle (Some v) None within)
       (subst (λ (shape : MapShape). AllByRecursion (λ k. length k.0 ≡ shape.key_size) es) (sym shaped) keys.1)
       (subst (λ (shape : MapShape). AllByRecursion (λ k. length k.1 ≡ shape.value_size) es) (sym shaped) values.1)
       rest in
       record {
         end = later.end;
         leads = (one.b, one.answers, (0, one.status), later.leads);
-        after = subst (λ (ms : List (Option Map)). Follows (record x { maps = ms }) later.end) (set-set x.maps place (Some v) (Some u)) later.after;
+        after = subst (λ (ms : List (Option Map)). Follows (record x { maps = ms }) later.end) (set-set x.maps handle (Some v) (Some u)) later.after;
       }
 
-  -- a new map is created at a free place of each state
-  create_leads : (x t : TenantState) (fd place : ℕ) (shape : MapShape) → Follows x t → lowest x.objects ≡ Some fd → IsFree x place → maps_area x.maps + shape_area shape ≤ most_bytes
-      → (b : Answer) × Answers false t (create_of shape) b × (b.status ≡ pos fd) × Follows (with_new_map x fd place (new_map shape)) b.after
-  create_leads x t fd place shape h low free fits = by (room_of x place (shape_area shape) free fits) (same_room_for h.pair (shape_area shape))
+  -- a new map gets a free handle of each state
+  create_leads : (x t : TenantState) (fd handle : ℕ) (shape : MapShape) → Follows x t → lowest x.objects ≡ Some fd → IsFree x handle → maps_area x.maps + shape_area shape ≤ most_bytes
+      → (b : Answer) × Answers false t (create_of shape) b × (b.status ≡ pos fd) × Follows (with_new_map x fd handle (new_map shape)) b.after
+  create_leads x t fd handle shape h low free fits = by (room_of x handle (shape_area shape) free fits) (same_room_for h.pair (shape_area shape))
     where
       low_too : lowest t.objects ≡ Some fd
       low_too = ap lowest h.pair.by.objects ∙ lowest_moved h.move x.objects ∙ low
 
-      by : (p : ℕ) × (room_for x (shape_area shape) ≡ Some p) → SameRoom x t (shape_area shape) → (b : Answer) × Answers false t (create_of shape) b × (b.status ≡ pos fd) × Follows (with_new_map x fd place (new_map shape)) b.after
+      by : (p : ℕ) × (room_for x (shape_area shape) ≡ Some p) → SameRoom x t (shape_area shape) → (b : Answer) × Answers false t (create_of shape) b × (b.status ≡ pos fd) × Follows (with_new_map x fd handle (new_map shape)) b.after
       by (p, room) (inl (none, too)) = absurd (none-some p (sym none ∙ room))
       by (p, room) (inr (p', q, room_too, room_there, free_p, free_q)) =
           let b = opens fd (with_new_map t fd q (new_map shape)) in
@@ -310,58 +310,58 @@ module _ (held : MapsAreHeld) (bisimulation : AlikeIsBisimulation) where
             answers,
             refl,
             record {
-              move = set_at h.move place q;
+              move = set_at h.move handle q;
               pair = record {
-                one = created_held h.pair.one fd place (new_map shape) low free;
+                one = created_held h.pair.one fd handle (new_map shape) low free;
                 two = held.kept false t (create_of shape) b h.pair.two answers;
-                by = created_pair h.pair fd place q (new_map shape) free free_q;
+                by = created_pair h.pair fd handle q (new_map shape) free free_q;
               };
             },
           )
 
-  pub map_leads : (s : TenantState) (f : Opened) (t : TenantState) (fd place : ℕ) (m : Map) → Follows (state_of s f) t → IsOnlyFree f fd → live s place ≡ Some m → IsWholeMap m → is_named (table f) place ≡ false → maps_area s.maps ≤ most_bytes
-      → LeadsTo t (create_of m.shape ∷ map (put_of fd) m.entries) (state_of s (set_at f fd (Some (object.Map place))))
-  map_leads s f t fd place m h only there whole unnamed fits =
-      let (b, answers, status, after) = create_leads (state_of s f) t fd place m.shape h (lowest-table f fd only) free area in
-      let later = puts_lead m.entries new b.after fd place (new_map m.shape) m after opened (let long = length-set {A = Option Map} before place (Some (new_map m.shape)) in let within = free.within in omega arith)
-      (get_or-set_same before place (Some (new_map m.shape)) None free.within) whole.table.keys whole.values (put_all m whole) in
+  pub map_leads : (s : TenantState) (f : Opened) (t : TenantState) (fd handle : ℕ) (m : Map) → Follows (state_of s f) t → IsOnlyFree f fd → live s handle ≡ Some m → IsWholeMap m → is_named (table f) handle ≡ false → maps_area s.maps ≤ most_bytes
+      → LeadsTo t (create_of m.shape ∷ map (put_of fd) m.entries) (state_of s (set_at f fd (Some (object.Map handle))))
+  map_leads s f t fd handle m h only there whole unnamed fits =
+      let (b, answers, status, after) = create_leads (state_of s f) t fd handle m.shape h (lowest-table f fd only) free area in
+      let later = puts_lead m.entries new b.after fd handle (new_map m.shape) m after opened (let long = length-set {A = Option Map} before handle (Some (new_map m.shape)) in let within = free.within in omega arith)
+      (get_or-set_same before handle (Some (new_map m.shape)) None free.within) whole.table.keys whole.values (put_all m whole) in
       record { end = later.end; leads = (b, answers, (fd, status), later.leads); after = subst (λ (y : TenantState). Follows y later.end) end_is later.after }
     where
       before : List (Option Map)
       before = named_from (table f) 0 s.maps
 
       new : TenantState
-      new = with_new_map (state_of s f) fd place (new_map m.shape)
+      new = with_new_map (state_of s f) fd handle (new_map m.shape)
 
-      zero_place : 0 + place ≡ place
-      zero_place = omega arith
+      zero_handle : 0 + handle ≡ handle
+      zero_handle = omega arith
 
-      free : IsFree (state_of s f) place
+      free : IsFree (state_of s f) handle
       free = record {
-        within = let within = there_within s.maps place (there_is there) in let long = length_named (table f) 0 s.maps in omega arith;
-        none = live_with s (table f) place ∙ ap (λ (b : Bool). if b then live s place else None) unnamed;
+        within = let within = there_within s.maps handle (there_is there) in let long = length_named (table f) 0 s.maps in omega arith;
+        none = live_with s (table f) handle ∙ ap (λ (b : Bool). if b then live s handle else None) unnamed;
       }
 
       area : maps_area before + shape_area m.shape ≤ most_bytes
-      area = let more = area_more (table f) 0 place s.maps m there (ap (is_named (table f)) zero_place ∙ unnamed) in omega (arith, fits)
+      area = let more = area_more (table f) 0 handle s.maps m there (ap (is_named (table f)) zero_handle ∙ unnamed) in omega (arith, fits)
 
-      opened : named new.objects fd ≡ Some (object.Map place)
-      opened = ap (λ (os : List (Option OpenObject)). named os fd) (table-open f fd (object.Map place) only.descriptor) ∙ named-table (set_at f fd (Some (object.Map place))) fd only.descriptor ∙ set_same f fd (Some (object.Map place))
+      opened : named new.objects fd ≡ Some (object.Map handle)
+      opened = ap (λ (os : List (Option OpenObject)). named os fd) (table-open f fd (object.Map handle) only.descriptor) ∙ named-table (set_at f fd (Some (object.Map handle))) fd only.descriptor ∙ set_same f fd (Some (object.Map handle))
 
-      named_is : (p : ℕ) → is_named (table (set_at f fd (Some (object.Map place)))) p ≡ (place == p || is_named (table f) p)
-      named_is p = opened_names f fd (object.Map place) p only
+      named_is : (p : ℕ) → is_named (table (set_at f fd (Some (object.Map handle)))) p ≡ (handle == p || is_named (table f) p)
+      named_is p = opened_names f fd (object.Map handle) p only
 
-      at : (p : ℕ) → SetAt before place m p → get_or (set before place (Some m)) p None ≡ (if is_named (table (set_at f fd (Some (object.Map place)))) p then live s p else None)
+      at : (p : ℕ) → SetAt before handle m p → get_or (set before handle (Some m)) p None ≡ (if is_named (table (set_at f fd (Some (object.Map handle)))) p then live s p else None)
       at p (inl (same, e)) =
-          e ∙ sym (ap (λ (q : Bool). if q then live s p else None) (named_is p ∙ or_left (place == p) (is_named (table f) p) (eq-eqb place p (sym same))) ∙ ap (live s) same ∙ there)
+          e ∙ sym (ap (λ (q : Bool). if q then live s p else None) (named_is p ∙ or_left (handle == p) (is_named (table f) p) (eq-eqb handle p (sym same))) ∙ ap (live s) same ∙ there)
       at p (inr (other, e)) =
           e ∙ live_with s (table f) p
-          ∙ sym (ap (λ (q : Bool). if q then live s p else None) (named_is p ∙ ap (λ (q : Bool). q || is_named (table f) p) (ne_eqb place p (λ same. other (sym same)))))
+          ∙ sym (ap (λ (q : Bool). if q then live s p else None) (named_is p ∙ ap (λ (q : Bool). q || is_named (table f) p) (ne_eqb handle p (λ same. other (sym same)))))
 
-      end_is : with_map_at new place m ≡ state_of s (set_at f fd (Some (object.Map place)))
+      end_is : with_map_at new handle m ≡ state_of s (set_at f fd (Some (object.Map handle)))
       end_is =
-          same_state s (set_at f fd (Some (object.Map place))) (with_map_at new place m)
-          (table-open f fd (object.Map place) only.descriptor)
-          (length-set {A = Option Map} (set before place (Some (new_map m.shape))) place (Some m) ∙ length-set {A = Option Map} before place (Some (new_map m.shape)) ∙ length_named (table f) 0 s.maps)
-          (λ p. ap (λ (ms : List (Option Map)). get_or ms p None) (set-set before place (Some (new_map m.shape)) (Some m)) ∙ at p (set_by_place before place p (Some m) free.within))
+          same_state s (set_at f fd (Some (object.Map handle))) (with_map_at new handle m)
+          (table-open f fd (object.Map handle) only.descriptor)
+          (length-set {A = Option Map} (set before handle (Some (new_map m.shape))) handle (Some m) ∙ length-set {A = Option Map} before handle (Some (new_map m.shape)) ∙ length_named (table f) 0 s.maps)
+          (λ p. ap (λ (ms : List (Option Map)). get_or ms p None) (set-set before handle (Some (new_map m.shape)) (Some m)) ∙ at p (set_by_index before handle p (Some m) free.within))
           refl

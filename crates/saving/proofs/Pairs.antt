@@ -1,4 +1,4 @@
--- Two states, each of which holds its maps, and the second of which is the first with its maps at other places.
+-- Two states, each of which holds its maps, and the second of which is the first with its maps under other handles.
 use Rattle.std.proofs.Common.{◌≡◌, ◌≢◌, ℕ, ◌+◌, ◌<◌, Bool, true, false, List, length, set, get_or, Option, Some, None, IsSome, is_some, refl, sym, ap, ap₂, ◌∙◌, inl, inr, true≢false}
 use Rattle.std.specs.Prelude.{ℤ, ◌⊎◌, nat_lt, is_none, if◌then◌else◌}
 use Rattle.std.proofs.lemmas.Bool.{eq-eqb, ne_eqb}
@@ -8,10 +8,10 @@ use Rattle.tagged_model.specs.State.{set_at}
 use Rattle.tenant.specs.declared.object.OpenObject.{OpenObject}
 use Rattle.tenant.specs.declared.object.OpenObject.TheVariants as object
 use Rattle.bpf_maps.specs.Limits.{most_bytes}
-use Rattle.tenant.specs.State.{Map, TenantState, live, map_area, maps_area, free_place, is_named, with_map_at}
+use Rattle.tenant.specs.State.{Map, TenantState, live, map_area, maps_area, free_handle, is_named, with_map_at}
 use Rattle.tenant.specs.Machine.{room_for}
 use Rattle.saving.specs.Alike.{moved_objects, IsMovedBy, IsAlikeAnswer, HoldsItsMaps}
-use Rattle.saving.proofs.Lists.{there_is, not_none, set_by_place, there_within, total_shuffled, IsShuffled, same_room}
+use Rattle.saving.proofs.Lists.{there_is, not_none, set_by_index, there_within, total_shuffled, IsShuffled, same_room}
 use Rattle.saving.proofs.Moved.{open_moved, same_objects}
 
 pub record ArePair (move : ℕ → ℕ) (s t : TenantState) : Type 0 where
@@ -19,8 +19,8 @@ pub record ArePair (move : ℕ → ℕ) (s t : TenantState) : Type 0 where
   pub two : HoldsItsMaps t
   pub by : IsMovedBy move s t
 
-pub same_named : {move : ℕ → ℕ} {s t : TenantState} → ArePair move s t → (place : ℕ) → is_named s.objects place ≡ true → live t (move place) ≡ live s place
-same_named h place e = h.by.same place (h.one.live_if_named place e)
+pub same_named : {move : ℕ → ℕ} {s t : TenantState} → ArePair move s t → (handle : ℕ) → is_named s.objects handle ≡ true → live t (move handle) ≡ live s handle
+same_named h handle e = h.by.same handle (h.one.live_if_named handle e)
 
 -- ---- replies that change nothing, or only the flag
 
@@ -47,42 +47,42 @@ changed {move} {s} {t} h ms ns a b first second each = record {
     was : (p : ℕ) → IsSome (get_or ms p None) → IsSome (live s p)
     was p some = sym (first p) ∙ some
 
--- the element at each place after one is set
+-- the map of each handle after one is set
 abbrev pub SetAt : List (Option Map) → ℕ → Map → ℕ → Type 0
 SetAt xs n m i = ((i ≡ n) × (get_or (set xs n (Some m)) i None ≡ Some m)) ⊎ ((i ≢ n) × (get_or (set xs n (Some m)) i None ≡ get_or xs i None))
 
 -- changed contents of one map
-pub changed_one : {move : ℕ → ℕ} {s t : TenantState} → ArePair move s t → (place : ℕ) (m : Map) → is_named s.objects place ≡ true → IsMovedBy move (with_map_at s place m) (with_map_at t (move place) m)
-changed_one {move} {s} {t} h place m named =
-    changed h (set s.maps place (Some m)) (set t.maps (move place) (Some m)) s.refused t.refused
-    (λ p. still s.maps place p (h.one.live_if_named place named))
-    (λ q. still t.maps (move place) q (ap is_some (same_named h place named) ∙ h.one.live_if_named place named))
-    (λ p e. each p e (set_by_place s.maps place p (Some m) (there_within s.maps place (h.one.live_if_named place named))))
+pub changed_one : {move : ℕ → ℕ} {s t : TenantState} → ArePair move s t → (handle : ℕ) (m : Map) → is_named s.objects handle ≡ true → IsMovedBy move (with_map_at s handle m) (with_map_at t (move handle) m)
+changed_one {move} {s} {t} h handle m named =
+    changed h (set s.maps handle (Some m)) (set t.maps (move handle) (Some m)) s.refused t.refused
+    (λ p. still s.maps handle p (h.one.live_if_named handle named))
+    (λ q. still t.maps (move handle) q (ap is_some (same_named h handle named) ∙ h.one.live_if_named handle named))
+    (λ p e. each p e (set_by_index s.maps handle p (Some m) (there_within s.maps handle (h.one.live_if_named handle named))))
   where
     still : (xs : List (Option Map)) (n i : ℕ) → IsSome (get_or xs n None) → is_some (get_or (set xs n (Some m)) i None) ≡ is_some (get_or xs i None)
-    still xs n i some = by (set_by_place xs n i (Some m) (there_within xs n some))
+    still xs n i some = by (set_by_index xs n i (Some m) (there_within xs n some))
       where
         by : SetAt xs n m i → is_some (get_or (set xs n (Some m)) i None) ≡ is_some (get_or xs i None)
         by (inl (at, e)) = ap is_some e ∙ sym (ap (λ (j : ℕ). is_some (get_or xs j None)) at ∙ some)
         by (inr (other, e)) = ap is_some e
 
-    there : IsSome (live t (move place))
-    there = ap is_some (same_named h place named) ∙ h.one.live_if_named place named
+    there : IsSome (live t (move handle))
+    there = ap is_some (same_named h handle named) ∙ h.one.live_if_named handle named
 
     each : (p : ℕ) → is_named s.objects p ≡ true
-        → SetAt s.maps place m p
-        → get_or (set t.maps (move place) (Some m)) (move p) None ≡ get_or (set s.maps place (Some m)) p None
-    each p e (inl (at, is)) = here (set_by_place t.maps (move place) (move p) (Some m) (there_within t.maps (move place) there)) ∙ sym is
+        → SetAt s.maps handle m p
+        → get_or (set t.maps (move handle) (Some m)) (move p) None ≡ get_or (set s.maps handle (Some m)) p None
+    each p e (inl (at, is)) = here (set_by_index t.maps (move handle) (move p) (Some m) (there_within t.maps (move handle) there)) ∙ sym is
       where
-        here : SetAt t.maps (move place) m (move p)
-            → get_or (set t.maps (move place) (Some m)) (move p) None ≡ Some m
+        here : SetAt t.maps (move handle) m (move p)
+            → get_or (set t.maps (move handle) (Some m)) (move p) None ≡ Some m
         here (inl (same, e)) = e
         here (inr (other, e)) = absurd (other (ap move at))
-    each p e (inr (other, is)) = here (set_by_place t.maps (move place) (move p) (Some m) (there_within t.maps (move place) there)) ∙ sym is
+    each p e (inr (other, is)) = here (set_by_index t.maps (move handle) (move p) (Some m) (there_within t.maps (move handle) there)) ∙ sym is
       where
-        here : SetAt t.maps (move place) m (move p)
-            → get_or (set t.maps (move place) (Some m)) (move p) None ≡ live s p
-        here (inl (same, _)) = absurd (other (h.by.apart p place (h.one.live_if_named p e) (h.one.live_if_named place named) same))
+        here : SetAt t.maps (move handle) m (move p)
+            → get_or (set t.maps (move handle) (Some m)) (move p) None ≡ live s p
+        here (inl (same, _)) = absurd (other (h.by.apart p handle (h.one.live_if_named p e) (h.one.live_if_named handle named) same))
         here (inr (apart, is_too)) = is_too ∙ same_named h p e
 
 -- ---- a new map
@@ -94,31 +94,31 @@ set_there : (f : ℕ → ℕ) (i x k : ℕ) → k ≢ i → set_at f i x k ≡ f
 set_there f i x k other = ap (λ (b : Bool). if b then x else f k) (ne_eqb k i other)
 
 abbrev pub with_new_map : TenantState → ℕ → ℕ → Map → TenantState
-with_new_map s fd place m = record s { objects = with_open s.objects fd (object.Map place); maps = set s.maps place (Some m) }
+with_new_map s fd handle m = record s { objects = with_open s.objects fd (object.Map handle); maps = set s.maps handle (Some m) }
 
--- a place without a map
-pub record IsFree (s : TenantState) (place : ℕ) : Type 0 where
-  pub within : place < length s.maps
-  pub none : live s place ≡ None
+-- a handle without a map
+pub record IsFree (s : TenantState) (handle : ℕ) : Type 0 where
+  pub within : handle < length s.maps
+  pub none : live s handle ≡ None
 
--- the new map may be at any free place of each state
+-- the new map may have any free handle of each state
 pub created_pair : {move : ℕ → ℕ} {s t : TenantState} → ArePair move s t → (fd p q : ℕ) (m : Map) → IsFree s p → IsFree t q → IsMovedBy (set_at move p q) (with_new_map s fd p m) (with_new_map t fd q m)
 created_pair {move} {s} {t} h fd p q m free_p free_q = record {
   objects = objects;
-  same = λ i some. same i some (set_by_place s.maps p i (Some m) free_p.within);
-  apart = λ i j x y e. apart i j x y e (set_by_place s.maps p i (Some m) free_p.within) (set_by_place s.maps p j (Some m) free_p.within);
-  only = λ k some. only k some (set_by_place t.maps q k (Some m) free_q.within);
+  same = λ i some. same i some (set_by_index s.maps p i (Some m) free_p.within);
+  apart = λ i j x y e. apart i j x y e (set_by_index s.maps p i (Some m) free_p.within) (set_by_index s.maps p j (Some m) free_p.within);
+  only = λ k some. only k some (set_by_index t.maps q k (Some m) free_q.within);
 }
   where
-    -- no live map is at the place of the new one
-    other_place : (i : ℕ) → IsSome (live s i) → i ≢ p
-    other_place i some e = not_none some (ap (live s) e ∙ free_p.none)
+    -- no live map has the handle of the new one
+    other_handle : (i : ℕ) → IsSome (live s i) → i ≢ p
+    other_handle i some e = not_none some (ap (live s) e ∙ free_p.none)
 
     other_target : (i : ℕ) → IsSome (live s i) → move i ≢ q
     other_target i some e = not_none some (sym (h.by.same i some) ∙ ap (live t) e ∙ free_q.none)
 
     moved_as : (i : ℕ) → IsSome (live s i) → set_at move p q i ≡ move i
-    moved_as i some = set_there move p q i (other_place i some)
+    moved_as i some = set_there move p q i (other_handle i some)
 
     objects : with_open t.objects fd (object.Map q) ≡ moved_objects (set_at move p q) (with_open s.objects fd (object.Map p))
     objects =
@@ -129,7 +129,7 @@ created_pair {move} {s} {t} h fd p q m free_p free_q = record {
 
     -- the map at the target of an older map is the same
     older : (i : ℕ) → IsSome (live s i) → get_or (set t.maps q (Some m)) (move i) None ≡ live s i
-    older i some = by (set_by_place t.maps q (move i) (Some m) free_q.within)
+    older i some = by (set_by_index t.maps q (move i) (Some m) free_q.within)
       where
         by : SetAt t.maps q m (move i)
             → get_or (set t.maps q (Some m)) (move i) None ≡ live s i
@@ -137,7 +137,7 @@ created_pair {move} {s} {t} h fd p q m free_p free_q = record {
         by (inr (other, e)) = e ∙ h.by.same i some
 
     newer : get_or (set t.maps q (Some m)) q None ≡ Some m
-    newer = by (set_by_place t.maps q q (Some m) free_q.within)
+    newer = by (set_by_index t.maps q q (Some m) free_q.within)
       where
         by : SetAt t.maps q m q → get_or (set t.maps q (Some m)) q None ≡ Some m
         by (inl (at, e)) = e
@@ -163,14 +163,14 @@ created_pair {move} {s} {t} h fd p q m free_p free_q = record {
         h.by.apart i j a b (sym (moved_as i a) ∙ e ∙ moved_as j b)
 
     still : (i : ℕ) → IsSome (live s i) → IsSome (get_or (set s.maps p (Some m)) i None)
-    still i some = by (set_by_place s.maps p i (Some m) free_p.within)
+    still i some = by (set_by_index s.maps p i (Some m) free_p.within)
       where
         by : SetAt s.maps p m i → IsSome (get_or (set s.maps p (Some m)) i None)
         by (inl (at, e)) = there_is e
         by (inr (other, e)) = ap is_some e ∙ some
 
     here : IsSome (get_or (set s.maps p (Some m)) p None)
-    here = by (set_by_place s.maps p p (Some m) free_p.within)
+    here = by (set_by_index s.maps p p (Some m) free_p.within)
       where
         by : SetAt s.maps p m p → IsSome (get_or (set s.maps p (Some m)) p None)
         by (inl (at, e)) = there_is e
@@ -190,8 +190,8 @@ is_absent : (o : Option Map) → is_none o ≡ true → o ≡ None
 is_absent None e = refl
 is_absent (Some m) e = absurd (true≢false (sym e))
 
-pub free_at : (s : TenantState) (place : ℕ) → free_place s ≡ Some place → IsFree s place
-free_at s place e = let (within, free, lower) = position-Some is_none s.maps place None e in record { within = within; none = is_absent (live s place) free }
+pub free_at : (s : TenantState) (handle : ℕ) → free_handle s ≡ Some handle → IsFree s handle
+free_at s handle e = let (within, free, lower) = position-Some is_none s.maps handle None e in record { within = within; none = is_absent (live s handle) free }
 
 abbrev pub SameRoom : TenantState → TenantState → ℕ → Type 0
 SameRoom s t size = ((room_for s size ≡ None) × (room_for t size ≡ None)) ⊎ ((p : ℕ) × (q : ℕ) × (room_for s size ≡ Some p) × (room_for t size ≡ Some q) × IsFree s p × IsFree t q)
@@ -202,10 +202,10 @@ same_room_for {move} {s} {t} h size = by (nat_lt most_bytes (maps_area s.maps + 
     areas : nat_lt most_bytes (maps_area t.maps + size) ≡ nat_lt most_bytes (maps_area s.maps + size)
     areas = ap (λ (n : ℕ). nat_lt most_bytes (n + size)) (total_shuffled map_area move s.maps t.maps (shuffled h.by))
 
-    by_free : nat_lt most_bytes (maps_area s.maps + size) ≡ false → ((free_place s ≡ None) × (free_place t ≡ None)) ⊎ ((p : ℕ) × (q : ℕ) × (free_place s ≡ Some p) × (free_place t ≡ Some q)) → SameRoom s t size
-    by_free e (inl (a, b)) = inl (ap (λ (x : Bool). if x then None else free_place s) e ∙ a, ap (λ (x : Bool). if x then None else free_place t) (areas ∙ e) ∙ b)
-    by_free e (inr (p, q, a, b)) = inr (p, q, ap (λ (x : Bool). if x then None else free_place s) e ∙ a, ap (λ (x : Bool). if x then None else free_place t) (areas ∙ e) ∙ b, free_at s p a, free_at t q b)
+    by_free : nat_lt most_bytes (maps_area s.maps + size) ≡ false → ((free_handle s ≡ None) × (free_handle t ≡ None)) ⊎ ((p : ℕ) × (q : ℕ) × (free_handle s ≡ Some p) × (free_handle t ≡ Some q)) → SameRoom s t size
+    by_free e (inl (a, b)) = inl (ap (λ (x : Bool). if x then None else free_handle s) e ∙ a, ap (λ (x : Bool). if x then None else free_handle t) (areas ∙ e) ∙ b)
+    by_free e (inr (p, q, a, b)) = inr (p, q, ap (λ (x : Bool). if x then None else free_handle s) e ∙ a, ap (λ (x : Bool). if x then None else free_handle t) (areas ∙ e) ∙ b, free_at s p a, free_at t q b)
 
     by : (full : Bool) → nat_lt most_bytes (maps_area s.maps + size) ≡ full → SameRoom s t size
-    by true e = inl (ap (λ (x : Bool). if x then None else free_place s) e, ap (λ (x : Bool). if x then None else free_place t) (areas ∙ e))
-    by false e = by_free e (same_room s.maps t.maps (h.one.places ∙ sym h.two.places) (sym (total_shuffled (λ m. 1) move s.maps t.maps (shuffled h.by))))
+    by true e = inl (ap (λ (x : Bool). if x then None else free_handle s) e, ap (λ (x : Bool). if x then None else free_handle t) (areas ∙ e))
+    by false e = by_free e (same_room s.maps t.maps (h.one.handles ∙ sym h.two.handles) (sym (total_shuffled (λ m. 1) move s.maps t.maps (shuffled h.by))))

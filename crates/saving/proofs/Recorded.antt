@@ -29,15 +29,15 @@ use Rattle.saving.proofs.Births.{same_births}
 
 -- ---- whether a map is live does not depend on the bytes of a part
 
-live_in_each : (k : KeptTenant) (p q : List ℕ) (place : ℕ) → IsSome (live (state_in p k) place) → IsSome (live (state_in q k) place)
-live_in_each k p q place some = sym (some_at_each p q k.live place) ∙ some
+live_in_each : (k : KeptTenant) (p q : List ℕ) (handle : ℕ) → IsSome (live (state_in p k) handle) → IsSome (live (state_in q k) handle)
+live_in_each k p q handle some = sym (some_at_each p q k.live handle) ∙ some
 
 held_in_each : (k : KeptTenant) (p q : List ℕ) → HoldsItsMaps (state_in p k) → HoldsItsMaps (state_in q k)
 held_in_each k p q h = record {
   descriptors = h.descriptors;
-  places = length-at (map_at q k.live);
-  live_if_named = λ place named. live_in_each k p q place (h.live_if_named place named);
-  named_if_live = λ place some. h.named_if_live place (live_in_each k q p place some);
+  handles = length-at (map_at q k.live);
+  live_if_named = λ handle named. live_in_each k p q handle (h.live_if_named handle named);
+  named_if_live = λ handle some. h.named_if_live handle (live_in_each k q p handle some);
 }
 
 births_in_each : (k : KeptTenant) (p q : List ℕ) (births : List Birth) → AreBirths (state_in p k) births → AreBirths (state_in q k) births

@@ -16,7 +16,7 @@ use Rattle.tenant.specs.declared.object.OpenObject.TheVariants as object
 use Rattle.tenant.specs.Loaded.{LoadedProgram}
 use Rattle.bpf_maps.specs.Limits.{most_maps}
 use Rattle.tenant.specs.State.{Map, TenantState, new_tenant, live, names, is_named, named_from}
-use Rattle.tenant.specs.Machine.{Answers, gives, opens, targets, places_from, loaded_program, LoadsUnder}
+use Rattle.tenant.specs.Machine.{Answers, gives, opens, targets, handles_from, loaded_program, LoadsUnder}
 use Rattle.saving.specs.Alike.{HoldsItsMaps}
 use Rattle.saving.specs.Births.{Birth, birth_of, latest_at, AreBirths}
 use Rattle.saving.specs.Filler.{filler}
@@ -51,9 +51,9 @@ no_entries [] = refl
 no_entries (n ∷ ns) = no_entries ns
 
 -- the filler loads no map
-no_places : (objects : List (Option OpenObject)) → places_from objects (maps_of filler) ≡ []
-unfolding places_from distinct
-no_places objects = refl
+no_handles : (objects : List (Option OpenObject)) → handles_from objects (maps_of filler) ≡ []
+unfolding handles_from distinct
+no_handles objects = refl
 
 no_loads : maps_of filler ≡ []
 unfolding distinct
@@ -63,7 +63,7 @@ filler_again : (k : ℕ) → loaded_program (filling k) filler ≡ filler_progra
 filler_again k =
     ap₂ (λ (ns : List Named) (ms : List (ℕ × ℕ)). record { insns = filler; named = ns; maps = ms })
     (ap (λ (fds : List ℕ). entries_of fds (targets (filling k))) no_loads ∙ no_entries (targets (filling k)))
-    (no_places (table (filled_to k)))
+    (no_handles (table (filled_to k)))
 
 next_filled : (k fd : ℕ) → set_at (filled_to k) k (Some (object.Program filler_program)) fd ≡ filled_to (k + 1) fd
 next_filled k fd = by (cases_eq fd k)
@@ -137,7 +137,7 @@ module _ (held : MapsAreHeld) (bisimulation : AlikeIsBisimulation) (s : TenantSt
   still_open k o is = ap (λ (b : Option Birth). Some (object_of s b)) (are.latest k o is) ∙ ap (λ (x : OpenObject). Some x) (by o is)
     where
       by : (o : OpenObject) → named s.objects k ≡ Some o → object_of s (Some (birth_of k o)) ≡ o
-      by (object.Map place) is = refl
+      by (object.Map handle) is = refl
       by (object.Program l) is = ap program_or is
 
   same_closed : (k fd : ℕ) (o : OpenObject) → named s.objects k ≡ Some o → closed_to s births k fd ≡ closed_to s births (k + 1) fd
@@ -171,7 +171,7 @@ module _ (held : MapsAreHeld) (bisimulation : AlikeIsBisimulation) (s : TenantSt
   end_is : HoldsItsMaps s → record s { refused = false } ≡ state_of s (closed_to s births (first_descriptor + most))
   end_is holds =
       same_state s (closed_to s births (first_descriptor + most)) (record s { refused = false }) (sym objects) refl
-      (λ place. by place (some_or_none (live s place)) ∙ ap (λ (os : List (Option OpenObject)). if is_named os place then live s place else None) (sym objects)) refl
+      (λ handle. by handle (some_or_none (live s handle)) ∙ ap (λ (os : List (Option OpenObject)). if is_named os handle then live s handle else None) (sym objects)) refl
     where
       objects : table (closed_to s births (first_descriptor + most)) ≡ s.objects
       objects = table-same (closed_to s births (first_descriptor + most)) (named s.objects) (λ fd is. below (first_descriptor + most) fd is.high) ∙ table_of s.objects holds.descriptors
@@ -180,48 +180,48 @@ module _ (held : MapsAreHeld) (bisimulation : AlikeIsBisimulation) (s : TenantSt
       either true = refl
       either false = refl
 
-      by : (place : ℕ) → IsSome (live s place) ⊎ (live s place ≡ None) → live s place ≡ (if is_named s.objects place then live s place else None)
-      by place (inl some) = sym (ap (λ (b : Bool). if b then live s place else None) (holds.named_if_live place some))
-      by place (inr none) = none ∙ either (is_named s.objects place) ∙ ap (λ (o : Option Map). if is_named s.objects place then o else None) (sym none)
+      by : (handle : ℕ) → IsSome (live s handle) ⊎ (live s handle ≡ None) → live s handle ≡ (if is_named s.objects handle then live s handle else None)
+      by handle (inl some) = sym (ap (λ (b : Bool). if b then live s handle else None) (holds.named_if_live handle some))
+      by handle (inr none) = none ∙ either (is_named s.objects handle) ∙ ap (λ (o : Option Map). if is_named s.objects handle then o else None) (sym none)
 
 -- ---- the state before the first birth
 
-none_born : (s : TenantState) (place : ℕ) → NamesAt (at_births s []) place → ⊥
-none_born s place h = true≢false (sym h.named ∙ ap (names place) (sym (same_Some (object.Program filler_program) h.o h.at)))
+none_born : (s : TenantState) (handle : ℕ) → NamesAt (at_births s []) handle → ⊥
+none_born s handle h = true≢false (sym h.named ∙ ap (names handle) (sym (same_Some (object.Program filler_program) h.o h.at)))
 
-unborn : (s : TenantState) (place : ℕ) → is_named (table (at_births s [])) place ≡ false
-unborn s place = by (is_named (table (at_births s [])) place) refl
+unborn : (s : TenantState) (handle : ℕ) → is_named (table (at_births s [])) handle ≡ false
+unborn s handle = by (is_named (table (at_births s [])) handle) refl
   where
-    by : (b : Bool) → is_named (table (at_births s [])) place ≡ b → is_named (table (at_births s [])) place ≡ false
-    by true e = absurd (none_born s place (names_at (at_births s []) place e))
+    by : (b : Bool) → is_named (table (at_births s [])) handle ≡ b → is_named (table (at_births s [])) handle ≡ false
+    by true e = absurd (none_born s handle (names_at (at_births s []) handle e))
     by false e = e
 
-no_map : (n place : ℕ) → let none : Option Map = None in get_or (replicate n none) place none ≡ none
-no_map zero place = refl
+no_map : (n handle : ℕ) → let none : Option Map = None in get_or (replicate n none) handle none ≡ none
+no_map zero handle = refl
 no_map (suc n) zero = refl
-no_map (suc n) (suc place) = no_map n place
+no_map (suc n) (suc handle) = no_map n handle
 
 begins : (s : TenantState) → HoldsItsMaps s → HoldsItsMaps (filling (first_descriptor + most)) → Follows (state_of s (at_births s [])) (filling (first_descriptor + most))
 begins s holds full = record {
-  move = λ place. place;
+  move = λ handle. handle;
   pair = record {
-    one = held_of s (at_births s []) holds (λ place e. absurd (true≢false (sym e ∙ unborn s place)));
+    one = held_of s (at_births s []) holds (λ handle e. absurd (true≢false (sym e ∙ unborn s handle)));
     two = full;
     by = record {
       objects = table-same (filled_to (first_descriptor + most)) (at_births s []) (λ fd is. ap (λ (b : Bool). if b then Some (object.Program filler_program) else None) (lt-ltb fd (first_descriptor + most) is.high))
-          ∙ sym (table-moved (λ place. place) (at_births s []) first_descriptor most);
-      same = λ place some. absurd (not_none some (nothing place));
+          ∙ sym (table-moved (λ handle. handle) (at_births s []) first_descriptor most);
+      same = λ handle some. absurd (not_none some (nothing handle));
       apart = λ p q some _ _. absurd (not_none some (nothing p));
       only = λ q some. absurd (not_none some (empty q));
     };
   };
 }
   where
-    nothing : (place : ℕ) → live (state_of s (at_births s [])) place ≡ None
-    nothing place = live_with s (table (at_births s [])) place ∙ ap (λ (b : Bool). if b then live s place else None) (unborn s place)
+    nothing : (handle : ℕ) → live (state_of s (at_births s [])) handle ≡ None
+    nothing handle = live_with s (table (at_births s [])) handle ∙ ap (λ (b : Bool). if b then live s handle else None) (unborn s handle)
 
-    empty : (place : ℕ) → live (filling (first_descriptor + most)) place ≡ None
-    empty place = no_map most_maps place
+    empty : (handle : ℕ) → live (filling (first_descriptor + most)) handle ≡ None
+    empty handle = no_map most_maps handle
 
 -- ---- the whole walk
 

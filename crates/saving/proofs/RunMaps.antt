@@ -28,7 +28,7 @@ use Rattle.insn_set.specs.declared.atomic.AtomicSize.{AtomicSize}
 use Rattle.insn_set.specs.declared.atomic.AtomicOp.{AtomicOp}
 use Rattle.insn_set.specs.Atomic.{atomic_operator, is_wide_atomic, access_size}
 use Rattle.insn_set.specs.Flow.{natural}
-use Rattle.tagged_model.specs.State.{RunState, RunMap, at_slot, with_cell, with_map, stack_place, stack_store, object_written, object_stored, value_written, with_value, store, load, is_aligned_at}
+use Rattle.tagged_model.specs.State.{RunState, RunMap, at_slot, with_cell, with_map, access_start, stack_store, object_written, object_stored, value_written, with_value, store, load, is_aligned_at}
 use Rattle.tagged_model.specs.Helpers.{called, helper_of, put, taken_out}
 use Rattle.tagged_model.specs.HelperLaws.{MapAfterCall, unchanged, written, after_update, after_delete, EntryAfterCall, LeavesAfterCall, call_leaves}
 use Rattle.tagged_model.specs.Step.{Step, goes, ends, faults, or_fault, assigned, operand_value, jumped, branched, ended, changed, accessed, loaded_wide, act_of, step, run, Ending, ending_after, MapsByDescriptor, start_of_run, numbered, first_map, last_map, left_of, run_with}
@@ -137,7 +137,7 @@ cell_same : (s : RunState) (i : ℕ) (c : Cell) → StateHasSame s (Some (with_c
 cell_same s i c m = same_self (s.maps m)
 
 stack_same : (s : RunState) (y : ℤ) (size : AccessSize) (v : Tagged) → StateHasSame s (stack_store s y size v)
-stack_same s y size v = then_same s (stack_place y size) _ (λ p _. then_same s (write_cell (s.cells (p / 8)) (p % 8) size v) _ (λ c _. cell_same s (p / 8) c))
+stack_same s y size v = then_same s (access_start y size) _ (λ p _. then_same s (write_cell (s.cells (p / 8)) (p % 8) size v) _ (λ c _. cell_same s (p / 8) c))
 
 stored_same : (s : RunState) (size : AccessSize) (m number : ℕ) (y : ℤ) (v : Tagged) → StateHasSame s (object_stored s size m number y v)
 stored_same s size m number y (Scalar n) = object_same s m number y (low_bytes (bytes_of size) n)

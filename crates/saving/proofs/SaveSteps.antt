@@ -5,8 +5,8 @@ use Rattle.std.proofs.lemmas.Grind.{flat_map-append}
 use Rattle.command_frames.specs.Command.{Command}
 use Rattle.command_frames.specs.Frame.{framed}
 use Rattle.ordered_keys.specs.Orders.{occurrences, next_entry}
-use Rattle.bpf_maps.specs.Live.{LiveMaps, places_at, value_in, map_in}
-use Rattle.tenant.specs.Entry.{PlacedEntry, placed_entries}
+use Rattle.bpf_maps.specs.Live.{LiveMaps, keys_at, value_in, map_in}
+use Rattle.tenant.specs.Entry.{NumberedEntry, numbered_entries}
 use Rattle.saving.specs.Frames.{frame_of}
 use Rattle.saving.specs.Restored.{put_of}
 use Rattle.saving.specs.SaveParts.{frames_of}
@@ -36,15 +36,15 @@ no_commands {all} {now} n left none was = nothing_left (frames_of n left) was (a
 
 -- ---- the keys of a map
 
-module _ (fd : ℕ) (es : List PlacedEntry) (once : (p : ℕ) → occurrences p (values_of es) ≤ 1) where
-  pub next_put : (place : Option ℕ) (e : PlacedEntry) → Some e ≡ next_entry place es → puts fd (rest_after place es) ≡ put_of fd e.0 ∷ puts fd (rest_after (Some e.1) es)
-  next_put place e is = ap (puts fd) (rest_of_next place e es once (sym is))
+module _ (fd : ℕ) (es : List NumberedEntry) (once : (p : ℕ) → occurrences p (values_of es) ≤ 1) where
+  pub next_put : (element : Option ℕ) (e : NumberedEntry) → Some e ≡ next_entry element es → puts fd (rest_after element es) ≡ put_of fd e.0 ∷ puts fd (rest_after (Some e.1) es)
+  next_put element e is = ap (puts fd) (rest_of_next element e es once (sym is))
 
-  pub fewer_left : (place : Option ℕ) (e : PlacedEntry) → Some e ≡ next_entry place es → length (rest_after (Some e.1) es) < length (rest_after place es)
-  fewer_left place e is = let same = ap length (rest_of_next place e es once (sym is)) in omega (arith, same)
+  pub fewer_left : (element : Option ℕ) (e : NumberedEntry) → Some e ≡ next_entry element es → length (rest_after (Some e.1) es) < length (rest_after element es)
+  fewer_left element e is = let same = ap length (rest_of_next element e es once (sym is)) in omega (arith, same)
 
-pub no_put : (fd : ℕ) (es : List PlacedEntry) (place : Option ℕ) → None ≡ next_entry place es → puts fd (rest_after place es) ≡ []
-no_put fd es place is = ap (puts fd) (none_first (rest_after place es) (sym (first_of_rest place es) ∙ sym is))
+pub no_put : (fd : ℕ) (es : List NumberedEntry) (element : Option ℕ) → None ≡ next_entry element es → puts fd (rest_after element es) ≡ []
+no_put fd es element is = ap (puts fd) (none_first (rest_after element es) (sym (first_of_rest element es) ∙ sym is))
 
 -- ---- a map
 
@@ -52,8 +52,8 @@ same_puts : (fd : ℕ) (v : ℕ → List ℕ) (es : List (List ℕ × ℕ)) → 
 same_puts fd v [] = refl
 same_puts fd v (e ∷ es) = ap (λ (cs : List Command). put_of fd (e.0, v e.1) ∷ cs) (same_puts fd v es)
 
-pub map_puts : (part : List ℕ) (t : LiveMaps) (k fd : ℕ) → map (put_of fd) (map_in part t k).entries ≡ puts fd (placed_entries part t k)
-map_puts part t k fd = same_puts fd (value_in part t k) (places_at t k).entries
+pub map_puts : (part : List ℕ) (t : LiveMaps) (k fd : ℕ) → map (put_of fd) (map_in part t k).entries ≡ puts fd (numbered_entries part t k)
+map_puts part t k fd = same_puts fd (value_in part t k) (keys_at t k).entries
 
 -- the frames of a result, if a frame was written before
 pub ok_more : {U E : Type 0} (r : Result U E) (old : List ℕ) {mid : List ℕ} (new : List ℕ) (n m : ℕ) (c : Command) (rest all : List Command) → all ≡ c ∷ rest → m ≡ n → mid ≡ old ++ framed (frame_of n c)

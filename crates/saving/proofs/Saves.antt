@@ -116,7 +116,7 @@ pub closings_none : (objects : List (Option OpenObject)) (fd n : ℕ) → n ≡ 
 unfolding closings
 closings_none objects fd n e = ap (closings objects fd) e
 
--- ---- the entries of a map after a place
+-- ---- the entries of a map after an element
 
 fewer : (b : Bool) (n : ℕ) → (if b then 1 else 0) + n ≤ 1 → n ≤ 1
 fewer true n le = omega (arith, le)
@@ -134,7 +134,7 @@ self p q e = eq-eqb q p (sym e)
 
 module _ {K : Type 0} where
   -- the next entry is the first of them
-  pub first_of_rest : (place : Option ℕ) (es : List (K × ℕ)) → next_entry place es ≡ first_entry (rest_after place es)
+  pub first_of_rest : (element : Option ℕ) (es : List (K × ℕ)) → next_entry element es ≡ first_entry (rest_after element es)
   first_of_rest None es = refl
   first_of_rest (Some p) es = behind p es
     where
@@ -160,7 +160,7 @@ module _ {K : Type 0} where
   later_once : (x : K × ℕ) (es : List (K × ℕ)) → AreOnce (x ∷ es) → AreOnce es
   later_once x es once p = fewer (nat_eq p x.1) (occurrences p (values_of es)) (once p)
 
-  -- a later entry has another place than the first
+  -- a later entry has another element than the first
   head_other : (x : K × ℕ) (es : List (K × ℕ)) (p : ℕ) → AreOnce (x ∷ es) → 1 ≤ occurrences p (values_of es) → nat_eq p x.1 ≡ false
   head_other x es p once some = by (nat_eq p x.1) refl (once p)
     where
@@ -203,6 +203,6 @@ module _ {K : Type 0} where
       by false is r = r is ∙ ap (λ (ys : List (K × ℕ)). e ∷ ys) (sym (other (behind_seen p e es is)))
 
   -- the entries after the next one
-  pub rest_of_next : (place : Option ℕ) (e : K × ℕ) (es : List (K × ℕ)) → ((p : ℕ) → occurrences p (values_of es) ≤ 1) → next_entry place es ≡ Some e → rest_after place es ≡ e ∷ rest_after (Some e.1) es
+  pub rest_of_next : (element : Option ℕ) (e : K × ℕ) (es : List (K × ℕ)) → ((p : ℕ) → occurrences p (values_of es) ≤ 1) → next_entry element es ≡ Some e → rest_after element es ≡ e ∷ rest_after (Some e.1) es
   rest_of_next None e es once is = rest_of_first e es is
   rest_of_next (Some p) e es once is = rest_of_behind p e es once is

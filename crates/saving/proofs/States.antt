@@ -1,4 +1,4 @@
--- States that are given by the object of each descriptor, with the maps of another state at their places.
+-- States that are given by the object of each descriptor, with the maps of another state under their handles.
 use Rattle.std.proofs.Common.{◌≡◌, ℕ, ◌-◌, ◌<◌, Bool, true, false, List, [], ◌∷◌, ◌++◌, length, Option, Some, None, IsSome, is_some, refl, sym, ap, ap₂, subst, ◌∙◌, arith}
 use Rattle.std.specs.Prelude.{◌||◌, if◌then◌else◌}
 use Rattle.std.proofs.lemmas.List.{ext_get_or}
@@ -52,17 +52,17 @@ state_of s f = record { objects = table f; maps = named_from (table f) 0 s.maps;
 
 -- each map that is named is live
 abbrev pub IsWithin : TenantState → Opened → Type 0
-IsWithin s f = (place : ℕ) → is_named (table f) place ≡ true → IsSome (live s place)
+IsWithin s f = (handle : ℕ) → is_named (table f) handle ≡ true → IsSome (live s handle)
 
 pub held_of : (s : TenantState) (f : Opened) → HoldsItsMaps s → IsWithin s f → HoldsItsMaps (state_of s f)
 held_of s f h within = record {
   descriptors = table-length f;
-  places = length_named (table f) 0 s.maps ∙ h.places;
-  live_if_named = λ place e. ap is_some (live_if s (table f) place e) ∙ within place e;
-  named_if_live = λ place some. (live_parts s (table f) place some).0;
+  handles = length_named (table f) 0 s.maps ∙ h.handles;
+  live_if_named = λ handle e. ap is_some (live_if s (table f) handle e) ∙ within handle e;
+  named_if_live = λ handle some. (live_parts s (table f) handle some).0;
 }
 
-pub same_state : (s : TenantState) (f : Opened) (x : TenantState) → x.objects ≡ table f → length x.maps ≡ length s.maps → ((place : ℕ) → live x place ≡ (if is_named (table f) place then live s place else None)) → x.refused ≡ false
+pub same_state : (s : TenantState) (f : Opened) (x : TenantState) → x.objects ≡ table f → length x.maps ≡ length s.maps → ((handle : ℕ) → live x handle ≡ (if is_named (table f) handle then live s handle else None)) → x.refused ≡ false
     → x ≡ state_of s f
 same_state s f x objects long maps flag =
     ap₂ (λ (os : List (Option OpenObject)) (ms : List (Option Map)). record { objects = os; maps = ms; refused = x.refused }) objects
@@ -79,7 +79,7 @@ twice false b o h = refl
 pub narrowed : (s : TenantState) (f g : Opened) → NamesFewer (table g) (table f) → with_objects (state_of s f) (table g) ≡ state_of s g
 narrowed s f g fewer =
     same_state s g (with_objects (state_of s f) (table g)) refl (length_named (table g) 0 (named_from (table f) 0 s.maps) ∙ length_named (table f) 0 s.maps)
-    (λ place. live_with (state_of s f) (table g) place ∙ ap (λ (o : Option Map). if is_named (table g) place then o else None) (live_with s (table f) place) ∙ twice (is_named (table g) place) (is_named (table f) place) (live s place) (fewer place))
+    (λ handle. live_with (state_of s f) (table g) handle ∙ ap (λ (o : Option Map). if is_named (table g) handle then o else None) (live_with s (table f) handle) ∙ twice (is_named (table g) handle) (is_named (table f) handle) (live s handle) (fewer handle))
     refl
 
 pub closed_names : (f : Opened) (fd : ℕ) → IsDescriptor fd → NamesFewer (table (set_at f fd None)) (table f)
@@ -92,10 +92,10 @@ close_answer s f fd o is there =
 
 -- ---- a descriptor is opened
 
-pub opened_names : (f : Opened) (fd : ℕ) (o : OpenObject) (place : ℕ) → IsOnlyFree f fd → is_named (table (set_at f fd (Some o))) place ≡ (names place o || is_named (table f) place)
-opened_names f fd o place is =
-    ap (λ (os : List (Option OpenObject)). is_named os place) (sym (table-open f fd o is.descriptor))
-    ∙ named_open (table f) (fd - first_descriptor) o place within (table-get f fd is.descriptor ∙ is.free)
+pub opened_names : (f : Opened) (fd : ℕ) (o : OpenObject) (handle : ℕ) → IsOnlyFree f fd → is_named (table (set_at f fd (Some o))) handle ≡ (names handle o || is_named (table f) handle)
+opened_names f fd o handle is =
+    ap (λ (os : List (Option OpenObject)). is_named os handle) (sym (table-open f fd o is.descriptor))
+    ∙ named_open (table f) (fd - first_descriptor) o handle within (table-get f fd is.descriptor ∙ is.free)
   where
     within : fd - first_descriptor < length (table f)
     within = let low = is.descriptor.low in let high = is.descriptor.high in let long = table-length f in omega arith

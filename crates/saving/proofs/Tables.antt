@@ -9,7 +9,7 @@ use Rattle.tagged_model.specs.State.{set_at}
 use Rattle.tenant.specs.declared.object.OpenObject.{OpenObject}
 use Rattle.tenant.specs.State.{names, is_named}
 use Rattle.saving.specs.Alike.{moved_object, moved_objects}
-use Rattle.saving.proofs.Lists.{set_by_place}
+use Rattle.saving.proofs.Lists.{set_by_index}
 use Rattle.saving.proofs.Moved.{flattened-get, first_names, named_by, or_parts}
 
 -- the object of each descriptor
@@ -105,7 +105,7 @@ table-set f fd x is =
     within = let low = is.low in let high = is.high in let long = table-length f in omega arith
 
     at : (i : ℕ) → i < most → get_or (set (table f) (fd - first_descriptor) x) i None ≡ get_or (table (set_at f fd x)) i None
-    at i lt = by (set_by_place (table f) (fd - first_descriptor) i x within) ∙ sym (tabled-get (set_at f fd x) first_descriptor most i lt)
+    at i lt = by (set_by_index (table f) (fd - first_descriptor) i x within) ∙ sym (tabled-get (set_at f fd x) first_descriptor most i lt)
       where
         by : ((i ≡ fd - first_descriptor) × (get_or (set (table f) (fd - first_descriptor) x) i None ≡ x)) ⊎ ((i ≢ fd - first_descriptor) × (get_or (set (table f) (fd - first_descriptor) x) i None ≡ get_or (table f) i None))
             → get_or (set (table f) (fd - first_descriptor) x) i None ≡ set_at f fd x (first_descriptor + i)
@@ -158,7 +158,7 @@ lowest-is f fd is =
     let prefix = prefix_to f first_descriptor most k (omega arith) (λ i lt. is.lower (first_descriptor + i) (omega arith) (omega arith)) (ap f back ∙ is.free) in
     let found : position is_none (table f) ≡ Some k =
     ap₂ (λ (m n : ℕ). cond (nat_lt m n) (Some m) None) prefix size ∙ ap (λ (b : Bool). cond b (Some k) None) (lt-ltb k most (omega arith)) in
-    ap (option_map (λ place. first_descriptor + place)) found ∙ ap (λ (m : ℕ). Some m) back
+    ap (option_map (λ index. first_descriptor + index)) found ∙ ap (λ (m : ℕ). Some m) back
 
 -- the only free descriptor
 pub record IsOnlyFree (f : Opened) (fd : ℕ) : Type 0 where
@@ -177,38 +177,38 @@ lowest-table f fd is =
 
 -- ---- names
 
--- a place that is named is named by an object of the table
-tabled-named : (f : Opened) (fd n place : ℕ) → is_named (tabled f fd n) place ≡ true → (i : ℕ) × (i < n) × (o : OpenObject) × (f (fd + i) ≡ Some o) × (names place o ≡ true)
+-- a handle that is named is named by an object of the table
+tabled-named : (f : Opened) (fd n handle : ℕ) → is_named (tabled f fd n) handle ≡ true → (i : ℕ) × (i < n) × (o : OpenObject) × (f (fd + i) ≡ Some o) × (names handle o ≡ true)
 unfolding tabled
-tabled-named f fd zero place e = absurd (true≢false (sym e))
-tabled-named f fd (suc n) place e = by (f fd) refl (tabled-named f (fd + 1) n place) (or_parts (first_names (f fd) place) (is_named (tabled f (fd + 1) n) place) e)
+tabled-named f fd zero handle e = absurd (true≢false (sym e))
+tabled-named f fd (suc n) handle e = by (f fd) refl (tabled-named f (fd + 1) n handle) (or_parts (first_names (f fd) handle) (is_named (tabled f (fd + 1) n) handle) e)
   where
-    first : (o : Option OpenObject) → f fd ≡ o → first_names o place ≡ true → (i : ℕ) × (i < suc n) × (x : OpenObject) × (f (fd + i) ≡ Some x) × (names place x ≡ true)
+    first : (o : Option OpenObject) → f fd ≡ o → first_names o handle ≡ true → (i : ℕ) × (i < suc n) × (x : OpenObject) × (f (fd + i) ≡ Some x) × (names handle x ≡ true)
     first None is e = absurd (true≢false (sym e))
     first (Some x) is e = let same : fd + 0 ≡ fd = omega arith in (0, omega arith, x, ap f same ∙ is, e)
 
-    by : (o : Option OpenObject) → f fd ≡ o → (is_named (tabled f (fd + 1) n) place ≡ true → (i : ℕ) × (i < n) × (x : OpenObject) × (f (fd + 1 + i) ≡ Some x) × (names place x ≡ true))
-        → (first_names (f fd) place ≡ true) ⊎ (is_named (tabled f (fd + 1) n) place ≡ true) → (i : ℕ) × (i < suc n) × (x : OpenObject) × (f (fd + i) ≡ Some x) × (names place x ≡ true)
+    by : (o : Option OpenObject) → f fd ≡ o → (is_named (tabled f (fd + 1) n) handle ≡ true → (i : ℕ) × (i < n) × (x : OpenObject) × (f (fd + 1 + i) ≡ Some x) × (names handle x ≡ true))
+        → (first_names (f fd) handle ≡ true) ⊎ (is_named (tabled f (fd + 1) n) handle ≡ true) → (i : ℕ) × (i < suc n) × (x : OpenObject) × (f (fd + i) ≡ Some x) × (names handle x ≡ true)
     by o is rest (inl here) = first (f fd) refl here
     by o is rest (inr later) = let (i, lt, x, at, named) = rest later in let same : fd + suc i ≡ fd + 1 + i = omega arith in (suc i, omega (arith, lt), x, ap f same ∙ at, named)
 
--- a descriptor whose object names the place
-pub record NamesAt (f : Opened) (place : ℕ) : Type 0 where
+-- a descriptor whose object names the handle
+pub record NamesAt (f : Opened) (handle : ℕ) : Type 0 where
   pub fd : ℕ
   pub descriptor : IsDescriptor fd
   pub o : OpenObject
   pub at : f fd ≡ Some o
-  pub named : names place o ≡ true
+  pub named : names handle o ≡ true
 
-pub names_at : (f : Opened) (place : ℕ) → is_named (table f) place ≡ true → NamesAt f place
-names_at f place e =
-    let (i, lt, o, at, named) = tabled-named f first_descriptor most place e in
+pub names_at : (f : Opened) (handle : ℕ) → is_named (table f) handle ≡ true → NamesAt f handle
+names_at f handle e =
+    let (i, lt, o, at, named) = tabled-named f first_descriptor most handle e in
     record { fd = first_descriptor + i; descriptor = record { low = omega arith; high = omega (arith, lt) }; o = o; at = at; named = named }
 
-pub named_from_at : (f : Opened) (place : ℕ) → NamesAt f place → is_named (table f) place ≡ true
-named_from_at f place h = named_by (table f) (h.fd - first_descriptor) h.o place (table-get f h.fd h.descriptor ∙ h.at) h.named
+pub named_from_at : (f : Opened) (handle : ℕ) → NamesAt f handle → is_named (table f) handle ≡ true
+named_from_at f handle h = named_by (table f) (h.fd - first_descriptor) h.o handle (table-get f h.fd h.descriptor ∙ h.at) h.named
 
--- ---- the maps of each object are at other places
+-- ---- the maps of each object have other handles
 
 pub table-moved : (move : ℕ → ℕ) (f : Opened) (fd n : ℕ) → moved_objects move (tabled f fd n) ≡ tabled (λ k. option_map (moved_object move) (f k)) fd n
 unfolding tabled

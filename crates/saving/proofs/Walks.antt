@@ -32,12 +32,12 @@ filler_program = record { insns = filler; named = []; maps = [] }
 
 abbrev pub program_or : Option OpenObject → OpenObject
 program_or None = object.Program filler_program
-program_or (Some (object.Map place)) = object.Program filler_program
+program_or (Some (object.Map handle)) = object.Program filler_program
 program_or (Some (object.Program l)) = object.Program l
 
 abbrev pub object_of : TenantState → Option Birth → OpenObject
 object_of s None = object.Program filler_program
-object_of s (Some (OfMap place fd)) = object.Map place
+object_of s (Some (OfMap handle fd)) = object.Map handle
 object_of s (Some (OfProgram fd)) = program_or (named s.objects fd)
 
 abbrev pub at_births : TenantState → List Birth → Opened
@@ -65,45 +65,45 @@ latest_descriptor s (x ∷ older) fd b order e = by (number x == fd) refl (lates
     by true is rest e = let same = eqb-true (number x) fd is in let low = order.0 in let high = order.1 in record { low = omega arith; high = omega arith }
     by false is rest e = rest e
 
-latest_map : (bs : List Birth) (fd place n : ℕ) → latest_at bs fd ≡ Some (OfMap place n) → list_any (is_of_map place) bs ≡ true
-latest_map [] fd place n e = absurd (none-some (OfMap place n) e)
-latest_map (x ∷ older) fd place n e = by (number x == fd) (latest_map older fd place n) e
+latest_map : (bs : List Birth) (fd handle n : ℕ) → latest_at bs fd ≡ Some (OfMap handle n) → list_any (is_of_map handle) bs ≡ true
+latest_map [] fd handle n e = absurd (none-some (OfMap handle n) e)
+latest_map (x ∷ older) fd handle n e = by (number x == fd) (latest_map older fd handle n) e
   where
-    by : (here : Bool) → (latest_at older fd ≡ Some (OfMap place n) → list_any (is_of_map place) older ≡ true) → (if here then Some x else latest_at older fd) ≡ Some (OfMap place n) → (is_of_map place x || list_any (is_of_map place) older) ≡ true
-    by true rest e = or_left (is_of_map place x) (list_any (is_of_map place) older) (ap (is_of_map place) (same_Some x (OfMap place n) e) ∙ eq-eqb place place refl)
-    by false rest e = or_right (is_of_map place x) (list_any (is_of_map place) older) (rest e)
+    by : (here : Bool) → (latest_at older fd ≡ Some (OfMap handle n) → list_any (is_of_map handle) older ≡ true) → (if here then Some x else latest_at older fd) ≡ Some (OfMap handle n) → (is_of_map handle x || list_any (is_of_map handle) older) ≡ true
+    by true rest e = or_left (is_of_map handle x) (list_any (is_of_map handle) older) (ap (is_of_map handle) (same_Some x (OfMap handle n) e) ∙ eq-eqb handle handle refl)
+    by false rest e = or_right (is_of_map handle x) (list_any (is_of_map handle) older) (rest e)
 
 -- each map of a program that was born was itself born before
-each_born : (older : List Birth) (ms : List (ℕ × ℕ)) (fd place : ℕ) → AllByRecursion (λ m. (m.0 ≢ fd) × (latest_at older m.0 ≡ Some (OfMap m.1 m.0))) ms → list_any (λ m. m.1 == place) ms ≡ true → list_any (is_of_map place) older ≡ true
-each_born older [] fd place h e = absurd (true≢false (sym e))
-each_born older (m ∷ ms) fd place h e = by (or_parts (m.1 == place) (list_any (λ k. k.1 == place) ms) e) (each_born older ms fd place h.1)
+each_born : (older : List Birth) (ms : List (ℕ × ℕ)) (fd handle : ℕ) → AllByRecursion (λ m. (m.0 ≢ fd) × (latest_at older m.0 ≡ Some (OfMap m.1 m.0))) ms → list_any (λ m. m.1 == handle) ms ≡ true → list_any (is_of_map handle) older ≡ true
+each_born older [] fd handle h e = absurd (true≢false (sym e))
+each_born older (m ∷ ms) fd handle h e = by (or_parts (m.1 == handle) (list_any (λ k. k.1 == handle) ms) e) (each_born older ms fd handle h.1)
   where
-    by : ((m.1 == place) ≡ true) ⊎ (list_any (λ k. k.1 == place) ms ≡ true) → (list_any (λ k. k.1 == place) ms ≡ true → list_any (is_of_map place) older ≡ true) → list_any (is_of_map place) older ≡ true
-    by (inl same) rest = latest_map older m.0 place m.0 (h.0.1 ∙ ap (λ (p : ℕ). Some (OfMap p m.0)) (eqb-true m.1 place same))
+    by : ((m.1 == handle) ≡ true) ⊎ (list_any (λ k. k.1 == handle) ms ≡ true) → (list_any (λ k. k.1 == handle) ms ≡ true → list_any (is_of_map handle) older ≡ true) → list_any (is_of_map handle) older ≡ true
+    by (inl same) rest = latest_map older m.0 handle m.0 (h.0.1 ∙ ap (λ (p : ℕ). Some (OfMap p m.0)) (eqb-true m.1 handle same))
     by (inr later) rest = rest later
 
-program_maps : (s : TenantState) (bs : List Birth) (fd n place : ℕ) → AreInOrder s bs → latest_at bs fd ≡ Some (OfProgram n) → names place (program_or (named s.objects n)) ≡ true → list_any (is_of_map place) bs ≡ true
-program_maps s [] fd n place order e named_so = absurd (none-some (OfProgram n) e)
-program_maps s (x ∷ older) fd n place order e named_so = by (number x == fd) (λ f. program_maps s older fd n place order.4 f named_so) e
+program_maps : (s : TenantState) (bs : List Birth) (fd n handle : ℕ) → AreInOrder s bs → latest_at bs fd ≡ Some (OfProgram n) → names handle (program_or (named s.objects n)) ≡ true → list_any (is_of_map handle) bs ≡ true
+program_maps s [] fd n handle order e named_so = absurd (none-some (OfProgram n) e)
+program_maps s (x ∷ older) fd n handle order e named_so = by (number x == fd) (λ f. program_maps s older fd n handle order.4 f named_so) e
   where
-    of_birth : (b : Birth) → b ≡ OfProgram n → IsBorn s older b → list_any (is_of_map place) older ≡ true
+    of_birth : (b : Birth) → b ≡ OfProgram n → IsBorn s older b → list_any (is_of_map handle) older ≡ true
     of_birth (OfMap p k) is h = absurd (let wrong : OfMap p k ≡ OfProgram n = is in cc wrong)
     of_birth (OfProgram k) is (l, there, maps) =
         let same : k ≡ n = (let f : OfProgram k ≡ OfProgram n = is in cc f) in
-        each_born older l.maps k place maps (ap (λ (o : Option OpenObject). names place (program_or o)) (sym (ap (named s.objects) (sym same) ∙ there)) ∙ named_so)
+        each_born older l.maps k handle maps (ap (λ (o : Option OpenObject). names handle (program_or o)) (sym (ap (named s.objects) (sym same) ∙ there)) ∙ named_so)
 
-    by : (here : Bool) → (latest_at older fd ≡ Some (OfProgram n) → list_any (is_of_map place) older ≡ true) → (if here then Some x else latest_at older fd) ≡ Some (OfProgram n) → (is_of_map place x || list_any (is_of_map place) older) ≡ true
-    by true rest e = or_right (is_of_map place x) (list_any (is_of_map place) older) (of_birth x (same_Some x (OfProgram n) e) order.3)
-    by false rest e = or_right (is_of_map place x) (list_any (is_of_map place) older) (rest e)
+    by : (here : Bool) → (latest_at older fd ≡ Some (OfProgram n) → list_any (is_of_map handle) older ≡ true) → (if here then Some x else latest_at older fd) ≡ Some (OfProgram n) → (is_of_map handle x || list_any (is_of_map handle) older) ≡ true
+    by true rest e = or_right (is_of_map handle x) (list_any (is_of_map handle) older) (of_birth x (same_Some x (OfProgram n) e) order.3)
+    by false rest e = or_right (is_of_map handle x) (list_any (is_of_map handle) older) (rest e)
 
 -- each map that an object names was born
-named_born : (s : TenantState) (bs : List Birth) (place : ℕ) → AreInOrder s bs → NamesAt (at_births s bs) place → list_any (is_of_map place) bs ≡ true
-named_born s bs place order h = by (latest_at bs h.fd) refl (ap (names place) (same_Some (object_of s (latest_at bs h.fd)) h.o h.at) ∙ h.named)
+named_born : (s : TenantState) (bs : List Birth) (handle : ℕ) → AreInOrder s bs → NamesAt (at_births s bs) handle → list_any (is_of_map handle) bs ≡ true
+named_born s bs handle order h = by (latest_at bs h.fd) refl (ap (names handle) (same_Some (object_of s (latest_at bs h.fd)) h.o h.at) ∙ h.named)
   where
-    by : (b : Option Birth) → latest_at bs h.fd ≡ b → names place (object_of s b) ≡ true → list_any (is_of_map place) bs ≡ true
+    by : (b : Option Birth) → latest_at bs h.fd ≡ b → names handle (object_of s b) ≡ true → list_any (is_of_map handle) bs ≡ true
     by None is e = absurd (true≢false (sym e))
-    by (Some (OfMap p n)) is e = latest_map bs h.fd place n (is ∙ ap (λ (q : ℕ). Some (OfMap q n)) (eqb-true p place e))
-    by (Some (OfProgram n)) is e = program_maps s bs h.fd n place order is e
+    by (Some (OfMap p n)) is e = latest_map bs h.fd handle n (is ∙ ap (λ (q : ℕ). Some (OfMap q n)) (eqb-true p handle e))
+    by (Some (OfProgram n)) is e = program_maps s bs h.fd n handle order is e
 
 -- ---- the walk
 
@@ -120,19 +120,19 @@ module _ (held : MapsAreHeld) (bisimulation : AlikeIsBisimulation) (same_verdict
   }
 
   -- no object names a map before the map is born
-  unnamed : (b : Birth) (older : List Birth) (place : ℕ) → AreInOrder s older → list_any (is_of_map place) older ≡ false → is_named (table (without b older)) place ≡ false
+  unnamed : (b : Birth) (older : List Birth) (handle : ℕ) → AreInOrder s older → list_any (is_of_map handle) older ≡ false → is_named (table (without b older)) handle ≡ false
   unfolding without
-  unnamed b older place order none = by (is_named (table (without b older)) place) refl
+  unnamed b older handle order none = by (is_named (table (without b older)) handle) refl
     where
-      older_at : NamesAt (without b older) place → NamesAt (at_births s older) place
-      older_at h = by_place (cases_eq h.fd (number b))
+      older_at : NamesAt (without b older) handle → NamesAt (at_births s older) handle
+      older_at h = by_handle (cases_eq h.fd (number b))
         where
-          by_place : (h.fd ≡ number b) ⊎ (h.fd ≡ number b → ⊥) → NamesAt (at_births s older) place
-          by_place (inl same) = absurd (none-some h.o (sym (ap (without b older) same ∙ set_same (at_births s older) (number b) None) ∙ h.at))
-          by_place (inr other) = record { fd = h.fd; descriptor = h.descriptor; o = h.o; at = sym (set_other (at_births s older) (number b) None h.fd other) ∙ h.at; named = h.named }
+          by_handle : (h.fd ≡ number b) ⊎ (h.fd ≡ number b → ⊥) → NamesAt (at_births s older) handle
+          by_handle (inl same) = absurd (none-some h.o (sym (ap (without b older) same ∙ set_same (at_births s older) (number b) None) ∙ h.at))
+          by_handle (inr other) = record { fd = h.fd; descriptor = h.descriptor; o = h.o; at = sym (set_other (at_births s older) (number b) None h.fd other) ∙ h.at; named = h.named }
 
-      by : (x : Bool) → is_named (table (without b older)) place ≡ x → is_named (table (without b older)) place ≡ false
-      by true e = absurd (true≢false (sym (named_born s older place order (older_at (names_at (without b older) place e))) ∙ none))
+      by : (x : Bool) → is_named (table (without b older)) handle ≡ x → is_named (table (without b older)) handle ≡ false
+      by true e = absurd (true≢false (sym (named_born s older handle order (older_at (names_at (without b older) handle e))) ∙ none))
       by false e = e
 
   -- the maps of a program are open when it is loaded
@@ -145,10 +145,10 @@ module _ (held : MapsAreHeld) (bisimulation : AlikeIsBisimulation) (same_verdict
   )
 
   making : (b : Birth) (older : List Birth) (t : TenantState) → IsDescriptor (number b) → AreInOrder s older → IsBorn s older b → Follows (state_of s (without b older)) t → LeadsTo t (made s b) (state_of s (set_at (without b older) (number b) (Some (object_of s (Some b)))))
-  making (OfMap place fd) older t is order (live_so, none) h =
-      let (m, there) = is_there (live s place) live_so in
-      subst (λ (o : Option Map). LeadsTo t (made_map fd o) (state_of s (set_at (without (OfMap place fd) older) fd (Some (object.Map place))))) (sym there)
-      (map_leads held bisimulation s (without (OfMap place fd) older) t fd place m h (only_free (OfMap place fd) older is) there (whole.maps place m there) (unnamed (OfMap place fd) older place order none) whole.area)
+  making (OfMap handle fd) older t is order (live_so, none) h =
+      let (m, there) = is_there (live s handle) live_so in
+      subst (λ (o : Option Map). LeadsTo t (made_map fd o) (state_of s (set_at (without (OfMap handle fd) older) fd (Some (object.Map handle))))) (sym there)
+      (map_leads held bisimulation s (without (OfMap handle fd) older) t fd handle m h (only_free (OfMap handle fd) older is) there (whole.maps handle m there) (unnamed (OfMap handle fd) older handle order none) whole.area)
   making (OfProgram fd) older t is order (l, there, maps) h =
       let f = without (OfProgram fd) older in
       let answer = load_answer s f l (whole.programs fd l there) (are_open fd older l.maps order maps) same_verdict fd (only_free (OfProgram fd) older is) in

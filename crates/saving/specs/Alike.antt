@@ -1,4 +1,4 @@
--- States of the machine of one tenant that no command distinguishes: they differ in the places of their maps, and in whether memory
+-- States of the machine of one tenant that no command distinguishes: they differ in the handles of their maps, and in whether memory
 -- was ever refused. This project's own.
 use Rattle.std.specs.Prelude.{◌≡◌, ℕ, true, List, length, map, Option, IsSome, option_map}
 use Rattle.fd_table.specs.Table.{most}
@@ -8,7 +8,7 @@ use Rattle.bpf_maps.specs.Limits.{most_maps}
 use Rattle.tenant.specs.State.{TenantState, live, is_named}
 use Rattle.tenant.specs.Machine.{Answer}
 
--- ---- a renaming of places
+-- ---- a renaming of handles
 
 abbrev pub moved_map : (ℕ → ℕ) → ℕ × ℕ → ℕ × ℕ
 moved_map move m = (m.0, move m.1)
@@ -17,7 +17,7 @@ abbrev pub moved_maps : (ℕ → ℕ) → List (ℕ × ℕ) → List (ℕ × ℕ
 moved_maps move ms = map (moved_map move) ms
 
 abbrev pub moved_object : (ℕ → ℕ) → OpenObject → OpenObject
-moved_object move (object.Map place) = object.Map (move place)
+moved_object move (object.Map handle) = object.Map (move handle)
 moved_object move (object.Program l) = object.Program (record l { maps = moved_maps move l.maps })
 
 abbrev pub moved_objects : (ℕ → ℕ) → List (Option OpenObject) → List (Option OpenObject)
@@ -25,14 +25,14 @@ moved_objects move objects = map (option_map (moved_object move)) objects
 
 -- ---- alike states
 
--- the second state has the objects of the first, with their places renamed, and exactly its live maps, no two of them at one place
+-- the second state has the objects of the first, with their handles renamed, and exactly its live maps, no two of them with one handle
 pub record IsMovedBy (move : ℕ → ℕ) (s t : TenantState) : Type 0 where
   pub objects : t.objects ≡ moved_objects move s.objects
-  pub same : (place : ℕ) → IsSome (live s place) → live t (move place) ≡ live s place
+  pub same : (handle : ℕ) → IsSome (live s handle) → live t (move handle) ≡ live s handle
   pub apart : (p q : ℕ) → IsSome (live s p) → IsSome (live s q) → move p ≡ move q → p ≡ q
   pub only : (q : ℕ) → IsSome (live t q) → (p : ℕ) × IsSome (live s p) × (move p ≡ q)
 
--- equal up to the places of maps and the flag
+-- equal up to the handles of maps and the flag
 abbrev pub IsAlike : TenantState → TenantState → Type 0
 IsAlike s t = (move : ℕ → ℕ) × IsMovedBy move s t
 
@@ -47,6 +47,6 @@ pub record IsAlikeAnswer (a b : Answer) : Type 0 where
 -- exactly the maps that an open object names are live
 pub record HoldsItsMaps (s : TenantState) : Type 0 where
   pub descriptors : length s.objects ≡ most
-  pub places : length s.maps ≡ most_maps
-  pub live_if_named : (place : ℕ) → is_named s.objects place ≡ true → IsSome (live s place)
-  pub named_if_live : (place : ℕ) → IsSome (live s place) → is_named s.objects place ≡ true
+  pub handles : length s.maps ≡ most_maps
+  pub live_if_named : (handle : ℕ) → is_named s.objects handle ≡ true → IsSome (live s handle)
+  pub named_if_live : (handle : ℕ) → IsSome (live s handle) → is_named s.objects handle ≡ true

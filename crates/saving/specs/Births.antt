@@ -13,11 +13,11 @@ pub use Rattle.saving.specs.declared.birth.Birth.{Birth}
 pub use Rattle.saving.specs.declared.birth.Birth.TheVariants.{OfMap, OfProgram}
 
 abbrev pub number : Birth → ℕ
-number (OfMap place fd) = fd
+number (OfMap handle fd) = fd
 number (OfProgram fd) = fd
 
 abbrev pub birth_of : ℕ → OpenObject → Birth
-birth_of fd (object.Map place) = OfMap place fd
+birth_of fd (object.Map handle) = OfMap handle fd
 birth_of fd (object.Program l) = OfProgram fd
 
 -- ---- lists of births, the latest first
@@ -28,8 +28,8 @@ latest_at [] fd = None
 latest_at (b ∷ older) fd = if number b == fd then Some b else latest_at older fd
 
 abbrev pub is_of_map : ℕ → Birth → Bool
-is_of_map place (OfMap p fd) = p == place
-is_of_map place (OfProgram fd) = false
+is_of_map handle (OfMap p fd) = p == handle
+is_of_map handle (OfProgram fd) = false
 
 abbrev pub is_of_program : ℕ → Birth → Bool
 is_of_program fd (OfMap p n) = false
@@ -37,7 +37,7 @@ is_of_program fd (OfProgram n) = n == fd
 
 -- the map is live and has no older birth
 abbrev pub IsMapBorn : TenantState → List Birth → ℕ → Type 0
-IsMapBorn s older place = IsSome (live s place) × (list_any (is_of_map place) older ≡ false)
+IsMapBorn s older handle = IsSome (live s handle) × (list_any (is_of_map handle) older ≡ false)
 
 -- the program is open, and the latest older birth at each descriptor by which it names a map is the birth of this map
 abbrev pub IsProgramBorn : TenantState → List Birth → ℕ → Type 0
@@ -46,7 +46,7 @@ IsProgramBorn s older fd =
     × AllByRecursion (λ m. (m.0 ≢ fd) × (latest_at older m.0 ≡ Some (OfMap m.1 m.0))) l.maps
 
 abbrev pub IsBorn : TenantState → List Birth → Birth → Type 0
-IsBorn s older (OfMap place fd) = IsMapBorn s older place
+IsBorn s older (OfMap handle fd) = IsMapBorn s older handle
 IsBorn s older (OfProgram fd) = IsProgramBorn s older fd
 
 -- the births of an object's maps are older, and no older birth at the descriptor is of a program
@@ -63,11 +63,11 @@ pub record AreBirths (s : TenantState) (births : List Birth) : Type 0 where
 
 abbrev pub is_open_program : Option OpenObject → Bool
 is_open_program None = false
-is_open_program (Some (object.Map place)) = false
+is_open_program (Some (object.Map handle)) = false
 is_open_program (Some (object.Program l)) = true
 
 abbrev pub lives : TenantState → Birth → Bool
-lives s (OfMap place fd) = is_some (live s place)
+lives s (OfMap handle fd) = is_some (live s handle)
 lives s (OfProgram fd) = is_open_program (named s.objects fd)
 
 abbrev pub with_birth : ℕ → Option OpenObject → List Birth → List Birth

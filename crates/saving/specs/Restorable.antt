@@ -36,13 +36,13 @@ pub record IsWholeMap (t : Map) : Type 0 where
   pub values : AllByRecursion (λ e. length e.1 ≡ t.shape.value_size) t.entries
   pub ended : t.deleted ≡ 0
 
--- the maps with these descriptors and places, as the verifier reads them, from descriptor fd on
+-- the maps with these descriptors and handles, as the verifier reads them, from descriptor fd on
 unfoldable pub shapes_from : TenantState → List (ℕ × ℕ) → ℕ → ℕ → List Named
 shapes_from s maps fd zero = []
 shapes_from s maps fd (suc n) =
     entry_of fd (option_map (λ t. target.Map t.shape) (and_then (lookup (λ m. m == fd) maps) (live s))) ++ shapes_from s maps (fd + 1) n
 
--- a program was accepted with the shapes that its maps have, and has a place for each map that it loads
+-- a program was accepted with the shapes that its maps have, and has a handle for each map that it loads
 pub record IsWholeProgram (s : TenantState) (l : LoadedProgram) : Type 0 where
   pub program : IsProgram l.insns
   pub named : List Named
@@ -54,5 +54,5 @@ pub record IsWholeProgram (s : TenantState) (l : LoadedProgram) : Type 0 where
 pub record IsRestorable (s : TenantState) : Type 0 where
   pub held : HoldsItsMaps s
   pub area : maps_area s.maps ≤ most_bytes
-  pub maps : (place : ℕ) (t : Map) → live s place ≡ Some t → IsWholeMap t
+  pub maps : (handle : ℕ) (t : Map) → live s handle ≡ Some t → IsWholeMap t
   pub programs : (fd : ℕ) (l : LoadedProgram) → named s.objects fd ≡ Some (object.Program l) → IsWholeProgram s l

@@ -36,11 +36,11 @@ made_map fd (Some t) = create_of t.shape ∷ map (put_of fd) t.entries
 
 abbrev pub made_program : Option OpenObject → List Command
 made_program None = []
-made_program (Some (object.Map place)) = []
+made_program (Some (object.Map handle)) = []
 made_program (Some (object.Program l)) = load_of l.insns ∷ []
 
 abbrev pub made : TenantState → Birth → List Command
-made s (OfMap place fd) = made_map fd (live s place)
+made s (OfMap handle fd) = made_map fd (live s handle)
 made s (OfProgram fd) = made_program (named s.objects fd)
 
 -- ---- the walk

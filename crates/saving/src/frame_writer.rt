@@ -5,7 +5,7 @@ ghost use Rattle.bpf_maps.specs.declared.part.TheConstants.{PART};
 ghost use Rattle.command_frames.specs.Command.{close, prog_load};
 ghost use Rattle.command_frames.specs.Frame.{framed};
 ghost use Rattle.fd_table.specs.Table.{first_descriptor, most, named};
-ghost use Rattle.tenant.specs.Entry.{placed_entries};
+ghost use Rattle.tenant.specs.Entry.{numbered_entries};
 ghost use Rattle.tenant.specs.Kept.{state_in};
 ghost use Rattle.tenant.specs.State.{live};
 ghost use Rattle.saving.specs.Frames.{frame_of};
@@ -144,12 +144,12 @@ impl FrameWriter {
         requires whole { length part.now ≡ PART }
         ensures written { OnOk result (self.new.frames.items
             ≡ self.old.frames.items ++ frames_of self.old.number
-            (puts fd (placed_entries part.now tenant.now.live map))) }
+            (puts fd (numbered_entries part.now tenant.now.live map))) }
     {
         let mut after = None;
         while let Some(entry) = tenant.map_entry(map, after, part) {
             self.put(fd, entry.key.bytes(), entry.value)?;
-            after = Some(entry.place);
+            after = Some(entry.element);
         }
         Ok(())
     }

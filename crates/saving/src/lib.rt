@@ -4,7 +4,7 @@
 //! map was created, or a program loaded, at a descriptor. Contracts see the latest first. A state and its births give the
 //! commands that restore the state (`restored`). All 64 descriptors are kept open, by a program of two instructions if there is
 //! nothing else, so that the next object gets the descriptor that was closed last. Two states are alike (`IsAlike`) if they
-//! have the same open objects and the same live maps, possibly at other places; the flag of refused memory may differ.
+//! have the same open objects and the same live maps, possibly under other handles; the flag of refused memory may differ.
 //!
 //! # What is proved
 //!

@@ -13,7 +13,7 @@ AreBytes c = (i b : ℕ) → byte_at c i ≡ Some b → b < 256
 abbrev pub IsSmall : (ℕ → Option ℕ) → Type 0
 IsSmall byte = (i b : ℕ) → byte i ≡ Some b → b < 256
 
--- the n bytes from place p on are present: the list of them has n bytes below 256
+-- the n bytes from index p on are present: the list of them has n bytes below 256
 pub record AreRead (byte : ℕ → Option ℕ) (p n : ℕ) : Type 0 where
   pub list : List ℕ
   pub read : gathered byte p n ≡ Some list

@@ -1,7 +1,7 @@
 pub mod Unknown
 pub mod Joins
 pub mod NullTests
-pub mod Places
+pub mod StackAccesses
 pub mod MaskBits
 pub mod Numbers
 pub mod CellBytes

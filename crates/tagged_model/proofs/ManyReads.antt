@@ -8,7 +8,7 @@ use Rattle.reg_kinds.specs.declared.facts.Facts.{Facts}
 use Rattle.reg_kinds.specs.declared.reason.Reason.{Reason}
 use Rattle.reg_kinds.specs.declared.reason.Reason.TheVariants.{OutsideStack, UnwrittenStack, PartOfSpill}
 use Rattle.reg_kinds.specs.Kinds.{slot_at}
-use Rattle.words.specs.Stack.{is_in_stack, place, touches}
+use Rattle.words.specs.Stack.{is_in_stack, byte_index, touches}
 use Rattle.words.specs.StackLaws.{in_stack}
 use Rattle.reg_kinds.specs.Many.{bits_in, any_below, is_touched_spill, lacks, stack_input}
 use Rattle.tagged_model.specs.Cells.{Cell, byte_at, gathered}
@@ -17,7 +17,7 @@ use Rattle.tagged_model.specs.StateInvariant.{IsInRange, AreBytes}
 use Rattle.tagged_model.specs.Admits.{Witness, HasSlot, AdmitsBy}
 use Rattle.tagged_model.proofs.CellBytes.{all_read}
 use Rattle.tagged_model.proofs.MaskBits.{bit_in, each_in_mask}
-use Rattle.tagged_model.proofs.Places.{refused}
+use Rattle.tagged_model.proofs.StackAccesses.{refused}
 
 -- ---- tests of every slot
 
@@ -32,13 +32,13 @@ none_below (suc n) test e i lt =
 
 record MayRead (f : Facts) (x : ℤ) (n : ℕ) : Type 0 where
   within : is_in_stack x n ≡ true
-  spills : (i : ℕ) → i < 64 → is_touched_spill (slot_at f i) (touches (place x) n i) ≡ false
-  there : (i : ℕ) → i < 64 → lacks (slot_at f i) (bits_in (place x) n i) ≡ false
+  spills : (i : ℕ) → i < 64 → is_touched_spill (slot_at f i) (touches (byte_index x) n i) ≡ false
+  there : (i : ℕ) → i < 64 → lacks (slot_at f i) (bits_in (byte_index x) n i) ≡ false
 
 may_read : (f : Facts) (x : ℤ) (n : ℕ) → stack_input f x n ≡ Ok tt → MayRead f x n
 may_read f x n e =
-    let h = passed (is_in_stack x n) (any_below 64 (λ i. is_touched_spill (slot_at f i) (touches (place x) n i))) (any_below 64 (λ i. lacks (slot_at f i) (bits_in (place x) n i))) e in
-    record { within = h.0; spills = none_below 64 (λ i. is_touched_spill (slot_at f i) (touches (place x) n i)) h.1; there = none_below 64 (λ i. lacks (slot_at f i) (bits_in (place x) n i)) h.2 }
+    let h = passed (is_in_stack x n) (any_below 64 (λ i. is_touched_spill (slot_at f i) (touches (byte_index x) n i))) (any_below 64 (λ i. lacks (slot_at f i) (bits_in (byte_index x) n i))) e in
+    record { within = h.0; spills = none_below 64 (λ i. is_touched_spill (slot_at f i) (touches (byte_index x) n i)) h.1; there = none_below 64 (λ i. lacks (slot_at f i) (bits_in (byte_index x) n i)) h.2 }
   where
     passed : (a b c : Bool) → ◌≡◌ {A = Result (Unit {0}) Reason} (if not a then Err OutsideStack else (if b then Err PartOfSpill else (if c then Err UnwrittenStack else Ok tt))) (Ok tt) → (a ≡ true) × (b ≡ false) × (c ≡ false)
     passed true false false e = (refl, refl, refl)
@@ -58,7 +58,7 @@ slot_there witness (slot.Spill k) c p n i j few from to has s l =
 pub stack_read_many : (witness : Witness) (f : Facts) (s : RunState) (x : ℤ) (n : ℕ) → IsInRange s → AdmitsBy witness f s → stack_input f x n ≡ Ok tt → (bs : List ℕ) × (stack_bytes s x n ≡ Some bs) × (length bs ≡ n) × AreBytes bs
 stack_read_many witness f s x n proper admits e =
     let may = may_read f x n e in
-    let p = place x in
+    let p = byte_index x in
     let within = (in_stack n x may.within).1 in
     let there : (k : ℕ) → k < n → (b : ℕ) × (stack_byte s (p + k) ≡ Some b) = λ k lt.
     let i = (p + k) / 8 in let j = (p + k) % 8 in let fits : i < 64 = omega arith in

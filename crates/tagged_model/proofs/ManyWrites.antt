@@ -8,7 +8,7 @@ use Rattle.reg_kinds.specs.declared.kind.Slot.TheVariants as slot
 use Rattle.reg_kinds.specs.declared.facts.Facts.{Facts}
 use Rattle.reg_kinds.specs.declared.reason.Reason.TheVariants.{OutsideStack}
 use Rattle.reg_kinds.specs.Kinds.{slot_at}
-use Rattle.words.specs.Stack.{is_in_stack, place, touches}
+use Rattle.words.specs.Stack.{is_in_stack, byte_index, touches}
 use Rattle.reg_kinds.specs.Stack.{bytes_over}
 use Rattle.reg_kinds.specs.Many.{bits_in, filled, stack_filled}
 use Rattle.reg_kinds.specs.TableLaws.{in_table}
@@ -20,7 +20,7 @@ use Rattle.tagged_model.specs.StateInvariant.{AreBytes as AreSmall}
 use Rattle.tagged_model.specs.AdmitsLaws.{no_bytes}
 use Rattle.tagged_model.proofs.CellBytes.{AreBytes}
 use Rattle.tagged_model.proofs.MaskBits.{only_in, of_either}
-use Rattle.tagged_model.proofs.Places.{chosen}
+use Rattle.tagged_model.proofs.StackAccesses.{chosen}
 
 -- ---- a byte of a slot, touched or not
 
@@ -115,7 +115,7 @@ shorter x n hi le e =
 pub stack_write_many : (witness : Witness) (f g : Facts) (s : RunState) (x : ℤ) (lo hi : ℕ) (bs : List ℕ) → IsInRange s → AdmitsBy witness f s → AreSmall bs → lo ≤ length bs → length bs ≤ hi → stack_filled f x lo hi ≡ Ok g
     → (t : RunState) × (stack_written s x bs ≡ Some t) × AdmitsBy witness g t × IsInRange t
 stack_write_many witness f g s x lo hi bs proper admits small le more e =
-    let p = place x in
+    let p = byte_index x in
     let h = chosen (is_in_stack x hi) (filled f x lo hi) g OutsideStack e in
     let t = with_cells s (λ i. cell_over i (s.cells i) p bs) in (
       t,

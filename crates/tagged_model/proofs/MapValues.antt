@@ -40,9 +40,9 @@ module _ {A B : Type 0} (value : A → B) where
       by h true = refl
       by h false = ap (λ (fs : List (List ℕ × B)). (e.0, value e.1) ∷ fs) h
 
-  valued_with : (key : List ℕ) (place : A) (es : List (List ℕ × A)) → valued (with_key key place es) ≡ with_key key (value place) (valued es)
-  valued_with key place [] = refl
-  valued_with key place (e ∷ es) = ap (λ (fs : List (List ℕ × B)). (e.0, value e.1) ∷ fs) (valued_with key place es)
+  valued_with : (key : List ℕ) (number : A) (es : List (List ℕ × A)) → valued (with_key key number es) ≡ with_key key (value number) (valued es)
+  valued_with key number [] = refl
+  valued_with key number (e ∷ es) = ap (λ (fs : List (List ℕ × B)). (e.0, value e.1) ∷ fs) (valued_with key number es)
 
   -- ---- the replies
 

@@ -22,9 +22,9 @@ bit_below a k i h = ap (λ n. bit_at n i) (and_nothing (a * 2 ^ k)) ∙ (bit_at_
 
 pub shifted_bit : (n a i : ℕ) → i < n → bit_at ((2 ^ n - 1) * 2 ^ a) (a + i) ≡ 1
 shifted_bit n a i h =
-    let place : a ≤ a + i = omega arith in
+    let above : a ≤ a + i = omega arith in
     let back : a + i - a ≡ i = omega arith in
-    bit_of_shifted (2 ^ n - 1) a (a + i) place ∙ (ap (bit_at (2 ^ n - 1)) back ∙ bit_at_ones n i h)
+    bit_of_shifted (2 ^ n - 1) a (a + i) above ∙ (ap (bit_at (2 ^ n - 1)) back ∙ bit_at_ones n i h)
 
 clash : (x : ℕ) → x ≡ 0 → x ≡ 1 → ⊥
 clash x e f = omega arith

@@ -5,7 +5,7 @@ use Rattle.std.proofs.lemmas.Option.{none-some}
 use Rattle.words.specs.declared.stack.AccessSize.{AccessSize}
 use Rattle.words.specs.declared.stack.AccessSize.TheVariants.{Double}
 use Rattle.words.specs.Bytes.{number_of}
-use Rattle.words.specs.Stack.{bytes_of, place}
+use Rattle.words.specs.Stack.{bytes_of, byte_index}
 use Rattle.words.specs.StackLaws.{in_one_slot}
 use Rattle.reg_kinds.specs.declared.reason.Reason.TheVariants.{UnwrittenStack, PartOfSpill}
 use Rattle.reg_kinds.specs.declared.kind.Kind.{Kind}
@@ -24,7 +24,7 @@ use Rattle.tagged_model.specs.Admits.{Witness, IsOfKind, HoldsNull, HasBytes, Ha
 use Rattle.tagged_model.proofs.CellBytes.{AreBytes, AreRead, all_read, zeros_read}
 use Rattle.tagged_model.proofs.MaskBits.{in_mask}
 use Rattle.tagged_model.proofs.Numbers.{widened_is}
-use Rattle.tagged_model.proofs.Places.{refused, same_ok, chosen, at_place, some_bytes}
+use Rattle.tagged_model.proofs.StackAccesses.{refused, same_ok, chosen, at_byte_index, some_bytes}
 
 -- ---- the value of a load of a cell
 
@@ -71,7 +71,7 @@ cell_gives witness (slot.Spill l) c p size signed k small even has e = absurd (r
 
 pub stack_gives : (witness : Witness) (f : Facts) (s : RunState) (offset : ℤ) (size : AccessSize) (signed : Bool) (k : Kind) → IsInRange s → AdmitsBy witness f s → stack_read f offset size signed ≡ Ok k → (v : Tagged) × (stack_load s offset size signed ≡ Some v) × IsOfKind witness k v
 stack_gives witness f s offset size signed k proper admits e =
-    let p = place offset in
-    let at = at_place offset size (λ t. read_slot (slot_at f t.0) t.1 size signed) k e in
+    let p = byte_index offset in
+    let at = at_byte_index offset size (λ t. read_slot (slot_at f t.0) t.1 size signed) k e in
     let r = cell_gives witness (slot_at f (p / 8)) (s.cells (p / 8)) p size signed k (proper.bytes (p / 8)) at.1 (admits.slots (p / 8)) at.2 in
     (r.0, ap (λ o. and_then o (λ q. read_cell (s.cells (q / 8)) (q % 8) size signed)) at.0 ∙ r.1, r.2)

@@ -5,7 +5,7 @@ use Rattle.std.proofs.lemmas.Option.{none-some}
 use Rattle.words.specs.declared.stack.AccessSize.{AccessSize}
 use Rattle.words.specs.declared.stack.AccessSize.TheVariants.{Double}
 use Rattle.words.specs.Bytes.{low_bytes}
-use Rattle.words.specs.Stack.{bytes_of, is_double, place}
+use Rattle.words.specs.Stack.{bytes_of, is_double, byte_index}
 use Rattle.reg_kinds.specs.declared.reason.Reason.TheVariants.{UnreadableRegister, PartOfSpill}
 use Rattle.reg_kinds.specs.declared.kind.Kind.{Kind}
 use Rattle.reg_kinds.specs.declared.kind.Kind.TheVariants as kind
@@ -25,7 +25,7 @@ use Rattle.tagged_model.specs.Admits.{Witness, IsOfKind, IsKeptWhole, HasSlot, A
 use Rattle.tagged_model.specs.AdmitsLaws.{no_bytes}
 use Rattle.tagged_model.proofs.CellBytes.{AreBytes}
 use Rattle.tagged_model.proofs.WrittenBytes.{over_small, touched_there, both_there, zeros}
-use Rattle.tagged_model.proofs.Places.{refused, same_ok, given_ok, at_place}
+use Rattle.tagged_model.proofs.StackAccesses.{refused, same_ok, given_ok, at_byte_index}
 
 -- ---- a cell after a store
 
@@ -113,11 +113,11 @@ module _ (witness : Witness) (f : Facts) (s : RunState) (proper : IsInRange s) (
 
   pub stack_stored : (g : Facts) (offset : ℤ) (size : AccessSize) (k : Kind) (v : Tagged) → IsOfKind witness k v → stack_write f offset size k ≡ Ok g → (t : RunState) × (stack_store s offset size v ≡ Some t) × AdmitsBy witness g t × IsInRange t
   stack_stored g offset size k v h e =
-      let p = place offset in
-      let i = place offset / 8 in
+      let p = byte_index offset in
+      let i = byte_index offset / 8 in
       let n = bytes_of size in
       let known = known_stored f g offset size k e in
-      let at = at_place offset size (facts_written f size k) g known.1 in
+      let at = at_byte_index offset size (facts_written f size k) g known.1 in
       let new = given_ok (slot_written (slot_at f i) (byte_bits p n) size k) (λ t. Ok (with_slot f i t)) g at.2 in
       let w = cell_written witness (slot_at f i) new.0 (s.cells i) p size k v known.0 at.1 (proper.bytes i) (admits.slots i) h new.1 in (
         with_cell s i w.cell,

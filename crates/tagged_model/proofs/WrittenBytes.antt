@@ -28,7 +28,7 @@ still_there c j k b bs e =
     (get_or bs (k - j) 0, slice_get-get_or bs (k - j) 0 (omega arith)))
     (λ _. (b, e))
 
--- the byte at a place that was written
+-- the byte at an index that was written
 new_byte : (c : Cell) (j k : ℕ) (bs : List ℕ) → j ≤ k → k < j + length bs → byte_at (written_over c j bs) k ≡ Some (get_or bs (k - j) 0)
 new_byte c j k bs from to =
     cond-true (leb j k && ltb k (j + length bs)) (slice_get bs (k - j)) (byte_at c k) (and_from (leb j k) (ltb k (j + length bs)) (le-leb j k from) (lt-ltb k (j + length bs) to))

@@ -23,7 +23,7 @@ abbrev pub byte_at : Cell → ℕ → Option ℕ
 byte_at (holds v) j = None
 byte_at (bytes b) j = b j
 
--- the n bytes at place p, if none of them is absent
+-- the n bytes at index p, if none of them is absent
 unfoldable pub gathered : (ℕ → Option ℕ) → ℕ → ℕ → Option (List ℕ)
 gathered byte p zero = Some []
 gathered byte p (suc n) = and_then (byte p) (λ b. and_then (gathered byte (suc p) n) (λ bs. Some (b ∷ bs)))
@@ -52,7 +52,7 @@ write_cell c j size (Scalar n) = Some (written_over c j (low_bytes (bytes_of siz
 write_cell c j Double v = Some (holds v)
 write_cell c j _ v = None
 
--- slot i of the stack after these bytes are written at place p of the stack; if they touch it, a value kept whole is lost
+-- slot i of the stack after these bytes are written at index p of the stack; if they touch it, a value kept whole is lost
 abbrev pub cell_over : ℕ → Cell → ℕ → List ℕ → Cell
 cell_over i c p bs =
     if touches p (length bs) i then bytes (λ j. if nat_le p (8 * i + j) && nat_lt (8 * i + j) (p + length bs) then slice_get bs (8 * i + j - p) else byte_at c j) else c

@@ -9,7 +9,7 @@ use Rattle.std.proofs.lemmas.Bool.{cond_both, eqb-true, leb-true}
 use Rattle.std.proofs.lemmas.Option.{none-some, same_Some}
 use Rattle.words.specs.Bytes.{bytes_at}
 use Rattle.words.specs.ByteLaws.{length-bytes_at}
-use Rattle.words.specs.Stack.{is_in_stack, place}
+use Rattle.words.specs.Stack.{is_in_stack, byte_index}
 use Rattle.tagged_model.specs.declared.helper.Helper.{Helper}
 use Rattle.tagged_model.specs.declared.helper.Helper.TheVariants.{LookUp, Update, Delete, LoadBytes}
 use Rattle.tagged_model.specs.declared.value.Object.TheVariants as object
@@ -129,7 +129,7 @@ object_long None number y n = tt
 object_long (Some t) number y n = value_long (t.values number) y n
 
 input_long : (s : RunState) (p : Tagged) (n : ℕ) → HasLength n (input s p n)
-input_long s (Pointer object.Stack x) n = cond_both (is_in_stack x n) (gathered (stack_byte s) (place x) n) None (HasLength n) (λ _. gathered_long (stack_byte s) (place x) n) (λ _. tt)
+input_long s (Pointer object.Stack x) n = cond_both (is_in_stack x n) (gathered (stack_byte s) (byte_index x) n) None (HasLength n) (λ _. gathered_long (stack_byte s) (byte_index x) n) (λ _. tt)
 input_long s (Pointer (object.Value m number) x) n = object_long (s.maps m) number x n
 input_long s p n = tt
 
@@ -147,7 +147,7 @@ bytes_leave s r n f h = by (s.registers r)
 
 output_leaves : (s : RunState) (p : Tagged) (bs : List ℕ) → LeavesAfterCall s (output s p bs)
 output_leaves s (Pointer object.Stack x) bs =
-    cond_both (is_in_stack x (length bs)) (Some (with_cells s (λ i. cell_over i (s.cells i) (place x) bs))) None (LeavesAfterCall s)
+    cond_both (is_in_stack x (length bs)) (Some (with_cells s (λ i. cell_over i (s.cells i) (byte_index x) bs))) None (LeavesAfterCall s)
     (λ _. record { words = refl; maps = λ m. entry_same (s.maps m) })
     (λ _. tt)
 output_leaves s (Pointer (object.Value m number) x) bs =

@@ -5,7 +5,7 @@ use Rattle.tagged_model.specs.declared.shape.MapShape.{MapShape}
 use Rattle.tagged_model.specs.declared.fault.MapFault.TheVariants.{Memory}
 use Rattle.tagged_model.specs.Table as map
 
--- whatever values the objects represent, such as places or bytes: the results are those of the map of these values, and that map
+-- whatever values the objects represent, such as elements or bytes: the results are those of the map of these values, and that map
 -- changes as the definition says
 pub record CallsRefineValues (A B : Type 0) : Type 0 where
   pub new : (value : A → B) (object : ℕ → A) (shape : MapShape) → map.with_values value (map.new_table object shape) ≡ map.new_table (λ i. value (object i)) shape

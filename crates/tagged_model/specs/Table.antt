@@ -1,5 +1,5 @@
 -- What a map is (bpf(2); the kernel documentation of BPF_MAP_TYPE_ARRAY and BPF_MAP_TYPE_HASH): a list of keys with their objects,
--- in order. An object is anything that represents a value: its number in a run, its place in an area, its bytes. The order of the
+-- in order. An object is anything that represents a value: its number in a run, its element in an area, its bytes. The order of the
 -- refusals, the order of a hash map's keys, and that objects deleted in a run count until the run ends are this project's own.
 use Rattle.std.specs.Prelude.{ℕ, zero, suc, ◌+◌, ◌==◌, ◌&&◌, nat_eq, nat_le, nat_lt, Bool, true, false, if◌then◌else◌, List, [], ◌∷◌, ◌++◌, length, map, Option, Some, None, is_some, Result, Ok, Err}
 use Rattle.std.specs.Map.{lookup, remove_entry, set_value}

@@ -53,7 +53,7 @@ pub fn value_store_admits()
 {}
 
 /// A map of objects refines the map of the values that they represent: both give the same results and change alike. The objects are
-/// numbers; the values are numbers, such as places, or bytes.
+/// numbers; the values are numbers, such as elements, or bytes.
 pub fn calls_refine_values()
     ensures numbers { CallsRefineValues ℕ ℕ }
     ensures bytes { CallsRefineValues ℕ (List ℕ) }

@@ -27,7 +27,7 @@
 //!   `object_read_admits`, `object_write_admits`, `value_load_admits`, `value_store_admits`, `map_calls_keep`,
 //!   `map_change_admits`, `call_admits`, `site_admits`.
 //! - After a null test of a look-up's result, the settled facts admit the state: `null_test_admits`.
-//! - Whatever the objects of a map represent, as their places or their bytes, the replies are those of the map of what they
+//! - Whatever the objects of a map represent, as their elements or their bytes, the replies are those of the map of what they
 //!   represent, which changes as the definition says: `calls_refine_values`.
 //! - A key that an update finds present is in the map, a new one is not, and no verdict is out of memory:
 //!   `map_verdicts_match_look_ups`.

@@ -49,7 +49,7 @@ long_by s l words packet errno false same = cc
 
 refused_object : (s : TenantState) (words packet : List ℕ) (errno : Errno) (o : Option OpenObject) → run_refusal o (length packet) ≡ Some errno → refuses errno s ≡ run_of s words packet o
 refused_object s words packet errno None same = refused_by s BadDescriptor errno same
-refused_object s words packet errno (Some (object.Map place)) same = refused_by s Invalid errno same
+refused_object s words packet errno (Some (object.Map handle)) same = refused_by s Invalid errno same
 refused_object s words packet errno (Some (object.Program l)) same = long_by s l words packet errno (nat_lt longest_packet (length packet)) same
 
 pub refused_as_its_frame : RefusedAsItsFrame

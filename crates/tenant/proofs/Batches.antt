@@ -15,7 +15,7 @@ use Rattle.tenant.specs.declared.object.OpenObject.{OpenObject}
 use Rattle.tenant.specs.declared.object.OpenObject.TheVariants as object
 use Rattle.tenant.specs.Batch.{RunsInOrder, object_refusal, else_refusal, packet_errno, packets_refusal, batch_refusal}
 use Rattle.tenant.specs.Kept.{KeptTenant, IsWellFormedTenant, state_in}
-use Rattle.tenant.specs.Loaded.{LoadedProgram, map_places}
+use Rattle.tenant.specs.Loaded.{LoadedProgram, map_handles}
 use Rattle.tenant.specs.Machine.{longest_packet}
 use Rattle.tenant.specs.State.{TenantState}
 use Rattle.tenant.proofs.StillKept.{with_live}
@@ -43,7 +43,7 @@ refused_first later same is = ap (λ (first : Option Errno). else_refusal first 
 
 -- ---- the runs of the machine of words and bytes
 
-module _ (listed : MapsAreListed) (fd : ℕ) (k : KeptTenant) (l : LoadedProgram) (opened : named k.objects fd ≡ Some (object.Program l)) (code : List Insn) (bind : List ℕ) (places : bind ≡ map_places l) (same : code ≡ l.insns) where
+module _ (listed : MapsAreListed) (fd : ℕ) (k : KeptTenant) (l : LoadedProgram) (opened : named k.objects fd ≡ Some (object.Program l)) (code : List Insn) (bind : List ℕ) (handles : bind ≡ map_handles l) (same : code ≡ l.insns) where
   -- the tenant state that the words, bytes and live maps represent
   abbrev stood_for : Standing → TenantState
   stood_for s = state_in s.part (with_live k s.maps)
@@ -54,7 +54,7 @@ module _ (listed : MapsAreListed) (fd : ℕ) (k : KeptTenant) (l : LoadedProgram
   unfolding RunsInOrder RunsOnEach
   runs_in_order [] [] before after kept short none = ap stood_for none
   runs_in_order (input ∷ inputs) (result ∷ results) before after kept short (between, one, rest) =
-      let told = told_of listed fd kept opened (short 0 input (omega arith)) places same refl one.runs one.maps one.values in
+      let told = told_of listed fd kept opened (short 0 input (omega arith)) handles same refl one.runs one.maps one.values in
       (stood_for between, told, runs_in_order inputs results between after (kept_after kept one.maps) (λ i d lt. short (suc i) d (omega arith)) rest)
   runs_in_order [] (result ∷ results) before after kept short wrong = absurd wrong
   runs_in_order (input ∷ inputs) [] before after kept short wrong = absurd wrong

@@ -17,8 +17,8 @@ use Rattle.bpf_maps.specs.Sum.{total}
 use Rattle.tenant.specs.Machine.{gives, closed}
 use Rattle.bpf_maps.specs.Limits.{most_maps}
 use Rattle.tenant.specs.State.{Map, names, is_named, named_from, with_objects}
-use Rattle.tenant.specs.Kept.{KeptTenant, IsWellFormedTenant, IsBound, times_listed, times_named, by_descriptor, holders, at_places, map_at, state_in}
-use Rattle.tenant.proofs.AtPlaces.{length-at, at-within, live_or_not, held_is_live, none_there, same_map_at}
+use Rattle.tenant.specs.Kept.{KeptTenant, IsWellFormedTenant, IsBound, times_listed, times_named, by_descriptor, holders, at_handles, map_at, state_in}
+use Rattle.tenant.proofs.AtHandles.{length-at, at-within, live_or_not, held_is_live, none_there, same_map_at}
 use Rattle.tenant.specs.inside.Leaves.{LeavesHeldMaps}
 use Rattle.tenant.proofs.Sums.{total-unset, total-part}
 use Rattle.tenant.proofs.Opened.{unset_cases}
@@ -38,67 +38,67 @@ tells_or a b m n (inl (a_is, some)) h = inl (ap (λ (x : Bool). x || b) a_is ∙
 tells_or a b m n (inr (a_is, none)) (inl (b_is, some)) = inl (ap₂ (λ (x y : Bool). x || y) a_is b_is, omega arith)
 tells_or a b m n (inr (a_is, none)) (inr (b_is, too)) = inr (ap₂ (λ (x y : Bool). x || y) a_is b_is, omega arith)
 
-tells_times : (place : ℕ) (ms : List (ℕ × ℕ)) → Tells (list_any (λ m. m.1 == place) ms) (times_listed place (map (λ m. m.1) ms))
+tells_times : (handle : ℕ) (ms : List (ℕ × ℕ)) → Tells (list_any (λ m. m.1 == handle) ms) (times_listed handle (map (λ m. m.1) ms))
 unfolding times_listed
-tells_times place [] = inr (refl, refl)
-tells_times place (m ∷ ms) =
-    tells_or (m.1 == place) (list_any (λ m. m.1 == place) ms) (if m.1 == place then 1 else 0) (times_listed place (map (λ m. m.1) ms)) (tells_if (m.1 == place)) (tells_times place ms)
+tells_times handle [] = inr (refl, refl)
+tells_times handle (m ∷ ms) =
+    tells_or (m.1 == handle) (list_any (λ m. m.1 == handle) ms) (if m.1 == handle then 1 else 0) (times_listed handle (map (λ m. m.1) ms)) (tells_if (m.1 == handle)) (tells_times handle ms)
 
-tells_names : (place : ℕ) (o : OpenObject) → Tells (names place o) (times_named place o)
-tells_names place (object.Map p) = tells_if (p == place)
-tells_names place (object.Program l) = tells_times place l.maps
+tells_names : (handle : ℕ) (o : OpenObject) → Tells (names handle o) (times_named handle o)
+tells_names handle (object.Map p) = tells_if (p == handle)
+tells_names handle (object.Program l) = tells_times handle l.maps
 
-tells_first : (place : ℕ) (o : Option OpenObject) → Tells (option_map_or (names place) o false) (option_map_or (times_named place) o 0)
-tells_first place None = inr (refl, refl)
-tells_first place (Some o) = tells_names place o
+tells_first : (handle : ℕ) (o : Option OpenObject) → Tells (option_map_or (names handle) o false) (option_map_or (times_named handle) o 0)
+tells_first handle None = inr (refl, refl)
+tells_first handle (Some o) = tells_names handle o
 
 -- a map is named if and only if it has a holder
-tells_named : (place : ℕ) (objects : List (Option OpenObject)) → Tells (is_named objects place) (holders place objects)
+tells_named : (handle : ℕ) (objects : List (Option OpenObject)) → Tells (is_named objects handle) (holders handle objects)
 unfolding total
-tells_named place [] = inr (refl, refl)
-tells_named place (o ∷ os) =
-    tells_or (option_map_or (names place) o false) (is_named os place) (option_map_or (times_named place) o 0) (holders place os) (tells_first place o) (tells_named place os)
+tells_named handle [] = inr (refl, refl)
+tells_named handle (o ∷ os) =
+    tells_or (option_map_or (names handle) o false) (is_named os handle) (option_map_or (times_named handle) o 0) (holders handle os) (tells_first handle o) (tells_named handle os)
 
 -- ---- the maps that are still named
 
-length-named : (objects : List (Option OpenObject)) (place : ℕ) (ms : List (Option Map)) → length (named_from objects place ms) ≡ length ms
+length-named : (objects : List (Option OpenObject)) (handle : ℕ) (ms : List (Option Map)) → length (named_from objects handle ms) ≡ length ms
 unfolding named_from
-length-named objects place [] = refl
-length-named objects place (m ∷ ms) = let rest = length-named objects (place + 1) ms in omega arith
+length-named objects handle [] = refl
+length-named objects handle (m ∷ ms) = let rest = length-named objects (handle + 1) ms in omega arith
 
 nothing : (b : Bool) → let none : Option Map = None in (if b then none else none) ≡ none
 nothing true = refl
 nothing false = refl
 
-get_or-named : (objects : List (Option OpenObject)) (place i : ℕ) (ms : List (Option Map)) → get_or (named_from objects place ms) i None ≡ (if is_named objects (place + i) then get_or ms i None else None)
+get_or-named : (objects : List (Option OpenObject)) (handle i : ℕ) (ms : List (Option Map)) → get_or (named_from objects handle ms) i None ≡ (if is_named objects (handle + i) then get_or ms i None else None)
 unfolding named_from
-get_or-named objects place i [] = sym (nothing (is_named objects (place + i)))
-get_or-named objects place zero (m ∷ ms) = let e : place ≡ place + 0 = omega arith in ap (λ (p : ℕ). if is_named objects p then m else None) e
-get_or-named objects place (suc i) (m ∷ ms) =
-    let e : place + 1 + i ≡ place + suc i = omega arith in
-    get_or-named objects (place + 1) i ms ∙ ap (λ (p : ℕ). if is_named objects p then get_or ms i None else None) e
+get_or-named objects handle i [] = sym (nothing (is_named objects (handle + i)))
+get_or-named objects handle zero (m ∷ ms) = let e : handle ≡ handle + 0 = omega arith in ap (λ (p : ℕ). if is_named objects p then m else None) e
+get_or-named objects handle (suc i) (m ∷ ms) =
+    let e : handle + 1 + i ≡ handle + suc i = omega arith in
+    get_or-named objects (handle + 1) i ms ∙ ap (λ (p : ℕ). if is_named objects p then get_or ms i None else None) e
 
 -- the maps that are still live are those that an open object names
 still_named : (objects : List (Option OpenObject)) (old t : LiveMaps) (part later : List ℕ) → LeavesHeldMaps (record { live = old; part = part }) (record { live = t; part = later })
-    → ((q : ℕ) → holds_at t q ≡ holders q objects) → at_places (map_at later t) ≡ named_from objects 0 (at_places (map_at part old))
+    → ((q : ℕ) → holds_at t q ≡ holders q objects) → at_handles (map_at later t) ≡ named_from objects 0 (at_handles (map_at part old))
 still_named objects old t part later left held =
-    ext_get_or None (at_places (map_at later t)) (named_from objects 0 (at_places (map_at part old)))
-    (length-at (map_at later t) ∙ sym (length-at (map_at part old)) ∙ sym (length-named objects 0 (at_places (map_at part old))))
-    (λ i lt. let within : i < most_maps = (let long = length-at (map_at later t) in omega arith) in at-within (map_at later t) i within ∙ at_place i (live_or_not (live_at t i)) (tells_named i objects) ∙ sym (named_at i within))
+    ext_get_or None (at_handles (map_at later t)) (named_from objects 0 (at_handles (map_at part old)))
+    (length-at (map_at later t) ∙ sym (length-at (map_at part old)) ∙ sym (length-named objects 0 (at_handles (map_at part old))))
+    (λ i lt. let within : i < most_maps = (let long = length-at (map_at later t) in omega arith) in at-within (map_at later t) i within ∙ at_handle i (live_or_not (live_at t i)) (tells_named i objects) ∙ sym (named_at i within))
   where
-    named_at : (i : ℕ) → i < most_maps → get_or (named_from objects 0 (at_places (map_at part old))) i None ≡ (if is_named objects i then map_at part old i else None)
+    named_at : (i : ℕ) → i < most_maps → get_or (named_from objects 0 (at_handles (map_at part old))) i None ≡ (if is_named objects i then map_at part old i else None)
     named_at i within =
         let e : 0 + i ≡ i = omega arith in
-        get_or-named objects 0 i (at_places (map_at part old))
+        get_or-named objects 0 i (at_handles (map_at part old))
         ∙ ap₂ (λ (p : ℕ) (o : Option Map). if is_named objects p then o else None) e (at-within (map_at part old) i within)
 
-    at_place : (i : ℕ) → IsSome (live_at t i) ⊎ (live_at t i ≡ None) → Tells (is_named objects i) (holders i objects) → map_at later t i ≡ (if is_named objects i then map_at part old i else None)
-    at_place i (inl live) (inl (is_named_so, some)) =
+    at_handle : (i : ℕ) → IsSome (live_at t i) ⊎ (live_at t i ≡ None) → Tells (is_named objects i) (holders i objects) → map_at later t i ≡ (if is_named objects i then map_at part old i else None)
+    at_handle i (inl live) (inl (is_named_so, some)) =
         let (was, same) = left.stays i live in
         same_map_at part later old t i was live same ∙ sym (ap (λ (b : Bool). if b then map_at part old i else None) is_named_so)
-    at_place i (inl live) (inr (isnt, none)) = absurd (let some = left.held.some i live in let all = held i in omega arith)
-    at_place i (inr gone) (inl (is_named_so, some)) = absurd (let none : holds_at t i ≡ 0 = ap (λ (o : Option LiveMap). (live_or o).holds) gone in let all = held i in omega arith)
-    at_place i (inr gone) (inr (isnt, none)) = none_there later t i gone ∙ sym (ap (λ (b : Bool). if b then map_at part old i else None) isnt)
+    at_handle i (inl live) (inr (isnt, none)) = absurd (let some = left.held.some i live in let all = held i in omega arith)
+    at_handle i (inr gone) (inl (is_named_so, some)) = absurd (let none : holds_at t i ≡ 0 = ap (λ (o : Option LiveMap). (live_or o).holds) gone in let all = held i in omega arith)
+    at_handle i (inr gone) (inr (isnt, none)) = none_there later t i gone ∙ sym (ap (λ (b : Bool). if b then map_at part old i else None) isnt)
 
 -- ---- a descriptor that is closed
 

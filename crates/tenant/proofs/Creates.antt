@@ -6,8 +6,8 @@ use Rattle.std.proofs.lemmas.Bool.{cases_lt}
 use Rattle.std.proofs.lemmas.Option.{none-some, same_Some}
 use Rattle.bpf_maps.specs.declared.part.TheConstants.{MAPS, LARGEST_SUM}
 use Rattle.bpf_maps.specs.Live as live
-use Rattle.bpf_maps.specs.Live.{LiveMaps, LiveMap, live_or, live_at, holds_at, places_at, map_in, areas, area_of, area_by, create_fault, Creates, IsCreated, KeepsMaps}
-use Rattle.bpf_maps.specs.Places.{PlaceTable}
+use Rattle.bpf_maps.specs.Live.{LiveMaps, LiveMap, live_or, live_at, holds_at, keys_at, map_in, areas, area_of, area_by, create_fault, Creates, IsCreated, KeepsMaps}
+use Rattle.bpf_maps.specs.KeyTable.{KeyTable}
 use Rattle.bpf_maps.specs.Sum.{weight}
 use Rattle.fd_table.specs.Table.{first_descriptor, lowest, with_open}
 use Rattle.tagged_model.specs.declared.fault.MapFault.{MapFault}
@@ -18,15 +18,15 @@ use Rattle.tenant.specs.declared.object.OpenObject.TheVariants as object
 use Rattle.tenant.specs.Loaded.{LoadedProgram}
 use Rattle.tenant.specs.State as state
 use Rattle.bpf_maps.specs.Limits.{most_bytes, most_maps}
-use Rattle.tenant.specs.State.{Map, free_place, shape_area, map_area}
+use Rattle.tenant.specs.State.{Map, free_handle, shape_area, map_area}
 use Rattle.tenant.specs.declared.errno.Errno.TheVariants.{NoMemory}
 use Rattle.tenant.specs.Errno.{map_errno}
 use Rattle.tenant.specs.Machine.{refuses, room_for, new_map, created, created_under, created_as, created_at}
-use Rattle.tenant.specs.Kept.{KeptTenant, IsWellFormedTenant, AreHeld, IsBound, times_named, by_descriptor, holders, descriptors, at_places, map_at, state_in}
-use Rattle.tenant.proofs.AtPlaces.{at_each, at-within, at-past, set_at, free_at, map_if, map_there, none_there, live_or_not, not_live, same_map_at}
+use Rattle.tenant.specs.Kept.{KeptTenant, IsWellFormedTenant, AreHeld, IsBound, times_named, by_descriptor, holders, descriptors, at_handles, map_at, state_in}
+use Rattle.tenant.proofs.AtHandles.{at_each, at-within, at-past, set_at, free_at, map_if, map_there, none_there, live_or_not, not_live, same_map_at}
 use Rattle.tenant.proofs.Releases.{here_one, none_one}
 use Rattle.tenant.proofs.Sums.{total-each, total-less}
-use Rattle.tenant.proofs.Opened.{set_cases, place_free, descriptor_free, opened_sum}
+use Rattle.tenant.proofs.Opened.{set_cases, index_free, descriptor_free, opened_sum}
 use Rattle.tenant.proofs.StillKept.{with_live, with_both, bound_along}
 
 -- ---- room
@@ -35,15 +35,15 @@ weigh : (part : List ℕ) (o : Option LiveMap) → weight map_area (map_if part 
 weigh part None = refl
 weigh part (Some l) = refl
 
--- the bytes that the machine counts at the places are the bytes of all live maps
+-- the bytes that the machine counts under the handles are the bytes of all live maps
 areas_are : (part : List ℕ) (k : KeptTenant) → AreHeld k.live → state.maps_area (state_in part k).maps ≡ areas k.live
-areas_are part k is = total-each map_area area_of (at_places (map_at part k.live)) k.live.maps (λ j. by j (cases_lt j most_maps))
+areas_are part k is = total-each map_area area_of (at_handles (map_at part k.live)) k.live.maps (λ j. by j (cases_lt j most_maps))
   where
     none : (j : ℕ) → most_maps ≤ j → IsSome (live_at k.live j) ⊎ (live_at k.live j ≡ None) → live_at k.live j ≡ None
     none j past (inl live) = absurd (let within = is.within j live in omega arith)
     none j past (inr e) = e
 
-    by : (j : ℕ) → (j < most_maps) ⊎ (most_maps ≤ j) → weight map_area (get_or (at_places (map_at part k.live)) j None) ≡ weight area_of (get_or k.live.maps j None)
+    by : (j : ℕ) → (j < most_maps) ⊎ (most_maps ≤ j) → weight map_area (get_or (at_handles (map_at part k.live)) j None) ≡ weight area_of (get_or k.live.maps j None)
     by j (inl lt) = ap (weight map_area) (at-within (map_at part k.live) j lt) ∙ weigh part (live_at k.live j)
     by j (inr past) = ap (weight map_area) (at-past (map_at part k.live) j past) ∙ sym (ap (weight area_of) (none j past (live_or_not (live_at k.live j))))
 
@@ -51,7 +51,7 @@ same_some : (part : List ℕ) (o : Option LiveMap) → is_some (map_if part o) �
 same_some part None = refl
 same_some part (Some l) = refl
 
-free_is : (part : List ℕ) (k : KeptTenant) → length k.live.maps ≡ MAPS → free_place (state_in part k) ≡ live.free_handle k.live
+free_is : (part : List ℕ) (k : KeptTenant) → length k.live.maps ≡ MAPS → free_handle (state_in part k) ≡ live.free_handle k.live
 free_is part k all = free_at (map_at part k.live) k.live.maps all (λ i. same_some part (live_at k.live i))
 
 abbrev fault_if : Option ℕ → Bool → Option MapFault
@@ -60,7 +60,7 @@ fault_if o large = if is_none o || large then Some fault.NoSpace else None
 room_is : (part : List ℕ) (k : KeptTenant) (shape : MapShape) → AreHeld k.live → length k.live.maps ≡ MAPS
     → room_for (state_in part k) (shape_area shape) ≡ (if nat_lt LARGEST_SUM (areas k.live + area_by shape) then None else live.free_handle k.live)
 room_is part k shape is all =
-    ap₂ (λ (bytes : ℕ) (place : Option ℕ). if nat_lt most_bytes (bytes + shape_area shape) then None else place) (areas_are part k is) (free_is part k all)
+    ap₂ (λ (bytes : ℕ) (handle : Option ℕ). if nat_lt most_bytes (bytes + shape_area shape) then None else handle) (areas_are part k is) (free_is part k all)
 
 -- a fault is reported only if there is no room, and then it is NoSpace
 lost : (o : Option ℕ) (large : Bool) (f : MapFault) → fault_if o large ≡ Some f → (f ≡ fault.NoSpace) × ((if large then None else o) ≡ None)
@@ -69,7 +69,7 @@ lost None false f e = (sym (same_Some fault.NoSpace f e), refl)
 lost (Some p) true f e = (sym (same_Some fault.NoSpace f e), refl)
 lost (Some p) false f e = absurd (none-some f e)
 
-room : (o : Option ℕ) (large : Bool) → fault_if o large ≡ None → (place : ℕ) × (o ≡ Some place) × ((if large then None else o) ≡ Some place)
+room : (o : Option ℕ) (large : Bool) → fault_if o large ≡ None → (handle : ℕ) × (o ≡ Some handle) × ((if large then None else o) ≡ Some handle)
 room None large e = absurd (none-some fault.NoSpace (sym e))
 room (Some p) true e = absurd (none-some fault.NoSpace (sym e))
 room (Some p) false e = (p, refl, refl)
@@ -97,19 +97,19 @@ held_created {old} {t} {shape} {m} is room new = record {
   within = at_each (λ q. IsSome (live_at t q) → q < most_maps) m (λ live. room) (λ q other live. is.within q (was q other live));
   some = at_each (λ q. IsSome (live_at t q) → 1 ≤ holds_at t q) m (λ live. let one = new.holds in omega arith)
       (λ q other live. subst (λ (n : ℕ). 1 ≤ n) (sym (ap (λ (o : Option LiveMap). (live_or o).holds) (new.others q other))) (is.some q (was q other live)));
-  ended = at_each (λ q. (places_at t q).kept ≡ []) m (ap (λ (p : PlaceTable). p.kept) new.places) (λ q other. ap (λ (o : Option LiveMap). (live_or o).places.kept) (new.others q other) ∙ is.ended q);
+  ended = at_each (λ q. (keys_at t q).kept ≡ []) m (ap (λ (p : KeyTable). p.kept) new.keys) (λ q other. ap (λ (o : Option LiveMap). (live_or o).keys.kept) (new.others q other) ∙ is.ended q);
 }
   where
     was : (q : ℕ) → q ≢ m → IsSome (live_at t q) → IsSome (live_at old q)
     was q other live = ap (λ (o : Option LiveMap). is_some o) (sym (new.others q other)) ∙ live
 
-less_weight : (place : ℕ) (o : OpenObject) → by_descriptor place o ≤ times_named place o
-less_weight place (object.Map p) = omega arith
-less_weight place (object.Program l) = omega arith
+less_weight : (handle : ℕ) (o : OpenObject) → by_descriptor handle o ≤ times_named handle o
+less_weight handle (object.Map p) = omega arith
+less_weight handle (object.Program l) = omega arith
 
--- the place was free
+-- the handle was free
 room_within : (k : KeptTenant) (m : ℕ) → length k.live.maps ≡ MAPS → live.free_handle k.live ≡ Some m → m < most_maps
-room_within k m all low = let (within, free) = place_free k.live.maps m low in omega (arith, within, all)
+room_within k m all low = let (within, free) = index_free k.live.maps m low in omega (arith, within, all)
 
 abbrev pub kept_created : KeptTenant → LiveMaps → ℕ → ℕ → KeptTenant
 kept_created k t fd m = with_both k (with_open k.objects fd (object.Map m)) t
@@ -125,7 +125,7 @@ created_kept {k} {t} {shape} {m} {fd} is all low new = record {
   bound = λ n l there. bound_of n l (set_cases k.objects (fd - first_descriptor) n (object.Map m) (object.Program l) (descriptor_free k.objects fd low).0 there);
 }
   where
-    -- no object named the place
+    -- no object named the handle
     unnamed : holders m k.objects ≡ 0
     unnamed = sym (is.held m) ∙ ap (λ (o : Option LiveMap). (live_or o).holds) new.was
 
@@ -156,13 +156,13 @@ created_kept {k} {t} {shape} {m} {fd} is all low new = record {
     no_program : (l : LoadedProgram) → object.Program l ≢ object.Map m
     no_program l e = cc
 
-    older : (place : ℕ) → IsSome (live_at k.live place) → live_at t place ≡ live_at k.live place
-    older place live = new.others place (λ same. not_live (live_at k.live place) live (ap (live_at k.live) same ∙ new.was))
+    older : (handle : ℕ) → IsSome (live_at k.live handle) → live_at t handle ≡ live_at k.live handle
+    older handle live = new.others handle (λ same. not_live (live_at k.live handle) live (ap (live_at k.live) same ∙ new.was))
 
     bound_of : (n : ℕ) (l : LoadedProgram) → ((n ≡ fd - first_descriptor) × (object.Program l ≡ object.Map m)) ⊎ ((n ≢ fd - first_descriptor) × (get_or k.objects n None ≡ Some (object.Program l))) → IsBound t l
     bound_of n l (inl (at, wrong)) = absurd (no_program l wrong)
     bound_of n l (inr (other, at)) =
-        bound_along (is.bound n l at) (λ place live. ap (λ (o : Option LiveMap). is_some o) (older place live) ∙ live) (λ place live. ap (λ (o : Option LiveMap). (live_or o).places.shape) (older place live))
+        bound_along (is.bound n l at) (λ handle live. ap (λ (o : Option LiveMap). is_some o) (older handle live) ∙ live) (λ handle live. ap (λ (o : Option LiveMap). (live_or o).keys.shape) (older handle live))
 
 -- ---- the whole command
 
@@ -176,9 +176,9 @@ state_created part later k {t} {shape} {m} fd all new fresh keeps =
     other_map i other (inl live) = let (now, same) = keeps i live in same_map_at part later k.live t i live now same
     other_map i other (inr none) = none_there later t i (new.others i other ∙ none) ∙ sym (none_there part k.live i none)
 
-pub created_is : (refused : Bool) (part : List ℕ) (k : KeptTenant) (shape : MapShape) {place fd : ℕ} → AreHeld k.live → length k.live.maps ≡ MAPS → lowest k.objects ≡ Some fd → create_fault k.live shape ≡ None → live.free_handle k.live ≡ Some place
-    → created refused (state_in part k) (Ok shape) ≡ created_at refused (state_in part k) shape fd place
-created_is refused part k shape {place} {fd} is all low none free =
+pub created_is : (refused : Bool) (part : List ℕ) (k : KeptTenant) (shape : MapShape) {handle fd : ℕ} → AreHeld k.live → length k.live.maps ≡ MAPS → lowest k.objects ≡ Some fd → create_fault k.live shape ≡ None → live.free_handle k.live ≡ Some handle
+    → created refused (state_in part k) (Ok shape) ≡ created_at refused (state_in part k) shape fd handle
+created_is refused part k shape {handle} {fd} is all low none free =
     let (p, lowest_is, room_there) = room (live.free_handle k.live) (nat_lt LARGEST_SUM (areas k.live + area_by shape)) none in
     ap (λ (o : Option ℕ). created_under refused (state_in part k) shape o) low
     ∙ ap (λ (o : Option ℕ). created_as refused (state_in part k) shape fd o) (room_is part k shape is all ∙ room_there ∙ sym lowest_is ∙ free)
@@ -197,10 +197,10 @@ create_refused part k t shape f {fd} is all low made = by_cause (created_err (cr
               ∙ sym (ap (λ (o : Option ℕ). created_under false (state_in part k) shape o) low ∙ ap (λ (o : Option ℕ). created_as false (state_in part k) shape fd o) (room_is part k shape is all ∙ none)),
         )
     by_cause (inr (none, which, flagged)) =
-        let (place, free, room_there) = room (live.free_handle k.live) (nat_lt LARGEST_SUM (areas k.live + area_by shape)) none in (
+        let (handle, free, room_there) = room (live.free_handle k.live) (nat_lt LARGEST_SUM (areas k.live + area_by shape)) none in (
           true,
           ap₂ (λ (g : MapFault) (u : LiveMaps). refuses (map_errno g) (state_in part (with_live k u))) which flagged
-              ∙ ap (λ (b : Bool). refuses NoMemory (record { objects = k.objects; maps = at_places (map_at part k.live); refused = b })) (or-true k.refused)
+              ∙ ap (λ (b : Bool). refuses NoMemory (record { objects = k.objects; maps = at_handles (map_at part k.live); refused = b })) (or-true k.refused)
               ∙ sym (created_is true part k shape is all low none free),
         )
 
@@ -214,5 +214,5 @@ refused_kept k t shape f is made = by_cause (created_err (create_fault k.live sh
       maps = record { within = is.maps.within; some = is.maps.some; ended = is.maps.ended };
       held = is.held;
       single = is.single;
-      bound = λ n l there. bound_along (is.bound n l there) (λ place live. live) (λ place live. refl);
+      bound = λ n l there. bound_along (is.bound n l there) (λ handle live. live) (λ handle live. refl);
     })

@@ -28,7 +28,7 @@ use Rattle.tenant.specs.declared.object.OpenObject.TheVariants as object
 use Rattle.command_frames.specs.Frame.{owner, command_number, reply_to}
 use Rattle.tenant.specs.Alone.{AnswersFrame, IsFault}
 use Rattle.tenant.specs.Errno.{status_of}
-use Rattle.tenant.specs.Machine.{Answer, ran, refuses, cause_errno, codec_errno, verdict_errno, created_as, created_under, created, room_for, kind_of, asked_shape, of_object, of_place, on_map, gives_if_found, element_put, element_taken_out, answer_of_judgement, LoadsUnder, outcome_answer, run_of, longest_packet, closed, Answers}
+use Rattle.tenant.specs.Machine.{Answer, ran, refuses, cause_errno, codec_errno, verdict_errno, created_as, created_under, created, room_for, kind_of, asked_shape, of_object, of_handle, on_map, gives_if_found, element_put, element_taken_out, answer_of_judgement, LoadsUnder, outcome_answer, run_of, longest_packet, closed, Answers}
 use Rattle.tenant.specs.State.{Map, TenantState, live}
 use Rattle.tenant.proofs.LookUps.{has_size}
 use Rattle.tenant.proofs.NextKeys.{is_empty_or_fits}
@@ -88,8 +88,8 @@ cause_other (cause.Verdict why) = verdict_other why
 
 bare_as : (b : Bool) (s : TenantState) (shape : MapShape) (fd : ℕ) (o : Option ℕ) → IsBare (created_as b s shape fd o)
 bare_as b s shape fd None e = refl
-bare_as true s shape fd (Some place) e = refl
-bare_as false s shape fd (Some place) e = refl
+bare_as true s shape fd (Some handle) e = refl
+bare_as false s shape fd (Some handle) e = refl
 
 bare_under : (b : Bool) (s : TenantState) (shape : MapShape) (o : Option ℕ) → IsBare (created_under b s shape o)
 bare_under b s shape None e = refl
@@ -99,38 +99,38 @@ bare_created : (b : Bool) (s : TenantState) (r : Result MapShape Errno) → IsBa
 bare_created b s (Err errno) e = refl
 bare_created b s (Ok shape) e = bare_under b s shape (table.lowest s.objects) e
 
-bare_on_map : (s : TenantState) (fd : ℕ) (f : ℕ → Map → Answer) → ((place : ℕ) (t : Map) → IsBare (f place t)) → IsBare (on_map s fd f)
+bare_on_map : (s : TenantState) (fd : ℕ) (f : ℕ → Map → Answer) → ((handle : ℕ) (t : Map) → IsBare (f handle t)) → IsBare (on_map s fd f)
 bare_on_map s fd f each e = of_objects (table.named s.objects fd) e
   where
-    of_places : (place : ℕ) (o : Option Map) → IsBare (of_place s place f o)
-    of_places place None e = refl
-    of_places place (Some t) e = each place t e
+    of_handles : (handle : ℕ) (o : Option Map) → IsBare (of_handle s handle f o)
+    of_handles handle None e = refl
+    of_handles handle (Some t) e = each handle t e
 
     of_objects : (o : Option OpenObject) → IsBare (of_object s f o)
     of_objects None e = refl
     of_objects (Some (object.Program l)) e = refl
-    of_objects (Some (object.Map place)) e = of_places place (live s place) e
+    of_objects (Some (object.Map handle)) e = of_handles handle (live s handle) e
 
 bare_if : (right : Bool) (errno : Errno) (s : TenantState) (a : Answer) → IsBare a → IsBare (if right then a else refuses errno s)
 bare_if true errno s a bare = bare
 bare_if false errno s a bare = λ e. refl
 
 -- a command on a map that tests sizes
-bare_tested : (s : TenantState) (fd : ℕ) (fits : Map → Bool) (f : ℕ → Map → Answer) → ((place : ℕ) (t : Map) → IsBare (f place t)) → IsBare (on_map s fd (λ p t. if fits t then f p t else refuses Invalid s))
-bare_tested s fd fits f each = bare_on_map s fd _ (λ place t. bare_if (fits t) Invalid s (f place t) (each place t))
+bare_tested : (s : TenantState) (fd : ℕ) (fits : Map → Bool) (f : ℕ → Map → Answer) → ((handle : ℕ) (t : Map) → IsBare (f handle t)) → IsBare (on_map s fd (λ p t. if fits t then f p t else refuses Invalid s))
+bare_tested s fd fits f each = bare_on_map s fd _ (λ handle t. bare_if (fits t) Invalid s (f handle t) (each handle t))
 
 bare_found : (s : TenantState) (o : Option (List ℕ)) → IsBare (gives_if_found s o)
 bare_found s None e = refl
 bare_found s (Some value) e = no_zero value e
 
-bare_put : (s : TenantState) (place : ℕ) (t : Map) (key value : List ℕ) (v : call.Verdict (List ℕ)) → IsBare (element_put s place t key value v)
-bare_put s place t key value (call.Refused fault) e = refl
-bare_put s place t key value (call.Present old) e = refl
-bare_put s place t key value call.New e = refl
+bare_put : (s : TenantState) (handle : ℕ) (t : Map) (key value : List ℕ) (v : call.Verdict (List ℕ)) → IsBare (element_put s handle t key value v)
+bare_put s handle t key value (call.Refused fault) e = refl
+bare_put s handle t key value (call.Present old) e = refl
+bare_put s handle t key value call.New e = refl
 
-bare_taken : (s : TenantState) (place : ℕ) (t : Map) (key : List ℕ) (r : Result (List ℕ) MapFault) → IsBare (element_taken_out s place t key r)
-bare_taken s place t key (Err fault) e = refl
-bare_taken s place t key (Ok value) e = refl
+bare_taken : (s : TenantState) (handle : ℕ) (t : Map) (key : List ℕ) (r : Result (List ℕ) MapFault) → IsBare (element_taken_out s handle t key r)
+bare_taken s handle t key (Err fault) e = refl
+bare_taken s handle t key (Ok value) e = refl
 
 bare_judged : (s : TenantState) (fd : ℕ) (j : Result (List Insn) Refusal) → IsBare (answer_of_judgement s fd j)
 bare_judged s fd (Ok insns) e = refl
@@ -154,7 +154,7 @@ bare_ended Fault s e = refl
 
 bare_run : (s : TenantState) (words packet : List ℕ) (o : Option OpenObject) → IsBare (run_of s words packet o)
 bare_run s words packet None e = refl
-bare_run s words packet (Some (object.Map place)) e = refl
+bare_run s words packet (Some (object.Map handle)) e = refl
 bare_run s words packet (Some (object.Program l)) e = by_length (nat_lt longest_packet (length packet)) e
   where
     by_length : (long : Bool) → IsBare (if long then refuses TooBig s else ran s l words packet)
@@ -167,12 +167,12 @@ bare_closed s fd (Some o) e = refl
 
 bare_answer : (refused : Bool) (s : TenantState) (command : Command) (a : Answer) → Answers refused s command a → IsBare a
 bare_answer refused s (map_create kind key value max flags) a h = bare_told a _ h (bare_created refused s (asked_shape (kind_of kind) key value max flags))
-bare_answer refused s (map_lookup fd key) a h = bare_told a _ h (bare_tested s fd (has_size key) _ (λ place t. bare_found s (look_up t key)))
+bare_answer refused s (map_lookup fd key) a h = bare_told a _ h (bare_tested s fd (has_size key) _ (λ handle t. bare_found s (look_up t key)))
 bare_answer refused s (map_update fd flags bytes) a h =
     bare_told a _ h (bare_tested s fd (has_sizes bytes) (put_of s flags bytes)
-    (λ place t. bare_put s place t (key_of t.shape bytes) (value_of t.shape bytes) (verdict t (key_of t.shape bytes) flags)))
-bare_answer refused s (map_delete fd key) a h = bare_told a _ h (bare_tested s fd (has_size key) _ (λ place t. bare_taken s place t key (removal t key)))
-bare_answer refused s (map_next_key fd key) a h = bare_told a _ h (bare_tested s fd (is_empty_or_fits key) _ (λ place t. bare_found s (next_of t key)))
+    (λ handle t. bare_put s handle t (key_of t.shape bytes) (value_of t.shape bytes) (verdict t (key_of t.shape bytes) flags)))
+bare_answer refused s (map_delete fd key) a h = bare_told a _ h (bare_tested s fd (has_size key) _ (λ handle t. bare_taken s handle t key (removal t key)))
+bare_answer refused s (map_next_key fd key) a h = bare_told a _ h (bare_tested s fd (is_empty_or_fits key) _ (λ handle t. bare_found s (next_of t key)))
 bare_answer refused s (prog_load kind slots) a h = bare_loads (kind == 1) refused s slots a (refuses Invalid s) refl h
 bare_answer refused s (prog_test_run fd words packet) a h = bare_told a _ h (bare_run s words packet (table.named s.objects fd))
 bare_answer refused s (close fd) a h = bare_told a _ h (bare_closed s fd (table.named s.objects fd))

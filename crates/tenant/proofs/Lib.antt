@@ -1,7 +1,7 @@
 mod Sums
 mod OneAnswer
 mod Named
-mod AtPlaces
+mod AtHandles
 mod New
 mod Shapes
 mod LookUps
@@ -21,12 +21,12 @@ mod Memory
 mod Flag
 mod Faults
 mod LoadingHolds
-mod LoadingPlaces
+mod LoadingHandles
 mod LoadingShapes
 mod LoadingBound
 mod LoadingKept
 mod LoadingRefusals
-mod TestRunPlaces
+mod TestRunHandles
 mod TestRunKept
 mod TestRunKeys
 mod TestRunMaps

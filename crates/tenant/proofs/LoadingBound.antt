@@ -14,10 +14,10 @@ use Rattle.verifier.specs.Verdict.{IsAccepted}
 use Rattle.tenant.specs.Kept.{KeptTenant, IsWellFormedTenant, IsBound, state_in}
 use Rattle.tenant.specs.inside.Loading.{AreLive}
 use Rattle.tenant.specs.Loaded.{LoadedProgram}
-use Rattle.tenant.specs.Machine.{loaded_program, places_from, targets}
+use Rattle.tenant.specs.Machine.{loaded_program, handles_from, targets}
 use Rattle.tenant.proofs.LookUps.{live_named}
 use Rattle.tenant.proofs.Named.{named_is_live}
-use Rattle.tenant.proofs.LoadingPlaces.{seconds, places_keys, lookup_named, times_named, times_once, length-seconds, length-firsts, paired}
+use Rattle.tenant.proofs.LoadingHandles.{seconds, handles_keys, lookup_named, times_named, times_once, length-seconds, length-firsts, paired}
 use Rattle.tenant.proofs.LoadingShapes.{shapes_picked, shape_is, shaped_map}
 
 pub loaded_is : (l : LoadedProgram) (insns : List Insn) (named : List Named) (maps : List (ℕ × ℕ)) → l.insns ≡ insns → l.named ≡ named → l.maps ≡ maps
@@ -27,29 +27,29 @@ loaded_is l insns named maps a b c =
     ∙ ap (λ (ns : List Named). record { insns = insns; named = ns; maps = l.maps }) b
     ∙ ap (λ (ms : List (ℕ × ℕ)). record { insns = insns; named = named; maps = ms }) c
 
--- the map at a place of the program is live
-pub loaded_live : {k : KeptTenant} → IsWellFormedTenant k → (fds : List ℕ) → AreLive k.live (seconds (places_from k.objects fds))
-loaded_live {k} is fds place some = let (i, fd, at, opened) = times_named k.objects fds place some in (named_is_live is fd opened).live
+-- the map of a handle of the program is live
+pub loaded_live : {k : KeptTenant} → IsWellFormedTenant k → (fds : List ℕ) → AreLive k.live (seconds (handles_from k.objects fds))
+loaded_live {k} is fds handle some = let (i, fd, at, opened) = times_named k.objects fds handle some in (named_is_live is fd opened).live
 
 module _ (have : LoadedMapsHaveShapes) (k : KeptTenant) (part : List ℕ) (insns : List Insn) (accepted : IsAccepted insns (targets (state_in part k))) where
   -- the entries have the descriptors of the program's loads
-  keys : keys_of (places_from k.objects (maps_of insns)) ≡ maps_of insns
-  keys = places_keys k.objects (maps_of insns) (λ i fd at.
+  keys : keys_of (handles_from k.objects (maps_of insns)) ≡ maps_of insns
+  keys = handles_keys k.objects (maps_of insns) (λ i fd at.
       shaped_map (state_in part k) fd (subst (λ (n : ℕ). IsSome (shapes_named (targets (state_in part k)) n)) (get_or_from_slice_get (maps_of insns) i fd 0 at) (have.named insns (targets (state_in part k)) accepted i 0 (slice_get_within (maps_of insns) i fd at))))
 
-  pub loaded_count : length (seconds (places_from k.objects (maps_of insns))) ≡ length (maps_of insns)
-  loaded_count = let ms = places_from k.objects (maps_of insns) in length-seconds ms ∙ sym (length-firsts ms) ∙ ap length keys
+  pub loaded_count : length (seconds (handles_from k.objects (maps_of insns))) ≡ length (maps_of insns)
+  loaded_count = let ms = handles_from k.objects (maps_of insns) in length-seconds ms ∙ sym (length-firsts ms) ∙ ap length keys
 
-  -- the descriptors and the places, paired, are the entries of the machine
-  pub loaded_pairs : zip (maps_of insns) (seconds (places_from k.objects (maps_of insns))) ≡ places_from k.objects (maps_of insns)
-  loaded_pairs = let ms = places_from k.objects (maps_of insns) in ap (λ (fds : List ℕ). zip fds (seconds ms)) (sym keys) ∙ paired ms
+  -- the descriptors and the handles, paired, are the entries of the machine
+  pub loaded_pairs : zip (maps_of insns) (seconds (handles_from k.objects (maps_of insns))) ≡ handles_from k.objects (maps_of insns)
+  loaded_pairs = let ms = handles_from k.objects (maps_of insns) in ap (λ (fds : List ℕ). zip fds (seconds ms)) (sym keys) ∙ paired ms
 
   pub loaded_bound : MapsAreListed → IsWellFormedTenant k → IsBound k.live (loaded_program (state_in part k) insns)
   loaded_bound listed is = record {
     each = keys;
     once = times_once k.objects (maps_of insns) is.single (λ i j fd a b. listed.once insns i j fd a b);
-    shaped = λ fd place found.
-        let (i, at, opened) = lookup_named k.objects (maps_of insns) fd place found in
+    shaped = λ fd handle found.
+        let (i, at, opened) = lookup_named k.objects (maps_of insns) fd handle found in
         let here = named_is_live is fd opened in
-        (here.live, shapes_picked (maps_of insns) (targets (state_in part k)) i fd at ∙ shape_is (state_in part k) fd place (map_in part k.live place) opened (live_named part here));
+        (here.live, shapes_picked (maps_of insns) (targets (state_in part k)) i fd at ∙ shape_is (state_in part k) fd handle (map_in part k.live handle) opened (live_named part here));
   }

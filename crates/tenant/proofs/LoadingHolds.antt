@@ -1,20 +1,20 @@
 -- The live maps after one more hold.
 use Rattle.std.proofs.Common.{◌≡◌, ◌≢◌, ℕ, ◌+◌, List, Option, Some, None, IsSome, is_some, refl, sym, ap, ◌∙◌, arith}
 use Rattle.std.specs.Prelude.{option_map}
-use Rattle.bpf_maps.specs.Live.{LiveMaps, LiveMap, live_or, live_at, holds_at, places_at, offset, one_more}
-use Rattle.bpf_maps.specs.Places.{PlaceTable}
+use Rattle.bpf_maps.specs.Live.{LiveMaps, LiveMap, live_or, live_at, holds_at, keys_at, offset, one_more}
+use Rattle.bpf_maps.specs.KeyTable.{KeyTable}
 use Rattle.tenant.specs.Kept.{AreHeld, map_at}
 use Rattle.tenant.specs.inside.Loading.{IsHeldMore}
-use Rattle.tenant.proofs.AtPlaces.{at_each, map_if, same_live}
+use Rattle.tenant.proofs.AtHandles.{at_each, map_if, same_live}
 use Rattle.tenant.proofs.Releases.{one_at, here_one, none_one}
 
--- the live maps after a hold of the map at a place
-pub record IsHeld (old new : LiveMaps) (place : ℕ) : Type 0 where
-  pub more : live_at new place ≡ option_map one_more (live_at old place)
-  pub live : IsSome (live_at new place)
-  pub holds : holds_at new place ≡ holds_at old place + 1
-  pub places : places_at new place ≡ places_at old place
-  pub others : (other : ℕ) → other ≢ place → live_at new other ≡ live_at old other
+-- the live maps after a hold of the map of a handle
+pub record IsHeld (old new : LiveMaps) (handle : ℕ) : Type 0 where
+  pub more : live_at new handle ≡ option_map one_more (live_at old handle)
+  pub live : IsSome (live_at new handle)
+  pub holds : holds_at new handle ≡ holds_at old handle + 1
+  pub keys : keys_at new handle ≡ keys_at old handle
+  pub others : (other : ℕ) → other ≢ handle → live_at new other ≡ live_at old other
   pub refused : new.refused ≡ old.refused
 
 same_map : (part : List ℕ) (o : Option LiveMap) → map_if part (option_map one_more o) ≡ map_if part o
@@ -22,27 +22,27 @@ unfolding offset
 same_map part None = refl
 same_map part (Some l) = refl
 
-module _ {old new : LiveMaps} {place : ℕ} (is : AreHeld old) (there : IsSome (live_at old place)) (h : IsHeld old new place) where
+module _ {old new : LiveMaps} {handle : ℕ} (is : AreHeld old) (there : IsSome (live_at old handle)) (h : IsHeld old new handle) where
   was_live : (q : ℕ) → IsSome (live_at new q) → IsSome (live_at old q)
-  was_live = at_each (λ q. IsSome (live_at new q) → IsSome (live_at old q)) place (λ live. there) (λ q other live. ap (λ (o : Option LiveMap). is_some o) (sym (h.others q other)) ∙ live)
+  was_live = at_each (λ q. IsSome (live_at new q) → IsSome (live_at old q)) handle (λ live. there) (λ q other live. ap (λ (o : Option LiveMap). is_some o) (sym (h.others q other)) ∙ live)
 
-  places_of : (q : ℕ) → places_at new q ≡ places_at old q
-  places_of = at_each (λ q. places_at new q ≡ places_at old q) place h.places (λ q other. ap (λ (o : Option LiveMap). (live_or o).places) (h.others q other))
+  same_keys_at : (q : ℕ) → keys_at new q ≡ keys_at old q
+  same_keys_at = at_each (λ q. keys_at new q ≡ keys_at old q) handle h.keys (λ q other. ap (λ (o : Option LiveMap). (live_or o).keys) (h.others q other))
 
-  pub holds_one : (q : ℕ) → holds_at new q ≡ holds_at old q + one_at place q
-  holds_one = at_each (λ q. holds_at new q ≡ holds_at old q + one_at place q) place (let one = here_one place place refl in let more = h.holds in omega arith)
-      (λ q other. let same = ap (λ (o : Option LiveMap). (live_or o).holds) (h.others q other) in let none = none_one place q other in omega arith)
+  pub holds_one : (q : ℕ) → holds_at new q ≡ holds_at old q + one_at handle q
+  holds_one = at_each (λ q. holds_at new q ≡ holds_at old q + one_at handle q) handle (let one = here_one handle handle refl in let more = h.holds in omega arith)
+      (λ q other. let same = ap (λ (o : Option LiveMap). (live_or o).holds) (h.others q other) in let none = none_one handle q other in omega arith)
 
   pub held_one : IsHeldMore old new
   held_one = record {
     held = record {
       within = λ q live. is.within q (was_live q live);
       some = λ q live. let was = is.some q (was_live q live) in let more = holds_one q in omega arith;
-      ended = λ q. ap (λ (p : PlaceTable). p.kept) (places_of q) ∙ is.ended q;
+      ended = λ q. ap (λ (p : KeyTable). p.kept) (same_keys_at q) ∙ is.ended q;
     };
-    live = at_each (λ q. IsSome (live_at old q) → IsSome (live_at new q)) place (λ was. h.live) (λ q other was. ap (λ (o : Option LiveMap). is_some o) (h.others q other) ∙ was);
-    shape = λ q. ap (λ (p : PlaceTable). p.shape) (places_of q);
-    same = λ part. at_each (λ q. map_at part new q ≡ map_at part old q) place (ap (map_if part) h.more ∙ same_map part (live_at old place)) (λ q other. same_live part old new q (h.others q other));
+    live = at_each (λ q. IsSome (live_at old q) → IsSome (live_at new q)) handle (λ was. h.live) (λ q other was. ap (λ (o : Option LiveMap). is_some o) (h.others q other) ∙ was);
+    shape = λ q. ap (λ (p : KeyTable). p.shape) (same_keys_at q);
+    same = λ part. at_each (λ q. map_at part new q ≡ map_at part old q) handle (ap (map_if part) h.more ∙ same_map part (live_at old handle)) (λ q other. same_live part old new q (h.others q other));
     refused = h.refused;
   }
 

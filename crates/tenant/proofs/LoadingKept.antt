@@ -6,10 +6,10 @@ use Rattle.fd_table.specs.Table.{first_descriptor, lowest, with_open}
 use Rattle.tenant.specs.declared.object.OpenObject.{OpenObject}
 use Rattle.tenant.specs.declared.object.OpenObject.TheVariants as object
 use Rattle.tenant.specs.Kept.{KeptTenant, IsWellFormedTenant, IsBound, times_listed, times_named, by_descriptor, map_at, state_in}
-use Rattle.tenant.specs.Loaded.{LoadedProgram, map_places}
+use Rattle.tenant.specs.Loaded.{LoadedProgram, map_handles}
 use Rattle.tenant.specs.inside.Loading.{IsHeldMore, with_program}
 use Rattle.tenant.specs.State.{Map}
-use Rattle.tenant.proofs.AtPlaces.{same_at}
+use Rattle.tenant.proofs.AtHandles.{same_at}
 use Rattle.tenant.proofs.StillKept.{with_both, bound_along}
 use Rattle.tenant.proofs.Opened.{set_cases, descriptor_free, opened_sum}
 use Rattle.tenant.proofs.Sums.{total-most}
@@ -27,7 +27,7 @@ weight-most : (k : KeptTenant) → IsWellFormedTenant k → (q i : ℕ) (o : Ope
 weight-most k is q i (object.Map p) there = one_at_most (p == q)
 weight-most k is q i (object.Program l) there = (is.bound i l there).once q
 
-pub few_hold : {k : KeptTenant} {l : LoadedProgram} → IsWellFormedTenant k → IsBound k.live l → (q : ℕ) → holds_at k.live q + times_listed q (map_places l) < 4294967296
+pub few_hold : {k : KeptTenant} {l : LoadedProgram} → IsWellFormedTenant k → IsBound k.live l → (q : ℕ) → holds_at k.live q + times_listed q (map_handles l) < 4294967296
 few_hold {k} {l} is bound q =
     let held = is.held q in
     let most = total-most (times_named q) k.objects (λ i o there. weight-most k is q i o there) in
@@ -38,17 +38,17 @@ few_hold {k} {l} is bound q =
 -- ---- the invariant
 
 still_bound : {old t : LiveMaps} {m : LoadedProgram} → IsHeldMore old t → IsBound old m → IsBound t m
-still_bound more was = bound_along was more.live (λ place live. more.shape place)
+still_bound more was = bound_along was more.live (λ handle live. more.shape handle)
 
 same_program : (l m : LoadedProgram) → object.Program m ≡ object.Program l → l ≡ m
 same_program l m e = cc
 
 pub opened_kept : {k : KeptTenant} {t : LiveMaps} {fd : ℕ} {l : LoadedProgram} → IsWellFormedTenant k → lowest k.objects ≡ Some fd → IsBound k.live l → IsHeldMore k.live t
-    → ((q : ℕ) → holds_at t q ≡ holds_at k.live q + times_listed q (map_places l)) → IsWellFormedTenant (kept_opened k t fd l)
+    → ((q : ℕ) → holds_at t q ≡ holds_at k.live q + times_listed q (map_handles l)) → IsWellFormedTenant (kept_opened k t fd l)
 opened_kept {k} {t} {fd} {l} is low bound more holds = record {
   all = length-set {A = Option OpenObject} k.objects (fd - first_descriptor) (Some (object.Program l)) ∙ is.all;
   maps = more.held;
-  held = λ q. holds q ∙ ap (λ (n : ℕ). n + times_listed q (map_places l)) (is.held q) ∙ sym (opened_sum (times_named q) k.objects fd (object.Program l) low);
+  held = λ q. holds q ∙ ap (λ (n : ℕ). n + times_listed q (map_handles l)) (is.held q) ∙ sym (opened_sum (times_named q) k.objects fd (object.Program l) low);
   single = λ q. let was = is.single q in let sum = opened_sum (by_descriptor q) k.objects fd (object.Program l) low in omega arith;
   bound = λ n m there. bound_of m n (set_cases k.objects (fd - first_descriptor) n (object.Program l) (object.Program m) (descriptor_free k.objects fd low).0 there);
 }

@@ -102,19 +102,19 @@ targets_named s fd = by_test (nat_lt fd first_descriptor) refl
         from_on s first_descriptor fd s.objects (fd - first_descriptor) (omega (arith, low)) ∙ ap (λ (o : Option OpenObject). and_then o (object_target s)) (sym (named_at s.objects fd low))
 
 -- the shape of a map
-pub shape_is : (s : TenantState) (fd place : ℕ) (t : Map) → named s.objects fd ≡ Some (object.Map place) → live s place ≡ Some t → shapes_named (targets s) fd ≡ Some t.shape
-shape_is s fd place t opened there =
+pub shape_is : (s : TenantState) (fd handle : ℕ) (t : Map) → named s.objects fd ≡ Some (object.Map handle) → live s handle ≡ Some t → shapes_named (targets s) fd ≡ Some t.shape
+shape_is s fd handle t opened there =
     ap shape_in (targets_named s fd ∙ ap (λ (o : Option OpenObject). and_then o (object_target s)) opened ∙ ap (option_map (λ (u : Map). target.Map u.shape)) there)
 
 -- a descriptor that has a shape names a map
-pub shaped_map : (s : TenantState) (fd : ℕ) → IsSome (shapes_named (targets s) fd) → (place : ℕ) × (named s.objects fd ≡ Some (object.Map place))
+pub shaped_map : (s : TenantState) (fd : ℕ) → IsSome (shapes_named (targets s) fd) → (handle : ℕ) × (named s.objects fd ≡ Some (object.Map handle))
 shaped_map s fd some = by_object (named s.objects fd) refl
   where
     no_some : (o : Option MapShape) → IsSome o → o ≡ None → ⊥
     no_some None some e = absurd (let wrong : false ≡ true = some in cc wrong)
     no_some (Some x) some e = none-some x (sym e)
 
-    by_object : (o : Option OpenObject) → named s.objects fd ≡ o → (place : ℕ) × (named s.objects fd ≡ Some (object.Map place))
+    by_object : (o : Option OpenObject) → named s.objects fd ≡ o → (handle : ℕ) × (named s.objects fd ≡ Some (object.Map handle))
     by_object None e = absurd (no_some (shapes_named (targets s) fd) some (ap shape_in (targets_named s fd ∙ ap (λ (o : Option OpenObject). and_then o (object_target s)) e)))
     by_object (Some (object.Program l)) e = absurd (no_some (shapes_named (targets s) fd) some (ap shape_in (targets_named s fd ∙ ap (λ (o : Option OpenObject). and_then o (object_target s)) e)))
-    by_object (Some (object.Map place)) e = (place, e)
+    by_object (Some (object.Map handle)) e = (handle, e)

@@ -34,7 +34,7 @@ use Rattle.tenant.specs.declared.object.OpenObject.{OpenObject}
 use Rattle.tenant.specs.declared.object.OpenObject.TheVariants as object
 use Rattle.tenant.specs.Errno.{status_of}
 use Rattle.tenant.specs.Laws.{takes_memory, IsNoRefusal, RefusalsAreTold}
-use Rattle.tenant.specs.Machine.{Answer, refuses, refuses_for_memory, codec_errno, verdict_errno, cause_errno, created_as, created_under, created, room_for, shape_where, kind_of, asked_shape, of_object, of_place, on_map, gives_if_found, element_put, element_taken_out, targets, answer_of_judgement, LoadsUnder, outcome_answer, maps_given, maps_left, ran, run_of, longest_packet, closed, Answers}
+use Rattle.tenant.specs.Machine.{Answer, refuses, refuses_for_memory, codec_errno, verdict_errno, cause_errno, created_as, created_under, created, room_for, shape_where, kind_of, asked_shape, of_object, of_handle, on_map, gives_if_found, element_put, element_taken_out, targets, answer_of_judgement, LoadsUnder, outcome_answer, maps_given, maps_left, ran, run_of, longest_packet, closed, Answers}
 use Rattle.tenant.specs.State.{Map, TenantState, live, shape_area}
 use Rattle.tenant.proofs.LookUps.{has_size}
 use Rattle.tenant.proofs.NextKeys.{is_empty_or_fits}
@@ -48,7 +48,7 @@ OrRefused s told refused = (refused ≡ told) ⊎ (refused ≡ refuses_for_memor
 
 refused_as : (s : TenantState) (shape : MapShape) (fd : ℕ) (o : Option ℕ) → OrRefused s (created_as false s shape fd o) (created_as true s shape fd o)
 refused_as s shape fd None = inl refl
-refused_as s shape fd (Some place) = inr refl
+refused_as s shape fd (Some handle) = inr refl
 
 refused_under : (s : TenantState) (shape : MapShape) (o : Option ℕ) → OrRefused s (created_under false s shape o) (created_under true s shape o)
 refused_under s shape None = inl refl
@@ -112,21 +112,21 @@ module _ (s : TenantState) where
 
   -- ---- the calls of a map
 
-  on_map_other : (fd : ℕ) (f : ℕ → Map → Answer) → ((place : ℕ) (t : Map) → IsOther s (f place t)) → IsOther s (on_map s fd f)
+  on_map_other : (fd : ℕ) (f : ℕ → Map → Answer) → ((handle : ℕ) (t : Map) → IsOther s (f handle t)) → IsOther s (on_map s fd f)
   on_map_other fd f each = of_objects (table.named s.objects fd)
     where
-      of_places : (place : ℕ) (o : Option Map) → IsOther s (of_place s place f o)
-      of_places place None = not_open
-      of_places place (Some t) = each place t
+      of_handles : (handle : ℕ) (o : Option Map) → IsOther s (of_handle s handle f o)
+      of_handles handle None = not_open
+      of_handles handle (Some t) = each handle t
 
       of_objects : (o : Option OpenObject) → IsOther s (of_object s f o)
       of_objects None = not_open
       of_objects (Some (object.Program l)) = invalid
-      of_objects (Some (object.Map place)) = of_places place (live s place)
+      of_objects (Some (object.Map handle)) = of_handles handle (live s handle)
 
   -- a command on a map that tests sizes
-  tested_other : (fd : ℕ) (fits : Map → Bool) (f : ℕ → Map → Answer) → ((place : ℕ) (t : Map) → IsOther s (f place t)) → IsOther s (on_map s fd (λ p t. if fits t then f p t else refuses Invalid s))
-  tested_other fd fits f each = on_map_other fd _ (λ place t. by (fits t) (f place t) (each place t))
+  tested_other : (fd : ℕ) (fits : Map → Bool) (f : ℕ → Map → Answer) → ((handle : ℕ) (t : Map) → IsOther s (f handle t)) → IsOther s (on_map s fd (λ p t. if fits t then f p t else refuses Invalid s))
+  tested_other fd fits f each = on_map_other fd _ (λ handle t. by (fits t) (f handle t) (each handle t))
     where
       by : (right : Bool) (a : Answer) → IsOther s a → IsOther s (if right then a else refuses Invalid s)
       by true a h = h
@@ -137,9 +137,9 @@ module _ (s : TenantState) where
   found_other (Some value) = (unlike 0 refl, refl)
 
   -- no update runs out of memory
-  module _ (place : ℕ) (t : Map) (key value : List ℕ) (flags : ℕ) where
+  module _ (handle : ℕ) (t : Map) (key value : List ℕ) (flags : ℕ) where
     abbrev IsOtherPut : call.Verdict (List ℕ) → Type 0
-    IsOtherPut v = IsOther s (element_put s place t key value v)
+    IsOtherPut v = IsOther s (element_put s handle t key value v)
 
     of_hash : (must full : Bool) → IsOtherPut (if must then call.Refused map.NoEntry else (if full then call.Refused map.TooBig else call.New))
     of_hash true full = no_entry
@@ -165,10 +165,10 @@ module _ (s : TenantState) where
     put_other : IsOtherPut (verdict t key flags)
     put_other = by_flags (nat_le flags exist)
 
-  taken_other : (place : ℕ) (t : Map) (key : List ℕ) → IsOther s (element_taken_out s place t key (removal t key))
-  taken_other place t key = by t.shape.kind (look_up t key)
+  taken_other : (handle : ℕ) (t : Map) (key : List ℕ) → IsOther s (element_taken_out s handle t key (removal t key))
+  taken_other handle t key = by t.shape.kind (look_up t key)
     where
-      by : (k : MapKind) (o : Option (List ℕ)) → IsOther s (element_taken_out s place t key (removal_of k o))
+      by : (k : MapKind) (o : Option (List ℕ)) → IsOther s (element_taken_out s handle t key (removal_of k o))
       by Array o = invalid
       by Hash None = no_entry
       by Hash (Some a) = (unlike 0 refl, refl)
@@ -177,7 +177,7 @@ module _ (s : TenantState) where
 
   run_other : (words packet : List ℕ) (o : Option OpenObject) → IsOther s (run_of s words packet o)
   run_other words packet None = not_open
-  run_other words packet (Some (object.Map place)) = invalid
+  run_other words packet (Some (object.Map handle)) = invalid
   run_other words packet (Some (object.Program l)) = by_length (nat_lt longest_packet (length packet))
     where
       ended : (o : Outcome) (maps : List (Option Map)) → IsOther s (outcome_answer o (record s { maps = maps }))
@@ -198,11 +198,11 @@ module _ (s : TenantState) where
   -- a command other than a creation or a load
   pub answer_other : (refused : Bool) (command : Command) (a : Answer) → Answers refused s command a → takes_memory command ≡ false → IsOther s a
   answer_other refused (map_create kind key value max flags) a is differs = absurd (let wrong : true ≡ false = differs in cc wrong)
-  answer_other refused (map_lookup fd key) a is differs = is_other s a _ is (tested_other fd (has_size key) _ (λ place t. found_other (look_up t key)))
+  answer_other refused (map_lookup fd key) a is differs = is_other s a _ is (tested_other fd (has_size key) _ (λ handle t. found_other (look_up t key)))
   answer_other refused (map_update fd flags bytes) a is differs =
-      is_other s a _ is (tested_other fd (has_sizes bytes) (put_of s flags bytes) (λ place t. put_other place t (key_of t.shape bytes) (value_of t.shape bytes) flags))
-  answer_other refused (map_delete fd key) a is differs = is_other s a _ is (tested_other fd (has_size key) _ (λ place t. taken_other place t key))
-  answer_other refused (map_next_key fd key) a is differs = is_other s a _ is (tested_other fd (is_empty_or_fits key) _ (λ place t. found_other (next_of t key)))
+      is_other s a _ is (tested_other fd (has_sizes bytes) (put_of s flags bytes) (λ handle t. put_other handle t (key_of t.shape bytes) (value_of t.shape bytes) flags))
+  answer_other refused (map_delete fd key) a is differs = is_other s a _ is (tested_other fd (has_size key) _ (λ handle t. taken_other handle t key))
+  answer_other refused (map_next_key fd key) a is differs = is_other s a _ is (tested_other fd (is_empty_or_fits key) _ (λ handle t. found_other (next_of t key)))
   answer_other refused (prog_load kind slots) a is differs = absurd (let wrong : true ≡ false = differs in cc wrong)
   answer_other refused (prog_test_run fd words packet) a is differs = is_other s a _ is (run_other words packet (table.named s.objects fd))
   answer_other refused (close fd) a is differs = is_other s a _ is (closed_other fd (table.named s.objects fd))
@@ -228,7 +228,7 @@ create_spared s (Some k) key value max flags =
   where
     by_room : (made : MapShape) (fd : ℕ) (o : Option ℕ) → IsNoRefusal s (created_as false s made fd o)
     by_room made fd None = spared s (refuses NoSpace s) (unlike 228 refl, refl)
-    by_room made fd (Some place) = (not_refused fd, refl)
+    by_room made fd (Some handle) = (not_refused fd, refl)
 
     by_free : (made : MapShape) (o : Option ℕ) → IsNoRefusal s (created_under false s made o)
     by_free made None = too_many s

@@ -9,8 +9,8 @@ use Rattle.tenant.specs.declared.object.OpenObject.{OpenObject}
 use Rattle.tenant.specs.declared.object.OpenObject.TheVariants as object
 use Rattle.bpf_maps.specs.Limits.{most_maps}
 use Rattle.tenant.specs.State.{Map, new_tenant}
-use Rattle.tenant.specs.Kept.{KeptTenant, IsWellFormedTenant, times_named, by_descriptor, descriptors, at_places, map_at, state_in}
-use Rattle.tenant.proofs.AtPlaces.{same_at, none_there, not_live}
+use Rattle.tenant.specs.Kept.{KeptTenant, IsWellFormedTenant, times_named, by_descriptor, descriptors, at_handles, map_at, state_in}
+use Rattle.tenant.proofs.AtHandles.{same_at, none_there, not_live}
 use Rattle.tenant.proofs.Sums.{total-none}
 
 get_or-none : {A : Type 0} (n i : ℕ) → get_or (replicate {A = Option A} n None) i None ≡ None
@@ -22,27 +22,27 @@ abbrev kept_new : LiveMaps → KeptTenant
 kept_new live = record { objects = nothing_open; live = live; refused = false }
 
 -- no map is live
-none_live : (live : LiveMaps) → live.maps ≡ replicate MAPS None → (place : ℕ) → live_at live place ≡ None
-none_live live none place = ap (λ (ms : List (Option LiveMap)). get_or ms place None) none ∙ get_or-none MAPS place
+none_live : (live : LiveMaps) → live.maps ≡ replicate MAPS None → (handle : ℕ) → live_at live handle ≡ None
+none_live live none handle = ap (λ (ms : List (Option LiveMap)). get_or ms handle None) none ∙ get_or-none MAPS handle
 
 new_is_kept : (live : LiveMaps) → live.maps ≡ replicate MAPS None → IsWellFormedTenant (kept_new live)
 new_is_kept live none = record {
   all = refl;
   maps = record {
-    within = λ place there. absurd (not_live (live_at live place) there (none_live live none place));
-    some = λ place there. absurd (not_live (live_at live place) there (none_live live none place));
-    ended = λ place. ap (λ (o : Option LiveMap). (live_or o).places.kept) (none_live live none place);
+    within = λ handle there. absurd (not_live (live_at live handle) there (none_live live none handle));
+    some = λ handle there. absurd (not_live (live_at live handle) there (none_live live none handle));
+    ended = λ handle. ap (λ (o : Option LiveMap). (live_or o).keys.kept) (none_live live none handle);
   };
-  held = λ place. ap (λ (o : Option LiveMap). (live_or o).holds) (none_live live none place) ∙ sym (total-none (times_named place) most);
-  single = λ place. let nothing : descriptors place nothing_open ≡ 0 = total-none (by_descriptor place) most in omega arith;
+  held = λ handle. ap (λ (o : Option LiveMap). (live_or o).holds) (none_live live none handle) ∙ sym (total-none (times_named handle) most);
+  single = λ handle. let nothing : descriptors handle nothing_open ≡ 0 = total-none (by_descriptor handle) most in omega arith;
   bound = λ n l there. absurd (none-some (object.Program l) (sym (get_or-none most n) ∙ there));
 }
 
 pub empty_is_kept : (objects : List (Option OpenObject)) (live : LiveMaps) → objects ≡ nothing_open → live.maps ≡ replicate MAPS None → IsWellFormedTenant (record { objects = objects; live = live; refused = false })
 empty_is_kept objects live nothing none = subst (λ (os : List (Option OpenObject)). IsWellFormedTenant (record { objects = os; live = live; refused = false })) (sym nothing) (new_is_kept live none)
 
-no_maps : at_places (λ i. None) ≡ replicate most_maps None
-unfolding at_places
+no_maps : at_handles (λ i. None) ≡ replicate most_maps None
+unfolding at_handles
 no_maps = refl
 
 -- the state of a new tenant is the machine's

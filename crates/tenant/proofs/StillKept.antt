@@ -1,12 +1,12 @@
 -- The invariant after a change of the maps that does not change the open objects.
 use Rattle.std.proofs.Common.{◌≡◌, ℕ, ◌≤◌, List, [], Option, Some, IsSome, is_some, sym, ap, subst, ◌∙◌}
-use Rattle.bpf_maps.specs.Live.{LiveMaps, LiveMap, live_or, live_at, holds_at, shape_at, places_at, OnlyKeysChange}
+use Rattle.bpf_maps.specs.Live.{LiveMaps, LiveMap, live_or, live_at, holds_at, shape_at, keys_at, OnlyKeysChange}
 use Rattle.tagged_model.specs.declared.shape.MapShape.{MapShape}
 use Rattle.tenant.specs.Loaded.{LoadedProgram}
 use Rattle.tenant.specs.declared.tenant.Tenant.TheInside.{Inside}
 use Rattle.tenant.specs.declared.object.OpenObject.{OpenObject}
 use Rattle.tenant.specs.Kept.{KeptTenant, IsWellFormedTenant, IsBound}
-use Rattle.tenant.proofs.AtPlaces.{at_each}
+use Rattle.tenant.proofs.AtHandles.{at_each}
 
 -- the tenant that the fields represent
 abbrev pub kept_in : Inside → KeptTenant
@@ -21,39 +21,39 @@ with_both k objects t = record { objects = objects; live = t; refused = k.refuse
 
 -- the same maps are live, with the same shapes and the same number of holds, and no run is in progress
 pub record IsStill (old new : LiveMaps) : Type 0 where
-  pub was : (place : ℕ) → IsSome (live_at new place) → IsSome (live_at old place)
-  pub stays : (place : ℕ) → IsSome (live_at old place) → IsSome (live_at new place)
-  pub holds : (place : ℕ) → holds_at new place ≡ holds_at old place
-  pub shape : (place : ℕ) → IsSome (live_at old place) → shape_at new place ≡ shape_at old place
-  pub ended : (place : ℕ) → (places_at new place).kept ≡ []
+  pub was : (handle : ℕ) → IsSome (live_at new handle) → IsSome (live_at old handle)
+  pub stays : (handle : ℕ) → IsSome (live_at old handle) → IsSome (live_at new handle)
+  pub holds : (handle : ℕ) → holds_at new handle ≡ holds_at old handle
+  pub shape : (handle : ℕ) → IsSome (live_at old handle) → shape_at new handle ≡ shape_at old handle
+  pub ended : (handle : ℕ) → (keys_at new handle).kept ≡ []
 
-pub bound_along : {old new : LiveMaps} {l : LoadedProgram} → IsBound old l → ((place : ℕ) → IsSome (live_at old place) → IsSome (live_at new place)) → ((place : ℕ) → IsSome (live_at old place) → shape_at new place ≡ shape_at old place)
+pub bound_along : {old new : LiveMaps} {l : LoadedProgram} → IsBound old l → ((handle : ℕ) → IsSome (live_at old handle) → IsSome (live_at new handle)) → ((handle : ℕ) → IsSome (live_at old handle) → shape_at new handle ≡ shape_at old handle)
     → IsBound new l
 bound_along was stays shape = record {
   each = was.each;
   once = was.once;
-  shaped = λ fd place found. let (live, shaped) = was.shaped fd place found in (stays place live, shaped ∙ ap (λ (s : MapShape). Some s) (sym (shape place live)));
+  shaped = λ fd handle found. let (live, shaped) = was.shaped fd handle found in (stays handle live, shaped ∙ ap (λ (s : MapShape). Some s) (sym (shape handle live)));
 }
 
 pub still_kept : {k : KeptTenant} {t : LiveMaps} → IsWellFormedTenant k → IsStill k.live t → IsWellFormedTenant (with_live k t)
 still_kept {k} {t} is s = record {
   all = is.all;
   maps = record {
-    within = λ place live. is.maps.within place (s.was place live);
-    some = λ place live. subst (λ (n : ℕ). 1 ≤ n) (sym (s.holds place)) (is.maps.some place (s.was place live));
+    within = λ handle live. is.maps.within handle (s.was handle live);
+    some = λ handle live. subst (λ (n : ℕ). 1 ≤ n) (sym (s.holds handle)) (is.maps.some handle (s.was handle live));
     ended = s.ended;
   };
-  held = λ place. s.holds place ∙ is.held place;
+  held = λ handle. s.holds handle ∙ is.held handle;
   single = is.single;
   bound = λ n l there. bound_along (is.bound n l there) s.stays s.shape;
 }
 
--- if only the keys of one map change, and no place of it is kept apart
-pub keys_kept : {k : KeptTenant} {t : LiveMaps} {m : ℕ} → IsWellFormedTenant k → IsSome (live_at k.live m) → OnlyKeysChange m k.live t → (places_at t m).kept ≡ [] → IsWellFormedTenant (with_live k t)
+-- if only the keys of one map change, and no element of it is kept apart
+pub keys_kept : {k : KeptTenant} {t : LiveMaps} {m : ℕ} → IsWellFormedTenant k → IsSome (live_at k.live m) → OnlyKeysChange m k.live t → (keys_at t m).kept ≡ [] → IsWellFormedTenant (with_live k t)
 keys_kept {k} {t} {m} is live rest ended = still_kept is (record {
   was = at_each (λ q. IsSome (live_at t q) → IsSome (live_at k.live q)) m (λ now. live) (λ q other now. ap (λ (o : Option LiveMap). is_some o) (sym (rest.others q other)) ∙ now);
   stays = at_each (λ q. IsSome (live_at k.live q) → IsSome (live_at t q)) m (λ was. rest.live) (λ q other was. ap (λ (o : Option LiveMap). is_some o) (rest.others q other) ∙ was);
   holds = at_each (λ q. holds_at t q ≡ holds_at k.live q) m rest.holds (λ q other. ap (λ (o : Option LiveMap). (live_or o).holds) (rest.others q other));
-  shape = at_each (λ q. IsSome (live_at k.live q) → shape_at t q ≡ shape_at k.live q) m (λ was. rest.shape) (λ q other was. ap (λ (o : Option LiveMap). (live_or o).places.shape) (rest.others q other));
-  ended = at_each (λ q. (places_at t q).kept ≡ []) m ended (λ q other. ap (λ (o : Option LiveMap). (live_or o).places.kept) (rest.others q other) ∙ is.maps.ended q);
+  shape = at_each (λ q. IsSome (live_at k.live q) → shape_at t q ≡ shape_at k.live q) m (λ was. rest.shape) (λ q other was. ap (λ (o : Option LiveMap). (live_or o).keys.shape) (rest.others q other));
+  ended = at_each (λ q. (keys_at t q).kept ≡ []) m ended (λ q other. ap (λ (o : Option LiveMap). (live_or o).keys.kept) (rest.others q other) ∙ is.maps.ended q);
 })

@@ -9,7 +9,7 @@ unfolding total
 total-none f zero = refl
 total-none f (suc n) = let rest = total-none f n in omega arith
 
--- two lists with equal numbers at each place have equal sums
+-- two lists with equal numbers at each index have equal sums
 pub total-each : {A B : Type 0} (f : A → ℕ) (g : B → ℕ) (xs : List (Option A)) (ys : List (Option B)) → ((j : ℕ) → weight f (get_or xs j None) ≡ weight g (get_or ys j None)) → total f xs ≡ total g ys
 unfolding total
 total-each f g [] [] h = refl
@@ -17,14 +17,14 @@ total-each f g [] (y ∷ ys) h = let rest = total-each f g [] ys (λ j. h (suc j
 total-each f g (x ∷ xs) [] h = let rest = total-each f g xs [] (λ j. h (suc j)) in let here = h 0 in omega arith
 total-each f g (x ∷ xs) (y ∷ ys) h = ap₂ (λ (m n : ℕ). m + n) (h 0) (total-each f g xs ys (λ j. h (suc j)))
 
--- the sum after an empty place is filled
+-- the sum after a free handle gets a map
 pub total-set : {A : Type 0} (f : A → ℕ) (xs : List (Option A)) (n : ℕ) (x : A) → n < length xs → get_or xs n None ≡ None → total f (set xs n (Some x)) ≡ total f xs + f x
 unfolding total
 total-set f [] n x within free = absurd (omega arith)
 total-set f (o ∷ os) zero x within free = let nothing : option_map_or f o 0 ≡ 0 = ap (λ (p : Option _). option_map_or f p 0) free in omega arith
 total-set f (o ∷ os) (suc n) x within free = let rest = total-set f os n x (omega arith) free in omega arith
 
--- the sum after a place is emptied
+-- the sum after the map of a handle is gone
 pub total-unset : {A : Type 0} (f : A → ℕ) (xs : List (Option A)) (n : ℕ) (x : A) → get_or xs n None ≡ Some x → total f xs ≡ total f (set xs n None) + f x
 unfolding total
 total-unset f [] n x there = absurd (none-some x there)

@@ -12,7 +12,7 @@ use Rattle.verifier.specs.Laws.{MapsAreListed}
 use Rattle.tenant.specs.declared.errno.Errno.TheVariants.{TooBig}
 use Rattle.tenant.specs.declared.object.OpenObject.TheVariants as object
 use Rattle.tenant.specs.Kept.{KeptTenant, IsWellFormedTenant, IsBound, state_in}
-use Rattle.tenant.specs.Loaded.{LoadedProgram, map_places}
+use Rattle.tenant.specs.Loaded.{LoadedProgram, map_handles}
 use Rattle.tenant.specs.Machine.{outcome_answer, ran, run_of, refuses, maps_given, longest_packet}
 use Rattle.tenant.specs.State.{Map, TenantState}
 use Rattle.tenant.proofs.StillKept.{with_live}
@@ -29,15 +29,15 @@ fits_is s l words packet fits =
 pub record HasRun (k : KeptTenant) (l : LoadedProgram) (words packet : List ℕ) (part : List ℕ) (first : ℕ) (outcome : Outcome) (after : Standing) : Type 0 where
   pub kept : IsWellFormedTenant k
   pub bound : IsBound k.live l
-  pub runs : SimulatesRun (run_on l.insns (map_places l) (stood k.live part first) (length packet ∷ words) packet) (stood k.live part first) outcome after
-  pub maps : RunKeepsMaps (map_places l) k.live after.maps
-  pub values : KeepsValues (map_places l) (stood k.live part first) after
+  pub runs : SimulatesRun (run_on l.insns (map_handles l) (stood k.live part first) (length packet ∷ words) packet) (stood k.live part first) outcome after
+  pub maps : RunKeepsMaps (map_handles l) k.live after.maps
+  pub values : KeepsValues (map_handles l) (stood k.live part first) after
 
 ran_as : MapsAreListed → {k : KeptTenant} {l : LoadedProgram} {words packet part : List ℕ} {first : ℕ} {outcome : Outcome} {after : Standing} → HasRun k l words packet part first outcome after
     → outcome_answer outcome (state_in after.part (with_live k after.maps)) ≡ ran (state_in part k) l words packet
 ran_as listed {k} {l} {words} {packet} {part} {first} {outcome} {after} h =
     let s = state_in part k in
-    let bind = map_places l in
+    let bind = map_handles l in
     let given = maps_given s l in
     let context = length packet ∷ words in
     let input : RunInput = record { code = l.insns; bind = bind; maps = given; context = context; packet = packet } in
@@ -55,21 +55,21 @@ IsTold before part fd words packet outcome later after =
 
 -- from the run of the code to the reply, for an open program
 pub told_of : MapsAreListed → {part later words packet bind context : List ℕ} {k : KeptTenant} {l : LoadedProgram} {new : LiveMaps} {code : List Insn} {before steps : ℕ} {outcome : Outcome} (fd : ℕ)
-    → IsWellFormedTenant k → named k.objects fd ≡ Some (object.Program l) → length packet ≤ longest_packet → bind ≡ map_places l → code ≡ l.insns → context ≡ length packet ∷ words
+    → IsWellFormedTenant k → named k.objects fd ≡ Some (object.Program l) → length packet ≤ longest_packet → bind ≡ map_handles l → code ≡ l.insns → context ≡ length packet ∷ words
     → SimulatesRun (run_on code bind (stood k.live part before) context packet) (stood k.live part before) outcome (stood new later steps) → RunKeepsMaps bind k.live new → KeepsValues bind (stood k.live part before) (stood new later steps)
     → IsTold k part fd words packet outcome later (with_live k new)
-told_of listed {part} {later} {words} {packet} {bind} {context} {k} {l} {new} {code} {before} {steps} {outcome} fd kept opened fits places same given runs keeps values =
+told_of listed {part} {later} {words} {packet} {bind} {context} {k} {l} {new} {code} {before} {steps} {outcome} fd kept opened fits handles same given runs keeps values =
     let found = stood k.live part before in
     let left = stood new later steps in
-    let input : run_on code bind found context packet ≡ run_on l.insns (map_places l) found (length packet ∷ words) packet =
+    let input : run_on code bind found context packet ≡ run_on l.insns (map_handles l) found (length packet ∷ words) packet =
     ap (λ (ws : List ℕ). run_on code bind found ws packet) given
     ∙ ap (λ (is : List Insn). run_on is bind found (length packet ∷ words) packet) same
-    ∙ ap (λ (ps : List ℕ). run_on l.insns ps found (length packet ∷ words) packet) places in
+    ∙ ap (λ (ps : List ℕ). run_on l.insns ps found (length packet ∷ words) packet) handles in
     let has : HasRun k l words packet part before outcome left = record {
       kept = kept;
       bound = bound_of fd kept opened;
       runs = subst (λ (asked : RunInput). SimulatesRun asked found outcome left) input runs;
-      maps = subst (λ (ps : List ℕ). RunKeepsMaps ps k.live new) places keeps;
-      values = subst (λ (ps : List ℕ). KeepsValues ps found left) places values;
+      maps = subst (λ (ps : List ℕ). RunKeepsMaps ps k.live new) handles keeps;
+      values = subst (λ (ps : List ℕ). KeepsValues ps found left) handles values;
     } in
     ran_as listed has ∙ fits_is (state_in part k) l words packet fits ∙ ap (λ o. run_of (state_in part k) words packet o) (sym opened)

@@ -2,7 +2,7 @@
 use Rattle.std.proofs.Common.{◌≡◌, ◌≢◌, ℕ, zero, suc, ◌<◌, List, [], ◌∷◌, length, Option, Some, None, IsSome, is_some, refl, sym, ap, subst, ◌∙◌, inl, inr, arith}
 use Rattle.std.specs.Prelude.{◌⊎◌, slice_index}
 use Rattle.std.proofs.lemmas.Bool.{cases_eq, true≢false}
-use Rattle.bpf_maps.specs.Live.{LiveMaps, LiveMap, live_or, live_at, places_at, shape_at, SameAreas}
+use Rattle.bpf_maps.specs.Live.{LiveMaps, LiveMap, live_or, live_at, keys_at, shape_at, SameAreas}
 use Rattle.bpf_helpers.specs.Stands.{IsElsewhere}
 use Rattle.flat_machine.specs.Runs.{RunKeepsMaps}
 use Rattle.tenant.specs.Kept.{KeptTenant, IsWellFormedTenant}
@@ -37,26 +37,26 @@ same_shape : (old new : LiveMaps) (key : ℕ) → SameAreas old new → IsSome (
 same_shape old new key areas live =
     let (l, now) = some_live (live_at new key) live in
     let (m, was, shape, start, stride) = areas key l now in
-    ap (λ (o : Option LiveMap). (live_or o).places.shape) now ∙ shape ∙ sym (ap (λ (o : Option LiveMap). (live_or o).places.shape) was)
+    ap (λ (o : Option LiveMap). (live_or o).keys.shape) now ∙ shape ∙ sym (ap (λ (o : Option LiveMap). (live_or o).keys.shape) was)
 
 -- ---- the invariant
 
 pub kept_after : {k : KeptTenant} {new : LiveMaps} {bind : List ℕ} → IsWellFormedTenant k → RunKeepsMaps bind k.live new → IsWellFormedTenant (with_live k new)
 kept_after {k} {new} {bind} is keeps = still_kept is (record {
-  was = λ place now. was_of place (some_live (live_at new place) now);
-  stays = λ place was. stays_of place was (stands_or_not bind place);
+  was = λ handle now. was_of handle (some_live (live_at new handle) now);
+  stays = λ handle was. stays_of handle was (stands_or_not bind handle);
   holds = keeps.holds;
-  shape = λ place was. same_shape k.live new place keeps.areas (stays_of place was (stands_or_not bind place));
-  ended = λ place. ended_of place (stands_or_not bind place);
+  shape = λ handle was. same_shape k.live new handle keeps.areas (stays_of handle was (stands_or_not bind handle));
+  ended = λ handle. ended_of handle (stands_or_not bind handle);
 })
   where
-    was_of : (place : ℕ) → (l : LiveMap) × (live_at new place ≡ Some l) → IsSome (live_at k.live place)
-    was_of place (l, now) = let (m, was, shape, start, stride) = keeps.areas place l now in ap (λ (o : Option LiveMap). is_some o) was
+    was_of : (handle : ℕ) → (l : LiveMap) × (live_at new handle ≡ Some l) → IsSome (live_at k.live handle)
+    was_of handle (l, now) = let (m, was, shape, start, stride) = keeps.areas handle l now in ap (λ (o : Option LiveMap). is_some o) was
 
-    stays_of : (place : ℕ) → IsSome (live_at k.live place) → StandsIn bind place ⊎ IsElsewhere bind place → IsSome (live_at new place)
-    stays_of place was (inl (i, lt, same)) = subst (λ (n : ℕ). IsSome (live_at new n)) same (keeps.live i lt)
-    stays_of place was (inr away) = ap (λ (o : Option LiveMap). is_some o) (keeps.others place away) ∙ was
+    stays_of : (handle : ℕ) → IsSome (live_at k.live handle) → StandsIn bind handle ⊎ IsElsewhere bind handle → IsSome (live_at new handle)
+    stays_of handle was (inl (i, lt, same)) = subst (λ (n : ℕ). IsSome (live_at new n)) same (keeps.live i lt)
+    stays_of handle was (inr away) = ap (λ (o : Option LiveMap). is_some o) (keeps.others handle away) ∙ was
 
-    ended_of : (place : ℕ) → StandsIn bind place ⊎ IsElsewhere bind place → (places_at new place).kept ≡ []
-    ended_of place (inl (i, lt, same)) = subst (λ (n : ℕ). (places_at new n).kept ≡ []) same (keeps.free i lt)
-    ended_of place (inr away) = ap (λ (o : Option LiveMap). (live_or o).places.kept) (keeps.others place away) ∙ is.maps.ended place
+    ended_of : (handle : ℕ) → StandsIn bind handle ⊎ IsElsewhere bind handle → (keys_at new handle).kept ≡ []
+    ended_of handle (inl (i, lt, same)) = subst (λ (n : ℕ). (keys_at new n).kept ≡ []) same (keeps.free i lt)
+    ended_of handle (inr away) = ap (λ (o : Option LiveMap). (live_or o).keys.kept) (keeps.others handle away) ∙ is.maps.ended handle

@@ -14,10 +14,10 @@ use Rattle.verifier.specs.Verified.{Accepted}
 use Rattle.tenant.specs.declared.object.OpenObject.TheVariants as object
 use Rattle.tenant.specs.Kept.{KeptTenant, IsWellFormedTenant, IsBound}
 use Rattle.bpf_maps.specs.Limits.{most_maps}
-use Rattle.tenant.specs.Loaded.{LoadedProgram, map_places}
+use Rattle.tenant.specs.Loaded.{LoadedProgram, map_handles}
 use Rattle.tenant.proofs.Closes.{closed_at}
-use Rattle.tenant.proofs.LoadingPlaces.{AreApart, length-seconds, length-firsts}
-use Rattle.tenant.proofs.TestRunPlaces.{listed_place, place_at, same_entry}
+use Rattle.tenant.proofs.LoadingHandles.{AreApart, length-seconds, length-firsts}
+use Rattle.tenant.proofs.TestRunHandles.{listed_handle, handle_at, same_entry}
 
 abbrev pub descriptor_at : List (ℕ × ℕ) → ℕ → ℕ
 descriptor_at maps i = slice_index (keys_of maps) i
@@ -27,13 +27,13 @@ descriptor_at maps i = slice_index (keys_of maps) i
 apart_later : (x : ℕ) (xs : List ℕ) → AreApart (x ∷ xs) → AreApart xs
 apart_later x xs apart i j fd a b = let e = apart (suc i) (suc j) fd a b in omega arith
 
-pub lookup_at : (maps : List (ℕ × ℕ)) → AreApart (keys_of maps) → (i : ℕ) → i < length maps → lookup (λ m. m == descriptor_at maps i) maps ≡ Some (listed_place maps i)
+pub lookup_at : (maps : List (ℕ × ℕ)) → AreApart (keys_of maps) → (i : ℕ) → i < length maps → lookup (λ m. m == descriptor_at maps i) maps ≡ Some (listed_handle maps i)
 lookup_at [] once i lt = absurd (omega arith)
 lookup_at (m ∷ ms) once zero lt = ap (λ (b : Bool). cond b (Some m.1) (lookup (λ k. k == m.0) ms)) (eq-eqb m.0 m.0 refl)
 lookup_at (m ∷ ms) once (suc i) lt = by (m.0 == descriptor_at ms i) refl (lookup_at ms (apart_later m.0 (keys_of ms) once) i (omega arith))
   where
-    by : (b : Bool) → (m.0 == descriptor_at ms i) ≡ b → lookup (λ k. k == descriptor_at ms i) ms ≡ Some (listed_place ms i)
-        → cond (m.0 == descriptor_at ms i) (Some m.1) (lookup (λ k. k == descriptor_at ms i) ms) ≡ Some (listed_place ms i)
+    by : (b : Bool) → (m.0 == descriptor_at ms i) ≡ b → lookup (λ k. k == descriptor_at ms i) ms ≡ Some (listed_handle ms i)
+        → cond (m.0 == descriptor_at ms i) (Some m.1) (lookup (λ k. k == descriptor_at ms i) ms) ≡ Some (listed_handle ms i)
     by true e rest =
         let long = length-firsts ms in
         let here : Some m.0 ≡ Some (descriptor_at ms i) = ap (λ (n : ℕ). Some n) (eqb-true m.0 (descriptor_at ms i) e) in
@@ -41,27 +41,27 @@ lookup_at (m ∷ ms) once (suc i) lt = by (m.0 == descriptor_at ms i) refl (look
         absurd (let wrong = once 0 (suc i) (descriptor_at ms i) here there in omega arith)
     by false e rest = ap (λ (b : Bool). cond b (Some m.1) (lookup (λ k. k == descriptor_at ms i) ms)) e ∙ rest
 
--- ---- the maps at the places of a program
+-- ---- the maps under the handles of a program
 
 module _ {k : KeptTenant} {l : LoadedProgram} (is : IsWellFormedTenant k) (bound : IsBound k.live l) (listed : MapsAreListed) where
   once : AreApart (keys_of l.maps)
   once = subst (λ (fds : List ℕ). AreApart fds) (sym bound.each) (λ i j fd a b. listed.once l.insns i j fd a b)
 
   -- a live map with the shape with which the program was verified
-  pub entry : (i : ℕ) → i < length l.maps → IsSome (live_at k.live (listed_place l.maps i)) × (shapes_named l.named (descriptor_at l.maps i) ≡ Some (shape_at k.live (listed_place l.maps i)))
-  entry i lt = bound.shaped (descriptor_at l.maps i) (listed_place l.maps i) (lookup_at l.maps once i lt)
+  pub entry : (i : ℕ) → i < length l.maps → IsSome (live_at k.live (listed_handle l.maps i)) × (shapes_named l.named (descriptor_at l.maps i) ≡ Some (shape_at k.live (listed_handle l.maps i)))
+  entry i lt = bound.shaped (descriptor_at l.maps i) (listed_handle l.maps i) (lookup_at l.maps once i lt)
 
-  pub place_within : (i : ℕ) → i < length l.maps → listed_place l.maps i < most_maps
-  place_within i lt = is.maps.within (listed_place l.maps i) (entry i lt).0
+  pub handle_within : (i : ℕ) → i < length l.maps → listed_handle l.maps i < most_maps
+  handle_within i lt = is.maps.within (listed_handle l.maps i) (entry i lt).0
 
-  as_many : length (map_places l) ≡ length (maps_of l.insns)
+  as_many : length (map_handles l) ≡ length (maps_of l.insns)
   as_many = length-seconds l.maps ∙ sym (length-firsts l.maps) ∙ ap length bound.each
 
-  live_there : (i : ℕ) → i < length (map_places l) → IsSome (live_at k.live (slice_index (map_places l) i))
-  live_there i lt = let all = length-seconds l.maps in subst (λ (n : ℕ). IsSome (live_at k.live n)) (sym (place_at l.maps i)) (entry i (omega arith)).0
+  live_there : (i : ℕ) → i < length (map_handles l) → IsSome (live_at k.live (slice_index (map_handles l) i))
+  live_there i lt = let all = length-seconds l.maps in subst (λ (n : ℕ). IsSome (live_at k.live n)) (sym (handle_at l.maps i)) (entry i (omega arith)).0
 
-  -- the maps at these places are bound to the program
-  pub are_bound : (a : Accepted) → a.code ≡ l.insns → a.entries ≡ l.named → AreBound a (map_places l) k.live
+  -- the maps under these handles are bound to the program
+  pub are_bound : (a : Accepted) → a.code ≡ l.insns → a.entries ≡ l.named → AreBound a (map_handles l) k.live
   are_bound a code entries = record {
     count = as_many ∙ ap (λ insns. length (maps_of insns)) (sym code);
     live = live_there;
@@ -70,9 +70,9 @@ module _ {k : KeptTenant} {l : LoadedProgram} (is : IsWellFormedTenant k) (bound
         ap (λ insns. shapes_named a.entries (slice_index (maps_of insns) i)) code
         ∙ ap (λ named. shapes_named named (slice_index (maps_of l.insns) i)) entries
         ∙ ap (λ (fds : List ℕ). shapes_named l.named (slice_index fds i)) (sym bound.each)
-        ∙ (entry i (omega arith)).1 ∙ ap (λ (n : ℕ). Some (shape_at k.live n)) (sym (place_at l.maps i));
-    once = λ i j i_lt j_lt same. same_entry (map_places l) bound.once i j i_lt j_lt same;
-    free = λ i lt. is.maps.ended (slice_index (map_places l) i);
+        ∙ (entry i (omega arith)).1 ∙ ap (λ (n : ℕ). Some (shape_at k.live n)) (sym (handle_at l.maps i));
+    once = λ i j i_lt j_lt same. same_entry (map_handles l) bound.once i j i_lt j_lt same;
+    free = λ i lt. is.maps.ended (slice_index (map_handles l) i);
   }
 
 -- the maps of an open program are bound to it

@@ -6,7 +6,7 @@ use Rattle.tenant.specs.Kept.{times_listed, AreHeld}
 use Rattle.tenant.specs.inside.Leaves.{HeldMaps, LeavesHeldMaps}
 use Rattle.tenant.proofs.Releases.{one_at, here_one}
 
--- how often a place is in the first i + 1 places
+-- how often a handle is in the first i + 1 handles
 times-next : (ps : List ℕ) (i p d q : ℕ) → i < length ps → p ≡ get_or ps i d → times_listed q (take (suc i) ps) ≡ times_listed q (take i ps) + one_at p q
 unfolding times_listed
 times-next [] i p d q within at = absurd (omega arith)
@@ -16,7 +16,7 @@ times-next (x ∷ ps) (suc i) p d q within at = let rest = times-next ps i p d q
 pub times-more : (ps : List ℕ) (i p d q : ℕ) → i < length ps → p ≡ get_or ps i d → times_listed q (take (i + 1) ps) ≡ times_listed q (take i ps) + one_at p q
 times-more ps i p d q within at = let e : i + 1 ≡ suc i = omega arith in ap (λ (n : ℕ). times_listed q (take n ps)) e ∙ times-next ps i p d q within at
 
--- the first i places have it at most as often as all
+-- the first i handles have it at most as often as all
 times-first : (ps : List ℕ) (i q : ℕ) → times_listed q (take i ps) ≤ times_listed q ps
 unfolding times_listed
 times-first [] zero q = omega arith
@@ -24,7 +24,7 @@ times-first [] (suc i) q = omega arith
 times-first (p ∷ ps) zero q = omega arith
 times-first (p ∷ ps) (suc i) q = let rest = times-first ps i q in omega arith
 
--- the place after the first i is one more
+-- the handle after the first i is one more
 pub times-left : (ps : List ℕ) (i p d : ℕ) → i < length ps → p ≡ get_or ps i d → times_listed p (take i ps) + 1 ≤ times_listed p ps
 times-left ps i p d within at =
     let more = times-more ps i p d p within at in
@@ -32,7 +32,7 @@ times-left ps i p d within at =
     let first = times-first ps (i + 1) p in
     omega arith
 
--- if i is the number of all places, the first i places are all
+-- if i is the number of all handles, the first i handles are all
 pub times-all : (ps : List ℕ) (i q : ℕ) → i ≡ length ps → times_listed q (take i ps) ≡ times_listed q ps
 times-all ps i q all = ap (λ (n : ℕ). times_listed q (take n ps)) all ∙ ap (times_listed q) (take-length ps)
 

@@ -39,7 +39,7 @@ RunsBatch fd before inputs room written after =
 -- why an object is not run
 abbrev pub object_refusal : Option OpenObject → Option Errno
 object_refusal None = Some BadDescriptor
-object_refusal (Some (object.Map place)) = Some Invalid
+object_refusal (Some (object.Map handle)) = Some Invalid
 object_refusal (Some (object.Program l)) = None
 
 -- why a program is not run on a packet of this length

@@ -37,7 +37,7 @@ use Rattle.tenant.specs.declared.object.OpenObject.TheVariants as object
 use Rattle.tenant.specs.Loaded.{LoadedProgram}
 use Rattle.tenant.specs.Errno.{status_of, map_errno}
 use Rattle.bpf_maps.specs.Limits.{most_bytes}
-use Rattle.tenant.specs.State.{Map, TenantState, live, free_place, shape_area, maps_area, with_map_at, with_objects}
+use Rattle.tenant.specs.State.{Map, TenantState, live, free_handle, shape_area, maps_area, with_map_at, with_objects}
 
 -- ---- answers
 
@@ -83,17 +83,17 @@ asked_shape (Some kind) key value max flags =
 abbrev pub new_map : MapShape → Map
 new_map shape = new_table (λ i. replicate shape.value_size 0) shape
 
--- the place for a new map with an area of this size, if there is room
+-- the handle for a new map with an area of this size, if there is room
 abbrev pub room_for : TenantState → ℕ → Option ℕ
-room_for s size = if nat_lt most_bytes (maps_area s.maps + size) then None else free_place s
+room_for s size = if nat_lt most_bytes (maps_area s.maps + size) then None else free_handle s
 
 abbrev pub created_at : Bool → TenantState → MapShape → ℕ → ℕ → Answer
-created_at true s shape fd place = refuses_for_memory s
-created_at false s shape fd place = opens fd (record s { objects = table.with_open s.objects fd (object.Map place); maps = slice_set s.maps place (Some (new_map shape)) })
+created_at true s shape fd handle = refuses_for_memory s
+created_at false s shape fd handle = opens fd (record s { objects = table.with_open s.objects fd (object.Map handle); maps = slice_set s.maps handle (Some (new_map shape)) })
 
 abbrev pub created_as : Bool → TenantState → MapShape → ℕ → Option ℕ → Answer
 created_as refused s shape fd None = refuses NoSpace s
-created_as refused s shape fd (Some place) = created_at refused s shape fd place
+created_as refused s shape fd (Some handle) = created_at refused s shape fd handle
 
 abbrev pub created_under : Bool → TenantState → MapShape → Option ℕ → Answer
 created_under refused s shape None = refuses TooManyOpen s
@@ -105,15 +105,15 @@ created refused s (Ok shape) = created_under refused s shape (table.lowest s.obj
 
 -- ---- the calls of a map
 
--- the map at the place that a descriptor names
-abbrev pub of_place : TenantState → ℕ → (ℕ → Map → Answer) → Option Map → Answer
-of_place s place f None = refuses BadDescriptor s
-of_place s place f (Some t) = f place t
+-- the map of the handle that a descriptor names
+abbrev pub of_handle : TenantState → ℕ → (ℕ → Map → Answer) → Option Map → Answer
+of_handle s handle f None = refuses BadDescriptor s
+of_handle s handle f (Some t) = f handle t
 
 abbrev pub of_object : TenantState → (ℕ → Map → Answer) → Option OpenObject → Answer
 of_object s f None = refuses BadDescriptor s
 of_object s f (Some (object.Program l)) = refuses Invalid s
-of_object s f (Some (object.Map place)) = of_place s place f (live s place)
+of_object s f (Some (object.Map handle)) = of_handle s handle f (live s handle)
 
 abbrev pub on_map : TenantState → ℕ → (ℕ → Map → Answer) → Answer
 on_map s fd f = of_object s f (table.named s.objects fd)
@@ -124,34 +124,34 @@ gives_if_found s None = refuses NoEntry s
 gives_if_found s (Some value) = gives value s
 
 abbrev pub element_looked_up : TenantState → ℕ → List ℕ → Answer
-element_looked_up s fd key = on_map s fd (λ place t. if length key == t.shape.key_size then gives_if_found s (look_up t key) else refuses Invalid s)
+element_looked_up s fd key = on_map s fd (λ handle t. if length key == t.shape.key_size then gives_if_found s (look_up t key) else refuses Invalid s)
 
 -- MAP_UPDATE_ELEM: a present key keeps its position, and a new one goes to the end
 abbrev pub element_put : TenantState → ℕ → Map → List ℕ → List ℕ → call.Verdict (List ℕ) → Answer
-element_put s place t key value (call.Refused fault) = refuses (map_errno fault) s
-element_put s place t key value (call.Present old) =
-    gives [] (with_map_at s place (with_object t key value))
-element_put s place t key value call.New = gives [] (with_map_at s place (with_new t key value))
+element_put s handle t key value (call.Refused fault) = refuses (map_errno fault) s
+element_put s handle t key value (call.Present old) =
+    gives [] (with_map_at s handle (with_object t key value))
+element_put s handle t key value call.New = gives [] (with_map_at s handle (with_new t key value))
 
 abbrev pub element_updated : TenantState → ℕ → ℕ → List ℕ → Answer
 element_updated s fd flags bytes =
-    on_map s fd (λ place t. if length bytes == t.shape.key_size + t.shape.value_size
-    then element_put s place t (take t.shape.key_size bytes) (drop t.shape.key_size bytes)
+    on_map s fd (λ handle t. if length bytes == t.shape.key_size + t.shape.value_size
+    then element_put s handle t (take t.shape.key_size bytes) (drop t.shape.key_size bytes)
     (verdict t (take t.shape.key_size bytes) flags)
     else refuses Invalid s)
 
 -- MAP_DELETE_ELEM: no run is in progress, so the deleted value is gone
 abbrev pub element_taken_out : TenantState → ℕ → Map → List ℕ → Result (List ℕ) MapFault → Answer
-element_taken_out s place t key (Err fault) = refuses (map_errno fault) s
-element_taken_out s place t key (Ok value) = gives [] (with_map_at s place (after_run (with_deleted t key)))
+element_taken_out s handle t key (Err fault) = refuses (map_errno fault) s
+element_taken_out s handle t key (Ok value) = gives [] (with_map_at s handle (after_run (with_deleted t key)))
 
 abbrev pub element_deleted : TenantState → ℕ → List ℕ → Answer
-element_deleted s fd key = on_map s fd (λ place t. if length key == t.shape.key_size then element_taken_out s place t key (removal t key) else refuses Invalid s)
+element_deleted s fd key = on_map s fd (λ handle t. if length key == t.shape.key_size then element_taken_out s handle t key (removal t key) else refuses Invalid s)
 
 -- MAP_GET_NEXT_KEY: after an empty key, the first key
 abbrev pub given_next : TenantState → ℕ → List ℕ → Answer
 given_next s fd key =
-    on_map s fd (λ place t. if length key == 0 || length key == t.shape.key_size then gives_if_found s (next_of t key) else refuses Invalid s)
+    on_map s fd (λ handle t. if length key == 0 || length key == t.shape.key_size then gives_if_found s (next_of t key) else refuses Invalid s)
 
 -- ---- PROG_LOAD
 
@@ -207,7 +207,7 @@ refuses_load refusal s = record { status = status_of (cause_errno refusal.cause)
 
 -- an open object as the verifier sees it: a map of its shape, or a program
 abbrev pub object_target : TenantState → OpenObject → Option Target
-object_target s (object.Map place) = option_map (λ t. target.Map t.shape) (live s place)
+object_target s (object.Map handle) = option_map (λ t. target.Map t.shape) (live s handle)
 object_target s (object.Program l) = Some target.Program
 
 abbrev pub entry_of : ℕ → Option Target → List Named
@@ -222,26 +222,26 @@ targets_from s fd (o ∷ os) = entry_of fd (and_then o (object_target s)) ++ tar
 abbrev pub targets : TenantState → List Named
 targets s = targets_from s table.first_descriptor s.objects
 
--- the place of the map that a descriptor names, if it names one
-abbrev pub named_place : Option OpenObject → Option ℕ
-named_place (Some (object.Map place)) = Some place
-named_place (Some (object.Program l)) = None
-named_place None = None
+-- the handle of the map that a descriptor names, if it names one
+abbrev pub named_handle : Option OpenObject → Option ℕ
+named_handle (Some (object.Map handle)) = Some handle
+named_handle (Some (object.Program l)) = None
+named_handle None = None
 
 -- the maps that the program loads, each by its descriptor, in the order of first use
-unfoldable pub places_from : List (Option OpenObject) → List ℕ → List (ℕ × ℕ)
-places_from objects [] = []
-places_from objects (fd ∷ fds) = bound (named_place (table.named objects fd)) fd (places_from objects fds)
+unfoldable pub handles_from : List (Option OpenObject) → List ℕ → List (ℕ × ℕ)
+handles_from objects [] = []
+handles_from objects (fd ∷ fds) = bound (named_handle (table.named objects fd)) fd (handles_from objects fds)
   where
     bound : Option ℕ → ℕ → List (ℕ × ℕ) → List (ℕ × ℕ)
     bound None fd rest = rest
-    bound (Some place) fd rest = (fd, place) ∷ rest
+    bound (Some handle) fd rest = (fd, handle) ∷ rest
 
 abbrev pub loaded_program : TenantState → List Insn → LoadedProgram
 loaded_program s insns = record {
   insns = insns;
   named = entries_of (maps_of insns) (targets s);
-  maps = places_from s.objects (maps_of insns);
+  maps = handles_from s.objects (maps_of insns);
 }
 
 abbrev pub answer_of_judgement : TenantState → ℕ → Result (List Insn) Refusal → Answer
@@ -265,9 +265,9 @@ Loads refused s kind slots answer = MatchBool (kind == 1) (LoadsUnder refused s 
 
 -- the maps of a program, by the descriptors in its text
 abbrev pub maps_given : TenantState → LoadedProgram → MapsByDescriptor
-maps_given s l fd = and_then (lookup (λ m. m == fd) l.maps) (λ place. live s place)
+maps_given s l fd = and_then (lookup (λ m. m == fd) l.maps) (λ handle. live s handle)
 
--- the maps after a run, at their places
+-- the maps after a run, under their handles
 unfoldable pub maps_left : MapsByDescriptor → List (ℕ × ℕ) → List (Option Map) → List (Option Map)
 maps_left left [] maps = maps
 maps_left left (m ∷ ms) maps = maps_left left ms (slice_set maps m.1 (left m.0))
@@ -287,7 +287,7 @@ ran s l words packet =
 
 abbrev pub run_of : TenantState → List ℕ → List ℕ → Option OpenObject → Answer
 run_of s words packet None = refuses BadDescriptor s
-run_of s words packet (Some (object.Map place)) = refuses Invalid s
+run_of s words packet (Some (object.Map handle)) = refuses Invalid s
 run_of s words packet (Some (object.Program l)) =
     if nat_lt longest_packet (length packet) then refuses TooBig s else ran s l words packet
 

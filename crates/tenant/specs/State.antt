@@ -16,7 +16,7 @@ use Rattle.fd_table.specs.Table.{nothing_open}
 abbrev pub Map : Type 0
 Map = Table (List ℕ)
 
--- the open objects by descriptors, and the live maps by their places; while a map is live, no other gets its place
+-- the open objects by descriptors, and the live maps by their handles; while a map is live, no other gets its handle
 pub record TenantState : Type 0 where
   pub objects : List (Option OpenObject)
   pub maps : List (Option Map)
@@ -29,11 +29,11 @@ new_tenant = record { objects = nothing_open; maps = replicate most_maps None; r
 -- ---- live maps
 
 abbrev pub live : TenantState → ℕ → Option Map
-live s place = slice_index_or s.maps place None
+live s handle = slice_index_or s.maps handle None
 
--- the lowest place without a map
-abbrev pub free_place : TenantState → Option ℕ
-free_place s = position is_none s.maps
+-- the lowest handle without a map
+abbrev pub free_handle : TenantState → Option ℕ
+free_handle s = position is_none s.maps
 
 -- the number of bytes that the values of a map of this shape take
 abbrev pub shape_area : MapShape → ℕ
@@ -47,22 +47,22 @@ abbrev pub maps_area : List (Option Map) → ℕ
 maps_area maps = total map_area maps
 
 abbrev pub with_map_at : TenantState → ℕ → Map → TenantState
-with_map_at s place t = record s { maps = slice_set s.maps place (Some t) }
+with_map_at s handle t = record s { maps = slice_set s.maps handle (Some t) }
 
 -- ---- the names of a map
 
--- an object names the map at a place: it is a descriptor of the map, or a program that was loaded with it
+-- an object names the map of a handle: it is a descriptor of the map, or a program that was loaded with it
 abbrev pub names : ℕ → OpenObject → Bool
-names place (object.Map p) = p == place
-names place (object.Program l) = list_any (λ m. m.1 == place) l.maps
+names handle (object.Map p) = p == handle
+names handle (object.Program l) = list_any (λ m. m.1 == handle) l.maps
 
 abbrev pub is_named : List (Option OpenObject) → ℕ → Bool
-is_named objects place = list_any (λ o. option_map_or (names place) o false) objects
+is_named objects handle = list_any (λ o. option_map_or (names handle) o false) objects
 
--- the maps, at a place and after it, that an open object names; the others are gone
+-- the maps, under a handle and after it, that an open object names; the others are gone
 unfoldable pub named_from : List (Option OpenObject) → ℕ → List (Option Map) → List (Option Map)
-named_from objects place [] = []
-named_from objects place (m ∷ ms) = (if is_named objects place then m else None) ∷ named_from objects (place + 1) ms
+named_from objects handle [] = []
+named_from objects handle (m ∷ ms) = (if is_named objects handle then m else None) ∷ named_from objects (handle + 1) ms
 
 -- the state with these open objects; a map that none of them names is gone
 abbrev pub with_objects : TenantState → List (Option OpenObject) → TenantState

@@ -1,7 +1,7 @@
 //! One tenant: its open objects, its live maps, and the effects of its commands.
 //!
 //! A definition (`Machine` in the specs) is the machine of one tenant: one equation for each command gives the status, the
-//! payload and the next state. A state (`TenantState`) is what the 64 descriptors name, the live maps at 16 places with the
+//! payload and the next state. A state (`TenantState`) is what the 64 descriptors name, the live maps under 16 handles with the
 //! bytes of their values, and whether memory was ever refused to the tenant. Memory may be refused to MAP_CREATE and PROG_LOAD,
 //! and no other command takes any; otherwise the machine is deterministic.
 //!
@@ -38,8 +38,8 @@
 //!
 //! - That no test run faults is a statement about replies: none has the status -14, which the machine gives only for a fault.
 //! - What the open descriptors name is listed for the verdict number by number from 3 to 66, by `get`: the table of descriptors
-//!   does not show its places.
-//! - A program keeps the keys of its maps in the form that a run takes, so a run makes no list of them; a list of sixteen,
+//!   does not show its handles.
+//! - A program keeps the handles of its maps in the form that a run takes, so a run makes no list of them; a list of sixteen,
 //!   cleared and copied in each run, took 34 machine instructions.
 //! - A reply with a number is written at once (`write_number`), sixteen bytes of known length; written as head and payload it
 //!   took 55 machine instructions more. With both, and the context written in pairs, a frame with a run of two instructions

@@ -5,9 +5,9 @@ ghost use Rattle.bpf_maps.specs.Live.{holds_at};
 ghost use Rattle.fd_table.specs.Table.{first_descriptor, most, named, lowest};
 ghost use Rattle.verifier.specs.Judgement.{Judges};
 ghost use Rattle.tenant.specs.Kept.{times_listed, AreHeld, IsBound, state_in};
-ghost use Rattle.tenant.specs.Loaded.{map_places};
+ghost use Rattle.tenant.specs.Loaded.{map_handles};
 ghost use Rattle.tenant.specs.inside.Loading.{with_program, AreLive, IsHeldMore};
-ghost use Rattle.tenant.specs.Machine.{loaded_program, named_place, places_from, targets, Loads};
+ghost use Rattle.tenant.specs.Machine.{loaded_program, named_handle, handles_from, targets, Loads};
 ghost use Rattle.tenant.specs.Replies.{shown_answer, IsWritable};
 
 use crate::errno::Errno;
@@ -26,19 +26,19 @@ const SOCKET_FILTER: u32 = 1;
 fn hold_all(maps: &mut Maps, held: &[MapKey])
     requires live { AreHeld maps.old }
     requires there { AreLive maps.old held.now }
-    requires few { (place : ℕ) → holds_at maps.old place + times_listed place held.now < 2 ^ 32 }
+    requires few { (handle : ℕ) → holds_at maps.old handle + times_listed handle held.now < 2 ^ 32 }
     ensures held { IsHeldMore maps.old maps.new }
-    ensures holds { (place : ℕ) → holds_at maps.new place
-        ≡ holds_at maps.old place + times_listed place held.now }
+    ensures holds { (handle : ℕ) → holds_at maps.new handle
+        ≡ holds_at maps.old handle + times_listed handle held.now }
 {
     for map in held {
         maps.hold(*map);
     }
 }
 
-/// The key of the map that a descriptor names; `None` if it names none.
+/// The handle of the map that a descriptor names; `None` if it names none.
 fn map_named(objects: &FdTable<OpenObject>, fd: u32) -> Option<MapKey>
-    ensures { result ≡ named_place (named objects.now fd) }
+    ensures { result ≡ named_handle (named objects.now fd) }
 {
     match objects.get(fd)? {
         OpenObject::Map(map) => Some(*map),
@@ -46,14 +46,14 @@ fn map_named(objects: &FdTable<OpenObject>, fd: u32) -> Option<MapKey>
     }
 }
 
-/// The keys of the maps that descriptors name. Descriptors that name no map are left out.
+/// The handles of the maps that descriptors name. Descriptors that name no map are left out.
 fn maps_named(
     alloc: Global,
     objects: &FdTable<OpenObject>,
     fds: &[u32],
 ) -> Result<Vec<MapKey>, AllocError>
     ensures { IfOk result (λ found.
-        found.items ≡ map (λ m. m.1) (places_from objects.now fds.now)) }
+        found.items ≡ map (λ m. m.1) (handles_from objects.now fds.now)) }
 {
     let mut found = Vec::new(alloc);
     for fd in fds {
@@ -65,7 +65,7 @@ fn maps_named(
 }
 
 impl Tenant {
-    /// The program that the slots spell, with the keys of its maps, if it is accepted; or why the slots are rejected.
+    /// The program that the slots spell, with the handles of its maps, if it is accepted; or why the slots are rejected.
     fn program_of(
         &self,
         alloc: Global,
@@ -78,7 +78,7 @@ impl Tenant {
             l ≡ loaded_program (state_in part self.now) l.insns)) }
         ensures bound { IfOk result (λ verdict. IfOk verdict (IsBound self.now.live)) }
         ensures there { IfOk result (λ verdict. IfOk verdict (λ l.
-            AreLive self.now.live (map_places l))) }
+            AreLive self.now.live (map_handles l))) }
         ensures refused { IfOk result (λ verdict. IfErr verdict (λ refusal. (part : List ℕ) →
             Judges (targets (state_in part self.now)) slots.now (Err refusal))) }
         ensures slot { IfOk result (λ verdict. IfErr verdict (λ refusal.
@@ -101,7 +101,7 @@ impl Tenant {
     fn open_program(&mut self, program: LoadedProgram) -> u32
         requires free { is_none (lowest self.old.objects) ≡ false }
         requires bound { IsBound self.old.live program }
-        requires there { AreLive self.old.live (map_places program) }
+        requires there { AreLive self.old.live (map_handles program) }
         ensures lowest { lowest self.old.objects ≡ Some result }
         ensures within { result < first_descriptor + most }
         ensures opened { (part : List ℕ) →

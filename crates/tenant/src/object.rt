@@ -6,7 +6,7 @@ ghost use Rattle.std.specs.Result.{result_err};
 ghost use Rattle.fd_table.specs.Table.{named};
 ghost use Rattle.verifier.specs.Maps.{maps_of};
 ghost use Rattle.tenant.specs.Batch.{object_refusal};
-ghost use Rattle.tenant.specs.Loaded.{map_places};
+ghost use Rattle.tenant.specs.Loaded.{map_handles};
 ghost use Rattle.tenant.specs.declared.errno.Errno.TheVariants.{BadAddress};
 ghost use Rattle.tenant.specs.declared.object.OpenObject.TheVariants as object;
 
@@ -16,11 +16,11 @@ use fd_table::FdTable;
 use std::marker::Model;
 use verifier::Verified;
 
-/// A program that was loaded, and the keys of its maps. Contracts see each key with its descriptor.
+/// A program that was loaded, and the handles of its maps. Contracts see each handle with its descriptor.
 #[derive(Drop)]
 pub struct LoadedProgram {
     program: Verified,
-    /// The key of the map for each descriptor of a map in the program's text, in the order of first use.
+    /// The handle of the map for each descriptor of a map in the program's text, in the order of first use.
     maps: Vec<MapKey>,
 }
 
@@ -42,7 +42,7 @@ impl Model for LoadedProgram {
 }
 
 impl LoadedProgram {
-    /// A program with the keys of its maps, one for each descriptor of a map in its text.
+    /// A program with the handles of its maps, one for each descriptor of a map in its text.
     pub(crate) fn new(program: Verified, maps: Vec<MapKey>) -> LoadedProgram
         requires { length maps.items ≡ length (maps_of program.code) }
         ensures insns { result.insns ≡ program.code }
@@ -52,9 +52,9 @@ impl LoadedProgram {
         LoadedProgram { program, maps }
     }
 
-    /// The keys of its maps, in the order of their descriptors.
+    /// The handles of its maps, in the order of their descriptors.
     pub(crate) fn maps(&self) -> &[MapKey]
-        ensures { result.now ≡ map_places self.now }
+        ensures { result.now ≡ map_handles self.now }
     {
         &self.maps
     }

@@ -5,10 +5,10 @@ ghost use Rattle.std.specs.Map.{values_of};
 ghost use Rattle.std.specs.Option.{option_copied};
 ghost use Rattle.bpf_maps.specs.declared.part.TheConstants.{PART};
 ghost use Rattle.bpf_maps.specs.Live.{live_at, shape_at, map_in};
-ghost use Rattle.bpf_maps.specs.Places.{occurrences};
+ghost use Rattle.bpf_maps.specs.KeyTable.{occurrences};
 ghost use Rattle.fd_table.specs.Table.{named};
 ghost use Rattle.ordered_keys.specs.Orders.{next_entry};
-ghost use Rattle.tenant.specs.Entry.{placed_entries, lent_entry};
+ghost use Rattle.tenant.specs.Entry.{numbered_entries, lent_entry};
 ghost use Rattle.tenant.specs.Kept.{state_in};
 ghost use Rattle.tenant.specs.State.{live};
 
@@ -17,12 +17,12 @@ use crate::tenant::Tenant;
 use bpf_maps::{KeyRef, MapKey, PART};
 use tagged_model::MapShape;
 
-/// A key of a map, its value, and the place of the value in the map.
+/// A key of a map, its value, and the element of the value in the map.
 #[derive(Drop)]
 pub struct MapEntry<'a> {
     pub key: KeyRef<'a>,
     pub value: &'a [u8],
-    pub place: u32,
+    pub element: u32,
 }
 
 impl Tenant {
@@ -56,8 +56,8 @@ impl Tenant {
         }
     }
 
-    /// The key of a map that follows the one of a place, or the first key if no place is given, with its value, which is borrowed
-    /// from the tenant's part of `PART` bytes. `None` if there is none, if no key has the place, if the map is not live, and for a
+    /// The key of a map that follows the one of an element, or the first key if no element is given, with its value, which is borrowed
+    /// from the tenant's part of `PART` bytes. `None` if there is none, if no key has the element, if the map is not live, and for a
     /// part of another size.
     pub fn map_entry<'a>(
         &'a self,
@@ -66,9 +66,9 @@ impl Tenant {
         part: &'a [u8],
     ) -> Option<MapEntry<'a>>
         ensures entry { length part.now ≡ PART → option_map lent_entry result
-            ≡ next_entry after (placed_entries part.now self.now.live map) }
+            ≡ next_entry after (numbered_entries part.now self.now.live map) }
         ensures once { (p : ℕ) →
-            occurrences p (values_of (placed_entries part.now self.now.live map)) ≤ 1 }
+            occurrences p (values_of (numbered_entries part.now self.now.live map)) ≤ 1 }
     {
         self.maps.maps_are_laid();
         if part.len() != PART {
@@ -80,13 +80,13 @@ impl Tenant {
         let Some(entry) = self.maps.entry_after(map, after) else {
             return None;
         };
-        let (key, place) = entry;
+        let (key, element) = entry;
         let size = self.maps.shape(map).value_size as usize;
-        let start = self.maps.value_at(map, place);
+        let start = self.maps.value_at(map, element);
         Some(MapEntry {
             key,
             value: &part[start..start + size],
-            place,
+            element,
         })
     }
 }

@@ -69,15 +69,15 @@ pub(crate) fn open(objects: &mut FdTable<OpenObject>, object: OpenObject) -> u32
     }
 }
 
-/// Drops one reference to each of these maps; the last one of a map frees it and its place.
+/// Drops one reference to each of these maps; the last one of a map frees it and its handle.
 fn release_all(maps: &mut Maps, held: &[MapKey], part: &mut [u8])
     requires live { AreHeld maps.old }
-    requires held { (place : ℕ) → times_listed place held.now ≤ holds_at maps.old place }
+    requires held { (handle : ℕ) → times_listed handle held.now ≤ holds_at maps.old handle }
     requires whole { length part.old ≡ PART }
     ensures left { LeavesHeldMaps (record { live = maps.old; part = part.old })
         (record { live = maps.new; part = part.new }) }
-    ensures holds { (place : ℕ) → holds_at maps.new place + times_listed place held.now
-        ≡ holds_at maps.old place }
+    ensures holds { (handle : ℕ) → holds_at maps.new handle + times_listed handle held.now
+        ≡ holds_at maps.old handle }
 {
     for map in held {
         maps.release(*map, part);
@@ -98,7 +98,7 @@ impl Tenant {
         })
     }
 
-    /// The key of the map that a descriptor names. `BadDescriptor` if the descriptor is not open, `Invalid` if it names a program.
+    /// The handle of the map that a descriptor names. `BadDescriptor` if the descriptor is not open, `Invalid` if it names a program.
     fn map_named(&self, fd: u32) -> Result<MapKey, Errno>
         ensures found { IfOk result (IsMapOf self.now fd) }
         ensures live { IfOk result (λ map. IsSome (live_at self.now.live map)) }
@@ -158,10 +158,10 @@ impl Tenant {
         if key.len() != shape.key_size as usize {
             return Err(Errno::Invalid);
         }
-        let Some(place) = self.maps.find(map, key) else {
+        let Some(element) = self.maps.find(map, key) else {
             return Err(Errno::NoEntry);
         };
-        let start = self.maps.value_at(map, place);
+        let start = self.maps.value_at(map, element);
         Ok(Reply::Value(&part[start..start + shape.value_size as usize]))
     }
 
@@ -231,12 +231,12 @@ impl Tenant {
             return Err(Errno::Invalid);
         }
         let (key, value) = key_and_value.split_at(key_size);
-        let place = match self.maps.claim(map, key, flags) {
-            Ok(place) => place,
+        let element = match self.maps.claim(map, key, flags) {
+            Ok(element) => element,
             Err(fault) => return Err(Errno::of_map(fault)),
         };
         self.maps.maps_are_laid();
-        let start = self.maps.value_at(map, place);
+        let start = self.maps.value_at(map, element);
         write_at(part, start, value);
         Ok(Reply::Done)
     }

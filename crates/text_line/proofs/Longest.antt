@@ -75,14 +75,14 @@ symbol_is text s e =
     let f = found_is (λ (s : List ℕ). 0 < length s) (λ s. starts_with nat_eq text s) symbols s symbols_some e in
     (f.0, sym ((bytes_eq-Decides s (take (length s) text)).0 f.1))
 
--- if all elements have a property, so has the element at a place
-at_place : {A : Type 0} (Q : A → Type 0) (xs : List A) (k : ℕ) (x : A) → AllByRecursion Q xs → k < length xs → get_or xs k x ≡ x → Q x
-at_place Q [] k x each lt e = absurd (omega arith)
-at_place Q (y ∷ ys) zero x each lt e = subst Q e each.0
-at_place Q (y ∷ ys) (suc k) x each lt e = at_place Q ys k x each.1 (omega arith) e
+-- if all elements have a property, so has the element at an index
+at_index : {A : Type 0} (Q : A → Type 0) (xs : List A) (k : ℕ) (x : A) → AllByRecursion Q xs → k < length xs → get_or xs k x ≡ x → Q x
+at_index Q [] k x each lt e = absurd (omega arith)
+at_index Q (y ∷ ys) zero x each lt e = subst Q e each.0
+at_index Q (y ∷ ys) (suc k) x each lt e = at_index Q ys k x each.1 (omega arith) e
 
 pub each_symbol : (Q : List ℕ → Type 0) (s : List ℕ) → AllByRecursion Q symbols → Contains symbols s → Q s
-each_symbol Q s each h = at_place Q symbols h.0 s each h.1 h.2
+each_symbol Q s each h = at_index Q symbols h.0 s each h.1 h.2
 
 contained_step : {A : Type 0} (x : A) (xs : List A) (s : A) (o : Option A) (b : Bool) → (o ≡ Some s → Contains xs s) → cond b (Some x) o ≡ Some s → Contains (x ∷ xs) s
 contained_step x xs s o true more e = (0, omega arith, same_Some x s e)

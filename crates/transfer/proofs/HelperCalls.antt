@@ -8,7 +8,7 @@ use Rattle.std.proofs.lemmas.List.Elements.{All-take, All-drop}
 use Rattle.interval.specs.declared.range.Range.{Range}
 use Rattle.interval.specs.Ranges.{IsMember}
 use Rattle.words.specs.Bytes.{bytes_at}
-use Rattle.words.specs.Stack.{is_in_stack, place}
+use Rattle.words.specs.Stack.{is_in_stack, byte_index}
 use Rattle.reg_kinds.specs.declared.kind.ValuePointer.{ValuePointer}
 use Rattle.reg_kinds.specs.declared.kind.Kind.{Kind}
 use Rattle.reg_kinds.specs.declared.kind.Kind.TheVariants as kind
@@ -195,7 +195,7 @@ module _ (laws : Laws) {witness : Witness} {shapes : Shapes} {f : Facts} {s : Ru
   stack_filled_agrees x r bs small m =
       by_law (IsFilled bs) (stack_filled f x r.lo r.hi) (stack_written s x bs)
       (λ g ok. let h = laws.stack_output witness f g s x r.lo r.hi bs still.proper still.admits small m.from m.to ok in
-      let c = cond_some (is_in_stack x (length bs)) (with_cells s (λ i. cell_over i (s.cells i) (place x) bs)) h.0 h.1 in
+      let c = cond_some (is_in_stack x (length bs)) (with_cells s (λ i. cell_over i (s.cells i) (byte_index x) bs)) h.0 h.1 in
       (h.0, h.1, record { known = record { admits = h.2; proper = h.3; maps = subst (λ u. HasMaps shapes u) c.1 still.maps }; same_at = ap (λ (u : RunState). u.at) (sym c.1) }))
 
   given_room : (r : Result (Unit {0}) Reason) (g : Facts) → and_then_ok r (λ _. Ok f) ≡ Ok g → (r ≡ Ok tt) × (f ≡ g)

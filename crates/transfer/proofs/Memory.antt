@@ -12,7 +12,7 @@ use Rattle.interval.specs.Ranges.{full}
 use Rattle.words.specs.declared.operator.Operator.{Operator}
 use Rattle.words.specs.declared.stack.AccessSize.{AccessSize}
 use Rattle.words.specs.declared.stack.AccessSize.TheVariants.{Byte, Half, Word, Double}
-use Rattle.words.specs.Stack.{bytes_of, is_in_stack, place, is_aligned}
+use Rattle.words.specs.Stack.{bytes_of, is_in_stack, byte_index, is_aligned}
 use Rattle.insn_set.specs.declared.atomic.AtomicSize.{AtomicSize}
 use Rattle.insn_set.specs.declared.atomic.AtomicOp.{AtomicOp}
 use Rattle.reg_kinds.specs.declared.kind.Kind.{Kind}
@@ -28,7 +28,7 @@ use Rattle.reg_kinds.specs.Reason.{and_then_ok}
 use Rattle.tagged_model.specs.declared.value.Tagged.{Tagged}
 use Rattle.tagged_model.specs.declared.value.Tagged.TheVariants.{Scalar}
 use Rattle.tagged_model.specs.Cells.{and_then, number_from, read_cell, write_cell}
-use Rattle.tagged_model.specs.State.{RunState, with_cell, is_multiple, stack_place, stack_load, stack_store, word_at, context_load, object_bytes, object_stored, load, store}
+use Rattle.tagged_model.specs.State.{RunState, with_cell, is_multiple, access_start, stack_load, stack_store, word_at, context_load, object_bytes, object_stored, load, store}
 use Rattle.insn_set.specs.Atomic.{atomic_operator, is_wide_atomic, access_size}
 use Rattle.tagged_model.specs.Values.{of_numbers}
 use Rattle.tagged_model.specs.Step.{changed}
@@ -80,27 +80,27 @@ zero_alike a b to from = by (eqb_tells a 0) (eqb_tells b 0)
     by (inr x) (inl y) = absurd (x.1 (from y.1))
     by (inr x) (inr y) = x.0 ∙ sym y.0
 
-place_divides : (y : ℤ) (size : AccessSize) → unsigned_abs y % bytes_of size ≡ 0 → place y % bytes_of size ≡ 0
-place_divides y Byte e = omega (arith, ints)
-place_divides y Half e = omega (arith, ints)
-place_divides y Word e = omega (arith, ints)
-place_divides y Double e = omega (arith, ints)
+index_divides : (y : ℤ) (size : AccessSize) → unsigned_abs y % bytes_of size ≡ 0 → byte_index y % bytes_of size ≡ 0
+index_divides y Byte e = omega (arith, ints)
+index_divides y Half e = omega (arith, ints)
+index_divides y Word e = omega (arith, ints)
+index_divides y Double e = omega (arith, ints)
 
-divides_place : (y : ℤ) (size : AccessSize) → place y % bytes_of size ≡ 0 → unsigned_abs y % bytes_of size ≡ 0
-divides_place y Byte e = omega (arith, ints)
-divides_place y Half e = omega (arith, ints)
-divides_place y Word e = omega (arith, ints)
-divides_place y Double e = omega (arith, ints)
+divides_index : (y : ℤ) (size : AccessSize) → byte_index y % bytes_of size ≡ 0 → unsigned_abs y % bytes_of size ≡ 0
+divides_index y Byte e = omega (arith, ints)
+divides_index y Half e = omega (arith, ints)
+divides_index y Word e = omega (arith, ints)
+divides_index y Double e = omega (arith, ints)
 
-aligned_as_place : (y : ℤ) (size : AccessSize) → is_multiple y (bytes_of size) ≡ is_aligned y (bytes_of size)
-aligned_as_place y size = zero_alike (unsigned_abs y % bytes_of size) (place y % bytes_of size) (place_divides y size) (divides_place y size)
+aligned_as_index : (y : ℤ) (size : AccessSize) → is_multiple y (bytes_of size) ≡ is_aligned y (bytes_of size)
+aligned_as_index y size = zero_alike (unsigned_abs y % bytes_of size) (byte_index y % bytes_of size) (index_divides y size) (divides_index y size)
 
-unaligned_place : (y : ℤ) (size : AccessSize) → is_multiple y (bytes_of size) ≡ false → stack_place y size ≡ None
-unaligned_place y size not_multiple = no_place (is_in_stack y (bytes_of size)) (is_aligned y (bytes_of size)) (place y) (sym (aligned_as_place y size) ∙ not_multiple)
+unaligned_access : (y : ℤ) (size : AccessSize) → is_multiple y (bytes_of size) ≡ false → access_start y size ≡ None
+unaligned_access y size not_multiple = no_start (is_in_stack y (bytes_of size)) (is_aligned y (bytes_of size)) (byte_index y) (sym (aligned_as_index y size) ∙ not_multiple)
   where
-    no_place : (inside aligned : Bool) (p : ℕ) → aligned ≡ false → (if inside && aligned then Some p else None) ≡ None
-    no_place true aligned p e = ap (λ b. if b then Some p else None) e
-    no_place false aligned p e = refl
+    no_start : (inside aligned : Bool) (p : ℕ) → aligned ≡ false → (if inside && aligned then Some p else None) ≡ None
+    no_start true aligned p e = ap (λ b. if b then Some p else None) e
+    no_start false aligned p e = refl
 
 -- the facts after a store admit the state, which is still at the same slot
 pub record IsStored (here : Here) (s : RunState) (g : Facts) (t : RunState) : Type 0 where
@@ -165,7 +165,7 @@ module _ {here : Here} {f : Facts} {s : RunState} (known : IsKnown here f s) whe
   Stays t = (t.at ≡ s.at) × HasMaps here.shapes t
 
   stays : (y : ℤ) (size : AccessSize) (v : Tagged) → SomeIs Stays (stack_store s y size v)
-  stays y size v = also_stays (stack_place y size) (λ p. and_then (write_cell (s.cells (p / 8)) (p % 8) size v) (λ c. Some (with_cell s (p / 8) c))) (λ p. also_stays (write_cell (s.cells (p / 8)) (p % 8) size v) (λ c. Some (with_cell s (p / 8) c)) (λ c. (refl, known.maps)))
+  stays y size v = also_stays (access_start y size) (λ p. and_then (write_cell (s.cells (p / 8)) (p % 8) size v) (λ c. Some (with_cell s (p / 8) c))) (λ p. also_stays (write_cell (s.cells (p / 8)) (p % 8) size v) (λ c. Some (with_cell s (p / 8) c)) (λ c. (refl, known.maps)))
     where
       also_stays : {A : Type 0} (o : Option A) (on : A → Option RunState) → ((x : A) → SomeIs Stays (on x)) → SomeIs Stays (and_then o on)
       also_stays None on h = tt
@@ -237,7 +237,7 @@ module _ {here : Here} {f : Facts} {s : RunState} (known : IsKnown here f s) whe
         (λ not_multiple. none_agrees (IsKindOf here) (IsStored here s) (stack_read f y size false) _ (subst (Gives here (stack_read f y size false)) (nothing_loaded y not_multiple) loads))
       where
         nothing_loaded : (y : ℤ) → is_multiple y (bytes_of size) ≡ false → stack_load s y size false ≡ None
-        nothing_loaded y not_multiple = ap (λ o. and_then o (λ p. read_cell (s.cells (p / 8)) (p % 8) size false)) (unaligned_place y size not_multiple)
+        nothing_loaded y not_multiple = ap (λ o. and_then o (λ p. read_cell (s.cells (p / 8)) (p % 8) size false)) (unaligned_access y size not_multiple)
 
         by : (k : Kind) (old : Tagged) → IsKindOf here k old → Agree (IsStored here s) (and_then_ok (number_or PartOfSpill k) (λ _. stack_write f y size any_number)) (made_from (stack_store s y size) old)
         by (kind.Scalar a) old is = number_agrees a old (stack_write f y size any_number) (stack_store s y size) is (λ n made. stack_store_agrees laws.writes y size any_number (Scalar n) made)

@@ -35,7 +35,7 @@ use Rattle.transfer.specs.Branches.{Edges, falls, pointer_edges, branch_edges}
 use Rattle.transfer.specs.Effects.{source_kind, first_kind, assigns, is_word, context_read, load_kind, store_facts, number_or, is_known_multiple, changed_facts, map_of, value_of, known, exits_with, access_edges, wide_kind, effect_of, effect}
 use Rattle.transfer.specs.Reasons.{IsSafetyReason, IsReasonFor, IsReasonOf, TransferReasons}
 use Rattle.transfer.specs.Calls.{shaped, map_kind, room_of, input_kind, output_facts, number_kind, lengths_end, length_kind, context_kind, readable_two, readable_four, any_number, call_facts}
-use Rattle.words.specs.Stack.{bytes_of, is_double, is_in_stack, place, is_aligned, touches}
+use Rattle.words.specs.Stack.{bytes_of, is_double, is_in_stack, byte_index, is_aligned, touches}
 use Rattle.reg_kinds.specs.declared.kind.ValuePointer.{ValuePointer}
 use Rattle.reg_kinds.specs.Many.{bits_in, any_below, is_touched_spill, lacks, stack_input, filled}
 use Rattle.tagged_model.specs.declared.helper.Helper.{Helper}
@@ -184,8 +184,8 @@ map_kind_rule shapes k = tt
 stack_input_rule : (f : Facts) (x : ℤ) (n : ℕ) → ByRule (stack_input f x n)
 stack_input_rule f x n =
     cond_both (not (is_in_stack x n)) _ _ ByRule (λ _. tt)
-    (λ _. cond_both (any_below 64 (λ i. is_touched_spill (slot_at f i) (touches (place x) n i))) _ _ ByRule (λ _. tt)
-    (λ _. cond_both (any_below 64 (λ i. lacks (slot_at f i) (bits_in (place x) n i))) (Err UnwrittenStack) (Ok tt) ByRule (λ _. tt) (λ _. tt)))
+    (λ _. cond_both (any_below 64 (λ i. is_touched_spill (slot_at f i) (touches (byte_index x) n i))) _ _ ByRule (λ _. tt)
+    (λ _. cond_both (any_below 64 (λ i. lacks (slot_at f i) (bits_in (byte_index x) n i))) (Err UnwrittenStack) (Ok tt) ByRule (λ _. tt) (λ _. tt)))
 
 input_rule : (shapes : Shapes) (f : Facts) (n : ℕ) (k : Kind) → ByRule (input_kind shapes f n k)
 input_rule shapes f n (kind.Stack x) = stack_input_rule f x n

@@ -11,7 +11,7 @@ use Rattle.reg_kinds.specs.declared.kind.Slot.TheVariants.{Bytes, Spill}
 use Rattle.reg_kinds.specs.declared.facts.Facts.{Facts}
 use Rattle.words.specs.declared.stack.AccessSize.{AccessSize}
 use Rattle.words.specs.declared.stack.AccessSize.TheVariants.{Byte, Half, Word, Double}
-use Rattle.words.specs.Stack.{bytes_of, is_double, is_in_stack, place, is_aligned, touches}
+use Rattle.words.specs.Stack.{bytes_of, is_double, is_in_stack, byte_index, is_aligned, touches}
 use Rattle.reg_kinds.specs.declared.reason.Reason.TheVariants.{OutsideStack, UnwrittenStack, PartOfSpill}
 use Rattle.reg_kinds.specs.Kinds.{is_pointer, kind_at, slot_at, with_kind, with_slot}
 use Rattle.reg_kinds.specs.Stack.{byte_bits, touched, loaded, read_slot, stack_read, bytes_over, slot_written, facts_written, stack_write}
@@ -51,7 +51,7 @@ module _ (bound : ℕ) where
   touched_small offset size =
       cond_both (not (is_in_stack offset (bytes_of size))) _ _ (OkIs AreSmall) (λ _. tt)
       (λ _. cond_both (not (is_aligned offset (bytes_of size))) _ _ (OkIs AreSmall) (λ _. tt)
-      (λ e. bits_small size (place offset) (eqb-true (place offset % bytes_of size) 0 (not-false (is_aligned offset (bytes_of size)) e))))
+      (λ e. bits_small size (byte_index offset) (eqb-true (byte_index offset % bytes_of size) 0 (not-false (is_aligned offset (bytes_of size)) e))))
 
   -- ---- loads
 
@@ -124,12 +124,12 @@ module _ (bound : ℕ) where
 
   pub filled_words : (f : Facts) (x : ℤ) (lo hi : ℕ) → AreWellFormedAt bound f → OkIs (AreWellFormedAt bound) (stack_filled f x lo hi)
   filled_words f x lo hi h =
-      let over = λ (i : ℕ). if touches (place x) hi i then bytes_over (slot_at f i) (bits_in (place x) lo i) else slot_at f i in
+      let over = λ (i : ℕ). if touches (byte_index x) hi i then bytes_over (slot_at f i) (bits_in (byte_index x) lo i) else slot_at f i in
       cond_both (is_in_stack x hi) (Ok (filled f x lo hi)) (Err OutsideStack) (OkIs (AreWellFormedAt bound))
       (λ _. record {
         registers = h.registers;
         slots = λ i. in_table (IsSlotAt bound) over 64 i (Bytes 0)
-            (cond_both (touches (place x) hi i) (bytes_over (slot_at f i) (bits_in (place x) lo i)) (slot_at f i) (IsSlotAt bound) (λ _. over_words (slot_at f i) (bits_in (place x) lo i) (bits_in_small (place x) lo i) (h.slots i)) (λ _. h.slots i))
+            (cond_both (touches (byte_index x) hi i) (bytes_over (slot_at f i) (bits_in (byte_index x) lo i)) (slot_at f i) (IsSlotAt bound) (λ _. over_words (slot_at f i) (bits_in (byte_index x) lo i) (bits_in_small (byte_index x) lo i) (h.slots i)) (λ _. h.slots i))
             no_bytes;
       })
       (λ _. tt)

@@ -31,7 +31,7 @@ seen_at es kept i e is within here =
 
 absent : (e : Option (Box NumberedFacts Global)) → is_some e ≡ false → option_map box_value e ≡ None
 absent None empty = refl
-absent (Some place) empty = absurd (false≢true (sym empty))
+absent (Some index) empty = absurd (false≢true (sym empty))
 
 -- no entry
 pub none_at : (es : List (Option (Box NumberedFacts Global))) (kept : List (Option NumberedFacts)) (i : ℕ) (e : Option (Box NumberedFacts Global)) → seen es ≡ kept → i < length es → e ≡ get_or es i e → is_some e ≡ false → entry_of i kept ≡ None

@@ -9,16 +9,16 @@ use Rattle.verifier.specs.Maps.{without, distinct, maps_of, is_among, entries_of
 use Rattle.verifier.specs.Laws.{MapsAreListed}
 use Rattle.verifier.proofs.LoadedShapes.{among_maps}
 
--- ---- an element of a list has a place in it
+-- ---- an element of a list has an index in it
 
 among_at : (xs : List ℕ) (i m : ℕ) → slice_get xs i ≡ Some m → is_among xs m ≡ true
 among_at [] i m e = absurd (none-some m e)
 among_at (x ∷ xs) zero m e = or_left (x == m) (is_among xs m) (eq-eqb x m (same_Some x m e))
 among_at (x ∷ xs) (suc i) m e = or_right (x == m) (is_among xs m) (among_at xs i m e)
 
-place_of : (xs : List ℕ) (m : ℕ) → is_among xs m ≡ true → (i : ℕ) × (slice_get xs i ≡ Some m)
-place_of [] m h = absurd (true≢false (sym h))
-place_of (x ∷ xs) m h = by (x == m) refl (place_of xs m)
+index_of : (xs : List ℕ) (m : ℕ) → is_among xs m ≡ true → (i : ℕ) × (slice_get xs i ≡ Some m)
+index_of [] m h = absurd (true≢false (sym h))
+index_of (x ∷ xs) m h = by (x == m) refl (index_of xs m)
   where
     by : (b : Bool) → (x == m) ≡ b → (is_among xs m ≡ true → (i : ℕ) × (slice_get xs i ≡ Some m)) → (i : ℕ) × (slice_get (x ∷ xs) i ≡ Some m)
     by true e rest = (0, ap (λ (k : ℕ). Some k) (eqb-true x m e))
@@ -66,13 +66,13 @@ unfolding AreOnce distinct
 distinct_once [] = tt
 distinct_once (fd ∷ fds) = (gone fd (distinct fds), once_left fd (distinct fds) (distinct_once fds))
 
-one_place : (xs : List ℕ) (i j m : ℕ) → AreOnce xs → slice_get xs i ≡ Some m → slice_get xs j ≡ Some m → i ≡ j
+one_index : (xs : List ℕ) (i j m : ℕ) → AreOnce xs → slice_get xs i ≡ Some m → slice_get xs j ≡ Some m → i ≡ j
 unfolding AreOnce
-one_place [] i j m h e f = absurd (none-some m e)
-one_place (x ∷ xs) zero zero m h e f = refl
-one_place (x ∷ xs) zero (suc j) m h e f = absurd (true≢false (sym (among_at xs j m f) ∙ ap (is_among xs) (sym (same_Some x m e)) ∙ h.0))
-one_place (x ∷ xs) (suc i) zero m h e f = absurd (true≢false (sym (among_at xs i m e) ∙ ap (is_among xs) (sym (same_Some x m f)) ∙ h.0))
-one_place (x ∷ xs) (suc i) (suc j) m h e f = ap suc (one_place xs i j m h.1 e f)
+one_index [] i j m h e f = absurd (none-some m e)
+one_index (x ∷ xs) zero zero m h e f = refl
+one_index (x ∷ xs) zero (suc j) m h e f = absurd (true≢false (sym (among_at xs j m f) ∙ ap (is_among xs) (sym (same_Some x m e)) ∙ h.0))
+one_index (x ∷ xs) (suc i) zero m h e f = absurd (true≢false (sym (among_at xs i m e) ∙ ap (is_among xs) (sym (same_Some x m f)) ∙ h.0))
+one_index (x ∷ xs) (suc i) (suc j) m h e f = ap suc (one_index xs i j m h.1 e f)
 
 -- ---- a shape belongs to a map that is loaded
 
@@ -89,7 +89,7 @@ module _ (fds : List ℕ) (fd : ℕ) where
 
 pub maps_are_listed : MapsAreListed
 maps_are_listed = record {
-  each = λ code n i fd begins e. place_of (maps_of code) fd (among_maps code n i begins fd e);
-  once = λ code i j fd e f. one_place (maps_of code) i j fd (distinct_once _) e f;
-  shaped = λ code named fd shape e. place_of (maps_of code) fd (shape_kept (maps_of code) fd named shape e);
+  each = λ code n i fd begins e. index_of (maps_of code) fd (among_maps code n i begins fd e);
+  once = λ code i j fd e f. one_index (maps_of code) i j fd (distinct_once _) e f;
+  shaped = λ code named fd shape e. index_of (maps_of code) fd (shape_kept (maps_of code) fd named shape e);
 }

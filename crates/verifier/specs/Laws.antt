@@ -32,6 +32,6 @@ pub record LoadedMapsHaveShapes : Type 0 where
 
 -- the maps of a program are those that its instructions load, each listed once; no other descriptor has a shape
 pub record MapsAreListed : Type 0 where
-  pub each : (code : List Insn) (n : ℕ) (i : Insn) (fd : ℕ) → begins_at code n ≡ Some i → descriptor i ≡ Some fd → (place : ℕ) × (slice_get (maps_of code) place ≡ Some fd)
+  pub each : (code : List Insn) (n : ℕ) (i : Insn) (fd : ℕ) → begins_at code n ≡ Some i → descriptor i ≡ Some fd → (index : ℕ) × (slice_get (maps_of code) index ≡ Some fd)
   pub once : (code : List Insn) (i j fd : ℕ) → slice_get (maps_of code) i ≡ Some fd → slice_get (maps_of code) j ≡ Some fd → i ≡ j
-  pub shaped : (code : List Insn) (named : List Named) (fd : ℕ) (shape : MapShape) → shapes_of code named fd ≡ Some shape → (place : ℕ) × (slice_get (maps_of code) place ≡ Some fd)
+  pub shaped : (code : List Insn) (named : List Named) (fd : ℕ) (shape : MapShape) → shapes_of code named fd ≡ Some shape → (index : ℕ) × (slice_get (maps_of code) index ≡ Some fd)

@@ -1,4 +1,4 @@
--- Worked cases: the results of the equations on numbers of RFC 9669's rules, and the places of accesses in a stack of 512 bytes.
+-- Worked cases: the results of the equations on numbers of RFC 9669's rules, and the byte indices of accesses in a stack of 512 bytes.
 use Rattle.std.proofs.Common.{◌≡◌, pos, neg_ℤ, true, false, refl}
 use Rattle.words.specs.declared.operator.KeptBits.TheVariants.{Bits16, Bits32, Bits64}
 use Rattle.words.specs.declared.operator.ExtendedBits.TheVariants as narrow
@@ -8,7 +8,7 @@ use Rattle.words.specs.declared.operator.Operator.TheVariants.{Binary, Neg, Sign
 use Rattle.words.specs.declared.operator.Condition.TheVariants.{Equal, NotEqual, Above, AboveOrEqual, Below, BelowOrEqual, SignedAbove, SignedAboveOrEqual, SignedBelow, SignedBelowOrEqual, CommonBit}
 use Rattle.words.specs.Operate.{operate, byte_order}
 use Rattle.words.specs.Compare.{compares}
-use Rattle.words.specs.Stack.{is_in_stack, place, is_aligned, touches}
+use Rattle.words.specs.Stack.{is_in_stack, byte_index, is_aligned, touches}
 
 -- ---- words of 64 bits (RFC 9669, sections 4.1 to 4.3)
 
@@ -280,7 +280,7 @@ low_digits_meet = refl
 
 -- ---- the stack (linux/filter.h)
 
-lowest_byte : place (neg_ℤ (pos 512)) ≡ 0
+lowest_byte : byte_index (neg_ℤ (pos 512)) ≡ 0
 lowest_byte = refl
 
 whole_stack : is_in_stack (neg_ℤ (pos 512)) 512 ≡ true

@@ -9,126 +9,126 @@ use Rattle.words.specs.Bytes.{number_of, low_bytes, bytes_at, written_at}
 
 -- ---- bytes of a list
 
--- byte k of the n bytes at a place is byte place + k of the list
-pub byte_of : (bytes : List ℕ) (place n k : ℕ) → k < n → get_or (bytes_at bytes place n) k 0 ≡ get_or bytes (place + k) 0
-byte_of bytes place n k lt = get_or-take n (drop place bytes) k 0 lt ∙ get_or-drop place bytes k 0
+-- byte k of the n bytes at an offset is byte offset + k of the list
+pub byte_of : (bytes : List ℕ) (offset n k : ℕ) → k < n → get_or (bytes_at bytes offset n) k 0 ≡ get_or bytes (offset + k) 0
+byte_of bytes offset n k lt = get_or-take n (drop offset bytes) k 0 lt ∙ get_or-drop offset bytes k 0
 
--- the n bytes at a place of a list that is long enough are n
-pub length-bytes_at : (bytes : List ℕ) (place n : ℕ) → place + n ≤ length bytes → length (bytes_at bytes place n) ≡ n
-length-bytes_at bytes place n h = omega (arith, length-take n (drop place bytes), length-drop place bytes)
+-- the n bytes at an offset of a list that is long enough are n
+pub length-bytes_at : (bytes : List ℕ) (offset n : ℕ) → offset + n ≤ length bytes → length (bytes_at bytes offset n) ≡ n
+length-bytes_at bytes offset n h = omega (arith, length-take n (drop offset bytes), length-drop offset bytes)
 
--- the n bytes at a place are those of new, if each of them is
-pub bytes_are : (bytes new : List ℕ) (place n : ℕ) → length new ≡ n → place + n ≤ length bytes → ((k : ℕ) → k < n → get_or bytes (place + k) 0 ≡ get_or new k 0) → bytes_at bytes place n ≡ new
-bytes_are bytes new place n count h same =
-    let long = length-bytes_at bytes place n h in
-    ext_get_or 0 (bytes_at bytes place n) new (long ∙ sym count) (λ k lt. byte_of bytes place n k (omega arith) ∙ same k (omega arith))
+-- the n bytes at an offset are those of new, if each of them is
+pub bytes_are : (bytes new : List ℕ) (offset n : ℕ) → length new ≡ n → offset + n ≤ length bytes → ((k : ℕ) → k < n → get_or bytes (offset + k) 0 ≡ get_or new k 0) → bytes_at bytes offset n ≡ new
+bytes_are bytes new offset n count h same =
+    let long = length-bytes_at bytes offset n h in
+    ext_get_or 0 (bytes_at bytes offset n) new (long ∙ sym count) (λ k lt. byte_of bytes offset n k (omega arith) ∙ same k (omega arith))
 
--- bytes at an offset within the bytes at a place are bytes of the list
-pub bytes_within : (bytes : List ℕ) (place size at n : ℕ) → at + n ≤ size → bytes_at (bytes_at bytes place size) at n ≡ bytes_at bytes (place + at) n
-bytes_within bytes place size at n room =
+-- bytes at an offset within the bytes at an offset are bytes of the list
+pub bytes_within : (bytes : List ℕ) (offset size at n : ℕ) → at + n ≤ size → bytes_at (bytes_at bytes offset size) at n ≡ bytes_at bytes (offset + at) n
+bytes_within bytes offset size at n room =
     let split : size ≡ at + (size - at) = omega arith in
-    ap (λ (k : ℕ). take n (drop at (take k (drop place bytes)))) split
-    ∙ ap (take n) (drop-take at (size - at) (drop place bytes))
-    ∙ take-take n (size - at) (drop at (drop place bytes)) (omega arith)
-    ∙ ap (take n) (drop-drop at place bytes)
+    ap (λ (k : ℕ). take n (drop at (take k (drop offset bytes)))) split
+    ∙ ap (take n) (drop-take at (size - at) (drop offset bytes))
+    ∙ take-take n (size - at) (drop at (drop offset bytes)) (omega arith)
+    ∙ ap (take n) (drop-drop at offset bytes)
 
 -- a slice range of a list is the bytes at its beginning
-pub range_is_bytes : (bytes : List ℕ) (place n : ℕ) → slice_range bytes place (place + n) ≡ bytes_at bytes place n
-range_is_bytes bytes place n =
-    let same : place + n - place ≡ n = omega arith in
-    ap (λ (k : ℕ). take k (drop place bytes)) same
+pub range_is_bytes : (bytes : List ℕ) (offset n : ℕ) → slice_range bytes offset (offset + n) ≡ bytes_at bytes offset n
+range_is_bytes bytes offset n =
+    let same : offset + n - offset ≡ n = omega arith in
+    ap (λ (k : ℕ). take k (drop offset bytes)) same
 
 -- ---- a list in which bytes are written
 
 -- writing leaves the length of the list unchanged
-pub length-written_at : (bytes new : List ℕ) (place : ℕ) → place + length new ≤ length bytes → length (written_at bytes place new) ≡ length bytes
-length-written_at bytes new place h =
-    omega (arith, length-append (take place bytes) (new ++ drop (place + length new) bytes), length-append new (drop (place + length new) bytes), length-take place bytes, length-drop (place + length new) bytes)
+pub length-written_at : (bytes new : List ℕ) (offset : ℕ) → offset + length new ≤ length bytes → length (written_at bytes offset new) ≡ length bytes
+length-written_at bytes new offset h =
+    omega (arith, length-append (take offset bytes) (new ++ drop (offset + length new) bytes), length-append new (drop (offset + length new) bytes), length-take offset bytes, length-drop (offset + length new) bytes)
 
 -- within the written bytes, a byte of the list is the byte written
-pub written_in : (bytes new : List ℕ) (place k : ℕ) → place ≤ length bytes → k < length new → get_or (written_at bytes place new) (place + k) 0 ≡ get_or new k 0
-written_in bytes new place k h lt =
-    let long = length-take-le place bytes h in
-    let at : place + k ≡ length (take place bytes) + k = omega arith in
-    ap (λ (q : ℕ). get_or (written_at bytes place new) q 0) at
-    ∙ get_or-append-add (take place bytes) (new ++ drop (place + length new) bytes) k 0
-    ∙ get_or_append_left new (drop (place + length new) bytes) 0 k lt
+pub written_in : (bytes new : List ℕ) (offset k : ℕ) → offset ≤ length bytes → k < length new → get_or (written_at bytes offset new) (offset + k) 0 ≡ get_or new k 0
+written_in bytes new offset k h lt =
+    let long = length-take-le offset bytes h in
+    let at : offset + k ≡ length (take offset bytes) + k = omega arith in
+    ap (λ (q : ℕ). get_or (written_at bytes offset new) q 0) at
+    ∙ get_or-append-add (take offset bytes) (new ++ drop (offset + length new) bytes) k 0
+    ∙ get_or_append_left new (drop (offset + length new) bytes) 0 k lt
 
 -- elsewhere a byte of the list is unchanged
-pub written_out : (bytes new : List ℕ) (place q : ℕ) → place ≤ length bytes → (q < place) ⊎ (place + length new ≤ q) → get_or (written_at bytes place new) q 0 ≡ get_or bytes q 0
-written_out bytes new place q h (inl below) =
-    let long = length-take-le place bytes h in
-    get_or_append_left (take place bytes) (new ++ drop (place + length new) bytes) 0 q (omega arith) ∙ get_or-take place bytes q 0 below
-written_out bytes new place q h (inr above) =
-    let long = length-take-le place bytes h in
-    let at : place + length new + (q - place - length new) ≡ q = omega arith in
-    get_or-append_right (take place bytes) (new ++ drop (place + length new) bytes) place q 0 long (omega arith)
-    ∙ get_or-append_right new (drop (place + length new) bytes) (length new) (q - place) 0 refl (omega arith)
-    ∙ get_or-drop (place + length new) bytes (q - place - length new) 0
+pub written_out : (bytes new : List ℕ) (offset q : ℕ) → offset ≤ length bytes → (q < offset) ⊎ (offset + length new ≤ q) → get_or (written_at bytes offset new) q 0 ≡ get_or bytes q 0
+written_out bytes new offset q h (inl below) =
+    let long = length-take-le offset bytes h in
+    get_or_append_left (take offset bytes) (new ++ drop (offset + length new) bytes) 0 q (omega arith) ∙ get_or-take offset bytes q 0 below
+written_out bytes new offset q h (inr above) =
+    let long = length-take-le offset bytes h in
+    let at : offset + length new + (q - offset - length new) ≡ q = omega arith in
+    get_or-append_right (take offset bytes) (new ++ drop (offset + length new) bytes) offset q 0 long (omega arith)
+    ∙ get_or-append_right new (drop (offset + length new) bytes) (length new) (q - offset) 0 refl (omega arith)
+    ∙ get_or-drop (offset + length new) bytes (q - offset - length new) 0
     ∙ ap (λ (p : ℕ). get_or bytes p 0) at
 
--- the bytes at the place of a write are those written
-pub bytes_written : (bytes new : List ℕ) (place : ℕ) → place + length new ≤ length bytes → bytes_at (written_at bytes place new) place (length new) ≡ new
-bytes_written bytes new place h =
-    let long : place ≡ length (take place bytes) = omega (arith, length-take place bytes) in
-    ap (λ (p : ℕ). take (length new) (drop p (written_at bytes place new))) long
-    ∙ ap (take (length new)) (drop-append_seam (take place bytes) (new ++ drop (place + length new) bytes))
-    ∙ take-append_seam new (drop (place + length new) bytes)
+-- the bytes at the offset of a write are those written
+pub bytes_written : (bytes new : List ℕ) (offset : ℕ) → offset + length new ≤ length bytes → bytes_at (written_at bytes offset new) offset (length new) ≡ new
+bytes_written bytes new offset h =
+    let long : offset ≡ length (take offset bytes) = omega (arith, length-take offset bytes) in
+    ap (λ (p : ℕ). take (length new) (drop p (written_at bytes offset new))) long
+    ∙ ap (take (length new)) (drop-append_seam (take offset bytes) (new ++ drop (offset + length new) bytes))
+    ∙ take-append_seam new (drop (offset + length new) bytes)
 
-before : (bytes rest : List ℕ) (place from n : ℕ) → from + n ≤ place → place ≤ length bytes → bytes_at (take place bytes ++ rest) from n ≡ bytes_at bytes from n
-before bytes rest place from n h k =
-    let long : length (take place bytes) ≡ place = omega (arith, length-take place bytes) in
-    let there : from ≤ length (take place bytes) = omega arith in
-    let left : length (drop from (take place bytes)) ≡ place - from = omega (arith, length-drop from (take place bytes)) in
-    let room : n ≤ length (drop from (take place bytes)) = omega arith in
-    let split : from + (place - from) ≡ place = omega arith in
-    let less : n ≤ length (take (place - from) (drop from bytes)) = omega (arith, length-take (place - from) (drop from bytes), length-drop from bytes) in
-    ap (take n) (drop-append-le from (take place bytes) rest there)
-    ∙ take-append-le n (drop from (take place bytes)) rest room
+before : (bytes rest : List ℕ) (offset from n : ℕ) → from + n ≤ offset → offset ≤ length bytes → bytes_at (take offset bytes ++ rest) from n ≡ bytes_at bytes from n
+before bytes rest offset from n h k =
+    let long : length (take offset bytes) ≡ offset = omega (arith, length-take offset bytes) in
+    let there : from ≤ length (take offset bytes) = omega arith in
+    let left : length (drop from (take offset bytes)) ≡ offset - from = omega (arith, length-drop from (take offset bytes)) in
+    let room : n ≤ length (drop from (take offset bytes)) = omega arith in
+    let split : from + (offset - from) ≡ offset = omega arith in
+    let less : n ≤ length (take (offset - from) (drop from bytes)) = omega (arith, length-take (offset - from) (drop from bytes), length-drop from bytes) in
+    ap (take n) (drop-append-le from (take offset bytes) rest there)
+    ∙ take-append-le n (drop from (take offset bytes)) rest room
     ∙ ap (λ (p : ℕ). take n (drop from (take p bytes))) (sym split)
-    ∙ ap (take n) (drop-take from (place - from) bytes)
-    ∙ sym (take-append-le n (take (place - from) (drop from bytes)) (drop (place - from) (drop from bytes)) less)
-    ∙ ap (take n) (take-append-drop (place - from) (drop from bytes))
+    ∙ ap (take n) (drop-take from (offset - from) bytes)
+    ∙ sym (take-append-le n (take (offset - from) (drop from bytes)) (drop (offset - from) (drop from bytes)) less)
+    ∙ ap (take n) (take-append-drop (offset - from) (drop from bytes))
 
-behind : (bytes new : List ℕ) (place from : ℕ) → place + length new ≤ from → place ≤ length bytes → drop from (written_at bytes place new) ≡ drop from bytes
-behind bytes new place from h k =
-    let long : length (take place bytes) ≡ place = omega (arith, length-take place bytes) in
-    let far : from ≡ length (take place bytes) + (length new + (from - (place + length new))) = omega arith in
-    let back : place + length new + (from - (place + length new)) ≡ from = omega arith in
-    ap (λ (n : ℕ). drop n (written_at bytes place new)) far
-    ∙ drop-append-add (take place bytes) (new ++ drop (place + length new) bytes) (length new + (from - (place + length new)))
-    ∙ drop-append-add new (drop (place + length new) bytes) (from - (place + length new))
-    ∙ drop-drop (from - (place + length new)) (place + length new) bytes
+behind : (bytes new : List ℕ) (offset from : ℕ) → offset + length new ≤ from → offset ≤ length bytes → drop from (written_at bytes offset new) ≡ drop from bytes
+behind bytes new offset from h k =
+    let long : length (take offset bytes) ≡ offset = omega (arith, length-take offset bytes) in
+    let far : from ≡ length (take offset bytes) + (length new + (from - (offset + length new))) = omega arith in
+    let back : offset + length new + (from - (offset + length new)) ≡ from = omega arith in
+    ap (λ (n : ℕ). drop n (written_at bytes offset new)) far
+    ∙ drop-append-add (take offset bytes) (new ++ drop (offset + length new) bytes) (length new + (from - (offset + length new)))
+    ∙ drop-append-add new (drop (offset + length new) bytes) (from - (offset + length new))
+    ∙ drop-drop (from - (offset + length new)) (offset + length new) bytes
     ∙ ap (λ (n : ℕ). drop n bytes) (omega arith)
 
 -- bytes apart from those written are unchanged
-pub bytes_stay : (bytes new : List ℕ) (place from n : ℕ) → place + length new ≤ length bytes → (from + n ≤ place) ⊎ (place + length new ≤ from) → bytes_at (written_at bytes place new) from n ≡ bytes_at bytes from n
-bytes_stay bytes new place from n k (inl h) = before bytes (new ++ drop (place + length new) bytes) place from n h (omega arith)
-bytes_stay bytes new place from n k (inr h) = ap (take n) (behind bytes new place from h (omega arith))
+pub bytes_stay : (bytes new : List ℕ) (offset from n : ℕ) → offset + length new ≤ length bytes → (from + n ≤ offset) ⊎ (offset + length new ≤ from) → bytes_at (written_at bytes offset new) from n ≡ bytes_at bytes from n
+bytes_stay bytes new offset from n k (inl h) = before bytes (new ++ drop (offset + length new) bytes) offset from n h (omega arith)
+bytes_stay bytes new offset from n k (inr h) = ap (take n) (behind bytes new offset from h (omega arith))
 
 -- a write within a part of the list is a write in that part's bytes
-pub over_within : (bytes new : List ℕ) (place size at : ℕ) → place + size ≤ length bytes → at + length new ≤ size → bytes_at (written_at bytes (place + at) new) place size ≡ written_at (bytes_at bytes place size) at new
-over_within bytes new place size at fits room =
-    let inner = bytes_at bytes place size in
-    let long : length inner ≡ size = omega (arith, length-take size (drop place bytes), length-drop place bytes) in
-    let after = length-written_at bytes new (place + at) (omega arith) in
+pub over_within : (bytes new : List ℕ) (offset size at : ℕ) → offset + size ≤ length bytes → at + length new ≤ size → bytes_at (written_at bytes (offset + at) new) offset size ≡ written_at (bytes_at bytes offset size) at new
+over_within bytes new offset size at fits room =
+    let inner = bytes_at bytes offset size in
+    let long : length inner ≡ size = omega (arith, length-take size (drop offset bytes), length-drop offset bytes) in
+    let after = length-written_at bytes new (offset + at) (omega arith) in
     let count : length (written_at inner at new) ≡ size = length-written_at inner new at (omega arith) ∙ long in
-    bytes_are (written_at bytes (place + at) new) (written_at inner at new) place size count (omega arith)
+    bytes_are (written_at bytes (offset + at) new) (written_at inner at new) offset size count (omega arith)
     (λ k lt. ⊎_elim
     (λ below. outside k lt long (inl (omega arith)) (inl below))
     (λ from. ⊎_elim (λ within. inside k lt long from within) (λ above. outside k lt long (inr (omega arith)) (inr above)) (cases_lt k (at + length new)))
     (cases_lt k at))
   where
-    outside : (k : ℕ) → k < size → length (bytes_at bytes place size) ≡ size → (place + k < place + at) ⊎ (place + at + length new ≤ place + k) → (k < at) ⊎ (at + length new ≤ k) → get_or (written_at bytes (place + at) new) (place + k) 0 ≡ get_or (written_at (bytes_at bytes place size) at new) k 0
+    outside : (k : ℕ) → k < size → length (bytes_at bytes offset size) ≡ size → (offset + k < offset + at) ⊎ (offset + at + length new ≤ offset + k) → (k < at) ⊎ (at + length new ≤ k) → get_or (written_at bytes (offset + at) new) (offset + k) 0 ≡ get_or (written_at (bytes_at bytes offset size) at new) k 0
     outside k lt long far near =
-        written_out bytes new (place + at) (place + k) (omega arith) far ∙ sym (written_out (bytes_at bytes place size) new at k (omega arith) near ∙ byte_of bytes place size k lt)
+        written_out bytes new (offset + at) (offset + k) (omega arith) far ∙ sym (written_out (bytes_at bytes offset size) new at k (omega arith) near ∙ byte_of bytes offset size k lt)
 
-    inside : (k : ℕ) → k < size → length (bytes_at bytes place size) ≡ size → at ≤ k → k < at + length new → get_or (written_at bytes (place + at) new) (place + k) 0 ≡ get_or (written_at (bytes_at bytes place size) at new) k 0
+    inside : (k : ℕ) → k < size → length (bytes_at bytes offset size) ≡ size → at ≤ k → k < at + length new → get_or (written_at bytes (offset + at) new) (offset + k) 0 ≡ get_or (written_at (bytes_at bytes offset size) at new) k 0
     inside k lt long from within =
-        let there : place + k ≡ place + at + (k - at) = omega arith in
+        let there : offset + k ≡ offset + at + (k - at) = omega arith in
         let here : k ≡ at + (k - at) = omega arith in
-        ap (λ (q : ℕ). get_or (written_at bytes (place + at) new) q 0) there ∙ written_in bytes new (place + at) (k - at) (omega arith) (omega arith)
-        ∙ sym (ap (λ (q : ℕ). get_or (written_at (bytes_at bytes place size) at new) q 0) here ∙ written_in (bytes_at bytes place size) new at (k - at) (omega arith) (omega arith))
+        ap (λ (q : ℕ). get_or (written_at bytes (offset + at) new) q 0) there ∙ written_in bytes new (offset + at) (k - at) (omega arith) (omega arith)
+        ∙ sym (ap (λ (q : ℕ). get_or (written_at (bytes_at bytes offset size) at new) q 0) here ∙ written_in (bytes_at bytes offset size) new at (k - at) (omega arith) (omega arith))
 
 -- a part's bytes, written over and then written back, are written into the whole list
 pub over_part : (bytes new : List ℕ) (start size at : ℕ) → start + size ≤ length bytes → at + length new ≤ size → written_at bytes start (written_at (bytes_at bytes start size) at new) ≡ written_at bytes (start + at) new

@@ -11,10 +11,10 @@ abbrev pub low_bytes : ℕ → ℕ → List ℕ
 low_bytes zero x = []
 low_bytes (suc n) x = x % 256 ∷ low_bytes n (x / 256)
 
--- the n bytes at a place
+-- the n bytes at an offset
 abbrev pub bytes_at : List ℕ → ℕ → ℕ → List ℕ
-bytes_at bytes place n = take n (drop place bytes)
+bytes_at bytes offset n = take n (drop offset bytes)
 
--- the list with new written over it at a place
+-- the list with new written over it at an offset
 abbrev pub written_at : List ℕ → ℕ → List ℕ → List ℕ
-written_at bytes place new = take place bytes ++ (new ++ drop (place + length new) bytes)
+written_at bytes offset new = take offset bytes ++ (new ++ drop (offset + length new) bytes)

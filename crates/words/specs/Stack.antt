@@ -1,5 +1,5 @@
 -- The stack of a program, and which of its bytes an access touches. Offsets count from the stack's upper end, so its bytes have
--- offsets -512 to -1; places count from its lowest byte. The stack's size is that of linux/filter.h (MAX_BPF_STACK), those of loads
+-- offsets -512 to -1; byte indices count from its lowest byte. The stack's size is that of linux/filter.h (MAX_BPF_STACK), those of loads
 -- and stores are of RFC 9669, section 5.
 use Rattle.std.specs.Prelude.{ℕ, ◌+◌, ◌-◌, ◌*◌, ◌/◌, ◌%◌, ◌==◌, ℤ, pos, negsuc, ◌+ℤ◌, int_le, unsigned_abs, nat_lt, Bool, true, false, ◌&&◌}
 use Rattle.words.specs.declared.stack.AccessSize.{AccessSize}
@@ -25,20 +25,20 @@ abbrev pub is_double : AccessSize → Bool
 is_double Double = true
 is_double _ = false
 
--- ---- places
+-- ---- byte indices
 
 -- the n bytes at this offset lie in the stack
 abbrev pub is_in_stack : ℤ → ℕ → Bool
 is_in_stack offset n = int_le (negsuc (stack_size - 1)) offset && int_le (offset +ℤ pos n) (pos 0)
 
--- the place of an offset in the stack, counted from the lowest byte
-abbrev pub place : ℤ → ℕ
-place offset = unsigned_abs (offset +ℤ pos stack_size)
+-- the byte index of an offset in the stack, counted from the lowest byte
+abbrev pub byte_index : ℤ → ℕ
+byte_index offset = unsigned_abs (offset +ℤ pos stack_size)
 
--- an offset is a multiple of n if its place is: the stack's size is a multiple of each access size
+-- an offset is a multiple of n if its byte index is: the stack's size is a multiple of each access size
 abbrev pub is_aligned : ℤ → ℕ → Bool
-is_aligned offset n = place offset % n == 0
+is_aligned offset n = byte_index offset % n == 0
 
--- n bytes from place p on touch slot i
+-- n bytes from byte index p on touch slot i
 abbrev pub touches : ℕ → ℕ → ℕ → Bool
 touches p n i = nat_lt p (8 * i + 8) && nat_lt (8 * i) (p + n)

@@ -1,11 +1,11 @@
 -- The premises of proofs from the crates below. This project's own.
 use Rattle.std.specs.Prelude.{ℕ}
 use Rattle.arena.specs.Apart.{WritesStayInside}
-use Rattle.bpf_maps.specs.Laws.{CallsRefineValues, AreasKeepPlaces, DeletesKeepPlaces}
+use Rattle.bpf_maps.specs.Laws.{CallsRefineValues, AreasKeepElements, DeletesKeepElements}
 
 -- the laws of those crates
 pub record LawsBelow : Type 0 where
   pub writes : WritesStayInside
   pub along : CallsRefineValues ℕ ℕ
-  pub areas : AreasKeepPlaces
-  pub deletes : DeletesKeepPlaces
+  pub areas : AreasKeepElements
+  pub deletes : DeletesKeepElements

@@ -6,8 +6,8 @@ use Rattle.tagged_model.specs.declared.fault.MapFault.{MapFault}
 use Rattle.tagged_model.specs.declared.helper.Helper.TheVariants.{Update, Delete, LoadBytes}
 use Rattle.tagged_model.specs.Helpers.{negative, errno, packet_bytes, packet_answer}
 use Rattle.arena.specs.Memory.{Memory, base, part_start, with_bytes}
-use Rattle.bpf_maps.specs.Places.{table_of, Claims, Removes}
-use Rattle.bpf_maps.specs.Live.{LiveMaps, places_at, shape_at, offset_at, OnlyKeysChange}
+use Rattle.bpf_maps.specs.KeyTable.{table_of, Claims, Removes}
+use Rattle.bpf_maps.specs.Live.{LiveMaps, keys_at, shape_at, offset_at, OnlyKeysChange}
 use Rattle.bpf_helpers.specs.Named.{NamedKey, NamedPair, key_named, unnamed_answer}
 use Rattle.bpf_helpers.specs.declared.caller.Caller.{Caller}
 use Rattle.bpf_helpers.specs.States.{CallSite, CallAnswer, site}
@@ -16,7 +16,7 @@ use Rattle.bpf_helpers.specs.States.{CallSite, CallAnswer, site}
 abbrev pub site_of : Caller → Memory → LiveMaps → CallSite
 site_of caller memory maps = site caller.tenant caller.bind.now caller.packet.now memory maps
 
--- the key, and the value, of the map under a key, at an offset of the part
+-- the key, and the value, of the map of a handle, at an offset of the part
 abbrev pub key_bytes : CallSite → ℕ → ℕ → List ℕ
 key_bytes site k at =
     bytes_at site.memory.bytes (part_start site.memory site.tenant + at)
@@ -36,13 +36,13 @@ pair_there site k key value =
 -- the address of a value, or null
 abbrev pub value_word : CallSite → ℕ → Option ℕ → ℕ
 value_word site key None = 0
-value_word site key (Some place) =
-    base + (part_start site.memory site.tenant + offset_at site.maps key place)
+value_word site key (Some element) =
+    base + (part_start site.memory site.tenant + offset_at site.maps key element)
 
 -- the address of the value of a key
 abbrev pub key_word : CallSite → NamedKey → ℕ
 key_word site n =
-    value_word site n.map (look_up (table_of (places_at site.maps n.map)) n.key)
+    value_word site n.map (look_up (table_of (keys_at site.maps n.map)) n.key)
 
 abbrev pub flat_look_up : CallSite → ℕ → ℕ → Option ℕ
 flat_look_up site map key = option_map (key_word site) (key_named site map key)
@@ -50,21 +50,21 @@ flat_look_up site map key = option_map (key_word site) (key_named site map key)
 -- ---- an update
 
 abbrev pub claim_word : Result ℕ MapFault → ℕ
-claim_word (Ok place) = 0
+claim_word (Ok element) = 0
 claim_word (Err fault) = negative (errno fault)
 
--- the value is written to the claimed place
+-- the value is written to the claimed element
 abbrev pub with_claimed : CallSite → NamedPair → Result ℕ MapFault → Memory
-with_claimed site pair (Ok place) =
-    with_bytes site.memory (part_start site.memory site.tenant + offset_at site.maps pair.map place)
+with_claimed site pair (Ok element) =
+    with_bytes site.memory (part_start site.memory site.tenant + offset_at site.maps pair.map element)
     pair.value
 with_claimed site pair (Err fault) = site.memory
 
 -- an update of a map, with a key and a value
 pub record Updates (site : CallSite) (pair : NamedPair) (flags : ℕ) (answer : CallAnswer) : Type 0 where
   pub claim : Result ℕ MapFault
-  pub claimed : Claims (verdict (table_of (places_at site.maps pair.map)) pair.key flags) pair.key
-      (places_at site.maps pair.map) claim (places_at answer.maps pair.map)
+  pub claimed : Claims (verdict (table_of (keys_at site.maps pair.map)) pair.key flags) pair.key
+      (keys_at site.maps pair.map) claim (keys_at answer.maps pair.map)
   pub rest : OnlyKeysChange pair.map site.maps answer.maps
   pub word_is : answer.word ≡ claim_word claim
   pub memory_is : answer.memory ≡ with_claimed site pair claim
@@ -85,8 +85,8 @@ removal_word (Err fault) = negative (errno fault)
 -- a deletion of a key of a map
 pub record Deletes (old : LiveMaps) (named : NamedKey) (word : ℕ) (new : LiveMaps) : Type 0 where
   pub outcome : Result (Unit {0}) MapFault
-  pub removed : Removes (removal (table_of (places_at old named.map)) named.key) named.key
-      (places_at old named.map) outcome (places_at new named.map)
+  pub removed : Removes (removal (table_of (keys_at old named.map)) named.key) named.key
+      (keys_at old named.map) outcome (keys_at new named.map)
   pub rest : OnlyKeysChange named.map old new
   pub word_is : word ≡ removal_word outcome
 

@@ -2,7 +2,7 @@
 use Rattle.std.specs.Prelude.{◌≡◌, ℕ, ◌+◌, ◌<◌, ◌≤◌, ℤ, List, [], length, slice_get, slice_index, Option, Some, None, IsSome}
 use Rattle.std.specs.Map.{values_of}
 use Rattle.words.specs.Bytes.{bytes_at, written_at}
-use Rattle.words.specs.Stack.{stack_size, place}
+use Rattle.words.specs.Stack.{stack_size, byte_index}
 use Rattle.tagged_model.specs.declared.helper.Helper.TheVariants.{LookUp}
 use Rattle.tagged_model.specs.declared.value.Tagged.{Tagged}
 use Rattle.tagged_model.specs.declared.value.Tagged.TheVariants.{Scalar}
@@ -11,13 +11,13 @@ use Rattle.tagged_model.specs.Helpers.{called, returns, updated, removed, packet
 use Rattle.tagged_model.specs.Table.{with_values}
 use Rattle.tagged_model.specs.Step.{first_map, last_map}
 use Rattle.arena.specs.Memory.{base, part_start, with_bytes}
-use Rattle.bpf_maps.specs.Places.{table_of, after_run, IsSound}
-use Rattle.bpf_maps.specs.Live.{LiveMaps, live_at, places_at, shape_at, offset_at}
+use Rattle.bpf_maps.specs.KeyTable.{table_of, after_run, IsSound}
+use Rattle.bpf_maps.specs.Live.{LiveMaps, live_at, keys_at, shape_at, offset_at}
 use Rattle.bpf_helpers.specs.States.{Environment, FlatState, CallAnswer, with_memory, with_held, site_in, answers, with_answer}
 use Rattle.bpf_helpers.specs.Layout.{Layout, IsWord, HasStack}
-use Rattle.bpf_helpers.specs.Stands.{IsRoom, HasMap, Simulates, place_bytes, stored_maps}
+use Rattle.bpf_helpers.specs.Stands.{IsRoom, HasMap, Simulates, element_bytes, stored_maps}
 use Rattle.bpf_helpers.specs.Calls.{Extends}
-use Rattle.bpf_helpers.specs.Named.{place_named}
+use Rattle.bpf_helpers.specs.Named.{named_offset}
 use Rattle.bpf_helpers.specs.inside.Flat.{flat_look_up, Updates, Deletes}
 
 -- ---- the stack
@@ -28,7 +28,7 @@ StackBytesAreThere =
     (env : Environment) (l : Layout) (memory : List ℕ) (start : ℕ) (s : RunState)
     (y : ℤ) (n : ℕ) (bs : List ℕ)
     → HasStack env l memory start s.cells → start + stack_size ≤ length memory → stack_bytes s y n ≡ Some bs
-    → bytes_at memory (start + place y) n ≡ bs
+    → bytes_at memory (start + byte_index y) n ≡ bs
 
 -- after bytes are written across slots, the memory represents the cells after it: a spilled pointer that they touch is lost,
 -- and all other slots are unchanged
@@ -36,7 +36,7 @@ abbrev pub StackBytesAreWritten : Type 0
 StackBytesAreWritten =
     (env : Environment) (l : Layout) (memory : List ℕ) (start : ℕ) (s t : RunState) (y : ℤ) (bs : List ℕ)
     → HasStack env l memory start s.cells → start + stack_size ≤ length memory → stack_written s y bs ≡ Some t
-    → HasStack env l (written_at memory (start + place y) bs) start t.cells
+    → HasStack env l (written_at memory (start + byte_index y) bs) start t.cells
 
 -- ---- the bytes that a helper writes
 
@@ -47,7 +47,7 @@ OutputsKeepSimulation =
     (p : Tagged) (w : ℕ) (bs : List ℕ)
     → IsRoom env.memory env.tenant → Simulates env l flat s → IsWord env l p w
     → output s p bs ≡ Some u
-    → (q : ℕ) × (place_named flat.memory env.tenant (length bs) w ≡ Some q)
+    → (q : ℕ) × (named_offset flat.memory env.tenant (length bs) w ≡ Some q)
     × Simulates env l
     (with_memory flat (with_bytes flat.memory (part_start flat.memory env.tenant + q) bs)) u
 
@@ -112,16 +112,16 @@ DeletesKeepSimulation =
     → (word ≡ (removed map key).answer)
     × Simulates env l (with_held flat flat.memory new) (with_map s m (removed map key).map)
 
--- the packet bytes, or zeros, that the machine writes have a place in the part, and the memory with them there
+-- the packet bytes, or zeros, that the machine writes have an offset in the part, and the memory with them there
 -- represents the state with them
 pub record LoadKeepsSimulation (env : Environment) (l : Layout) (flat : FlatState) (s u : RunState)
     : Type 0 where
-  pub place : ℕ
-  pub place_is : place_named flat.memory env.tenant (slice_index flat.registers 4)
-      (slice_index flat.registers 3) ≡ Some place
+  pub offset : ℕ
+  pub offset_is : named_offset flat.memory env.tenant (slice_index flat.registers 4)
+      (slice_index flat.registers 3) ≡ Some offset
   pub written : RunState
   pub stands : Simulates env l (with_memory flat (with_bytes flat.memory
-      (part_start flat.memory env.tenant + place)
+      (part_start flat.memory env.tenant + offset)
       (packet_bytes s.packet (slice_index flat.registers 2) (slice_index flat.registers 4)))) written
   pub is : u ≡ returns written
       (Scalar (packet_answer s.packet (slice_index flat.registers 2) (slice_index flat.registers 4)))
@@ -135,27 +135,27 @@ ReturnsKeepSimulation =
 
 -- ---- one map at the start and the end of a run
 
--- the place of the value of the n-th key, of the map of handle k
-abbrev pub nth_place : LiveMaps → ℕ → ℕ → ℕ
-nth_place tenant k n = slice_index (values_of (places_at tenant k).entries) n
+-- the element of the value of the n-th key, of the map of handle k
+abbrev pub nth_element : LiveMaps → ℕ → ℕ → ℕ
+nth_element tenant k n = slice_index (values_of (keys_at tenant k).entries) n
 
 -- the map represents one whose objects are numbered in order
 abbrev pub MapsBegin : Type 0
 MapsBegin =
     (l : Layout) (start : ℕ) (memory : List ℕ) (tenant : LiveMaps) (k m : ℕ) (value : ℕ → List ℕ)
-    → IsSome (live_at tenant k) → IsSound (places_at tenant k) → (places_at tenant k).kept ≡ []
+    → IsSome (live_at tenant k) → IsSound (keys_at tenant k) → (keys_at tenant k).kept ≡ []
     → ((p : ℕ) → p < (shape_at tenant k).max_entries
-    → place_bytes (stored_maps start memory tenant) k p ≡ value p)
-    → l.counts m ≡ length (places_at tenant k).entries
-    → ((number : ℕ) → number < length (places_at tenant k).entries
-    → l.object_at m number ≡ base + (start + offset_at tenant k (nth_place tenant k number)))
-    → HasMap l (stored_maps start memory tenant) k m (first_map (with_values value (table_of (places_at tenant k))))
+    → element_bytes (stored_maps start memory tenant) k p ≡ value p)
+    → l.counts m ≡ length (keys_at tenant k).entries
+    → ((number : ℕ) → number < length (keys_at tenant k).entries
+    → l.object_at m number ≡ base + (start + offset_at tenant k (nth_element tenant k number)))
+    → HasMap l (stored_maps start memory tenant) k m (first_map (with_values value (table_of (keys_at tenant k))))
 
 -- the map has the same pairs as the machine's map after the run
 abbrev pub MapsEnd : Type 0
 MapsEnd =
     (l : Layout) (start : ℕ) (memory : List ℕ) (old new : LiveMaps) (k m : ℕ) (t : RunMap)
     (value : ℕ → List ℕ)
-    → HasMap l (stored_maps start memory old) k m t → places_at new k ≡ after_run (places_at old k)
-    → ((p : ℕ) → p < (shape_at old k).max_entries → value p ≡ place_bytes (stored_maps start memory old) k p)
-    → with_values value (table_of (places_at new k)) ≡ last_map t
+    → HasMap l (stored_maps start memory old) k m t → keys_at new k ≡ after_run (keys_at old k)
+    → ((p : ℕ) → p < (shape_at old k).max_entries → value p ≡ element_bytes (stored_maps start memory old) k p)
+    → with_values value (table_of (keys_at new k)) ≡ last_map t

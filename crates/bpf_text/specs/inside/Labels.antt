@@ -1,4 +1,4 @@
--- The places of labels, as the assembler keeps them. This project's own.
+-- The definitions of labels, as the assembler keeps them. This project's own.
 use Rattle.std.specs.Prelude.{◌≡◌, ℕ, ◌+◌, min, not, ◌||◌, ℤ, pos, ◌-ℤ◌, List, [], ◌∷◌, ◌++◌, take, nat_lt, Option, Some, None, is_some, option_map, if◌then◌else◌}
 use Rattle.std.specs.Borrow.{Bor}
 use Rattle.std.specs.Str.{bytes_eq}
@@ -10,65 +10,65 @@ use Rattle.text_line.specs.declared.form.Form.{Form}
 use Rattle.text_line.specs.Form.{names_label}
 use Rattle.text_line.specs.Line.{Line, blank, label, code, IsWellFormed}
 use Rattle.text_line.specs.Ranges.{form_fits, form_slots, resolved}
-use Rattle.bpf_text.specs.declared.assembler.Place.{Place}
+use Rattle.bpf_text.specs.declared.assembler.Definition.{Definition}
 use Rattle.bpf_text.specs.declared.fault.TextFaultKind.{TextFaultKind}
 use Rattle.bpf_text.specs.declared.fault.TextFaultKind.TheVariants.{Syntax, Range, UnknownLabel, LabelTwice, TooLong}
 use Rattle.bpf_text.specs.Assembly.{line_slots, slots_on, label_line, passes}
 
 abbrev pub Labels : Type 0
-Labels = HashMap (Bor (List ℕ)) Place (BuildHasherDefault FoldHasher)
+Labels = HashMap (Bor (List ℕ)) Definition (BuildHasherDefault FoldHasher)
 
--- the place that is kept for a name
-abbrev pub place_of : Labels → List ℕ → Option Place
-place_of labels name = get_by (λ k. bytes_eq name k.now) labels
+-- the definition that is kept for a name
+abbrev pub definition_of : Labels → List ℕ → Option Definition
+definition_of labels name = get_by (λ k. bytes_eq name k.now) labels
 
 -- x if it is a value, else y
 abbrev pub or_else : {A : Type 0} → Option A → Option A → Option A
 or_else (Some x) y = Some x
 or_else None y = y
 
--- the place of a line
-abbrev pub place_at : List (Option Line) → ℕ → Place
-place_at lines k = record { line = k; slot = slots_on (take k lines) }
+-- a definition on line k
+abbrev pub definition_at : List (Option Line) → ℕ → Definition
+definition_at lines k = record { line = k; slot = slots_on (take k lines) }
 
--- the place of each label of the first n lines is kept, and no other
+-- the definition of each label of the first n lines is kept, and no other
 abbrev pub FindsLabels : List (Option Line) → Labels → ℕ → Type 0
-FindsLabels lines labels n = (name : List ℕ) → place_of labels name ≡ option_map (place_at lines) (label_line name (take n lines))
+FindsLabels lines labels n = (name : List ℕ) → definition_of labels name ≡ option_map (definition_at lines) (label_line name (take n lines))
 
--- ---- a line's fault and instruction, given the places that are kept
+-- ---- a line's fault and instruction, given the definitions that are kept
 
-abbrev pub kept_line : Option Place → ℕ → ℕ
+abbrev pub kept_line : Option Definition → ℕ → ℕ
 kept_line None line = line
-kept_line (Some place) line = place.line
+kept_line (Some definition) line = definition.line
 
-abbrev pub kept_slot : Option Place → ℕ
+abbrev pub kept_slot : Option Definition → ℕ
 kept_slot None = 0
-kept_slot (Some place) = place.slot
+kept_slot (Some definition) = definition.slot
 
 -- A label past the last slot that a program may have is taken to be at that slot: the text has a line that is too long.
-abbrev pub kept_distance : Option Place → ℕ → ℤ
-kept_distance place slot = pos (min (kept_slot place) most_slots) -ℤ pos (slot + 1)
+abbrev pub kept_distance : Option Definition → ℕ → ℤ
+kept_distance definition slot = pos (min (kept_slot definition) most_slots) -ℤ pos (slot + 1)
 
-abbrev pub code_fault : Form → Option Place → ℕ → Option TextFaultKind
-code_fault form place before =
+abbrev pub code_fault : Form → Option Definition → ℕ → Option TextFaultKind
+code_fault form definition before =
     if form_fits form then
-    (if not (names_label form) || is_some place then
+    (if not (names_label form) || is_some definition then
     (if passes before (form_slots form) then Some TooLong else None) else Some UnknownLabel) else Some Range
 
-abbrev pub label_fault : Option Place → ℕ → Option TextFaultKind
-label_fault place line = if nat_lt (kept_line place line) line then Some LabelTwice else None
+abbrev pub label_fault : Option Definition → ℕ → Option TextFaultKind
+label_fault definition line = if nat_lt (kept_line definition line) line then Some LabelTwice else None
 
-abbrev pub kept_fault : Labels → Place → Option Line → Option TextFaultKind
+abbrev pub kept_fault : Labels → Definition → Option Line → Option TextFaultKind
 kept_fault labels here None = Some Syntax
 kept_fault labels here (Some blank) = None
-kept_fault labels here (Some (label name)) = label_fault (place_of labels name) here.line
-kept_fault labels here (Some (code form name)) = code_fault form (place_of labels name) here.slot
+kept_fault labels here (Some (label name)) = label_fault (definition_of labels name) here.line
+kept_fault labels here (Some (code form name)) = code_fault form (definition_of labels name) here.slot
 
 abbrev pub kept_form : Labels → ℕ → Option Line → List Form
 kept_form labels slot None = []
 kept_form labels slot (Some blank) = []
 kept_form labels slot (Some (label name)) = []
-kept_form labels slot (Some (code form name)) = resolved (kept_distance (place_of labels name) slot) form ∷ []
+kept_form labels slot (Some (code form name)) = resolved (kept_distance (definition_of labels name) slot) form ∷ []
 
 unfoldable pub kept_forms : Labels → ℕ → List (Option Line) → List Form
 kept_forms labels slot [] = []

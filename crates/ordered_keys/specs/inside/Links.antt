@@ -1,12 +1,12 @@
--- An order of places as a ring of links. This project's own.
+-- An order of elements as a ring of links. This project's own.
 use Rattle.std.specs.Prelude.{◌≡◌, ℕ, zero, suc, ◌+◌, ◌<◌, ◌≤◌, List, [], ◌∷◌, vec_len, slice_index_or}
 use Rattle.ordered_keys.specs.Orders.{Order, occurrences}
-use Rattle.ordered_keys.specs.declared.place_order.Link.{Link}
-use Rattle.ordered_keys.specs.declared.place_order.PlaceOrder.TheInside.{Inside}
+use Rattle.ordered_keys.specs.declared.element_order.Link.{Link}
+use Rattle.ordered_keys.specs.declared.element_order.ElementOrder.TheInside.{Inside}
 
--- a link to one place on both sides
+-- a link to one element on both sides
 abbrev pub lone_link : ℕ → Link
-lone_link place = record { before = place; after = place }
+lone_link element = record { before = element; after = element }
 
 abbrev pub link_at : List Link → ℕ → Link
 link_at links p = slice_index_or links p (lone_link 0)
@@ -17,21 +17,21 @@ after_in links p = (link_at links p).after
 abbrev pub before_in : List Link → ℕ → ℕ
 before_in links p = (link_at links p).before
 
--- the n places that follow p
+-- the n elements that follow p
 abbrev pub chain : (ℕ → ℕ) → ℕ → ℕ → List ℕ
 chain after zero p = []
 chain after (suc n) p = after p ∷ chain after n (after p)
 
--- from a through the places of xs to b, each is linked to the next, and the next to it
+-- from a through the elements of xs to b, each is linked to the next, and the next to it
 abbrev pub IsPath : (ℕ → ℕ) → (ℕ → ℕ) → ℕ → List ℕ → ℕ → Type 0
 IsPath after before a [] b = (after a ≡ b) × (before b ≡ a)
 IsPath after before a (x ∷ xs) b = (after a ≡ x) × (before x ≡ a) × IsPath after before x xs b
 
-abbrev pub places_in : Inside → List ℕ
-places_in o = chain (after_in o.links.items) o.count o.bound
+abbrev pub elements_in : Inside → List ℕ
+elements_in o = chain (after_in o.links.items) o.count o.bound
 
 abbrev pub order_of : Inside → Order
-order_of o = record { bound = o.bound; places = places_in o }
+order_of o = record { bound = o.bound; elements = elements_in o }
 
 abbrev pub AreWithin : ℕ → List ℕ → Type 0
 AreWithin bound [] = Unit {0}
@@ -39,6 +39,6 @@ AreWithin bound (x ∷ xs) = (x < bound) × AreWithin bound xs
 
 pub record IsRing (o : Inside) : Type 0 where
   pub long : vec_len o.links ≡ o.bound + 1
-  pub linked : IsPath (after_in o.links.items) (before_in o.links.items) o.bound (places_in o) o.bound
-  pub within : AreWithin o.bound (places_in o)
-  pub once : (p : ℕ) → occurrences p (places_in o) ≤ 1
+  pub linked : IsPath (after_in o.links.items) (before_in o.links.items) o.bound (elements_in o) o.bound
+  pub within : AreWithin o.bound (elements_in o)
+  pub once : (p : ℕ) → occurrences p (elements_in o) ≤ 1

@@ -1,48 +1,48 @@
--- A table of keys in any order, and the order of their places. This project's own.
+-- A table of keys in any order, and the order of their elements. This project's own.
 use Rattle.std.specs.Prelude.{◌≡◌, ℕ, ◌+◌, ◌*◌, ◌<◌, ◌≤◌, ◌^◌, Bool, true, false, nat_eq, List, [], ◌∷◌, ◌++◌, length, Option, Some, None, option_map, slice_get, slice_index_or, option_to_list}
 use Rattle.indexmap.specs.IndexMap.{IndexMap, index_map_len, spare}
-use Rattle.ordered_keys.specs.Orders.{Order, occurrences, first_place, following}
+use Rattle.ordered_keys.specs.Orders.{Order, occurrences, first_element, following}
 use Rattle.ordered_keys.specs.inside.Links.{AreWithin}
 
--- the place that follows one, if one is given, or the first
-abbrev pub next_of_places : Option ℕ → List ℕ → Option ℕ
-next_of_places None ps = first_place ps
-next_of_places (Some p) ps = following p ps
+-- the element that follows one, if one is given, or the first
+abbrev pub next_of_elements : Option ℕ → List ℕ → Option ℕ
+next_of_elements None ps = first_element ps
+next_of_elements (Some p) ps = following p ps
 
 module _ {K : Type 0} where
-  -- the entry of a place
+  -- the entry of an element
   abbrev pub entry_of : List (K × ℕ) → List ℕ → ℕ → Option (K × ℕ)
   entry_of es indices p = slice_get es (slice_index_or indices p 0)
 
-  -- whether it is the entry at that place
+  -- whether it is the entry at that element
   abbrev pub is_entry_of : ℕ → Option (K × ℕ) → Bool
   is_entry_of p None = false
   is_entry_of p (Some e) = nat_eq e.1 p
 
-  -- the key of a place, if there is one
+  -- the key of an element, if there is one
   abbrev pub key_of : List (K × ℕ) → List ℕ → Option ℕ → Option K
   key_of es indices None = None
   key_of es indices (Some p) = option_map (λ e. e.0) (entry_of es indices p)
 
-  -- the entries of these places, in order
+  -- the entries of these elements, in order
   abbrev pub in_order : List (K × ℕ) → List ℕ → List ℕ → List (K × ℕ)
   in_order es indices [] = []
   in_order es indices (p ∷ ps) = option_to_list (entry_of es indices p) ++ in_order es indices ps
 
-  -- each place has an entry
+  -- each element has an entry
   abbrev pub HaveEntries : List (K × ℕ) → List ℕ → List ℕ → Type 0
   HaveEntries es indices [] = Unit {0}
   HaveEntries es indices (p ∷ ps) = ((k : K) × (entry_of es indices p ≡ Some (k, p))) × HaveEntries es indices ps
 
-  -- the places of the order are those of the entries, and the index of each is known
+  -- the elements of the order are those of the entries, and the index of each is known
   pub record IsIndexed (es : List (K × ℕ)) (indices : List ℕ) (order : Order) : Type 0 where
     pub long : length indices ≡ order.bound
     pub small : order.bound < 2 ^ 32
-    pub many : length es ≡ length order.places
-    pub few : length order.places ≤ order.bound
-    pub within : AreWithin order.bound order.places
-    pub placed : HaveEntries es indices order.places
-    pub listed : (i : ℕ) (e : K × ℕ) → slice_get es i ≡ Some e → (occurrences e.1 order.places ≡ 1) × (slice_index_or indices e.1 0 ≡ i)
+    pub many : length es ≡ length order.elements
+    pub few : length order.elements ≤ order.bound
+    pub within : AreWithin order.bound order.elements
+    pub placed : HaveEntries es indices order.elements
+    pub listed : (i : ℕ) (e : K × ℕ) → slice_get es i ≡ Some e → (occurrences e.1 order.elements ≡ 1) × (slice_index_or indices e.1 0 ≡ i)
 
 -- entries of equal keys have the same index
 abbrev pub AreApart : {K : Type 0} → (K → K → Bool) → List (K × ℕ) → Type 0
@@ -52,7 +52,7 @@ AreApart {K} eq es = (i j : ℕ) (a b : K × ℕ) → slice_get es i ≡ Some a 
 abbrev pub HasRoom : {K S : Type 0} → ℕ → IndexMap K ℕ S → Type 0
 HasRoom bound table = bound ≤ index_map_len table + spare table
 
--- the table has room for the entries of all places, and the rows, of which there are none, for half of them
+-- the table has room for the entries of all elements, and the rows, of which there are none, for half of them
 pub record IsWhole {K S : Type 0} (table : IndexMap K ℕ S) (indices : List ℕ) (order : Order) (rows capacity : ℕ) : Type 0 where
   pub indexed : IsIndexed table.entries indices order
   pub room : HasRoom order.bound table

@@ -2,22 +2,22 @@
 use Rattle.std.specs.Prelude.{ℕ, nat_eq, is_none, if◌then◌else◌, List, [], ◌∷◌, map, Option, Some, None}
 use Rattle.command_frames.specs.Command.{Command, close}
 use Rattle.tenant.specs.declared.object.OpenObject.{OpenObject}
-use Rattle.tenant.specs.Entry.{PlacedEntry}
+use Rattle.tenant.specs.Entry.{NumberedEntry}
 use Rattle.saving.specs.Restored.{put_of}
 
 -- the command that closes a descriptor without an object; none for a descriptor with one
 abbrev pub closing : ℕ → Option OpenObject → List Command
 closing fd o = if is_none o then close fd ∷ [] else []
 
-abbrev pub puts : ℕ → List PlacedEntry → List Command
-puts fd es = map (λ (e : PlacedEntry). put_of fd e.0) es
+abbrev pub puts : ℕ → List NumberedEntry → List Command
+puts fd es = map (λ (e : NumberedEntry). put_of fd e.0) es
 
--- the entries after the one at place p
+-- the entries after the one at element p
 abbrev pub rest_behind : {K : Type 0} → ℕ → List (K × ℕ) → List (K × ℕ)
 rest_behind p [] = []
 rest_behind p (e ∷ es) = if nat_eq p e.1 then es else rest_behind p es
 
--- all entries if there is no place, else those after it
+-- all entries if there is no element, else those after it
 abbrev pub rest_after : {K : Type 0} → Option ℕ → List (K × ℕ) → List (K × ℕ)
 rest_after None es = es
 rest_after (Some p) es = rest_behind p es

@@ -12,7 +12,7 @@ pub record HeldMaps : Type 0 where
 -- a map that is still live is unchanged
 pub record LeavesHeldMaps (old new : HeldMaps) : Type 0 where
   pub held : AreHeld new.live
-  pub stays : (place : ℕ) → IsSome (live_at new.live place)
-      → IsSome (live_at old.live place) × (map_in new.part new.live place ≡ map_in old.part old.live place)
+  pub stays : (handle : ℕ) → IsSome (live_at new.live handle)
+      → IsSome (live_at old.live handle) × (map_in new.part new.live handle ≡ map_in old.part old.live handle)
   pub refused : new.live.refused ≡ old.live.refused
   pub whole : length new.part ≡ PART

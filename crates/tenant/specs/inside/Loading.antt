@@ -11,14 +11,14 @@ use Rattle.tenant.specs.State.{TenantState}
 abbrev pub with_program : TenantState → ℕ → LoadedProgram → TenantState
 with_program s fd l = record s { objects = with_open s.objects fd (object.Program l) }
 
--- a map is live at each of these places
+-- there is a live map of each of these handles
 abbrev pub AreLive : LiveMaps → List ℕ → Type 0
-AreLive t held = (place : ℕ) → 1 ≤ times_listed place held → IsSome (live_at t place)
+AreLive t held = (handle : ℕ) → 1 ≤ times_listed handle held → IsSome (live_at t handle)
 
 -- the same maps, with more references
 pub record IsHeldMore (old new : LiveMaps) : Type 0 where
   pub held : AreHeld new
-  pub live : (place : ℕ) → IsSome (live_at old place) → IsSome (live_at new place)
-  pub shape : (place : ℕ) → shape_at new place ≡ shape_at old place
-  pub same : (part : List ℕ) (place : ℕ) → map_at part new place ≡ map_at part old place
+  pub live : (handle : ℕ) → IsSome (live_at old handle) → IsSome (live_at new handle)
+  pub shape : (handle : ℕ) → shape_at new handle ≡ shape_at old handle
+  pub same : (part : List ℕ) (handle : ℕ) → map_at part new handle ≡ map_at part old handle
   pub refused : new.refused ≡ old.refused

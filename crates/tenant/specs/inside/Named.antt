@@ -9,14 +9,14 @@ use Rattle.tenant.specs.declared.object.OpenObject.TheVariants as object
 use Rattle.tenant.specs.Kept.{KeptTenant}
 use Rattle.bpf_maps.specs.Limits.{most_maps}
 
--- a descriptor names the live map at a place
-pub record IsMapOf (k : KeptTenant) (fd place : ℕ) : Type 0 where
-  pub opened : named k.objects fd ≡ Some (object.Map place)
-  pub live : IsSome (live_at k.live place)
-  pub within : place < most_maps
+-- a descriptor names the live map of a handle
+pub record IsMapOf (k : KeptTenant) (fd handle : ℕ) : Type 0 where
+  pub opened : named k.objects fd ≡ Some (object.Map handle)
+  pub live : IsSome (live_at k.live handle)
+  pub within : handle < most_maps
 
 -- why a descriptor names no map
 abbrev pub map_fault : Option OpenObject → Option Errno
 map_fault None = Some BadDescriptor
 map_fault (Some (object.Program l)) = Some Invalid
-map_fault (Some (object.Map place)) = None
+map_fault (Some (object.Map handle)) = None

@@ -1,6 +1,6 @@
 use Rattle.std.proofs.Common.{◌≡◌, ℕ, ◌+◌, ap, sym, subst, ◌∙◌, arith}
 use Rattle.arena.specs.Bytes.{bytes_at}
-use Rattle.arena.specs.Memory.{Memory, size_of, base, place_of, copied, part_start, part_bytes}
+use Rattle.arena.specs.Memory.{Memory, size_of, base, offset_of, copied, part_start, part_bytes}
 use Rattle.arena.specs.Apart.{IsWrittenAt, asked_in}
 use Rattle.arena.proofs.contract_clients.copy_within.Goals as goal
 
@@ -14,5 +14,5 @@ returns c =
     let to : c.address-start.result + c.args.to ≡ base + (part_start m t + c.args.to) = omega arith in
     subst (λ (after : Memory). IsWrittenAt m t c.args.to (bytes_at (part_bytes m t) c.args.from 8) after)
     (sym (c.copy.ensures.bytes
-    ∙ ap (λ (a : ℕ). copied m 8 (place_of (size_of m) 8 a) (place_of (size_of m) 8 (c.address-start.result + c.args.to))) from
-    ∙ ap (λ (a : ℕ). copied m 8 (asked_in m t 8 c.args.from) (place_of (size_of m) 8 a)) to)) (has.copy c.args.to c.args.from 8 c.requires.to c.requires.from)
+    ∙ ap (λ (a : ℕ). copied m 8 (offset_of (size_of m) 8 a) (offset_of (size_of m) 8 (c.address-start.result + c.args.to))) from
+    ∙ ap (λ (a : ℕ). copied m 8 (asked_in m t 8 c.args.from) (offset_of (size_of m) 8 a)) to)) (has.copy c.args.to c.args.from 8 c.requires.to c.requires.from)

@@ -4,8 +4,8 @@ use Rattle.std.proofs.lemmas.Option.{none-some}
 use Rattle.tagged_model.specs.Table.{look_up}
 use Rattle.arena.specs.Memory.{base, part_start}
 use Rattle.arena.specs.PartLaws.{part_within}
-use Rattle.bpf_maps.specs.Places.{table_of}
-use Rattle.bpf_maps.specs.Live.{live_at, places_at, shape_at, offset_at}
+use Rattle.bpf_maps.specs.KeyTable.{table_of}
+use Rattle.bpf_maps.specs.Live.{live_at, keys_at, shape_at, offset_at}
 use Rattle.bpf_maps.specs.Elements.{elements_at, AreOfArray, word_of}
 use Rattle.bpf_helpers.specs.Named.{bound_map}
 use Rattle.bpf_helpers.specs.inside.Flat.{site_of, key_word}
@@ -22,15 +22,15 @@ some_word bind (suc w) k e = omega arith
 listed_at : (list bind : List ℕ) (w k : ℕ) (of : ℕ → ℕ) → w < 2 ^ 64 → 1 ≤ w → k ≡ slice_index bind (w - 1) → slice_index list (w - 1) ≡ of (slice_index bind (w - 1))
     → get_or list ((w + 18446744073709551615) % 18446744073709551616) 0 ≡ of k
 listed_at list bind w k of small some is there =
-    let place : (w + 18446744073709551615) % 18446744073709551616 ≡ w - 1 = omega arith in
-    ap (λ (i : ℕ). get_or list i 0) place ∙ there ∙ ap of (sym is)
+    let index : (w + 18446744073709551615) % 18446744073709551616 ≡ w - 1 = omega arith in
+    ap (λ (i : ℕ). get_or list i 0) index ∙ there ∙ ap of (sym is)
 
 pub returns-clause-value : goal.returns-clause-value
 returns-clause-value c =
     let site = site_of c.args.caller c.args.arena.now c.args.maps.now in
     let bind = c.args.caller.bind.now in
     let k = c.in-Some.handle in
-    let at = c.in-Some-traced_place.at in
+    let at = c.in-Some-traced_offset.at in
     let part = c.part-part.result.now in
     let start = base + part_start site.memory site.tenant in
     let whole = part_within site.memory site.tenant (c.memory_is_its_parts.ensures.parts, c.requires.part.0) in
@@ -43,8 +43,8 @@ returns-clause-value c =
     let any = c.if-array-eq0.false in
     let array : AreOfArray c.of_word-array.result site.maps k = (live, c.of_word-array.ensures.elements (shape_at site.maps k) word, any) in
     let size = sym (c.of_word-array.ensures.size (shape_at site.maps k) word any) in
-    let o = look_up (table_of (places_at site.maps k)) (slice_range part at (at + 4)) in
-    let there = key_there site c.args.map c.args.key (sym c.in-Some.ensures.value) size at c.in-Some-traced_place.ensures.value c.part-part.ensures.bytes c.in-Some-traced_place.ensures.within in
+    let o = look_up (table_of (keys_at site.maps k)) (slice_range part at (at + 4)) in
+    let there = key_there site c.args.map c.args.key (sym c.in-Some.ensures.value) size at c.in-Some-traced_offset.ensures.value c.part-part.ensures.bytes c.in-Some-traced_offset.ensures.within in
     c.address_of.ensures.address array start first
     ∙ address_word site k start o refl (omega arith) (c.address_of.ensures.inside array)
     ∙ sym (ap (λ o. unwrap_or (option_map (key_word site) o) 0) there)

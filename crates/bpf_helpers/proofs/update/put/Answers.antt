@@ -3,8 +3,8 @@ use Rattle.words.specs.Bytes.{bytes_at}
 use Rattle.tagged_model.specs.declared.shape.MapShape.{MapShape}
 use Rattle.tagged_model.specs.Table.{verdict}
 use Rattle.arena.specs.Memory.{part_start, with_bytes}
-use Rattle.bpf_maps.specs.Places.{table_of, Claims}
-use Rattle.bpf_maps.specs.Live.{places_at, shape_at, offset_at}
+use Rattle.bpf_maps.specs.KeyTable.{table_of, Claims}
+use Rattle.bpf_maps.specs.Live.{keys_at, shape_at, offset_at}
 use Rattle.bpf_helpers.proofs.Words.{part_range}
 use Rattle.bpf_helpers.proofs.Copied.{copied_is}
 use Rattle.bpf_helpers.proofs.update.put.Goals as goal
@@ -31,21 +31,21 @@ returns-in-Ok-clause-updated c =
     let k = c.args.map in
     let value : c.shape-shape.result.value_size ≡ (shape_at old k).value_size = ap (λ (s : MapShape). s.value_size) c.shape-shape.ensures in
     let after : (shape_at new k).value_size ≡ (shape_at old k).value_size = ap (λ (s : MapShape). s.value_size) c.in-Ok.ensures.rest.shape in
-    let stays = c.areas_keep_places.ensures old new k c.in-Ok.place c.in-Ok.ensures.rest.areas c.in-Ok.ensures.rest.live in
+    let stays = c.areas_keep_elements.ensures old new k c.in-Ok.element c.in-Ok.ensures.rest.areas c.in-Ok.ensures.rest.live in
     let inside = c.value_at.ensures.inside in
     let within = inside.within in
     record {
-      claim = Ok c.in-Ok.place;
-      claimed = subst (λ (b : List ℕ). Claims (verdict (table_of (places_at old k)) b c.args.flags) b (places_at old k) (Ok c.in-Ok.place) (places_at new k)) (key_read (goal.at.returns-in-Ok-clause-updated c).After-claim) c.in-Ok.ensures.claimed;
+      claim = Ok c.in-Ok.element;
+      claimed = subst (λ (b : List ℕ). Claims (verdict (table_of (keys_at old k)) b c.args.flags) b (keys_at old k) (Ok c.in-Ok.element) (keys_at new k)) (key_read (goal.at.returns-in-Ok-clause-updated c).After-claim) c.in-Ok.ensures.claimed;
       rest = c.in-Ok.ensures.rest;
       word_is = refl;
       memory_is = c.copy_inside.ensures.bytes
-          ∙ copied_is memory c.shape-shape.result.value_size (c.address-start.result + c.args.value) (c.address-start.result + c.value_at.result) (part_start memory t + c.args.value) (part_start memory t + offset_at old k c.in-Ok.place)
+          ∙ copied_is memory c.shape-shape.result.value_size (c.address-start.result + c.args.value) (c.address-start.result + c.value_at.result) (part_start memory t + c.args.value) (part_start memory t + offset_at old k c.in-Ok.element)
           (omega (arith, c.address-start.ensures.value))
           (omega (arith, c.address-start.ensures.value, c.value_at.ensures.offset, stays))
           (omega (arith, value, c.requires.value, c.requires.part.1, c.address-start.ensures.room))
           (omega (arith, value, after, within, c.value_at.ensures.offset, stays, c.address-start.ensures.room, c.requires.part.1))
-          ∙ ap (λ (m : ℕ). with_bytes memory (part_start memory t + offset_at old k c.in-Ok.place) (bytes_at memory.bytes (part_start memory t + c.args.value) m)) value;
+          ∙ ap (λ (m : ℕ). with_bytes memory (part_start memory t + offset_at old k c.in-Ok.element) (bytes_at memory.bytes (part_start memory t + c.args.value) m)) value;
     }
 
 pub returns-in-Err-clause-updated : goal.returns-in-Err-clause-updated
@@ -55,7 +55,7 @@ returns-in-Err-clause-updated c =
     let k = c.args.map in
     record {
       claim = Err c.in-Err.fault;
-      claimed = subst (λ (b : List ℕ). Claims (verdict (table_of (places_at old k)) b c.args.flags) b (places_at old k) (Err c.in-Err.fault) (places_at new k)) (key_read (goal.at.returns-in-Err-clause-updated c).After-claim) c.in-Err.ensures.claimed;
+      claimed = subst (λ (b : List ℕ). Claims (verdict (table_of (keys_at old k)) b c.args.flags) b (keys_at old k) (Err c.in-Err.fault) (keys_at new k)) (key_read (goal.at.returns-in-Err-clause-updated c).After-claim) c.in-Err.ensures.claimed;
       rest = c.in-Err.ensures.rest;
       word_is = c.refusal.ensures;
       memory_is = refl;

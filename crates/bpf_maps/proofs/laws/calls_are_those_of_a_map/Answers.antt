@@ -5,7 +5,7 @@ use Rattle.bpf_maps.proofs.laws.calls_are_those_of_a_map.Goals as goal
 pub returns : goal.returns
 returns c = record {
   new = λ shape. refl;
-  update = λ t key place. refl;
-  delete = λ t key place. ap (λ (n : ℕ). let m : Table ℕ = record { shape = t.shape; entries = without key t.entries; deleted = n } in m) (length-append t.kept (place ∷ []));
+  update = λ t key element. refl;
+  delete = λ t key element. ap (λ (n : ℕ). let m : Table ℕ = record { shape = t.shape; entries = without key t.entries; deleted = n } in m) (length-append t.kept (element ∷ []));
   end = λ t. refl;
 }

@@ -11,8 +11,8 @@ loop-at-preserved g c =
     record {
       items =
           c.push_reserved.ensures.items
-          ∙ ap (λ (xs : List (g.row.K.Denot × ℕ)). xs ++ (c.in-Some.key.now, c.in-Some.place.now) ∷ []) h.items
-          ∙ take_next (drop c.args.start es) c.loop-at.at (c.in-Some.key.now, c.in-Some.place.now) (dropped c.args.start es c.loop-at.at ∙ sym c.in-Some.ensures.entry);
+          ∙ ap (λ (xs : List (g.row.K.Denot × ℕ)). xs ++ (c.in-Some.key.now, c.in-Some.element.now) ∷ []) h.items
+          ∙ take_next (drop c.args.start es) c.loop-at.at (c.in-Some.key.now, c.in-Some.element.now) (dropped c.args.start es c.loop-at.at ∙ sym c.in-Some.ensures.entry);
       length = let a = h.length in let b = c.push_reserved.ensures.len in omega arith;
       capacity = c.push_reserved.ensures.capacity ∙ h.capacity;
       buffer = let a = h.buffer in let b = c.push_reserved.ensures.capacity in omega arith;

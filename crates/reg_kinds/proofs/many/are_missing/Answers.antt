@@ -4,7 +4,7 @@ use Rattle.reg_kinds.proofs.SlotTests.{none_below, one_below, lacks_apart}
 use Rattle.reg_kinds.proofs.many.are_missing.Goals as goal
 
 pub loop-index-init : goal.loop-index-init
-loop-index-init c = λ i lt. lacks_apart c.args.facts.now c.args.place c.args.count i (inl (omega (arith, lt)))
+loop-index-init c = λ i lt. lacks_apart c.args.facts.now c.args.start c.args.count i (inl (omega (arith, lt)))
 
 pub loop-index-preserved : goal.loop-index-preserved
 loop-index-preserved c = below_more _ _ c.loop-index.invariant (cc)
@@ -17,5 +17,5 @@ returns c =
     sym (none_below 64 _ (λ i lt.
     ⊎_elim
     (λ below. c.loop-index.invariant i below)
-    (λ past. lacks_apart c.args.facts.now c.args.place c.args.count i (inr (omega (arith, past, c.past_touched-index-end.ensures.bytes))))
+    (λ past. lacks_apart c.args.facts.now c.args.start c.args.count i (inr (omega (arith, past, c.past_touched-index-end.ensures.bytes))))
     (cases_lt i c.loop-index.index)))

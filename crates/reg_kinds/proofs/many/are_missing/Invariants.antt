@@ -4,4 +4,4 @@ use Rattle.reg_kinds.specs.Many.{lacks, bits_in}
 use Rattle.reg_kinds.proofs.many.are_missing.Given as goal
 
 abbrev pub invariant-loop-index : goal.invariant-loop-index
-invariant-loop-index l = (i : ℕ) → i < l.index → lacks (slot_at l.facts i) (bits_in l.place l.count i) ≡ false
+invariant-loop-index l = (i : ℕ) → i < l.index → lacks (slot_at l.facts i) (bits_in l.start l.count i) ≡ false

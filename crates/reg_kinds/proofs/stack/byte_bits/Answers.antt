@@ -7,10 +7,10 @@ use Rattle.reg_kinds.proofs.stack.byte_bits.Goals as goal
 
 pub returns-in-Half : goal.returns-in-Half
 returns-in-Half c =
-    half_bits c.args.place (ap (λ (z : AccessSize). c.args.place % bytes_of z) (sym c.in-Half.is) ∙ c.requires)
-    ∙ ap (λ (z : AccessSize). byte_bits c.args.place (bytes_of z)) (sym c.in-Half.is)
+    half_bits c.args.start (ap (λ (z : AccessSize). c.args.start % bytes_of z) (sym c.in-Half.is) ∙ c.requires)
+    ∙ ap (λ (z : AccessSize). byte_bits c.args.start (bytes_of z)) (sym c.in-Half.is)
 
 pub returns-in-Word : goal.returns-in-Word
 returns-in-Word c =
-    word_bits c.args.place (ap (λ (z : AccessSize). c.args.place % bytes_of z) (sym c.in-Word.is) ∙ c.requires)
-    ∙ ap (λ (z : AccessSize). byte_bits c.args.place (bytes_of z)) (sym c.in-Word.is)
+    word_bits c.args.start (ap (λ (z : AccessSize). c.args.start % bytes_of z) (sym c.in-Word.is) ∙ c.requires)
+    ∙ ap (λ (z : AccessSize). byte_bits c.args.start (bytes_of z)) (sym c.in-Word.is)

@@ -1,5 +1,5 @@
 use Rattle.std.proofs.Common.{arith}
-use Rattle.tenant.proofs.AtPlaces.{held_is_live}
+use Rattle.tenant.proofs.AtHandles.{held_is_live}
 use Rattle.tenant.proofs.Releases.{IsReleased, left_released, holds_released}
 use Rattle.tenant.proofs.Times.{times-more, times-left, times-all, times-none, leaves_all, leaves_then}
 use Rattle.tenant.proofs.tenant.release_all.Goals as goal

@@ -7,5 +7,5 @@ use Rattle.tenant.proofs.tenant.release_all.Given as goal
 abbrev pub invariant-loop-map : goal.invariant-loop-map
 invariant-loop-map l = record {
   left : LeavesHeldMaps (record { live = l.initial.maps; part = l.initial.part }) (record { live = l.maps; part = l.part });
-  holds : (place : ℕ) → holds_at l.maps place + times_listed place (take l.map-index l.held) ≡ holds_at l.initial.maps place;
+  holds : (handle : ℕ) → holds_at l.maps handle + times_listed handle (take l.map-index l.held) ≡ holds_at l.initial.maps handle;
 }

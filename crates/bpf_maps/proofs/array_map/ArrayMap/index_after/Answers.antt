@@ -14,4 +14,4 @@ pub returns-in-Some : goal.returns-in-Some
 returns-in-Some c = record { next = after_present c.keys_are_its_indices.ensures.kind c.keys_are_its_indices.ensures.whole c.args.key.now c.in-Some.index c.in-Some.ensures.spelled c.in-Some.ensures.within }
 
 pub returns-in-None : goal.returns-in-None
-returns-in-None c = record { next = after_absent c.keys_are_its_indices.ensures.kind c.keys_are_its_indices.ensures.whole c.args.key.now (sym c.place_of.ensures.place ∙ c.in-None.is) }
+returns-in-None c = record { next = after_absent c.keys_are_its_indices.ensures.kind c.keys_are_its_indices.ensures.whole c.args.key.now (sym c.element_of.ensures.element ∙ c.in-None.is) }

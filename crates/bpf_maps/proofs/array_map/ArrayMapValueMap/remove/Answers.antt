@@ -2,7 +2,7 @@ use Rattle.std.proofs.Common.{Err, refl, sym, subst}
 use Rattle.tagged_model.specs.declared.shape.MapKind.{MapKind}
 use Rattle.tagged_model.specs.declared.fault.MapFault.TheVariants.{Invalid}
 use Rattle.tagged_model.specs.Table.{removal_of, look_up}
-use Rattle.bpf_maps.specs.Places.{table_of, Removes}
+use Rattle.bpf_maps.specs.KeyTable.{table_of, Removes}
 use Rattle.bpf_maps.proofs.array_map.ArrayMapValueMap.remove.Goals as goal
 
 pub returns-clause-removed : goal.returns-clause-removed

@@ -1,6 +1,6 @@
 use Rattle.std.proofs.Common.{subst, IfSome, length, ◌≡◌}
 use Rattle.bpf_maps.specs.KeyRef.{key_bytes}
-use Rattle.bpf_maps.specs.Places.{PlaceTable}
+use Rattle.bpf_maps.specs.KeyTable.{KeyTable}
 use Rattle.bpf_maps.specs.Index.{entries_of}
 use Rattle.bpf_maps.specs.declared.part.TheConstants.{KEY_ROOM}
 use Rattle.bpf_maps.proofs.Following.{given_sized, given_short}
@@ -10,7 +10,7 @@ use Rattle.bpf_maps.proofs.hash_map.HashMapValueMap.key_after.Goals as goal
 pub returns-clause-size : goal.returns-clause-size
 returns-clause-size c =
     let a = c.self.inside in
-    subst (λ (t : PlaceTable). IfSome c.key_after.result (λ given. length (key_bytes given) ≡ t.shape.key_size)) c.self.view_is
+    subst (λ (t : KeyTable). IfSome c.key_after.result (λ given. length (key_bytes given) ≡ t.shape.key_size)) c.self.view_is
     (given_sized a.shape.key_size c.args.key.now (entries_of a.index) c.key_after.result c.self.invariant.sized c.key_after.ensures)
 
 pub returns-clause-short : goal.returns-clause-short

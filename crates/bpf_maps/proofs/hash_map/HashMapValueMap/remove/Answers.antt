@@ -1,7 +1,7 @@
 use Rattle.std.proofs.Common.{◌≡◌, ℕ, ◌+◌, ◌∙◌, sym, ap, subst, refl, Some, None, [], ◌∷◌, ◌++◌, List, take}
 use Rattle.std.specs.List.{swap}
 use Rattle.tagged_model.specs.Table.{found}
-use Rattle.bpf_maps.specs.Places.{PlaceTable, IsSound}
+use Rattle.bpf_maps.specs.KeyTable.{KeyTable, IsSound}
 use Rattle.bpf_maps.specs.Index.{entries_of, TakesKeys, shown, IsWellFormedHash}
 use Rattle.bpf_maps.specs.declared.hash_map.HashMap.TheInside.{Inside}
 use Rattle.bpf_maps.proofs.Counts.{without-absent}
@@ -11,11 +11,11 @@ use Rattle.bpf_maps.proofs.hash_map.HashMapValueMap.remove.Goals as goal
 use Rattle.bpf_maps.proofs.hash_map.HashMapValueMap.remove.Goals.{After-remove}
 
 takes : (c : After-remove) → TakesKeys c.remove.new.self c.self.inside.shape.key_size
-takes c = subst (TakesKeys c.remove.new.self) (c.requires.size ∙ ap (λ (t : PlaceTable). t.shape.key_size) (sym c.self.view_is)) c.remove.ensures.takes
+takes c = subst (TakesKeys c.remove.new.self) (c.requires.size ∙ ap (λ (t : KeyTable). t.shape.key_size) (sym c.self.view_is)) c.remove.ensures.takes
 
 module _ (c : goal.In_default) where
   none : found c.args.key.now (entries_of c.self.inside.index) ≡ None
-  none = sym c.remove.ensures.place ∙ c.in_default.is
+  none = sym c.remove.ensures.element ∙ c.in_default.is
 
   same : entries_of c.remove.new.self ≡ entries_of c.self.inside.index
   same = c.remove.ensures.left ∙ without-absent c.args.key.now (entries_of c.self.inside.index) none
@@ -30,15 +30,15 @@ pub returns-in_default-clause-sound : goal.returns-in_default-clause-sound
 returns-in_default-clause-sound c = subst IsSound (sym (same_table c.self.inside.shape (same c) refl)) (sound c.self.invariant)
 
 module _ (c : goal.After-self-1) where
-  found_is : found c.args.key.now (entries_of c.self.inside.index) ≡ Some c.in-Some.place
-  found_is = sym c.remove.ensures.place ∙ c.in-Some.is
+  found_is : found c.args.key.now (entries_of c.self.inside.index) ≡ Some c.in-Some.element
+  found_is = sym c.remove.ensures.element ∙ c.in-Some.is
 
-  spare : c.swap.new.self.items ≡ put_at c.self.inside.kept c.in-Some.place c.self.inside.spare.items
+  spare : c.swap.new.self.items ≡ put_at c.self.inside.kept c.in-Some.element c.self.inside.spare.items
   spare =
       c.swap.ensures.items
-      ∙ ap (λ (places : List ℕ). swap places c.self.inside.kept c.len-last.result) c.push_reserved.ensures.items
-      ∙ ap (swap (c.self.inside.spare.items ++ c.in-Some.place ∷ []) c.self.inside.kept) (c.len-last.ensures ∙ c.self.inside.spare.ok.0)
-      ∙ exchanged c.self.inside.kept c.in-Some.place c.self.inside.spare.items c.self.invariant.kept
+      ∙ ap (λ (elements : List ℕ). swap elements c.self.inside.kept c.len-last.result) c.push_reserved.ensures.items
+      ∙ ap (swap (c.self.inside.spare.items ++ c.in-Some.element ∷ []) c.self.inside.kept) (c.len-last.ensures ∙ c.self.inside.spare.ok.0)
+      ∙ exchanged c.self.inside.kept c.in-Some.element c.self.inside.spare.items c.self.invariant.kept
 
   abbrev after : Inside
   after = record { shape = c.self.inside.shape; index = c.remove.new.self; spare = c.swap.new.self; kept = c.self.inside.kept + 1 }
@@ -56,5 +56,5 @@ returns-clause-sound c = sound (whole c)
 
 pub returns-clause-removed : goal.returns-clause-removed
 returns-clause-removed c =
-    let kept = ap (take (c.self.inside.kept + 1)) (spare c) ∙ first-put c.self.inside.kept c.in-Some.place c.self.inside.spare.items c.self.invariant.kept in
-    removes c.args.key.now (shown c.self.inside) _ _ (Some c.in-Some.place) _ c.self.view_is c.self.invariant.kind (found_is c) (refl, same_table c.self.inside.shape c.remove.ensures.left kept)
+    let kept = ap (take (c.self.inside.kept + 1)) (spare c) ∙ first-put c.self.inside.kept c.in-Some.element c.self.inside.spare.items c.self.invariant.kept in
+    removes c.args.key.now (shown c.self.inside) _ _ (Some c.in-Some.element) _ c.self.view_is c.self.invariant.kind (found_is c) (refl, same_table c.self.inside.shape c.remove.ensures.left kept)

@@ -72,7 +72,7 @@ module _ (c : goal.After-self-2-1) where
     others = c.insert_reserved-key.ensures.updates.others;
     len = c.insert_reserved-key.ensures.len;
     capacity = c.insert_reserved-key.ensures.capacity;
-    places = c.in-Ok.ensures;
+    table = c.in-Ok.ensures;
     start = refl;
     stride = stride;
     elements = c.word.ensures ∙ ap word_of c.of.ensures;

@@ -1,7 +1,7 @@
 use Rattle.std.proofs.Common.{◌≡◌, option_map, is_some, sym, ap, subst}
 use Rattle.ordered_keys.specs.Orders.{next_entry}
 use Rattle.bpf_maps.specs.KeyRef.{shown_entry}
-use Rattle.bpf_maps.specs.Places.{PlaceTable}
+use Rattle.bpf_maps.specs.KeyTable.{KeyTable}
 use Rattle.bpf_maps.proofs.Changes.{told_of}
 use Rattle.bpf_maps.proofs.NextEntries.{next_within}
 use Rattle.bpf_maps.proofs.maps.Maps.entry_after.Goals as goal
@@ -9,10 +9,10 @@ use Rattle.bpf_maps.proofs.maps.Maps.entry_after.Goals as goal
 pub returns : goal.returns
 returns c =
     let live = ap is_some c.stored.ensures in
-    let same = sym (told_of (λ l. l.places) c.stored.ensures) in
-    let entry = subst (λ (t : PlaceTable). option_map shown_entry c.entry_after.result ≡ next_entry c.args.place t.entries) same c.entry_after.ensures in
+    let same = sym (told_of (λ l. l.keys) c.stored.ensures) in
+    let entry = subst (λ (t : KeyTable). option_map shown_entry c.entry_after.result ≡ next_entry c.args.element t.entries) same c.entry_after.ensures in
     let sound = c.maps_are_laid.ensures.sound c.args.map live in
     record {
       entry = entry;
-      within = next_within _ c.args.place c.entry_after.result sound entry;
+      within = next_within _ c.args.element c.entry_after.result sound entry;
     }

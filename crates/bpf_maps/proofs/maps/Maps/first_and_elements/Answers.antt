@@ -13,8 +13,8 @@ first_is : (t : LiveMaps) (k : ℕ) (e : StoredMap) → live_at t k ≡ Some (li
 unfolding offset
 first_is t k e is = let at = ap (λ (o : Option LiveMap). (live_or o).start + 0 * (live_or o).stride) is in omega arith
 
-elements_are : (t : LiveMaps) (k : ℕ) (e : StoredMap) → live_at t k ≡ Some (live_of e) → word_of (elements_of (live_of e).places.shape) ≡ word_of (elements_at t k)
-elements_are t k e is = sym (ap (λ (o : Option LiveMap). word_of (elements_of (live_or o).places.shape)) is)
+elements_are : (t : LiveMaps) (k : ℕ) (e : StoredMap) → live_at t k ≡ Some (live_of e) → word_of (elements_of (live_of e).keys.shape) ≡ word_of (elements_at t k)
+elements_are t k e is = sym (ap (λ (o : Option LiveMap). word_of (elements_of (live_or o).keys.shape)) is)
 
 pub key-key-requires : goal.key-key-requires
 key-key-requires c = has_key c.self.inside c.self.view_is c.map.view_is (sym c.is_live.ensures ∙ c.if-not-is_live.false)

@@ -43,7 +43,7 @@ pub returns-clause-holds : goal.returns-clause-holds
 returns-clause-holds c = told_of (λ l. l.holds) (live_new (change c)) ∙ sym (ap (λ (n : ℕ). n + 1) (told_of (λ l. l.holds) (live_old (change c))))
 
 pub returns-clause-shape : goal.returns-clause-shape
-returns-clause-shape c = part_stays (change c) (λ l. l.places.shape) refl
+returns-clause-shape c = part_stays (change c) (λ l. l.keys.shape) refl
 
 pub returns-clause-areas : goal.returns-clause-areas
 returns-clause-areas c = areas_stay (change c)
@@ -51,5 +51,5 @@ returns-clause-areas c = areas_stay (change c)
 pub returns-clause-room : goal.returns-clause-room
 returns-clause-room c = room_stays (change c)
 
-pub returns-clause-places : goal.returns-clause-places
-returns-clause-places c = part_stays (change c) (λ l. l.places) refl
+pub returns-clause-keys : goal.returns-clause-keys
+returns-clause-keys c = part_stays (change c) (λ l. l.keys) refl

@@ -1,6 +1,6 @@
 use Rattle.std.proofs.Common.{◌≡◌, length, IfSome, option_map, sym, subst}
 use Rattle.bpf_maps.specs.KeyRef.{key_bytes}
-use Rattle.bpf_maps.specs.Places.{PlaceTable, table_of}
+use Rattle.bpf_maps.specs.KeyTable.{KeyTable, table_of}
 use Rattle.tagged_model.specs.Table.{next_of}
 use Rattle.bpf_maps.proofs.Changes.{told_of}
 use Rattle.bpf_maps.proofs.maps.Maps.key_after.Goals as goal
@@ -8,8 +8,8 @@ use Rattle.bpf_maps.proofs.maps.Maps.key_after.Goals as goal
 pub returns : goal.returns
 returns c =
     let is = c.stored.ensures in
-    let same = sym (told_of (λ l. l.places) is) in
+    let same = sym (told_of (λ l. l.keys) is) in
     record {
-      given = subst (λ (t : PlaceTable). option_map key_bytes c.key_after.result ≡ next_of (table_of t) c.args.key.now) same c.key_after.ensures.given;
-      size = subst (λ (t : PlaceTable). IfSome c.key_after.result (λ given. length (key_bytes given) ≡ t.shape.key_size)) same c.key_after.ensures.size;
+      given = subst (λ (t : KeyTable). option_map key_bytes c.key_after.result ≡ next_of (table_of t) c.args.key.now) same c.key_after.ensures.given;
+      size = subst (λ (t : KeyTable). IfSome c.key_after.result (λ given. length (key_bytes given) ≡ t.shape.key_size)) same c.key_after.ensures.size;
     }

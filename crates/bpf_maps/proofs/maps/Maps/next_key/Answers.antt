@@ -1,5 +1,5 @@
 use Rattle.std.proofs.Common.{sym, subst}
-use Rattle.bpf_maps.specs.Places.{PlaceTable, table_of, GivesKey}
+use Rattle.bpf_maps.specs.KeyTable.{KeyTable, table_of, GivesKey}
 use Rattle.tagged_model.specs.Table.{next_of}
 use Rattle.bpf_maps.proofs.Changes.{told_of}
 use Rattle.bpf_maps.proofs.maps.Maps.next_key.Goals as goal
@@ -8,5 +8,5 @@ pub returns : goal.returns
 returns c =
     let is = c.stored.ensures in
     record {
-      given = subst (λ (t : PlaceTable). GivesKey (next_of (table_of t) c.args.key.now) c.args.next.now c.next_key.result c.next_key.new.next) (sym (told_of (λ l. l.places) is)) c.next_key.ensures.given;
+      given = subst (λ (t : KeyTable). GivesKey (next_of (table_of t) c.args.key.now) c.args.next.now c.next_key.result c.next_key.new.next) (sym (told_of (λ l. l.keys) is)) c.next_key.ensures.given;
     }

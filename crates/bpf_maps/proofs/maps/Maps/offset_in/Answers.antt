@@ -13,13 +13,13 @@ unfolding offset
 offset_is t k p e is = ap (λ (o : Option LiveMap). (live_or o).start + p * (live_or o).stride) (sym is)
 
 module _ (c : After-maps_are_laid) where
-  lies : LiesInPart (offset_at c.args.self.now c.args.map c.args.place) (shape_at c.args.self.now c.args.map).value_size
-  lies = laid_inside c.args.self.now c.maps_are_laid.ensures.laid c.args.map c.args.place (subst IsSome (sym c.requires.stored) refl) c.requires.place
+  lies : LiesInPart (offset_at c.args.self.now c.args.map c.args.element) (shape_at c.args.self.now c.args.map).value_size
+  lies = laid_inside c.args.self.now c.maps_are_laid.ensures.laid c.args.map c.args.element (subst IsSome (sym c.requires.stored) refl) c.requires.element
 
-  same : c.args.stored.now.start + c.args.place * c.args.stored.now.stride ≡ offset_at c.args.self.now c.args.map c.args.place
-  same = offset_is c.args.self.now c.args.map c.args.place c.args.stored.now c.requires.stored
+  same : c.args.stored.now.start + c.args.element * c.args.stored.now.stride ≡ offset_at c.args.self.now c.args.map c.args.element
+  same = offset_is c.args.self.now c.args.map c.args.element c.args.stored.now c.requires.stored
 
-  small : c.args.stored.now.start + c.args.place * c.args.stored.now.stride ≤ PART
+  small : c.args.stored.now.start + c.args.element * c.args.stored.now.stride ≤ PART
   small = let within = lies.within in let is = same in omega arith
 
 pub returns-clause-offset : goal.returns-clause-offset

@@ -79,7 +79,7 @@ pub returns-then-stored-gt-LAST-clause-stays : goal.returns-then-stored-gt-LAST-
 returns-then-stored-gt-LAST-clause-stays c = λ more. ap is_some (live_new (change c))
 
 pub returns-then-stored-gt-LAST-clause-shape : goal.returns-then-stored-gt-LAST-clause-shape
-returns-then-stored-gt-LAST-clause-shape c = λ more. part_stays (change c) (λ l. l.places.shape) refl
+returns-then-stored-gt-LAST-clause-shape c = λ more. part_stays (change c) (λ l. l.keys.shape) refl
 
 pub returns-then-stored-gt-LAST-clause-areas : goal.returns-then-stored-gt-LAST-clause-areas
 returns-then-stored-gt-LAST-clause-areas c = λ more. areas_stay (change c)

@@ -13,13 +13,13 @@ returns-in_err-word c =
     let w = c.self.inside in
     c.from_residual.ensures
     ∙ ap (option_map (spelled w.size)) c.in_err-word.ensures
-    ∙ sym (next_shown (low_bytes w.size) c.args.place w.map.entries)
-    ∙ ap (λ (t : SizedKeys). next_entry c.args.place t.entries) c.self.view_is
+    ∙ sym (next_shown (low_bytes w.size) c.args.element w.map.entries)
+    ∙ ap (λ (t : SizedKeys). next_entry c.args.element t.entries) c.self.view_is
 
 pub returns : goal.returns
 returns c =
     let w = c.self.inside in
-    ap (λ (key : List ℕ). let o : Option (List ℕ × ℕ) = Some (key, c.in_ok-word.place) in o) c.of_word.ensures
+    ap (λ (key : List ℕ). let o : Option (List ℕ × ℕ) = Some (key, c.in_ok-word.element) in o) c.of_word.ensures
     ∙ ap (option_map (spelled w.size)) c.in_ok-word.ensures
-    ∙ sym (next_shown (low_bytes w.size) c.args.place w.map.entries)
-    ∙ ap (λ (t : SizedKeys). next_entry c.args.place t.entries) c.self.view_is
+    ∙ sym (next_shown (low_bytes w.size) c.args.element w.map.entries)
+    ∙ ap (λ (t : SizedKeys). next_entry c.args.element t.entries) c.self.view_is

@@ -20,9 +20,9 @@ invariant_of-self c = record {
   below = subst (AreBelow (256 ^ c.self.inside.size)) (sym c.remove.ensures.left) (below-remove (256 ^ c.self.inside.size) (nat_eq c.word_of.result) c.self.inside.map.entries c.self.invariant.below);
 }
 
-pub returns-clause-place : goal.returns-clause-place
-returns-clause-place c =
-    c.remove.ensures.place
+pub returns-clause-element : goal.returns-clause-element
+returns-clause-element c =
+    c.remove.ensures.element
     ∙ found_shown (low_bytes c.self.inside.size) c.args.key.now (nat_eq c.word_of.result) c.self.inside.map.entries (tests c)
     ∙ ap (λ (t : SizedKeys). found c.args.key.now t.entries) c.self.view_is
 

@@ -21,7 +21,7 @@ put_last-requires-clause-absent g c =
 pub put_last-requires-clause-room : goal.put_last-requires-clause-room
 put_last-requires-clause-room g c =
     let m = c.self.inside in
-    let l = length_shown m.table.entries m.indices.items m.order.places c.self.invariant.indexed.placed in
+    let l = length_shown m.table.entries m.indices.items m.order.elements c.self.invariant.indexed.placed in
     let e = ap (λ (b : BoundedKeys g.row.K.Denot). length b.entries) c.self.view_is in
     let b = ap (λ (b : BoundedKeys g.row.K.Denot). b.bound) c.self.view_is in
     let few = c.requires.few in
@@ -32,52 +32,52 @@ put_last-requires-clause-room g c =
 pub push-requires-clause-new : goal.push-requires-clause-new
 push-requires-clause-new g c =
     let m = c.self.inside in
-    ap (occurrences c.args.place) (sym (values_shown m.table.entries m.indices.items m.order.places c.self.invariant.indexed.placed))
-    ∙ ap (λ (b : BoundedKeys g.row.K.Denot). occurrences c.args.place (values_of b.entries)) c.self.view_is
+    ap (occurrences c.args.element) (sym (values_shown m.table.entries m.indices.items m.order.elements c.self.invariant.indexed.placed))
+    ∙ ap (λ (b : BoundedKeys g.row.K.Denot). occurrences c.args.element (values_of b.entries)) c.self.view_is
     ∙ c.requires.free
 
 pub push-requires-clause-few : goal.push-requires-clause-few
 push-requires-clause-few g c =
     let m = c.self.inside in
-    let l = length_shown m.table.entries m.indices.items m.order.places c.self.invariant.indexed.placed in
+    let l = length_shown m.table.entries m.indices.items m.order.elements c.self.invariant.indexed.placed in
     let e = ap (λ (b : BoundedKeys g.row.K.Denot). length b.entries) c.self.view_is in
     let b = ap (λ (b : BoundedKeys g.row.K.Denot). b.bound) c.self.view_is in
     let few = c.requires.few in
     omega arith
 
 module _ (g : Over) (c : goal.After-push g) where
-  new : occurrences c.args.place c.self.inside.order.places ≡ 0
+  new : occurrences c.args.element c.self.inside.order.elements ≡ 0
   new =
       let m = c.self.inside in
-      ap (occurrences c.args.place) (sym (values_shown m.table.entries m.indices.items m.order.places c.self.invariant.indexed.placed))
-      ∙ ap (λ (b : BoundedKeys g.row.K.Denot). occurrences c.args.place (values_of b.entries)) c.self.view_is
+      ap (occurrences c.args.element) (sym (values_shown m.table.entries m.indices.items m.order.elements c.self.invariant.indexed.placed))
+      ∙ ap (λ (b : BoundedKeys g.row.K.Denot). occurrences c.args.element (values_of b.entries)) c.self.view_is
       ∙ c.requires.free
 
-  room : length c.self.inside.order.places < c.self.inside.order.bound
+  room : length c.self.inside.order.elements < c.self.inside.order.bound
   room =
       let m = c.self.inside in
-      let l = length_shown m.table.entries m.indices.items m.order.places c.self.invariant.indexed.placed in
+      let l = length_shown m.table.entries m.indices.items m.order.elements c.self.invariant.indexed.placed in
       let e = ap (λ (b : BoundedKeys g.row.K.Denot). length b.entries) c.self.view_is in
       let b = ap (λ (b : BoundedKeys g.row.K.Denot). b.bound) c.self.view_is in
       let few = c.requires.few in
       omega arith
 
-  below : c.args.place < c.self.inside.order.bound
+  below : c.args.element < c.self.inside.order.bound
   below = let b = ap (λ (b : BoundedKeys g.row.K.Denot). b.bound) c.self.view_is in let w = c.requires.within in omega arith
 
-  added : c.put_last.new.table.entries ≡ c.self.inside.table.entries ++ (c.args.key, c.args.place) ∷ []
+  added : c.put_last.new.table.entries ≡ c.self.inside.table.entries ++ (c.args.key, c.args.element) ∷ []
   added = c.put_last.ensures.entries
 
   abbrev table : List (g.row.K.Denot × ℕ)
-  table = c.self.inside.table.entries ++ (c.args.key, c.args.place) ∷ []
+  table = c.self.inside.table.entries ++ (c.args.key, c.args.element) ∷ []
 
 module _ (g : Over) (c : goal.After-push g) where
-  indexed : IsIndexed c.put_last.new.table.entries (set c.self.inside.indices.items c.args.place c.len-index.result) c.push.new.self
+  indexed : IsIndexed c.put_last.new.table.entries (set c.self.inside.indices.items c.args.element c.len-index.result) c.push.new.self
   indexed =
       let m = c.self.inside in
-      let whole = indexed_inserted m.table.entries m.indices.items m.order c.self.invariant.indexed c.args.key c.args.place (below g c) (new g c) (room g c) c.push.new.self c.push.ensures.bound c.push.ensures.places in
-      let at_end : IsIndexed (table g c) (set m.indices.items c.args.place c.len-index.result) c.push.new.self = subst (λ (i : ℕ). IsIndexed (table g c) (set m.indices.items c.args.place i) c.push.new.self) (sym c.len-index.ensures.len) whole in
-      subst (λ (es : List (g.row.K.Denot × ℕ)). IsIndexed es (set m.indices.items c.args.place c.len-index.result) c.push.new.self) (sym (added g c)) at_end
+      let whole = indexed_inserted m.table.entries m.indices.items m.order c.self.invariant.indexed c.args.key c.args.element (below g c) (new g c) (room g c) c.push.new.self c.push.ensures.bound c.push.ensures.elements in
+      let at_end : IsIndexed (table g c) (set m.indices.items c.args.element c.len-index.result) c.push.new.self = subst (λ (i : ℕ). IsIndexed (table g c) (set m.indices.items c.args.element i) c.push.new.self) (sym c.len-index.ensures.len) whole in
+      subst (λ (es : List (g.row.K.Denot × ℕ)). IsIndexed es (set m.indices.items c.args.element c.len-index.result) c.push.new.self) (sym (added g c)) at_end
 
 pub invariant_of-self : goal.invariant_of-self
 invariant_of-self g c = record {
@@ -87,7 +87,7 @@ invariant_of-self g c = record {
       let h = c.self.invariant.room in
       let r = c.put_last.ensures.room in
       let a = ap length c.put_last.ensures.entries in
-      let n = length-append c.self.inside.table.entries ((c.args.key, c.args.place) ∷ []) in
+      let n = length-append c.self.inside.table.entries ((c.args.key, c.args.element) ∷ []) in
       omega arith;
   empty = c.self.invariant.empty;
   buffer = let b = c.push.ensures.bound in let h = c.self.invariant.buffer in omega arith;
@@ -96,8 +96,8 @@ invariant_of-self g c = record {
 pub returns-clause-added : goal.returns-clause-added
 returns-clause-added g c =
     let m = c.self.inside in
-    ap (λ (es : List (g.row.K.Denot × ℕ)). in_order es (set m.indices.items c.args.place c.len-index.result) c.push.new.self.places) (added g c)
-    ∙ ap (λ (i : ℕ). in_order (table g c) (set m.indices.items c.args.place i) c.push.new.self.places) c.len-index.ensures.len
-    ∙ ap (in_order (table g c) (set m.indices.items c.args.place (length m.table.entries))) c.push.ensures.places
-    ∙ shown_inserted m.table.entries m.indices.items m.order c.self.invariant.indexed c.args.key c.args.place (below g c) (new g c) (room g c)
-    ∙ ap (λ (b : BoundedKeys g.row.K.Denot). b.entries ++ (c.args.key, c.args.place) ∷ []) c.self.view_is
+    ap (λ (es : List (g.row.K.Denot × ℕ)). in_order es (set m.indices.items c.args.element c.len-index.result) c.push.new.self.elements) (added g c)
+    ∙ ap (λ (i : ℕ). in_order (table g c) (set m.indices.items c.args.element i) c.push.new.self.elements) c.len-index.ensures.len
+    ∙ ap (in_order (table g c) (set m.indices.items c.args.element (length m.table.entries))) c.push.ensures.elements
+    ∙ shown_inserted m.table.entries m.indices.items m.order c.self.invariant.indexed c.args.key c.args.element (below g c) (new g c) (room g c)
+    ∙ ap (λ (b : BoundedKeys g.row.K.Denot). b.entries ++ (c.args.key, c.args.element) ∷ []) c.self.view_is

@@ -2,7 +2,7 @@ use Rattle.std.proofs.Common.{◌≡◌, List, ◌∷◌, map, sym, ap, ◌∙�
 use Rattle.bpf_maps.specs.Live.{map_in}
 use Rattle.command_frames.specs.Command.{Command}
 use Rattle.tagged_model.specs.declared.shape.MapShape.{MapShape}
-use Rattle.tenant.specs.Entry.{placed_entries}
+use Rattle.tenant.specs.Entry.{numbered_entries}
 use Rattle.tenant.specs.Kept.{state_in}
 use Rattle.tenant.specs.State.{live}
 use Rattle.saving.specs.Restored.{create_of, put_of, made_map}
@@ -19,11 +19,11 @@ returns c =
     let shape = c.in-Some.shape in
     let table = map_in part maps m in
     let all = made_map fd (live (state_in part c.args.tenant.now) m) in
-    let is : all ≡ create_of shape ∷ puts fd (placed_entries part maps m) =
+    let is : all ≡ create_of shape ∷ puts fd (numbered_entries part maps m) =
     ap (made_map fd) (c.in-Some.ensures.state part)
     ∙ ap (λ (s : MapShape). create_of s ∷ map (put_of fd) table.entries) (sym c.in-Some.ensures.shape.1)
     ∙ ap (λ (cs : List Command). create_of shape ∷ cs) (map_puts part maps m fd) in
     record {
-      written = ok_more c.put_all.result c.args.self.now.frames.items c.put_all.new.self.frames.items c.args.self.now.number c.create.new.self.number (create_of shape) (puts fd (placed_entries part maps m)) all is
+      written = ok_more c.put_all.result c.args.self.now.frames.items c.put_all.new.self.frames.items c.args.self.now.number c.create.new.self.number (create_of shape) (puts fd (numbered_entries part maps m)) all is
           c.create.ensures.number c.in_ok-create.ensures.written c.put_all.ensures.written;
     }

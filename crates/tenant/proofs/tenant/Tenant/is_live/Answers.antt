@@ -1,7 +1,7 @@
 use Rattle.std.proofs.Common.{is_some, sym, ap, ◌∙◌}
 use Rattle.tenant.specs.Kept.{KeptTenant, state_in}
 use Rattle.tenant.specs.State.{live}
-use Rattle.tenant.proofs.AtPlaces.{live_is}
+use Rattle.tenant.proofs.AtHandles.{live_is}
 use Rattle.tenant.proofs.tenant.Tenant.is_live.Goals as goal
 
 pub returns : goal.returns

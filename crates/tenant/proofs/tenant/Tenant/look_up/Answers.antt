@@ -15,7 +15,7 @@ returns-in_default-clause-answer c =
     let part = c.args.part.now in
     subst (λ (k : KeptTenant). gives_if_found (state_in part k) None ≡ element_looked_up (state_in part k) c.args.fd key) c.self.view_is
     (found_at c.calls_refine_values.ensures.bytes part key (map_in_state c.self.view_is c.in_ok-map.ensures.found)
-    (c.if-key-shape.false ∙ ap (λ (s : MapShape). s.key_size) c.shape-shape.ensures) (sym c.in_default.is ∙ c.find.ensures.place))
+    (c.if-key-shape.false ∙ ap (λ (s : MapShape). s.key_size) c.shape-shape.ensures) (sym c.in_default.is ∙ c.find.ensures.element))
 
 pub returns-clause-answer : goal.returns-clause-answer
 returns-clause-answer c =
@@ -24,12 +24,12 @@ returns-clause-answer c =
     let start = c.value_at-start.result in
     let size = c.shape-shape.result.value_size in
     let n : (start + size) - start ≡ size = omega arith in
-    let lent : take ((start + size) - start) (drop start part) ≡ value_in part c.self.inside.maps c.in_ok-map.map c.in-Some.place =
+    let lent : take ((start + size) - start) (drop start part) ≡ value_in part c.self.inside.maps c.in_ok-map.map c.in-Some.element =
     ap₂ (λ (count from : ℕ). take count (drop from part)) (n ∙ ap (λ (s : MapShape). s.value_size) c.shape-shape.ensures) c.value_at-start.ensures.offset in
     subst (λ (k : KeptTenant). gives (take ((start + size) - start) (drop start part)) (state_in part k) ≡ element_looked_up (state_in part k) c.args.fd key) c.self.view_is
     (ap (λ (bytes : List ℕ). gives bytes (state_in part (kept_in c.self.inside))) lent
     ∙ found_at c.calls_refine_values.ensures.bytes part key (map_in_state c.self.view_is c.in_ok-map.ensures.found)
-    (c.if-key-shape.false ∙ ap (λ (s : MapShape). s.key_size) c.shape-shape.ensures) (sym c.in-Some.is ∙ c.find.ensures.place))
+    (c.if-key-shape.false ∙ ap (λ (s : MapShape). s.key_size) c.shape-shape.ensures) (sym c.in-Some.is ∙ c.find.ensures.element))
 
 pub returns-then-key-shape-clause-answer : goal.returns-then-key-shape-clause-answer
 returns-then-key-shape-clause-answer c =

@@ -3,11 +3,11 @@ use Rattle.verifier.specs.Maps.{maps_of, entries_of}
 use Rattle.verifier.specs.Verdict.{IsAccepted}
 use Rattle.tenant.specs.Kept.{KeptTenant, IsWellFormedTenant, IsBound, state_in}
 use Rattle.tenant.specs.inside.Loading.{AreLive}
-use Rattle.tenant.specs.Machine.{loaded_program, places_from, targets}
+use Rattle.tenant.specs.Machine.{loaded_program, handles_from, targets}
 use Rattle.tenant.proofs.LoadingBound.{loaded_is, loaded_bound, loaded_live, loaded_count, loaded_pairs}
-use Rattle.tenant.proofs.LoadingPlaces.{seconds}
+use Rattle.tenant.proofs.LoadingHandles.{seconds}
 use Rattle.tenant.proofs.LoadingRefusals.{of_ok}
-use Rattle.tenant.specs.Loaded.{LoadedProgram, map_places}
+use Rattle.tenant.specs.Loaded.{LoadedProgram, map_handles}
 use Rattle.std.specs.List.{zip}
 use Rattle.tenant.proofs.tenant.Tenant.program_of.Goals as goal
 
@@ -16,8 +16,8 @@ new-requires c =
     let k = c.args.self.now in
     let insns = c.in-Ok.program.code in
     let listed : c.deref.result.now ≡ targets (state_in [] k) = c.deref.ensures.value ∙ c.in_ok-descriptors.ensures [] in
-    let maps : c.in_ok-maps-in-Ok.maps.items ≡ seconds (places_from k.objects (maps_of insns)) =
-    c.in_ok-maps-in-Ok.ensures ∙ ap₂ (λ os fds. seconds (places_from os fds)) (ap (λ (k : KeptTenant). k.objects) c.self.view_is) c.maps.ensures in
+    let maps : c.in_ok-maps-in-Ok.maps.items ≡ seconds (handles_from k.objects (maps_of insns)) =
+    c.in_ok-maps-in-Ok.ensures ∙ ap₂ (λ os fds. seconds (handles_from os fds)) (ap (λ (k : KeptTenant). k.objects) c.self.view_is) c.maps.ensures in
     ap length maps ∙ loaded_count c.loaded_maps_have_shapes.ensures k [] insns (subst (IsAccepted insns) listed (of_ok _ _ _ c.in-Ok.is c.in_ok-program.ensures.accepted).2)
 
 module _ (c : goal.After-drop-descriptors-in-Ok) where
@@ -32,9 +32,9 @@ module _ (c : goal.After-drop-descriptors-in-Ok) where
   same_program part =
       let k = c.args.self.now in
       let insns = c.in-Ok.program.code in
-      let maps : c.in_ok-maps-in-Ok.maps.items ≡ seconds (places_from k.objects (maps_of insns)) =
-      c.in_ok-maps-in-Ok.ensures ∙ ap₂ (λ os fds. seconds (places_from os fds)) (ap (λ (k : KeptTenant). k.objects) c.self.view_is) c.maps.ensures in
-      loaded_is c.new.result insns (entries_of (maps_of insns) (targets (state_in part k))) (places_from k.objects (maps_of insns)) c.new.ensures.insns
+      let maps : c.in_ok-maps-in-Ok.maps.items ≡ seconds (handles_from k.objects (maps_of insns)) =
+      c.in_ok-maps-in-Ok.ensures ∙ ap₂ (λ os fds. seconds (handles_from os fds)) (ap (λ (k : KeptTenant). k.objects) c.self.view_is) c.maps.ensures in
+      loaded_is c.new.result insns (entries_of (maps_of insns) (targets (state_in part k))) (handles_from k.objects (maps_of insns)) c.new.ensures.insns
       (c.new.ensures.named ∙ of_ok _ _ _ c.in-Ok.is c.in_ok-program.ensures.entries ∙ ap (entries_of (maps_of insns)) (c.deref.ensures.value ∙ c.in_ok-descriptors.ensures part))
       (c.new.ensures.maps ∙ ap (zip (maps_of insns)) maps ∙ loaded_pairs c.loaded_maps_have_shapes.ensures k part insns (accepted part))
 
@@ -48,4 +48,4 @@ returns-in-Ok-clause-bound c =
 
 pub returns-in-Ok-clause-there : goal.returns-in-Ok-clause-there
 returns-in-Ok-clause-there c =
-    subst (λ (l : LoadedProgram). AreLive c.args.self.now.live (map_places l)) (sym (same_program c [])) (loaded_live (kept c) (maps_of c.in-Ok.program.code))
+    subst (λ (l : LoadedProgram). AreLive c.args.self.now.live (map_handles l)) (sym (same_program c [])) (loaded_live (kept c) (maps_of c.in-Ok.program.code))

@@ -31,10 +31,10 @@ returns-in-Err-clause-answer c =
     ∙ is
     ∙ ap (λ (old : KeptTenant). element_updated (state_in part old) c.args.fd c.args.flags c.args.key_and_value.now) c.self.view_is
 
--- ---- the claim gives a place
+-- ---- the claim gives an element
 
 module _ (c : goal.After-slice_known-2-1) where
-  claimed : IsClaimed (kept_in c.self.inside) c.claim.new.self c.args.fd c.in_ok-map.map c.args.flags c.args.key_and_value.now (Ok c.in-Ok.place)
+  claimed : IsClaimed (kept_in c.self.inside) c.claim.new.self c.args.fd c.in_ok-map.map c.args.flags c.args.key_and_value.now (Ok c.in-Ok.element)
   claimed =
       let e = c.in-Ok.ensures in
       claimed_by (map_in_state c.self.view_is c.in_ok-map.ensures.found) c.shape-shape.ensures c.if-key_and_value-key_size.false c.split_at.ensures.front e.claimed e.rest e.refused
@@ -48,7 +48,7 @@ returns-clause-answer c =
     let part = c.args.part.now in
     let t = c.claim.new.self in
     let m = c.in_ok-map.map in
-    let p = c.in-Ok.place in
+    let p = c.in-Ok.element in
     let e = c.in-Ok.ensures in
     let bytes = c.args.key_and_value.now in
     let value = value_of (shape_at k.live m) bytes in

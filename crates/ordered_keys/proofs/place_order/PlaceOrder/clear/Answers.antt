@@ -1,5 +1,0 @@
-use Rattle.ordered_keys.proofs.Links.{clear_ring}
-use Rattle.ordered_keys.proofs.place_order.PlaceOrder.clear.Goals as goal
-
-pub invariant_of-self : goal.invariant_of-self
-invariant_of-self c = clear_ring c.self.inside c.self.invariant

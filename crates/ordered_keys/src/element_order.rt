@@ -1,0 +1,126 @@
+//! An order of elements, in which an element is put last or taken out in a few steps.
+
+ghost use Rattle.std.specs.Prelude.{◌≡◌, ℕ, ◌+◌, ◌<◌, ◌++◌, [], ◌∷◌, None, Some, nat_eq, if◌then◌else◌, length, vec_len, slice_index_or, IfOk};
+ghost use Rattle.ordered_keys.specs.Orders.{occurrences, following, first_element, taken_out};
+
+use std::alloc::{AllocError, Global};
+use std::marker::Model;
+
+/// The neighbours of an element.
+#[derive(Clone, Copy, Drop)]
+pub struct Link {
+    pub(crate) before: u32,
+    pub(crate) after: u32,
+}
+
+/// Elements less than a bound, each at most once, in an order. They are a ring of links, in which the order begins and ends at
+/// the bound.
+#[derive(Drop)]
+pub struct ElementOrder {
+    // The link of each element, and of the bound.
+    links: Vec<Link>,
+    bound: u32,
+    count: u32,
+}
+
+impl Model for ElementOrder {
+    ghost use Rattle.ordered_keys.specs.Orders.{Order};
+
+    ghost Value = { Order };
+
+    ghost use Rattle.ordered_keys.specs.inside.Links.{order_of, IsRing};
+
+    ghost view = { order_of };
+
+    ghost invariant = { IsRing };
+}
+
+impl ElementOrder {
+    /// An order without elements. Allocates room for all those less than `bound`. `AllocError`: out of memory.
+    pub(crate) fn new(alloc: Global, bound: u32) -> Result<ElementOrder, AllocError>
+        ensures bound { IfOk result (λ order. order.bound ≡ bound) }
+        ensures elements { IfOk result (λ order. order.elements ≡ []) }
+    {
+        let alone = Link {
+            before: bound,
+            after: bound,
+        };
+        let links = vec![in alloc; alone; bound as usize + 1]?;
+        Ok(ElementOrder {
+            links,
+            bound,
+            count: 0,
+        })
+    }
+
+    /// `None` for the bound, else the element.
+    fn unless_end(&self, element: u32) -> Option<u32>
+        ensures { result ≡ (if nat_eq element self.now.bound then None else Some element) }
+    {
+        if element == self.bound {
+            None
+        } else {
+            Some(element)
+        }
+    }
+
+    /// The first element, if there is one.
+    pub(crate) fn first(&self) -> Option<u32>
+        ensures { result ≡ first_element self.now.elements }
+    {
+        let end = self.bound as usize;
+        self.unless_end(self.links[end].after)
+    }
+
+    /// The element that follows an element of the order, if there is one.
+    pub(crate) fn after(&self, element: u32) -> Option<u32>
+        requires { 0 < occurrences element self.now.elements }
+        ensures { result ≡ following element self.now.elements }
+    {
+        self.unless_end(self.links[element as usize].after)
+    }
+
+    /// Puts an element last.
+    pub(crate) fn push(&mut self, element: u32)
+        requires within { element < self.old.bound }
+        requires new { occurrences element self.old.elements ≡ 0 }
+        requires few { length self.old.elements < self.old.bound }
+        ensures bound { self.new.bound ≡ self.old.bound }
+        ensures elements { self.new.elements ≡ self.old.elements ++ element ∷ [] }
+    {
+        let end = self.bound;
+        let last = self.links[end as usize].before;
+        self.links[last as usize].after = element;
+        self.links[element as usize] = Link {
+            before: last,
+            after: end,
+        };
+        self.links[end as usize].before = element;
+        self.count += 1;
+    }
+
+    /// Takes all elements out.
+    pub fn clear(&mut self)
+        ensures bound { self.new.bound ≡ self.old.bound }
+        ensures elements { self.new.elements ≡ [] }
+    {
+        let end = self.bound;
+        self.links[end as usize] = Link {
+            before: end,
+            after: end,
+        };
+        self.count = 0;
+    }
+
+    /// Takes an element out. The others keep their order.
+    pub(crate) fn remove(&mut self, element: u32)
+        requires { 0 < occurrences element self.old.elements }
+        ensures bound { self.new.bound ≡ self.old.bound }
+        ensures elements { self.new.elements ≡ taken_out element self.old.elements }
+    {
+        let Link { before, after } = self.links[element as usize];
+        self.links[before as usize].after = after;
+        self.links[after as usize].before = before;
+        self.count -= 1;
+    }
+}

@@ -30,6 +30,9 @@ class PlainNames(unittest.TestCase):
         self.assertEqual(places("crates/a/src/b.rt", "place of a place, free_place, places, Place\n"), {"place": 2})
         self.assertEqual(places("tools/a.py", "place\n"), {})
 
+    def test_places_of_all_crates(self) -> None:
+        self.assertLessEqual(sum(plain_names.MOST_PLACES.values()), 250)
+
     def test_bounds(self) -> None:
         files = [("crates/a/src/b.rt", "told(place);"), ("crates/a/proofs/c.antt", "x : behind\n"), ("crates/a/page.md", "`told_place`")]
         self.assertEqual(bounds(files), 'MOST_IN_NAMES:\n    "crates/a": 1,\n    "crates/a/proofs": 1,\nMOST_PLACES:\n    "crates/a": 1,\n')

@@ -1,5 +1,5 @@
-//! Keys in the order in which they were added, each with an element of its own below a bound (`BoundedKeys`), for any type of keys
-//! and any hash function. A removal costs as much as an insertion.
+//! Keys in the order in which they were added, each with an element of its own (`BoundedKeys`), for any type of keys and any hash
+//! function. An element is a number below a bound: that of the key's value in a map. A removal costs as much as an insertion.
 //!
 //! The implementation has a table of the keys in any order, the index of each element's key in it, and the order of the elements
 //! (`ElementOrder`), a ring of links. That they agree is the invariant of the type.

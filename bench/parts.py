@@ -22,7 +22,7 @@ _CLASSES = ("LD", "LDX", "ST", "STX", "ALU32", "JMP64", "JMP32", "ALU64")
 
 def table(text: str) -> list[Parts]:
     """The sequences of sequences.rt, in their order: a load marks a slot with the first one that begins there."""
-    numbers = {name: int(value, 16) for name, value in re.findall(r"^const (\w+): u8 = (0x\w+);", text, re.M)}
+    numbers = {name: int(value, 16) for name, value in re.findall(r"^(?:pub )?const (\w+): u8 = (0x\w+);", text, re.M)}
     found = re.findall(r"\(0x\w+, Parts::\w+\(([\w, ]+)\)\)", text)
     return [tuple(numbers[name] for name in names.split(", ")) for names in found]
 

@@ -14,14 +14,13 @@ from bpfhost.host import Host
 from bpfhost.packets import Packets
 from bpfhost.parts import in_parts
 from bpfhost.replies import Reply, read_replies
-from bpfhost.shards import connection, directory, moving
+from bpfhost.shards import directory, moving
 from bpfhost.shards.calls import LONGEST_CALL, MOST_FRAMES
 from bpfhost.shards.client import SECONDS, AsyncClient, AsyncCustomer
 from bpfhost.shards.directory import Seat
-from bpfhost.shards.link import MACHINE
 from bpfhost.shards.loop import new_loop
-from bpfhost.shards.names import PREFIX, ShardKeys
-from bpfhost.shards.system import Answer, System, Word, Work
+from bpfhost.shards.names import PREFIX
+from bpfhost.shards.system import MACHINE, Answer, System, Work
 from bpfhost.shards.tickets import Part, Ticket
 from bpfhost.tenant import Tenant
 
@@ -73,7 +72,7 @@ class Loop:
             if self._others:
                 self._note(None)
 
-    def _stop(self, _waits: object) -> None:
+    def _stop(self, waits: object) -> None:
         self._loop.stop()
 
     def _note(self, _task: object) -> None:
@@ -88,80 +87,52 @@ async def _result(waits: asyncio.Future[Answer]) -> Answer:
     return await waits
 
 
-class _Blocking(Generic[Inner]):
+class Blocking(Generic[Inner]):
     """What has the calls of something for asyncio (`aio`), and waits for each."""
 
     def __init__(self, aio: Inner, loop: Loop) -> None:
         self.aio, self.loop = aio, loop
 
 
-def _waits(
+def waits(
     method: Callable[Concatenate[Inner, Given], Coroutine[Any, Any, Answer]]
-) -> Callable[Concatenate[_Blocking[Inner], Given], Answer]:
+) -> Callable[Concatenate[Blocking[Inner], Given], Answer]:
     @functools.wraps(method)
-    def call(self: _Blocking[Inner], /, *args: Given.args, **words: Given.kwargs) -> Answer:
+    def call(self: Blocking[Inner], /, *args: Given.args, **words: Given.kwargs) -> Answer:
         return self.loop.run(method(self.aio, *args, **words))
 
     return call
 
 
-class Redis(_Blocking[connection.Redis]):
-    """A server (`connection.Redis`)."""
-
-    call = _waits(connection.Redis.call)
-    hget = _waits(connection.Redis.hget)
-    hset = _waits(connection.Redis.hset)
-    hdel = _waits(connection.Redis.hdel)
-    hgetall = _waits(connection.Redis.hgetall)
-    hkeys = _waits(connection.Redis.hkeys)
-    get = _waits(connection.Redis.get)
-    delete = _waits(connection.Redis.delete)
-    xlen = _waits(connection.Redis.xlen)
-    xrange = _waits(connection.Redis.xrange)
-    xread = _waits(connection.Redis.xread)
-    stream = _waits(connection.Redis.stream)
-    last_id = _waits(connection.Redis.last_id)
-    dropped_id = _waits(connection.Redis.dropped_id)
-    close = _waits(connection.Redis.close)
-
-    def until(self, deadline: float) -> Redis:
-        """The same server, whose calls end at a time of the system's clock."""
-        return Redis(self.aio.until(deadline), self.loop)
-
-    def run(self, script: connection.Script, keys: list[str], arguments: list[Word]) -> Any:
-        """The result of a script."""
-        return self.loop.run(script(self.aio, keys, arguments))
-
-
-class Directory(_Blocking[directory.Directory]):
+class Directory(Blocking[directory.Directory]):
     """The directory (`directory.Directory`)."""
 
-    register = _waits(directory.Directory.register)
-    incarnation = _waits(directory.Directory.incarnation)
-    beat = _waits(directory.Directory.beat)
-    withdraw = _waits(directory.Directory.withdraw)
-    beats = _waits(directory.Directory.beats)
-    drain = _waits(directory.Directory.drain)
-    drained = _waits(directory.Directory.drained)
-    remove_shard = _waits(directory.Directory.remove_shard)
-    server = _waits(directory.Directory.server)
-    loads = _waits(directory.Directory.loads)
-    place = _waits(directory.Directory.place)
-    seat = _waits(directory.Directory.seat)
-    customers = _waits(directory.Directory.customers)
-    moves = _waits(directory.Directory.moves)
-    begin_move = _waits(directory.Directory.begin_move)
-    end_move = _waits(directory.Directory.end_move)
-    turn_move = _waits(directory.Directory.turn_move)
+    register = waits(directory.Directory.register)
+    incarnation = waits(directory.Directory.incarnation)
+    beat = waits(directory.Directory.beat)
+    withdraw = waits(directory.Directory.withdraw)
+    beats = waits(directory.Directory.beats)
+    drain = waits(directory.Directory.drain)
+    drained = waits(directory.Directory.drained)
+    remove_shard = waits(directory.Directory.remove_shard)
+    server = waits(directory.Directory.server)
+    loads = waits(directory.Directory.loads)
+    place = waits(directory.Directory.place)
+    seat = waits(directory.Directory.seat)
+    customers = waits(directory.Directory.customers)
+    moves = waits(directory.Directory.moves)
+    begin_move = waits(directory.Directory.begin_move)
+    end_move = waits(directory.Directory.end_move)
+    turn_move = waits(directory.Directory.turn_move)
 
 
-class Client(_Blocking[AsyncClient]):
+class Client(Blocking[AsyncClient]):
     """A client that knows the directory and the shards. It is a context manager, which closes its connections."""
 
     def __init__(self, url: str | None = None, prefix: str = PREFIX, system: System = MACHINE) -> None:
         """The directory's Redis, by its URL (`redis_url`)."""
         super().__init__(AsyncClient(url, prefix, system), Loop())
-        self.redis, self.directory = Redis(self.aio.redis, self.loop), Directory(self.aio.directory, self.loop)
+        self.directory = Directory(self.aio.directory, self.loop)
         self.prefix, self.system = prefix, system
 
     def __enter__(self) -> Client:
@@ -181,20 +152,15 @@ class Client(_Blocking[AsyncClient]):
         """
         return Customer(self.aio.customer(name, seconds, session), self.loop)
 
-    def shard(self, number: int, deadline: float | None = None) -> tuple[Redis, ShardKeys]:
-        """The Redis of a shard, and its keys."""
-        redis, keys = self.loop.run(self.aio.shard(number, deadline))
-        return Redis(redis, self.loop), keys
 
-
-class Customer(_Blocking[AsyncCustomer]):
+class Customer(Blocking[AsyncCustomer]):
     """Sends the calls of one customer (`AsyncCustomer`); only one thread may use it."""
 
-    resume = _waits(AsyncCustomer.resume)
-    last = _waits(AsyncCustomer.last)
-    post = _waits(AsyncCustomer.post)
-    flush = _waits(AsyncCustomer.flush)
-    settle = _waits(AsyncCustomer.settle)
+    resume = waits(AsyncCustomer.resume)
+    last = waits(AsyncCustomer.last)
+    post = waits(AsyncCustomer.post)
+    flush = waits(AsyncCustomer.flush)
+    settle = waits(AsyncCustomer.settle)
 
     @property
     def name(self) -> str:
@@ -258,11 +224,6 @@ class CustomersTenant(Tenant):
         for piece in pieces:
             replies = self.host.ask_all(make.prog_test_run(0, descriptor, packet, context) for packet in piece)
             yield tuple(reply.result() for reply in replies if not reply.done())
-
-
-def connect(url: str | None = None) -> Redis:
-    """The Redis of a URL (`redis_url`), on an event loop of its own."""
-    return Redis(connection.Redis(url), Loop())
 
 
 def move(client: Client, name: str, shard: int | None = None, seconds: float = moving.SECONDS) -> Seat:

@@ -32,8 +32,7 @@ from bpfhost.shards.errors import (
     ShardError,
 )
 from bpfhost.shards.names import FAULT, FRAMES, PREFIX, REPLIES, RUNS, ShardKeys, before, order
-from bpfhost.shards.link import MACHINE
-from bpfhost.shards.system import System
+from bpfhost.shards.system import MACHINE, System
 from bpfhost.shards.tickets import Gathered, Part, Place, Ticket
 
 SECONDS = 30.0
@@ -79,10 +78,10 @@ class AsyncClient:
     async def shard(self, number: int, deadline: float | None = None) -> tuple[Redis, ShardKeys]:
         """The Redis of a shard, and its keys."""
         until = self.system.now() + SECONDS if deadline is None else deadline
-        url = await self.redis.patiently(lambda redis: Directory(redis, self.prefix).server(number), until)
+        url, keys = await self.directory.patient(until).server(number), ShardKeys(number, self.prefix)
         if url not in self._servers:
             self._servers[url] = Redis(as_in(url, self.redis.url), self.system)
-        return self._servers[url], ShardKeys(number, self.prefix)
+        return self._servers[url].near(keys.lease), keys
 
 
 class _Used(NamedTuple):
@@ -145,7 +144,7 @@ class AsyncCustomer:
             redis, keys = await self._shard(seat.shard, deadline)
             used = [keys.seats, keys.sessions(seat.generation), keys.lease]
             words = [self.session, given_up, seat.tenant, seat.owned_by(self.name), names.MOST_SESSIONS]
-            what, *said = await scripts.RESUME.patiently(redis, used, words, deadline)
+            what, *said = await scripts.RESUME(redis.patient(deadline), used, words)
             if what == b"resumed":
                 return seat, int(said[0]), int(said[1]), bytes(said[2])
             if what == b"passed":
@@ -285,7 +284,7 @@ class AsyncCustomer:
         session = [ticket.session, ticket.number, ticket.given_up, used.owner, seat.shard, seat.tenant]
         limits = [names.weight(len(ticket.stored)), names.MOST_WAITING, names.MOST_SESSIONS, RUNS if ticket.is_packed else FRAMES]
         try:
-            what, *said = await scripts.ASK.patiently(used.redis, used.keys, [*session, ticket.stored, *limits], deadline)
+            what, *said = await scripts.ASK(used.redis.patient(deadline), used.keys, [*session, ticket.stored, *limits])
         except OutOfMemory as error:
             return f"a call of customer {self.name} is not taken: {error}"
         if what == b"taken":
@@ -316,7 +315,7 @@ class AsyncCustomer:
         deadline = self._system.now() + _SECONDS_TO_LOOK
         redis, keys = await self._shard(seat.shard, deadline)
         used = [keys.sessions(seat.generation), keys.lease]
-        what, *said = await scripts.GIVE_UP.patiently(redis, used, [ticket.session, ticket.number, ticket.given_up], deadline)
+        what, *said = await scripts.GIVE_UP(redis.patient(deadline), used, [ticket.session, ticket.number, ticket.given_up])
         if what == b"taken":
             ticket.place = Place.read(said[0])
         else:
@@ -327,7 +326,7 @@ class AsyncCustomer:
         pause = _PAUSE
         while True:
             try:
-                seat = await self._client.redis.patiently(lambda redis: Directory(redis, self._client.prefix).place(self.name), deadline)
+                seat = await self._client.directory.patient(deadline).place(self.name)
                 if await self._claim(seat, deadline):
                     return seat
                 why = f"customer {self.name} is being moved"
@@ -344,7 +343,7 @@ class AsyncCustomer:
         self._used = None
         redis, keys = await self._shard(seat.shard, deadline)
         claim = [seat.tenant, seat.generation, seat.owned_by(self.name)]
-        if not await scripts.CLAIM.patiently(redis, [keys.seats], claim, deadline):
+        if not await scripts.CLAIM(redis.patient(deadline), [keys.seats], claim):
             return False
         self._seat = seat
         return True
@@ -353,22 +352,24 @@ class AsyncCustomer:
 
     async def _replies(self, ticket: Ticket, place: Place, deadline: float) -> bytes:
         redis, keys = await self._shard(place.shard, deadline)
+        try:
+            return await self._replies_from(redis.patient(deadline), keys, ticket, place, deadline)
+        except Away as away:
+            raise NoReply(f"customer {self.name} waits for a reply: {away}", ticket) from None
+
+    async def _replies_from(self, redis: Redis, keys: ShardKeys, ticket: Ticket, place: Place, deadline: float) -> bytes:
         name, behind = keys.replies(place.tenant), before(place.entry)
-
-        def give_up(away: Away) -> Exception:
-            return NoReply(f"customer {self.name} waits for a reply: {away}", ticket)
-
         while True:
             wait = min(_SECONDS_TO_LOOK, deadline - self._system.now())
             # The first reply after the last id below this one is the reply to this call, since each call has one.
             many = max(1, len(self._unread))
-            found = (await redis.patiently(lambda limited: limited.xread({name: behind}, many, wait), deadline, give_up)).get(name)
+            found = (await redis.xread({name: behind}, many, wait)).get(name)
             if found and found[0][0] == place.entry:
                 self._note_read(place, found)
                 return self._said(found[0][1], ticket)
             if found:
-                raise await redis.patiently(lambda limited: self._gone(limited, keys, place, ticket), deadline, give_up)
-            await redis.patiently(lambda limited: self._demand_hope(limited, keys, place, ticket), deadline, give_up)
+                raise await self._gone(redis, keys, place, ticket)
+            await self._demand_hope(redis, keys, place, ticket)
             if self._system.now() >= deadline:
                 raise NoReply(f"shard {place.shard} has not answered entry {place.entry.decode()}: does its worker run?", ticket)
 

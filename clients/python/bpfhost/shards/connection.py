@@ -4,18 +4,18 @@ from __future__ import annotations
 
 import asyncio
 import hashlib
+import math
 import os
 import urllib.parse
 from collections import deque
-from collections.abc import Callable, Mapping, Sequence
-from copy import copy
+from collections.abc import Mapping, Sequence
 from typing import Any
 
-from bpfhost.shards.cluster import NodesLink, Place
+from bpfhost.shards.cluster import Line, Nodes
 from bpfhost.shards.errors import Away, NoScript, NotAllowed, RedisError
-from bpfhost.shards.link import MACHINE
+from bpfhost.shards.link import Word, library
 from bpfhost.shards.names import START, before
-from bpfhost.shards.system import Answer, Link, System, Word, Work
+from bpfhost.shards.system import MACHINE, System
 
 DEFAULT_URL = "redis://127.0.0.1:6379/0"
 # A server that does not reply for so many seconds is taken to be away. No call blocks for longer than LONGEST_WAIT.
@@ -39,93 +39,68 @@ def redis_url(url: str | None = None) -> str:
 def without_secrets(url: str) -> str:
     """A URL without what is for only one process: a user, a password, and files of TLS."""
     found = urllib.parse.urlsplit(url)
-    host = found.netloc.rpartition("@")[2]
     said = [pair for pair in urllib.parse.parse_qsl(found.query) if not _is_own(pair[0])]
-    return _joined(found.scheme, host, found.path, said)
+    return _joined(found, found.netloc.rpartition("@")[2], said)
 
 
 def as_in(url: str, own: str) -> str:
     """Adds the user and the files of TLS of this process's own URL to a URL that has none."""
     found, mine = urllib.parse.urlsplit(url), urllib.parse.urlsplit(own)
-    user, has_user, _ = mine.netloc.rpartition("@")
     said = urllib.parse.parse_qsl(found.query)
     said += [pair for pair in urllib.parse.parse_qsl(mine.query) if _is_own(pair[0]) and (found.scheme == "rediss" or "ssl" not in pair[0])]
-    return _joined(found.scheme, f"{user}{has_user}{found.netloc}", found.path, said)
+    return _joined(found, "".join(mine.netloc.rpartition("@")[:2]) + found.netloc, said)
 
 
-def _joined(scheme: str, place: str, path: str, said: list[tuple[str, str]]) -> str:
-    words = urllib.parse.urlencode(said)
-    return f"{scheme}://{place}{path}{'?' if words else ''}{words}"
+def _joined(found: urllib.parse.SplitResult, place: str, said: list[tuple[str, str]]) -> str:
+    return f"{found.scheme}://{place}{found.path}{'?' if said else ''}{urllib.parse.urlencode(said)}"
 
 
 def _is_own(word: str) -> bool:
     return word.startswith("ssl_") or word in ("username", "password")
 
 
-class _Links:
-    """The connections to a server."""
+class _Lines:
+    """The connections to a server: those that are not in use, with the times since when, the oldest first; and all of them."""
 
-    def __init__(self, system: System, place: Place) -> None:
-        self._system, self._place, self.nodes = system, place, place.nodes()
-        # Connections that are not in use, with the times since when, the oldest first; and all of them.
-        self._idle: deque[tuple[float, Link | NodesLink]] = deque()
-        self._all: set[Link | NodesLink] = set()
+    def __init__(self, nodes: Nodes, system: System) -> None:
+        self._nodes, self._system = nodes, system
+        self._idle: deque[tuple[float, Line]] = deque()
+        self.all: set[Line] = set()
         self._timer: asyncio.TimerHandle | None = None
         # A URL that is none is refused at once.
-        self._idle.append((system.now(), self._made()))
+        line = self.taken()
+        line.link(nodes.seeds[0])
+        self._idle.append((system.now(), line))
 
-    def _made(self) -> Link | NodesLink:
-        link = self._system.link
-        made: Link | NodesLink = NodesLink(self._place, self.nodes, link) if self.nodes else link(self._place.url)
-        self._all.add(made)
-        return made
+    def taken(self) -> Line:
+        if self._idle:
+            return self._idle.pop()[1]
+        line = Line(self._nodes, self._system.link)
+        self.all.add(line)
+        return line
 
-    def taken(self) -> Link | NodesLink:
-        return self._idle.pop()[1] if self._idle else self._made()
-
-    def give_back(self, link: Link | NodesLink) -> None:
-        self._idle.append((self._system.now(), link))
+    def give_back(self, line: Line) -> None:
+        self._idle.append((self._system.now(), line))
         if not self._timer:
             self._timer = asyncio.get_running_loop().call_later(SECONDS_IDLE, self._shrink)
 
     def _shrink(self) -> None:
         """Ends the connections that were not used for a while."""
-        self._timer = None
         while self._idle and self._idle[0][0] <= self._system.now() - SECONDS_IDLE:
-            link = self._idle.popleft()[1]
-            self._all.discard(link)
-            link.cut()
-        if self._idle:
-            self._timer = asyncio.get_running_loop().call_later(SECONDS_IDLE, self._shrink)
+            line = self._idle.popleft()[1]
+            self.all.discard(line)
+            line.cut()
+        self._timer = asyncio.get_running_loop().call_later(SECONDS_IDLE, self._shrink) if self._idle else None
 
     async def close(self) -> None:
-        links, self._all = self._all, set()
+        lines, self.all = self.all, set()
         self._idle.clear()
         if self._timer:
             self._timer.cancel()
-        for link in links:
-            link.cut()
+        for line in lines:
+            line.cut()
         # The event loop ends them in its next round.
         await asyncio.sleep(0)
-
-
-class Line:
-    """A connection on which commands are sent one after another, without a wait for each reply."""
-
-    def __init__(self, redis: Redis, links: _Links) -> None:
-        self._redis, self._link = redis, links.taken()
-
-    def begin(self, *words: Word, wait: float = 0.0) -> asyncio.Future[Any]:
-        """Begins a command, which may block for so many seconds. The wait for it raises Away if no reply comes."""
-        return self._redis.begin(self._link, words, wait)
-
-    def begin_xread(self, places: Mapping[str, bytes], many: int, wait: float) -> asyncio.Future[Any]:
-        """Begins what `Redis.xread` does; `entries_of` reads the reply."""
-        return self.begin(*_reading(places, many, wait), wait=wait)
-
-    def cut(self) -> None:
-        """Ends the connection: no more replies come to what was sent. The next command makes a new connection."""
-        self._link.cut()
 
 
 def forgotten(task: asyncio.Future[Any]) -> None:
@@ -140,100 +115,92 @@ class Redis:
     def __init__(self, url: str | None = None, system: System = MACHINE) -> None:
         """The server of a URL (`redis_url`), to which a connection is made when it is first called."""
         self.url, self.system = redis_url(url), system
-        place = Place.of(self.url)
-        self.replicas, self._links = place.replicas, _Links(system, place)
-        # How often nodes had changed when the caller last looked, if the caller needs to know; shared with the limited copies of this
-        # object.
+        self.nodes = Nodes.of(self.url)
+        self.lines = _Lines(self.nodes, system)
+        # How often nodes had changed when the caller last looked, if the caller needs to know; shared with the copies of this object.
         self._known_changes: list[int] = []
-        self._near = ""
-        self._deadline: float | None = None
-        self._patience = 0.0
+        self._slot = -1
+        self._line: Line | None = None
+        self._deadline, self._patience = math.inf, 0.0
+
+    def _with(self, **changed: object) -> Redis:
+        # Each call has one: `copy` takes ten times as long.
+        other = Redis.__new__(Redis)
+        other.__dict__.update(self.__dict__, **changed)
+        return other
+
+    def near(self, key: str) -> Redis:
+        """The same server; of a cluster, the node of this key. All keys that are used have the key's hash tag."""
+        return self._with(_slot=library("redis.crc").key_slot(key.encode())) if self.nodes.is_cluster else self
 
     def until(self, deadline: float) -> Redis:
         """The same server, whose calls end at a time of the system's clock."""
-        # Each call has one: `copy` takes ten times as long.
-        limited = Redis.__new__(Redis)
-        limited.__dict__.update(self.__dict__, _deadline=deadline)
-        return limited
+        return self._with(_deadline=deadline)
 
-    def patient(self, seconds: float) -> Redis:
-        """The same server, but if it is away calls are repeated for so many seconds: only for calls that may be done twice."""
-        patient = copy(self)
-        patient._patience = seconds
-        return patient
+    def patient(self, deadline: float = math.inf, seconds: float = math.inf) -> Redis:
+        """The same, but if the server is away calls are repeated, each for so many seconds: only for calls that may be done twice."""
+        return self._with(_deadline=deadline, _patience=seconds)
 
-    def near(self, key: str) -> Redis:
-        """The same server; in a cluster, commands that name no key go to the node of this key."""
-        near = copy(self)
-        near._near = key
-        return near
+    def line(self) -> Redis:
+        """The same server by a connection of its own, on which commands are sent without a wait for the reply to each (`begin`)."""
+        return self._with(_line=self.lines.taken())
 
     def watch(self) -> None:
         """From now on each call raises Away if another node of a cluster, or a server with another history, would do it.
 
         That lasts until this is called again.
         """
-        if self._links.nodes:
-            self._known_changes[:] = [self._links.nodes.changes]
+        if not self.nodes.is_one:
+            self._known_changes[:] = [self.nodes.changes]
 
     def has_changed(self) -> bool:
         """Whether another node or history was seen since `watch`."""
-        return bool(self._links.nodes and self._known_changes and self._known_changes[0] != self._links.nodes.changes)
+        return bool(self._known_changes) and self._known_changes[0] != self.nodes.changes
 
     async def close(self) -> None:
         """Ends the connections."""
-        await self._links.close()
+        await self.lines.close()
 
     async def call(self, *words: Word, wait: float = 0.0) -> Any:
         """The reply to a command, which may block for so many seconds. Raises Away if the server can't be reached in time."""
-        until = self.system.now() + self._patience if self._patience else 0.0
+        until, pause = min(self._deadline, self.system.now() + self._patience) if self._patience else 0.0, _PAUSE
         while True:
+            line = self.lines.taken()
             try:
-                return await self.once(words, self._deadline, wait)
+                return await self._begun(line, words, wait)
             except Away:
-                if self.system.now() >= until or self.has_changed():
+                if self.system.now() + pause > until or self.has_changed():
                     raise
-            await asyncio.sleep(_PAUSE)
-
-    async def once(self, words: Sequence[Word], deadline: float | None, wait: float = 0.0) -> Any:
-        """The same, of one try, until a time of the system's clock."""
-        link = self._links.taken()
-        try:
-            return await self.begin(link, words, wait, deadline)
-        except (asyncio.CancelledError, GeneratorExit):
-            # The next command does not wait for the reply to this one.
-            link.cut()
-            raise
-        finally:
-            self._links.give_back(link)
-
-    def line(self) -> Line:
-        """A connection of its own."""
-        return Line(self, self._links)
-
-    def begin(self, link: Link | NodesLink, words: Sequence[Word], wait: float, deadline: float | None = None) -> asyncio.Future[Any]:
-        """Begins a command on a connection, which replies within the time that a call may take."""
-        seconds = wait + _SECONDS_TO_ANSWER
-        if deadline is not None:
-            seconds = max(_LEAST_SECONDS, min(seconds, deadline - self.system.now()))
-        if isinstance(link, NodesLink):
-            known = self._known_changes[0] if self._known_changes else None
-            return asyncio.create_task(link.call(words, seconds, self._near, known))
-        return link.begin(words, seconds)
-
-    async def patiently(
-        self, call: Callable[[Redis], Work[Answer]], deadline: float, give_up: Callable[[Away], Exception] | None = None
-    ) -> Answer:
-        """Repeats a call while the server is away, until a time of the system's clock; the call must be right to do twice."""
-        pause = _PAUSE
-        while True:
-            try:
-                return await call(self.until(deadline))
-            except Away as away:
-                if self.system.now() + pause > deadline or self.has_changed():
-                    raise (give_up(away) if give_up else away) from None
+            except (asyncio.CancelledError, GeneratorExit):
+                # The next command does not wait for the reply to this one.
+                line.cut()
+                raise
+            finally:
+                self.lines.give_back(line)
             await asyncio.sleep(pause)
             pause = min(2 * pause, _LONGEST_PAUSE)
+
+    def _begun(self, line: Line, words: Sequence[Word], wait: float) -> asyncio.Future[Any]:
+        seconds = wait + _SECONDS_TO_ANSWER
+        if self._deadline < math.inf:
+            seconds = max(_LEAST_SECONDS, min(seconds, self._deadline - self.system.now()))
+        return line.begin(words, seconds, self._slot, self._known_changes[0] if self._known_changes else None)
+
+    # Of a line.
+
+    def begin(self, *words: Word, wait: float = 0.0) -> asyncio.Future[Any]:
+        """Begins a command, which may block for so many seconds. The wait for it raises Away if no reply comes."""
+        assert self._line
+        return self._begun(self._line, words, wait)
+
+    def begin_xread(self, places: Mapping[str, bytes], many: int, wait: float) -> asyncio.Future[Any]:
+        """Begins what `xread` does; `entries_of` reads the reply."""
+        return self.begin(*_reading(places, many, wait), wait=wait)
+
+    def cut(self) -> None:
+        """Ends the connection: no more replies come to what was sent. The next command makes a new connection."""
+        assert self._line
+        self._line.cut()
 
     # Commands, by their names.
 
@@ -241,27 +208,8 @@ class Redis:
         found: bytes | None = await self.call("HGET", name, field)
         return found
 
-    async def hset(self, name: str, field: Word, value: Word) -> None:
-        await self.call("HSET", name, field, value)
-
-    async def hdel(self, name: str, *fields: Word) -> None:
-        await self.call("HDEL", name, *fields)
-
-    async def get(self, name: str) -> bytes | None:
-        found: bytes | None = await self.call("GET", name)
-        return found
-
-    async def delete(self, name: str) -> None:
-        await self.call("DEL", name)
-
     async def hgetall(self, name: str) -> dict[bytes, bytes]:
         return _pairs(await self.call("HGETALL", name))
-
-    async def hkeys(self, name: str) -> list[bytes]:
-        return list(await self.call("HKEYS", name))
-
-    async def xlen(self, name: str) -> int:
-        return int(await self.call("XLEN", name))
 
     async def xrange(self, name: str, least: bytes, most: bytes, many: int) -> list[Entry]:
         """Entries from one id up to another one, at most so many; a `(` before an id excludes it."""
@@ -269,12 +217,10 @@ class Redis:
 
     async def xread(self, places: Mapping[str, bytes], many: int, wait: float) -> dict[str, list[Entry]]:
         """Entries of streams after given ids, at most so many of each; waits so many seconds if there is none."""
-        wait = min(wait, LONGEST_WAIT)
-        if self._deadline is not None:
-            # The server replies before the client gives the call up.
-            left = self._deadline - self.system.now()
-            wait = min(wait, left - min(_SECONDS_FOR_AN_ANSWER, left / 2))
-        return entries_of(await self.call(*_reading(places, many, wait), wait=max(0.0, wait)))
+        # The server replies before the client gives the call up.
+        left = self._deadline - self.system.now()
+        wait = max(0.0, min(wait, LONGEST_WAIT, left - min(_SECONDS_FOR_AN_ANSWER, left / 2)))
+        return entries_of(await self.call(*_reading(places, many, wait), wait=wait))
 
     async def stream(self, name: str) -> dict[bytes, Any]:
         """What Redis reports of a stream (XINFO STREAM): empty if there is no such stream."""
@@ -317,43 +263,24 @@ class Script:
     def __init__(self, text: str, without_memory: bool = False) -> None:
         """`without_memory` is for a script that makes room, or needs almost none: it runs even if the server has no memory left."""
         head = f"#!lua{' flags=allow-oom' if without_memory else ''}\n"
-        self.text = f"{head}{text}"
         # If the client waits for replicas, each script writes something: the wait covers that write, and so all that the script has read.
-        self.touching = f"{head}redis.call('SET', KEYS[1] .. ':touched', '')\n{text}"
-        self._names = {text: hashlib.sha1(text.encode()).hexdigest() for text in (self.text, self.touching)}
+        self.text, self.touching = f"{head}{text}", f"{head}redis.call('SET', KEYS[1] .. ':touched', '')\n{text}"
+        self._names = [hashlib.sha1(text.encode()).hexdigest() for text in (self.text, self.touching)]
 
-    async def __call__(self, redis: Redis, keys: Sequence[str], arguments: Sequence[Word], deadline: float | None = None) -> Any:
-        """The result of the script; with a deadline, that of one try. A server that has just started does not know the script yet."""
-        words = self._words(redis, keys, arguments)
+    def name(self, redis: Redis) -> str:
+        """The name by which a server knows it."""
+        return self._names[redis.nodes.replicas > 0]
+
+    async def __call__(self, redis: Redis, keys: Sequence[str], arguments: Sequence[Word]) -> Any:
+        """The result of the script. A server that has just started does not know the script yet."""
         try:
-            return await (redis.call(*words) if deadline is None else redis.once(words, deadline))
+            return await redis.call("EVALSHA", self.name(redis), len(keys), *keys, *arguments)
         except NoScript:
-            return await redis.call("EVAL", self._text(redis), len(keys), *keys, *arguments)
+            return await redis.call("EVAL", self.touching if redis.nodes.replicas else self.text, len(keys), *keys, *arguments)
 
-    def begin(self, redis: Redis, line: Line, keys: Sequence[str], arguments: Sequence[Word]) -> asyncio.Future[Any]:
+    def begin(self, line: Redis, keys: Sequence[str], arguments: Sequence[Word]) -> asyncio.Future[Any]:
         """Begins the script on a line of a server. If its reply is a NoScript, the script is called once more."""
-        return line.begin(*self._words(redis, keys, arguments))
-
-    def _text(self, redis: Redis) -> str:
-        return self.touching if redis.replicas else self.text
-
-    def _words(self, redis: Redis, keys: Sequence[str], arguments: Sequence[Word]) -> list[Word]:
-        return ["EVALSHA", self._names[self._text(redis)], len(keys), *keys, *arguments]
-
-    async def patiently(
-        self,
-        redis: Redis,
-        keys: Sequence[str],
-        arguments: Sequence[Word],
-        deadline: float,
-        give_up: Callable[[Away], Exception] | None = None,
-    ) -> Any:
-        """The same, repeated while Redis is away (`Redis.patiently`)."""
-
-        try:
-            return await self(redis, keys, arguments, deadline)
-        except Away:
-            return await redis.patiently(lambda limited: self(limited, keys, arguments), deadline, give_up)
+        return line.begin("EVALSHA", self.name(line), len(keys), *keys, *arguments)
 
 
 async def told_by(redis: Redis, section: str) -> dict[str, str]:

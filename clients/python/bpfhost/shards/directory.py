@@ -50,11 +50,12 @@ class Directory:
     """The directory in a Redis."""
 
     def __init__(self, redis: Redis, prefix: str = PREFIX) -> None:
-        self.redis, self.keys = redis, DirectoryKeys(prefix)
+        self.keys = DirectoryKeys(prefix)
+        self.redis = redis.near(self.keys.customers)
 
-    def until(self, deadline: float) -> Directory:
-        """The same, whose calls end at a time of the system's clock."""
-        return Directory(self.redis.until(deadline), self.keys.prefix)
+    def patient(self, deadline: float) -> Directory:
+        """The same, whose calls are repeated while Redis is away, until a time of the system's clock."""
+        return Directory(self.redis.patient(deadline), self.keys.prefix)
 
     # Shards.
 
@@ -91,13 +92,13 @@ class Directory:
         if shard not in await self.loads():
             raise ShardError(f"the directory knows no shard {shard}")
         if is_drained:
-            await self.redis.hset(self.keys.drained, shard, "1")
+            await self.redis.call("HSET", self.keys.drained, shard, "1")
         else:
-            await self.redis.hdel(self.keys.drained, shard)
+            await self.redis.call("HDEL", self.keys.drained, shard)
 
     async def drained(self) -> set[int]:
         """The shards that are not offered to customers."""
-        return {int(shard) for shard in await self.redis.hkeys(self.keys.drained)}
+        return {int(shard) for shard in await self.redis.call("HKEYS", self.keys.drained)}
 
     async def remove_shard(self, shard: int, lost: bool = False) -> None:
         """Removes a shard that has no customers, or whose customers are lost. Raises ShardError if it can't be removed."""

@@ -31,7 +31,7 @@ async def move(client: AsyncClient, name: str, shard: int | None = None, seconds
     Raises MoveError if it can't be moved, and NoReply if a worker does not reply in time: then the same call continues the move later.
     """
     deadline = client.system.now() + seconds
-    seat, next_seat = await _directory(client, deadline, lambda directory: directory.begin_move(name, shard))
+    seat, next_seat = await client.directory.patient(deadline).begin_move(name, shard)
     if next_seat is None:
         raise MoveError(f"customer {name} is being removed")
     return await (await _Move.of(client, name, seat, deadline)).to(next_seat)
@@ -40,7 +40,7 @@ async def move(client: AsyncClient, name: str, shard: int | None = None, seconds
 async def remove(client: AsyncClient, name: str, seconds: float = SECONDS) -> None:
     """Removes a customer, with all its data."""
     deadline = client.system.now() + seconds
-    seat, _ = await _directory(client, deadline, lambda directory: directory.begin_move(name, removed=True))
+    seat, _ = await client.directory.patient(deadline).begin_move(name, removed=True)
     moved = await _Move.of(client, name, seat, deadline)
     await moved.leave()
     await moved.forget()
@@ -63,15 +63,11 @@ async def abort_move(client: AsyncClient, name: str, seconds: float = SECONDS) -
     It is a new seat of the shard that the customer was on; a customer that has arrived stays on the new shard.
     """
     deadline = client.system.now() + seconds
-    moves = await _directory(client, deadline, lambda directory: directory.moves())
-    seat = await _directory(client, deadline, lambda directory: directory.seat(name))
+    moves = await client.directory.patient(deadline).moves()
+    seat = await client.directory.patient(deadline).seat(name)
     if name not in moves or seat is None:
         raise MoveError(f"customer {name} is not being moved")
     return await (await _Move.of(client, name, seat, deadline)).turn_back(moves[name])
-
-
-async def _directory(client: AsyncClient, deadline: float, call: Callable[[Directory], Work[Answer]]) -> Answer:
-    return await client.redis.patiently(lambda redis: call(Directory(redis, client.prefix)), deadline)
 
 
 @dataclass
@@ -87,7 +83,7 @@ class _Move:
 
     def __init__(self, client: AsyncClient, name: str, seat: Seat, deadline: float, redis: Redis, keys: ShardKeys) -> None:
         self._client, self._name, self._seat, self._deadline = client, name, seat, deadline
-        self._redis, self._keys = redis, keys
+        self._redis, self._keys, self._directory = redis.patient(deadline), keys, client.directory.patient(deadline)
 
     @classmethod
     async def of(cls, client: AsyncClient, name: str, seat: Seat, deadline: float) -> _Move:
@@ -110,20 +106,19 @@ class _Move:
         await self.end(next_seat)
         return next_seat
 
+    async def _shard(self, number: int) -> tuple[Redis, ShardKeys]:
+        redis, keys = await self._client.shard(number, self._deadline)
+        return redis.patient(self._deadline), keys
+
     # Leaving.
 
     async def leave(self) -> None:
         """Lets the customer leave its shard, and waits until it has."""
         seat, keys = self._seat, self._keys
         claim = [seat.tenant, seat.generation, seat.owned_by(self._name)]
-
-        async def leave(redis: Redis) -> bytes | None:
-            # A customer that never called has a seat only in the directory.
-            await scripts.CLAIM(redis, [keys.seats], claim)
-            entry: bytes | None = await scripts.LEAVE(redis, [keys.seats, keys.frames(seat.tenant)], claim)
-            return entry
-
-        entry = await self._redis.patiently(leave, self._deadline)
+        # A customer that never called has a seat only in the directory.
+        await scripts.CLAIM(self._redis, [keys.seats], claim)
+        entry = await scripts.LEAVE(self._redis, [keys.seats, keys.frames(seat.tenant)], claim)
         if entry is None:
             raise MoveError(f"customer {self._name} can't leave shard {seat.shard}: its seat there is another's")
         await self._wait(self._redis, keys, seat.tenant, entry)
@@ -133,10 +128,10 @@ class _Move:
         name, behind = keys.replies(tenant), before(entry)
         while True:
             wait = min(_SECONDS_TO_LOOK, self._deadline - self._client.system.now())
-            found = (await redis.patiently(lambda limited: limited.xread({name: behind}, 1, wait), self._deadline)).get(name)
+            found = (await redis.xread({name: behind}, 1, wait)).get(name)
             if found:
                 return found[0][1] if found[0][0] == entry else {}
-            kept = await redis.patiently(lambda limited: limited.hget(keys.aside, tenant), self._deadline)
+            kept = await redis.hget(keys.aside, tenant)
             if kept and order(Aside.read(kept).entry.encode()) <= order(entry):
                 raise SetAside(f"customer {self._name} is set aside until an operator has looked: {Aside.read(kept).why}")
             if self._client.system.now() >= self._deadline:
@@ -146,8 +141,8 @@ class _Move:
 
     async def _arrive(self, next_seat: Seat) -> None:
         """Gives the state of the tenant to the next shard, and waits until it has arrived; raises _Refused if the shard refuses it."""
-        redis, keys = await self._client.shard(next_seat.shard, self._deadline)
-        kept = await self._redis.patiently(lambda limited: limited.hget(self._keys.left, self._seat.generation), self._deadline)
+        redis, keys = await self._shard(next_seat.shard)
+        kept = await self._redis.hget(self._keys.left, self._seat.generation)
         if kept is None:
             if await self._has_arrived(next_seat):
                 # Another process has ended the same move meanwhile.
@@ -157,10 +152,10 @@ class _Move:
             manifest = await self._bring(redis, keys, next_seat, Manifest.read(kept))
         except SnapshotDamaged as damaged:
             raise MoveError(f"customer {self._name} can't be moved: {damaged}") from None
-        records = await self._redis.patiently(lambda limited: limited.hgetall(self._keys.sessions(self._seat.generation)), self._deadline)
+        records = await self._redis.hgetall(self._keys.sessions(self._seat.generation))
         used = [keys.seats, keys.frames(next_seat.tenant), keys.sessions(next_seat.generation)]
         words = [next_seat.tenant, next_seat.generation, manifest.to_bytes(), *(word for pair in records.items() for word in pair)]
-        entry = await scripts.ARRIVE.patiently(redis, used, words, self._deadline)
+        entry = await scripts.ARRIVE(redis, used, words)
         if entry is None:
             # The process that took the move back has not finished.
             raise _Refused(b"", f"the seat on shard {next_seat.shard} is closed: the move was taken back")
@@ -171,16 +166,16 @@ class _Move:
         """Copies the pieces of the state to the next shard, under names of this arrival."""
         arriving = manifest.renamed(arrival(next_seat.generation))
         for old, new in zip(manifest.names(), arriving.names()):
-            piece = await self._redis.patiently(lambda limited: limited.hget(self._keys.pieces, old), self._deadline)
+            piece = await self._redis.hget(self._keys.pieces, old)
             if piece is not None:
                 words = [next_seat.tenant, next_seat.generation, new, piece]
-                await scripts.BRING.patiently(redis, [keys.seats, keys.pieces], words, self._deadline)
+                await scripts.BRING(redis, [keys.seats, keys.pieces], words)
         return arriving
 
     async def _has_arrived(self, seat: Seat) -> bool:
         """Whether the arrival is in the new shard's stream, and then waits until it is done."""
-        redis, keys = await self._client.shard(seat.shard, self._deadline)
-        said = await redis.patiently(lambda limited: limited.hget(keys.seats, seat.tenant), self._deadline) or b""
+        redis, keys = await self._shard(seat.shard)
+        said = await redis.hget(keys.seats, seat.tenant) or b""
         generation, _, rest = said.partition(b" ")
         what, _, entry = rest.partition(b":")
         if not generation or int(generation) != seat.generation or what == b"closed":
@@ -195,22 +190,22 @@ class _Move:
             raise _Refused(entry, reply[FAULT].decode(errors="replace"))
 
     async def _give(self, seat: Seat) -> None:
-        redis, keys = await self._client.shard(seat.shard, self._deadline)
-        await scripts.SEAT.patiently(redis, [keys.seats], [seat.tenant, seat.generation, seat.owned_by(self._name)], self._deadline)
+        redis, keys = await self._shard(seat.shard)
+        await scripts.SEAT(redis, [keys.seats], [seat.tenant, seat.generation, seat.owned_by(self._name)])
 
     # The end of a move.
 
     async def forget(self) -> None:
         """Drops the state that the old shard has kept."""
-        kept = await self._redis.patiently(lambda limited: limited.hget(self._keys.left, self._seat.generation), self._deadline)
+        kept = await self._redis.hget(self._keys.left, self._seat.generation)
         if kept is not None:
-            await _drop_pieces(self._redis, self._keys, Manifest.read(kept), self._deadline)
-        await self._redis.patiently(lambda limited: limited.delete(self._keys.sessions(self._seat.generation)), self._deadline)
-        await self._redis.patiently(lambda limited: limited.hdel(self._keys.left, self._seat.generation), self._deadline)
+            await _drop_pieces(self._redis, self._keys, Manifest.read(kept))
+        await self._redis.call("DEL", self._keys.sessions(self._seat.generation))
+        await self._redis.call("HDEL", self._keys.left, self._seat.generation)
 
     async def end(self, next_seat: Seat | None) -> None:
         """Records the end in the directory."""
-        await _directory(self._client, self._deadline, lambda directory: directory.end_move(self._name, self._seat, next_seat))
+        await self._directory.end_move(self._name, self._seat, next_seat)
 
     # Back.
 
@@ -222,9 +217,9 @@ class _Move:
         if next_seat and not await self._close(next_seat, b""):
             return await self.to(next_seat)
         await self.leave()
-        if await self._redis.patiently(lambda limited: limited.hget(self._keys.left, self._seat.generation), self._deadline) is None:
+        if await self._redis.hget(self._keys.left, self._seat.generation) is None:
             raise MoveError(f"customer {self._name} has left shard {self._seat.shard}, and nothing of it is kept there")
-        again = await _directory(self._client, self._deadline, lambda directory: directory.turn_move(self._name, self._seat, next_seat))
+        again = await self._directory.turn_move(self._name, self._seat, next_seat)
         if again is None:
             raise MoveError(f"the move of customer {self._name} has ended meanwhile")
         return await self.to(again, "the move was taken back")
@@ -232,19 +227,19 @@ class _Move:
     async def _turn(self, next_seat: Seat, refused: _Refused) -> None:
         """Lets the customer return to the old shard, after the next shard has refused it."""
         await self._close(next_seat, refused.entry)
-        again = await _directory(self._client, self._deadline, lambda directory: directory.turn_move(self._name, self._seat, next_seat))
+        again = await self._directory.turn_move(self._name, self._seat, next_seat)
         if again:
             await self.to(again, refused.why)
 
     async def _close(self, seat: Seat, entry: bytes) -> bool:
         """Closes a seat that nobody has arrived at, or an entry by which nobody could; returns whether it is closed."""
-        redis, keys = await self._client.shard(seat.shard, self._deadline)
+        redis, keys = await self._shard(seat.shard)
         words = [seat.tenant, seat.generation, entry]
-        closed = await scripts.CLOSE_SEAT.patiently(redis, [keys.seats, keys.sessions(seat.generation)], words, self._deadline)
+        closed = await scripts.CLOSE_SEAT(redis, [keys.seats, keys.sessions(seat.generation)], words)
         if closed:
             prefix = arrival(seat.generation).encode() + b":"
-            names = [name for name in await redis.patiently(lambda limited: limited.hkeys(keys.pieces), self._deadline) if name.startswith(prefix)]
-            await _drop(redis, keys, names, self._deadline)
+            names = [name for name in await redis.call("HKEYS", keys.pieces) if name.startswith(prefix)]
+            await _drop(redis, keys, names)
         return bool(closed)
 
 
@@ -253,11 +248,11 @@ def arrival(generation: int) -> str:
     return f"arrival-{generation}"
 
 
-async def _drop_pieces(redis: Redis, keys: ShardKeys, manifest: Manifest, deadline: float) -> None:
-    await _drop(redis, keys, [name.encode() for name in manifest.names()], deadline)
+async def _drop_pieces(redis: Redis, keys: ShardKeys, manifest: Manifest) -> None:
+    await _drop(redis, keys, [name.encode() for name in manifest.names()])
 
 
-async def _drop(redis: Redis, keys: ShardKeys, names: list[bytes], deadline: float) -> None:
+async def _drop(redis: Redis, keys: ShardKeys, names: list[bytes]) -> None:
     for at in range(0, len(names), _AT_ONCE):
         some = names[at : at + _AT_ONCE]
-        await redis.patiently(lambda limited: limited.hdel(keys.pieces, *some), deadline)
+        await redis.call("HDEL", keys.pieces, *some)

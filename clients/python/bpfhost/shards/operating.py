@@ -187,7 +187,7 @@ async def _durability(client: AsyncClient, shard: int) -> str:
     """What is wrong with the durability of a shard's Redis; empty if it can't be reached, which the shard's lease shows."""
     try:
         redis, keys = await _near(client, shard)
-        return await demand_durable(redis.near(keys.lease))
+        return await demand_durable(redis)
     except Away:
         return ""
     except RedisError as error:

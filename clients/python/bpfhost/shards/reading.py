@@ -14,7 +14,7 @@ from typing import Any
 
 from bpfhost.numbers import MOST_TENANTS
 from bpfhost.shards.calls import Call, Item, NoCall, item_of
-from bpfhost.shards.connection import Entry, Line, entries_of, forgotten
+from bpfhost.shards.connection import Entry, Redis, entries_of, forgotten
 from bpfhost.shards.errors import Away
 from bpfhost.shards.names import ShardKeys
 from bpfhost.shards.served import Served
@@ -37,7 +37,7 @@ class _Asked:
 class _Lane:
     """One lane."""
 
-    def __init__(self, line: Line, keys: ShardKeys, tenants: range) -> None:
+    def __init__(self, line: Redis, keys: ShardKeys, tenants: range) -> None:
         self.line, self.names = line, {tenant: keys.frames(tenant) for tenant in tenants}
         self.tenants = {name: tenant for tenant, name in self.names.items()}
         self.of = slice(tenants.start, None, tenants.step)

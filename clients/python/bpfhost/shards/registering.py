@@ -17,10 +17,10 @@ async def register(redis: Redis, keys: ShardKeys, directory: Directory, server: 
 
     Raises OtherShard if the directory knows another one by this number, or none though the shard has customers.
     """
-    own = await redis.get(keys.incarnation)
+    own = await redis.call("GET", keys.incarnation)
     if own is None and await directory.incarnation(keys.number) is None:
         own = bytes(await scripts.BE_MADE(redis, [keys.incarnation], [redis.system.fresh()]))
-    elif own is not None and await directory.incarnation(keys.number) is None and await redis.hkeys(keys.seats):
+    elif own is not None and await directory.incarnation(keys.number) is None and await redis.call("EXISTS", keys.seats):
         raise OtherShard(
             f"shard {keys.number} has customers, and the directory knows nothing of it: it is another directory, or was told that the"
             f" shard is removed"

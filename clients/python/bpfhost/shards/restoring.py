@@ -77,9 +77,9 @@ async def _from_best(
 
 async def _mend(log: Log) -> None:
     """Removes a damaged snapshot, so that it does not become the one before the next one."""
-    await log.redis.hdel(log.keys.snapshots, f"{log.tenant}", f"{log.tenant}:before")
+    await log.redis.call("HDEL", log.keys.snapshots, f"{log.tenant}", f"{log.tenant}:before")
     if log.snapshot:
-        await log.redis.hset(log.keys.snapshots, f"{log.tenant}", log.snapshot.to_bytes())
+        await log.redis.call("HSET", log.keys.snapshots, f"{log.tenant}", log.snapshot.to_bytes())
 
 
 async def _made(serving: Serving, manifest: Manifest, stream: bytes, log: Log, accepts: bool) -> None:

@@ -53,7 +53,7 @@ class Served:
         self.redis, self.keys, self.settings, self.tell, self.metrics = redis, keys, settings, tell, metrics
         self.system = redis.system
         # Reads while a state is restored are repeated, and the whole state is not restored anew.
-        self.patient = redis.patient(_SECONDS_OF_PATIENCE)
+        self.patient = redis.patient(seconds=_SECONDS_OF_PATIENCE)
         self.lease = Lease(redis, keys, settings.lease_seconds)
         self.writing = Writing(redis, keys, self.lease)
         self.keeping = Keeping(self.writing, settings, build, metrics)

@@ -8,14 +8,14 @@ from __future__ import annotations
 import asyncio
 import time
 import uuid
-from collections.abc import Callable, Coroutine, Iterable, Iterator, Sequence
+from collections.abc import Coroutine, Iterable, Iterator, Sequence
 from typing import Any, Protocol, TypeVar
 
 from bpfhost.host import Host
 from bpfhost.program import Program
+from bpfhost.shards import link
+from bpfhost.shards.link import Word
 
-# An argument of a Redis command: bytes, a text or a number.
-Word = object
 Answer = TypeVar("Answer")
 # Work in an event loop.
 Work = Coroutine[Any, Any, Answer]
@@ -24,11 +24,14 @@ Work = Coroutine[Any, Any, Answer]
 class Link(Protocol):
     """A connection to a Redis. Raises Away if the server can't be reached, and RedisError if the server refuses a command."""
 
+    @property
+    def is_over(self) -> bool: ...
+
     def begin(self, words: Sequence[Word], seconds: float) -> asyncio.Future[Any]:
         """The reply to a command, within so many seconds. Commands that begin before it has come are sent after it, in order."""
 
     def cut(self) -> None:
-        """Ends the connection: no more replies come to what was sent, and the next command makes a new connection."""
+        """Ends the connection, which is over then: no more replies come to what was sent."""
 
 
 class Asked(Protocol):
@@ -49,13 +52,13 @@ class System(Protocol):
 
 
 class Machine:
-    """This machine, with connections of a kind."""
-
-    def __init__(self, links: Callable[[str], Link]) -> None:
-        self.link = links
+    """This machine."""
 
     def now(self) -> float:
         return time.monotonic()
+
+    def link(self, url: str) -> Link:
+        return link.link(url)
 
     def host(self, program: Program, tenants: int) -> Asked:
         host = Host(program, tenants)
@@ -64,3 +67,6 @@ class Machine:
 
     def fresh(self) -> str:
         return uuid.uuid4().hex
+
+
+MACHINE = Machine()

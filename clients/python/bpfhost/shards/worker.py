@@ -64,7 +64,7 @@ class Worker:
         self._program, self._library, self._settings = program, library, settings
         self._server = without_secrets(redis.url) if directory else ""
         self._directory = Directory(directory or redis, keys.prefix)
-        self._shard = shard = Served(redis, keys, build_of(library.path if library else program), settings, tell, self.metrics)
+        self._shard = shard = Served(redis.near(keys.lease), keys, build_of(library.path if library else program), settings, tell, self.metrics)
         self._states = States(shard)
         suspects = Suspects(shard, self._states)
         self._upkeep = Upkeep(shard, self._states, suspects)
@@ -107,10 +107,9 @@ class Worker:
 
     async def _take_lease(self) -> None:
         shard = self._shard
-        near = shard.redis.near(shard.keys.lease)
-        await demand_version(near)
+        await demand_version(shard.redis)
         if self._settings.demand_durable:
-            unseen = await demand_durable(near)
+            unseen = await demand_durable(shard.redis)
             if unseen:
                 shard.tell_now_and_then(f"shard {shard.keys.number}: {unseen}")
         await shard.lease.take(shard.is_stopped)

@@ -8,7 +8,7 @@ from collections.abc import Iterable, Mapping, Sequence
 from bpfhost.parts import in_parts
 from bpfhost.shards import names, scripts
 from bpfhost.shards.calls import Arrives, Leaves
-from bpfhost.shards.connection import Line, Redis, Script, told_by
+from bpfhost.shards.connection import Redis, Script, told_by
 from bpfhost.shards.errors import Away, NoScript, ShardError, SnapshotDamaged
 from bpfhost.shards.lease import Lease
 from bpfhost.shards.log import Log
@@ -16,7 +16,7 @@ from bpfhost.shards.manifest import Manifest
 from bpfhost.shards.names import ShardKeys
 from bpfhost.shards.serving import Written
 from bpfhost.shards.steps import at_once, step
-from bpfhost.shards.system import Word
+from bpfhost.shards.link import Word
 
 # A script gets about so many bytes of replies at most, and so many names of pieces.
 WRITTEN_AT_ONCE = 1 << 20
@@ -32,7 +32,7 @@ class Writing:
 
     async def _do(self, script: Script, keys: Sequence[str], words: Iterable[Word]) -> int:
         deadline = self.redis.system.now() + _SECONDS_FOR_REDIS
-        done = await script.patiently(self.redis, [self.keys.lease, *keys], [self.lease.token, *words], deadline)
+        done = await script(self.redis.patient(deadline), [self.keys.lease, *keys], [self.lease.token, *words])
         if done == (-1 if script is scripts.DROP else 0):
             raise await self.lease.lost()
         return int(done)
@@ -48,10 +48,10 @@ class Writing:
         """Writes replies of tenants, those of each in order."""
         await self._do(scripts.WRITE, *self._words(written, {}))
 
-    def begin(self, line: Line, written: Sequence[Written], behind: Mapping[int, bytes]) -> asyncio.Future[int]:
+    def begin(self, line: Redis, written: Sequence[Written], behind: Mapping[int, bytes]) -> asyncio.Future[int]:
         """Begins to write replies on a line, after earlier replies of some tenants up to these ids, which are still being written."""
         keys, words = self._words(written, behind)
-        return scripts.WRITE.begin(self.redis, line, [self.keys.lease, *keys], [self.lease.token, *words])
+        return scripts.WRITE.begin(line, [self.keys.lease, *keys], [self.lease.token, *words])
 
     async def end(self, task: asyncio.Future[int]) -> bool:
         """Whether replies whose write was begun are written; if not, write them again. Raises OutOfMemory if they have no room."""
@@ -121,12 +121,12 @@ class Writing:
                 kept.update(Manifest.read(said).names())
             except SnapshotDamaged as damaged:
                 raise ShardError(f"the state of a customer that left shard {self.keys.number} is damaged: {damaged}") from None
-        strays = [name.decode() for name in await self.redis.hkeys(self.keys.pieces)]
+        strays = [name.decode() for name in await self.redis.call("HKEYS", self.keys.pieces)]
         await at_once(self.drop_pieces([name for name in strays if name not in kept and not name.startswith("arrival-")]))
 
     # Memory.
 
     async def memory(self) -> tuple[int, int]:
         """The memory that the server uses, and the most that it may use, in bytes: 0 if there is no such limit."""
-        said = await told_by(self.redis.near(self.keys.lease), "memory")
+        said = await told_by(self.redis, "memory")
         return int(said["used_memory"]), int(said["maxmemory"])

@@ -13,13 +13,15 @@ from bpfhost import MapType, frames
 from bpfhost.alike import packed, size_of_alike
 from bpfhost.shards import Client, Settings, ShardKeys, Worker
 from bpfhost.shards.calls import Call
-from bpfhost.shards import blocking, operating
+from bpfhost.shards import operating
 from bpfhost.shards.client import AsyncClient
 from bpfhost.shards.connection import Redis
 from bpfhost.shards.directory import Seat
 from bpfhost.shards.registering import register
 from bpfhost.shards.system import Work
 from tests.common import PROGRAM, HostTest
+from tests.shards import blocking_redis
+from tests.shards.blocking_redis import shard_of
 from tests.shards.redis_server import RedisServer, missing
 
 # A customer creates a map, looks a key up there, and updates it with a number.
@@ -75,7 +77,7 @@ async def drained(client: AsyncClient, shard: int, seconds: float) -> list[tuple
     return [one async for one in operating.drain(client, shard, seconds)]
 
 
-def registered(redis: blocking.Redis, keys: ShardKeys, client: Client, server: str = "") -> bytes:
+def registered(redis: blocking_redis.Redis, keys: ShardKeys, client: Client, server: str = "") -> bytes:
     """Registers a shard."""
     return redis.loop.run(register(redis.aio, keys, client.aio.directory, server))
 
@@ -144,9 +146,9 @@ class ShardTest(HostTest):
         worker.wait()
         return worker
 
-    def empty_shard(self, number: int) -> tuple[blocking.Redis, ShardKeys]:
+    def empty_shard(self, number: int) -> tuple[blocking_redis.Redis, ShardKeys]:
         """A shard of the directory that nobody serves any more, but that is still offered."""
-        redis, keys = self.client.shard(number)
+        redis, keys = shard_of(self.client, number)
         name = registered(redis, keys, self.client)
         self.client.directory.beat(number, name)
         return redis, keys

@@ -28,7 +28,7 @@ from pathlib import Path
 from bpfhost import Host
 from bpfhost.numbers import MOST_TENANTS
 from bpfhost.shards import Client, MoveError, NoReply, RedisError, move, moving
-from bpfhost.shards.blocking import connect
+from tests.shards.blocking_redis import connect, directory_of, shard_of
 from tests.shards.common import did
 from tests.shards.redis_server import RedisServer, missing
 from tests.shards.streams import Stream
@@ -305,7 +305,7 @@ class Faults:
             for name in client.directory.moves():
                 did(client, moving.end_move, name, _SECONDS_TO_SETTLE)
             # Each seat that was given is a customer's first one, or that of a move.
-            given = int(client.redis.get(client.aio.directory.keys.all[3]) or 0)
+            given = int(directory_of(client).get(client.aio.directory.keys.all[3]) or 0)
             self.counts["moved"] = given - len(client.directory.customers())
         for shard in self.shards:
             shard.worker.send(signal.SIGTERM)
@@ -313,7 +313,7 @@ class Faults:
         entries = 0
         with Client(self._redis.url) as client:
             for number in range(SHARDS):
-                redis, keys = client.shard(number)
+                redis, keys = shard_of(client, number)
                 for tenant in range(MOST_TENANTS):
                     asked, replied = (redis.stream(name) for name in (keys.frames(tenant), keys.replies(tenant)))
                     if any(asked.get(what) != replied.get(what) for what in (b"entries-added", b"last-generated-id")):

@@ -8,11 +8,10 @@ import subprocess
 import time
 from pathlib import Path
 
-from bpfhost.shards.cluster import slot_of
-from bpfhost.shards import blocking
-from bpfhost.shards.blocking import connect
-from bpfhost.shards.connection import Redis, told_by
+from bpfhost.shards.connection import told_by
 from bpfhost.shards.errors import RedisError
+from bpfhost.shards.link import library
+from tests.shards.blocking_redis import Redis, connect
 from tests.shards.redis_server import SERVER
 
 MASTERS, SLOTS = 3, 16_384
@@ -155,7 +154,7 @@ class RedisCluster:
 
     def master_of(self, key: str) -> Node:
         """The node that serves a key's slot."""
-        slot = slot_of(key)
+        slot = library("redis.crc").key_slot(key.encode())
         for node in self.nodes:
             with contextlib.suppress(RedisError):
                 for first, last, (_, port, *_), *_ in node.call("CLUSTER", "SLOTS"):  # type: ignore[attr-defined]
@@ -163,6 +162,6 @@ class RedisCluster:
                         return next(one for one in self.nodes if one.port == port)
         raise AssertionError(f"nobody serves {key}")
 
-    def redis(self) -> blocking.Redis:
+    def redis(self) -> Redis:
         """A connection of the package to the cluster."""
         return connect(self.url)

@@ -9,8 +9,8 @@ import time
 from collections.abc import Mapping
 from pathlib import Path
 
-from bpfhost.shards.blocking import connect
 from bpfhost.shards.errors import Away
+from tests.shards.blocking_redis import connect
 
 SERVER = shutil.which("redis-server")
 _SECONDS = 20

@@ -33,6 +33,7 @@ from bpfhost.numbers import MOST_TENANTS
 from bpfhost.shards import Client, RedisError, ShardKeys
 from bpfhost.shards.gateway.customers import hash_of
 from bpfhost.shards.remote import CustomerTls, GatewayCustomer
+from tests.shards.blocking_redis import shard_of
 from tests.shards.certificates import OPENSSL, authority, signed
 from tests.shards.redis_cluster import Node, RedisCluster
 from tests.shards.redis_server import missing
@@ -266,12 +267,12 @@ class Service:
                 self._compare_shard(client, number)
             for one in self.customers:
                 seat = seats[one.name]
-                record = client.shard(seat.shard)[0].hget(ShardKeys(seat.shard).sessions(seat.generation), f"gateway session of {one.name}")
+                record = shard_of(client, seat.shard)[0].hget(ShardKeys(seat.shard).sessions(seat.generation), f"gateway session of {one.name}")
                 if int((record or b"0").split()[0]) != one.frames:
                     raise Differs(f"{one.name} was answered {one.frames} frames, and its session has {record!r}")
 
     def _compare_shard(self, client: Client, number: int) -> None:
-        redis, keys = client.shard(number)
+        redis, keys = shard_of(client, number)
         for tenant in range(MOST_TENANTS):
             try:
                 asked, replied = (redis.stream(name) for name in (keys.frames(tenant), keys.replies(tenant)))

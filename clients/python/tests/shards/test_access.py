@@ -13,14 +13,13 @@ from pathlib import Path
 
 from bpfhost import Host
 from bpfhost.shards import Client, RedisError, Settings, ShardKeys, move, operating, remove
-from bpfhost.shards import blocking
-from bpfhost.shards.blocking import connect
-from bpfhost.shards.connection import Redis, as_in, without_secrets
+from bpfhost.shards.connection import as_in, without_secrets
 from bpfhost.shards.errors import Away, NotAllowed
 from bpfhost.shards.gateway.limits import GatewayLimits
 from bpfhost.shards.gateway.sharing import Sharing
-from bpfhost.shards.link import _library, packed
+from bpfhost.shards.link import library, packed
 from tests.common import PROGRAM, HostTest
+from tests.shards.blocking_redis import Redis, connect, directory_of
 from tests.shards.certificates import OPENSSL, authority, signed
 from tests.shards.common import CREATE, SETTINGS, WorkerThread, did
 from tests.shards.gateways import GatewayThread, Raw, customers_file
@@ -60,7 +59,7 @@ class Users(HostTest):
         """The server's URL for a user of this kind."""
         return f"unix://{user(kind)}@{folder or self.scratch}/s"
 
-    def redis(self, kind: str) -> blocking.Redis:
+    def redis(self, kind: str) -> Redis:
         """The server, for a user of this kind."""
         made = connect(self.url(kind))
         self.addCleanup(made.close)
@@ -89,7 +88,7 @@ class Users(HostTest):
                     self.assertEqual(list(customer.ask_bytes(asked[:150])), wanted[:150])
                     move(operator, customer.name)
                     self.assertEqual(list(customer.ask_bytes(asked[150:])), wanted[150:])
-                self.assertEqual(operator.redis.hgetall("bpfhost:{directory}:servers"), {b"4": f"unix://{two}/s".encode()})
+                self.assertEqual(directory_of(operator).hgetall("bpfhost:{directory}:servers"), {b"4": f"unix://{two}/s".encode()})
                 remove(operator, "customer-0")
                 sharing = Sharing(client.aio)
                 client.loop.run(sharing.exchange({"customer-1": 1}))
@@ -153,7 +152,7 @@ class Words(unittest.TestCase):
     @unittest.skipIf(_WHY is not None, _WHY or "")
     def test_commands(self) -> None:
         """A command's bytes are those that the library would send."""
-        connection = _library("redis.asyncio").ConnectionPool.from_url("unix:///nothing").make_connection()
+        connection = library("redis.asyncio").ConnectionPool.from_url("unix:///nothing").make_connection()
         cases: tuple[list[object], ...] = (
             ["GET", "a"],
             ["XREAD", "COUNT", 64, "STREAMS", "bpfhost:{0}:frames:0", b"1-0"],

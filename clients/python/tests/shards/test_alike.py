@@ -16,7 +16,7 @@ from bpfhost.shards.errors import MemoryRefused
 from bpfhost.shards.names import RUNS
 from bpfhost.shards.serving import Serving, _so_many
 from bpfhost.state import split
-from bpfhost.shards.link import MACHINE
+from bpfhost.shards.system import MACHINE
 from tests.common import PROGRAM, HostTest
 from tests.shards.common import CREATE, LOOK_UP, call_of, put
 from tests.shards.streams import slots_of

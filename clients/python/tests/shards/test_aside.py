@@ -8,6 +8,7 @@ from bpfhost import MapType, frames
 from bpfhost.shards import MoveError, NotDone, SetAside, Settings, ShardError, move, operating
 from bpfhost.shards.manifest import Manifest
 from tests.common import PROGRAM
+from tests.shards.blocking_redis import shard_of
 from tests.shards.common import CREATE, LOOK_UP, SECONDS, ShardTest, WorkerThread, put, did
 
 # A host that ends at a lookup of a key with these bytes.
@@ -144,7 +145,7 @@ class Damage(AsideTest):
         self.assertIsNone(worker.error)
 
     def damaged(self, of: str, damage: str) -> None:
-        redis, keys = self.client.shard(0)
+        redis, keys = shard_of(self.client, 0)
         manifest = Manifest.read(redis.hget(keys.snapshots, of) or b"")
         name = manifest.names()[0]
         piece = redis.hget(keys.pieces, name) or b""
@@ -247,5 +248,5 @@ class OtherBuilds(AsideTest):
 
 def remove_all(test: ShardTest) -> None:
     """Empties the Redis between two tries."""
-    redis, _ = test.client.shard(0)
+    redis, _ = shard_of(test.client, 0)
     redis.call("FLUSHALL")

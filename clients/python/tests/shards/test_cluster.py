@@ -10,10 +10,11 @@ from collections.abc import Callable
 
 from bpfhost import Host
 from bpfhost.shards import Client, NoReply, RedisError, Settings, ShardKeys, move
-from bpfhost.shards.cluster import Nodes, Place, key_of, slot_of
+from bpfhost.shards.cluster import Nodes
 from bpfhost.shards.errors import Away
 from bpfhost.shards.names import DirectoryKeys
 from tests.common import PROGRAM, HostTest
+from tests.shards.blocking_redis import shard_of
 from tests.shards.common import CREATE, WorkerThread, put
 from tests.shards.redis_cluster import RedisCluster
 from tests.shards.redis_server import missing
@@ -94,7 +95,7 @@ class Cluster(HostTest):
 
     def entries(self, client: Client, shard: int) -> int:
         """How many entries a shard was given, each of which has its reply."""
-        redis, keys = client.shard(shard)
+        redis, keys = shard_of(client, shard)
         found = 0
         for tenant in range(8):
             asked, replied = redis.stream(keys.frames(tenant)), redis.stream(keys.replies(tenant))
@@ -140,35 +141,16 @@ class Cluster(HostTest):
 
 
 class Words(unittest.TestCase):
-    def test_slots(self) -> None:
-        # The check value of CRC16 (XMODEM), and keys of the specification.
-        self.assertEqual(slot_of("123456789"), 0x31C3)
-        self.assertEqual(slot_of("{user1000}.following"), slot_of("user1000"))
-        self.assertEqual(slot_of("foo{}{bar}"), slot_of(b"foo{}{bar}"))
-        self.assertEqual(slot_of("foo{bar}{zap}"), slot_of("bar"))
-        self.assertNotEqual(slot_of("foo{}{bar}"), slot_of("bar"))
-
-    def test_keys(self) -> None:
-        for words, key in (
-            (("EVALSHA", "x", 2, "a", "b", "c"), "a"),
-            (("EVAL", "x", 0), None),
-            (("XREAD", "COUNT", 1, "BLOCK", 5, "STREAMS", "a", "b", "0-0", "0-0"), "a"),
-            (("XINFO", "STREAM", "a"), "a"),
-            (("HGET", "a", "b"), "a"),
-            (("INFO", "memory"), None),
-        ):
-            self.assertEqual(key_of(words), key)
-
     def test_urls(self) -> None:
-        self.assertEqual(Place.of("redis://u:p@h:1/0?cluster=1&db=2&replicas=2"), Place("redis://u:p@h:1/0?db=2", True, 2))
-        self.assertEqual(Place.of("redis://u:p@h:1/0?cluster=1").at("g:2"), "redis://u:p@g:2/0")
-        self.assertIsNone(Place.of("unix:///s").nodes())
+        self.assertEqual(Nodes.of("redis://u:p@h:1/0?cluster=1&db=2&replicas=2"), Nodes("redis://u:p@h:1/0?db=2", True, 2, ["h:1"]))
+        self.assertEqual(Nodes.of("redis://u:p@h:1/0?cluster=1").at("g:2"), "redis://u:p@g:2/0")
+        self.assertTrue(Nodes.of("unix:///s").is_one)
         for url in ("redis://h:1/0?cluster=2", "redis://h:1/0?replicas=x", "unix:///s?cluster=1"):
             with self.assertRaisesRegex(RedisError, "cluster is 0 or 1, of hosts with ports, and replicas is a number"):
-                Place.of(url)
+                Nodes.of(url)
 
     def test_nodes(self) -> None:
-        nodes = Nodes(["a:1"])
+        nodes = Nodes.of("redis://a:1/0?cluster=1")
         self.assertEqual((nodes.find(5, 0), nodes.learn(5, "b:2"), nodes.find(5, 0)), ("a:1", False, "b:2"))
         nodes.note("b:2", is_away=True)
         self.assertEqual((nodes.find(5, 0), nodes.learn(5, "b:2"), nodes.changes), ("a:1", False, 0))

@@ -11,9 +11,9 @@ import time
 
 from bpfhost import Host, MapType, frames
 from bpfhost.shards import Client, ShardKeys
-from bpfhost.shards.blocking import connect
 from bpfhost.shards.settings import Settings
 from tests.common import PROGRAM
+from tests.shards.blocking_redis import connect
 from tests.shards.common import ShardTest
 from tests.shards.redis_server import RedisServer
 from tests.shards.streams import Stream

@@ -25,6 +25,7 @@ from bpfhost.shards.gateway.limits import GatewayLimits, Rate
 from bpfhost.shards.gateway.protocol import GATEWAY, Why, Word, ack, hello, said, told
 from bpfhost.shards.remote import CustomerTls, GatewayCustomer, GatewayRefuses
 from tests.common import PROGRAM
+from tests.shards.blocking_redis import shard_of
 from tests.shards.certificates import OPENSSL, authority, signed
 from tests.shards.common import CREATE, LOOK_UP, ShardTest, put, did
 from tests.shards.gateways import UNCOUNTED, GatewayThread, Raw, customers_file
@@ -333,7 +334,7 @@ class Sessions(GatewayTest):
         raw = self.raw(gateway)
         raw.greet("token of acme")
         raw.say(CREATE)
-        redis, keys = self.client.shard(0)
+        redis, keys = shard_of(self.client, 0)
         self.until(lambda: redis.xlen(keys.frames(0)) == 1)
         ending = threading.Thread(target=gateway.stop)
         ending.start()

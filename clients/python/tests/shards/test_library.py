@@ -24,10 +24,11 @@ from bpfhost.shards.connection import Redis
 from bpfhost.shards.errors import MemoryRefused
 from bpfhost.shards.library import SONAME, Library, LibraryHost, find_library
 from bpfhost.shards.serving import Serving
-from bpfhost.shards.link import MACHINE
+from bpfhost.shards.system import MACHINE
 from bpfhost.state import Steps, at_once, split
 from tests.common import PROGRAM, HostTest
 from tests.shards import test_snapshot, test_stalls
+from tests.shards.blocking_redis import shard_of
 from tests.shards.common import CREATE, LOOK_UP, SECONDS, ShardTest, call_of, put, all_steps, no_history
 from tests.shards.library_file import library_file
 from tests.shards.streams import Stream, slots_of
@@ -309,7 +310,7 @@ class Workers(ShardTest):
 
     def test_a_host_that_is_replaced(self) -> None:
         """After a worker that was killed, the host is in this process again after many calls."""
-        redis, keys = self.client.shard(0)
+        redis, keys = shard_of(self.client, 0)
         redis.hset(keys.lease, "token", "another worker")
         redis.hset(keys.lease, "milliseconds", 200)
         told = list[str]()

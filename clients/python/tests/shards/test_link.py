@@ -10,7 +10,7 @@ from unittest import mock
 from bpfhost.shards import connection
 from bpfhost.shards.connection import Redis, forgotten
 from bpfhost.shards.errors import Away, NoScript, OutOfMemory, RedisError
-from bpfhost.shards.link import RedisLink
+from bpfhost.shards.link import link as linked
 from tests.common import TimedTest
 from tests.shards.common import ShardTest
 
@@ -89,7 +89,7 @@ class Silent(TimedTest, unittest.IsolatedAsyncioTestCase):
 
         path = str(Path(self.scratch) / "s")
         server = await asyncio.start_unix_server(replies_once, path)
-        link = RedisLink(f"unix://{path}")
+        link = linked(f"unix://{path}")
         self.assertEqual(await link.begin(["PING"], 60.0), b"PONG")
         asked = [link.begin(["PING"], seconds) for seconds in (0.1, 60.0)]
         with self.assertRaisesRegex(Away, "^Redis can't be reached: it does not answer in time$"):
@@ -99,13 +99,13 @@ class Silent(TimedTest, unittest.IsolatedAsyncioTestCase):
         link.cut()
         server.close()
         with self.assertRaisesRegex(Away, "^Redis can't be reached: .+"):
-            await RedisLink(f"unix://{path}none").begin(["PING"], 1.0)
+            await linked(f"unix://{path}none").begin(["PING"], 1.0)
 
     async def test_a_connection_that_breaks(self) -> None:
         """An error of the system is one of a server that is away, also on a Unix socket, for which the library has no host to name."""
         path = str(Path(self.scratch) / "s")
         server = await asyncio.start_unix_server(lambda reader, writer: writer.write(b"+"), path)
-        link = RedisLink(f"unix://{path}")
+        link = linked(f"unix://{path}")
         with mock.patch("socket.socket.recv_into", create=True, side_effect=ConnectionResetError(104, "Connection reset by peer")):
             with self.assertRaisesRegex(Away, "^Redis can't be reached: .*Connection reset by peer$"):
                 await link.begin(["PING"], 5.0)
@@ -118,7 +118,7 @@ class Silent(TimedTest, unittest.IsolatedAsyncioTestCase):
 
         path = str(Path(self.scratch) / "s")
         server = await asyncio.start_unix_server(says, path)
-        link = RedisLink(f"unix://{path}")
+        link = linked(f"unix://{path}")
         with self.assertRaises(Away):
             await link.begin(["PING"], 5.0)
         link.cut()

@@ -9,6 +9,7 @@ from unittest import mock
 from bpfhost import Errno, MapType
 from bpfhost.shards import Client, MoveError, Seat, ShardError, ShardKeys, directory_scripts, move, remove, scripts
 from bpfhost.shards.connection import Redis, Script
+from tests.shards.blocking_redis import shard_of
 from tests.shards.common import CREATE, LOOK_UP, ShardTest, WorkerThread, put
 from tests.shards.redis_server import RedisServer
 
@@ -63,7 +64,7 @@ class Moves(ShardTest):
             moves = (directory_scripts.BEGIN_MOVE, scripts.CLAIM, scripts.LEAVE, scripts.ARRIVE, scripts.SEAT, directory_scripts.END_MOVE)
 
             async def only_moves(script: Script, redis: Redis, *arguments: object) -> object:
-                if redis._links in [one._links for one in mover.aio._servers.values()] and script in moves:
+                if redis.lines in [one.lines for one in mover.aio._servers.values()] and script in moves:
                     return await breaks(script, redis, *arguments)
                 return await right(script, redis, *arguments)  # type: ignore[arg-type]
 
@@ -74,7 +75,7 @@ class Moves(ShardTest):
             self.assertEqual(customer.ask(LOOK_UP).payload, step.to_bytes(8, "little"))
             self.assertEqual(sum(self.client.directory.loads().values()), 1)
             for shard in (0, 1):
-                self.assertEqual(self.client.shard(shard)[0].hgetall(ShardKeys(shard).left), {})
+                self.assertEqual(shard_of(self.client, shard)[0].hgetall(ShardKeys(shard).left), {})
 
     def test_steps_that_come_late(self) -> None:
         """Steps of a move that has ended do nothing any more, also if the next one has begun."""
@@ -87,7 +88,7 @@ class Moves(ShardTest):
         move(self.client, "acme")
         assert second is not None
         self.client.directory.begin_move("acme")
-        redis, keys = self.client.shard(second.shard)
+        redis, keys = shard_of(self.client, second.shard)
         leaves = [second.tenant, second.generation, second.owned_by("acme")]
         left = redis.run(scripts.LEAVE, [keys.seats, keys.frames(second.tenant)], leaves)
         # Of the first move, late: the seat stays taken back, and the directory does not have the next one yet.

@@ -7,13 +7,16 @@ import unittest
 from collections.abc import Sequence
 from typing import Any
 
-from bpfhost.shards.cluster import NodesLink, Place, slot_of
+from bpfhost.shards.cluster import Line, Nodes
 from bpfhost.shards.errors import Away, Moved
-from bpfhost.shards.system import Link, Word
+from bpfhost.shards.link import Word
+from bpfhost.shards.system import Link
 
 
 class MovedLink:
     """A connection to a node that redirects each command."""
+
+    is_over = False
 
     def __init__(self, node: str) -> None:
         self._node = node
@@ -29,28 +32,25 @@ class MovedLink:
 
 class SlotThatMoved(unittest.IsolatedAsyncioTestCase):
     def setUp(self) -> None:
-        place = Place.of("redis://a:1/0?cluster=1")
-        nodes = place.nodes()
-        assert nodes
-        self.nodes = nodes
+        self.nodes = Nodes.of("redis://a:1/0?cluster=1")
 
         def link(_url: str) -> Link:
             return MovedLink("b:1")
 
-        self.links = [NodesLink(place, nodes, link) for _ in range(2)]
+        self.lines = [Line(self.nodes, link) for _ in range(2)]
 
     async def test_commands_behind_one_another(self) -> None:
         """One that learns first of the new node of a slot raises Away, as the history there may be another one."""
-        sent = [asyncio.create_task(link.call(["GET", "key"], 1.0)) for link in self.links]
+        sent = [line.begin(["GET", "key"], 1.0, 5, None) for line in self.lines]
         for task in sent:
             with self.assertRaises(Away):
                 await task
-        self.assertEqual(self.nodes.find(slot_of("key"), None), "b:1")
+        self.assertEqual(self.nodes.find(5, None), "b:1")
 
     async def test_calls(self) -> None:
         """A call is redirected to the node that is named, as often as nodes agree."""
         with self.assertRaisesRegex(Away, "do not agree"):
-            await self.links[0].call(["GET", "key"], 1.0)
+            await self.lines[0].begin(["GET", "key"], 1.0, 5, None)
 
 
 if __name__ == "__main__":

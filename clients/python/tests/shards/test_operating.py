@@ -10,8 +10,8 @@ from unittest import mock
 from bpfhost import MapType, frames
 from bpfhost.shards import MoveError, NotTaken, OtherShard, Settings, ShardError, ShardKeys, abort_move, move, operating, scripts
 from bpfhost.shards import attending
-from bpfhost.shards.blocking import connect
 from bpfhost.shards.connection import Script
+from tests.shards.blocking_redis import connect, shard_of
 from tests.shards.common import CREATE, LOOK_UP, SECONDS, ShardTest, WorkerThread, put, did, drained
 from tests.shards.redis_server import RedisServer
 
@@ -161,7 +161,7 @@ class BrokenMoves(ShardTest):
                     self.assertEqual((self.client.directory.moves(), self.client.directory.loads()[1 - was.shard]), ({}, 0))
                     self.assertEqual(self.customer.ask(LOOK_UP).payload, (7).to_bytes(8, "little"))
                     # Late steps of the move that was taken back have no effect.
-                    redis, keys = self.client.shard(late.shard)
+                    redis, keys = shard_of(self.client, late.shard)
                     used = [keys.seats, keys.frames(late.tenant), keys.sessions(late.generation)]
                     self.assertIsNone(redis.run(scripts.ARRIVE, used, [late.tenant, late.generation, b"{}"]))
                     with self.assertRaisesRegex(MoveError, "customer acme is not being moved"):
@@ -176,7 +176,7 @@ class Memory(ShardTest):
         customer = self.client.customer("acme", 60)
         self.assertEqual(customer.ask(frames.map_create(0, MapType.HASH, 4, 4096, 16)).status, 3)
         customer.ask(frames.map_update_elem(0, 3, b"key1", bytes(4096))).done()
-        redis, _ = self.client.shard(0)
+        redis, _ = shard_of(self.client, 0)
         for ticket in [customer.post(LOOK_UP * 400) for _ in range(8)]:
             customer.wait(ticket)
         used = int(redis.call("MEMORY", "STATS")[3])
@@ -191,7 +191,7 @@ class Memory(ShardTest):
         worker = self.shard(0)
         customer = self.client.customer("acme", 60)
         customer.ask(CREATE)
-        redis, _ = self.client.shard(0)
+        redis, _ = shard_of(self.client, 0)
         right, refused = Script.begin, list[int]()
 
         def forgets(script: Script, *arguments: object) -> object:
@@ -223,7 +223,7 @@ class Names(ShardTest):
             self.assertEqual(customer.ask(LOOK_UP).status, -2)
 
     def test_the_name_that_is_made_with_a_shard(self) -> None:
-        redis, keys = self.client.shard(5)
+        redis, keys = shard_of(self.client, 5)
         first = redis.run(scripts.BE_MADE, [keys.incarnation], ["one"])
         self.assertEqual([first, redis.run(scripts.BE_MADE, [keys.incarnation], ["two"])], [b"one", b"one"])
         self.assertEqual(ShardKeys(5).incarnation, "bpfhost:{5}:incarnation")

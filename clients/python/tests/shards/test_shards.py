@@ -4,7 +4,7 @@ from __future__ import annotations
 
 import signal
 import time
-from collections.abc import Callable
+from collections.abc import Awaitable, Callable, Sequence
 from unittest import mock
 
 from bpfhost import Errno, Host, MapType, Packets, Refused, frames
@@ -29,13 +29,14 @@ from bpfhost.shards import (
     remove,
     scripts,
 )
-from bpfhost.shards.blocking import connect
 from bpfhost.shards import connection
+from bpfhost.shards.cluster import Line
 from bpfhost.shards.connection import Script, demand_durable
 from bpfhost.shards.log import Log
 from bpfhost.shards.errors import Away
 from bpfhost.shards.names import FRAMES, after, before, order
 from tests.common import LENGTH, PROGRAM
+from tests.shards.blocking_redis import connect, shard_of
 from tests.shards.common import CREATE, LOOK_UP, SECONDS, ShardTest, WorkerThread, put, did
 from tests.shards.streams import Stream
 
@@ -81,7 +82,7 @@ class Asking(ShardTest):
         told = [customer.receive(part) for part in parts]
         self.assertEqual([len(one) for one in told], [1] + [2] * 200)
         self.assertEqual([one[1][12:] for one in told[1:]], [value.to_bytes(8, "little") for value in range(200)])
-        redis, keys = self.client.shard(0)
+        redis, keys = shard_of(self.client, 0)
         self.assertEqual(redis.xlen(keys.frames(0)), 1)
         # A call between them keeps its place, and what has no room in a call begins the next one.
         first, second = customer.send(put(7)), customer.ask(LOOK_UP)
@@ -167,20 +168,21 @@ class Calls(ShardTest):
         self.shard(0)
         customer = self.client.customer("acme")
         customer.ask(CREATE)
-        right = Script.__call__
+        right = connection.Redis._begun
         lost: list[object] = []
 
-        async def loses(script: Script, *arguments: object) -> object:
-            answer = await right(script, *arguments)  # type: ignore[arg-type]
-            if script is scripts.ASK and len(lost) < 3:
-                lost.append(answer)
-                raise Away("cut")
-            return answer
+        async def lose(reply: Awaitable[object]) -> object:
+            lost.append(await reply)
+            raise Away("cut")
 
-        with mock.patch.object(Script, "__call__", loses):
+        def loses(redis: connection.Redis, line: Line, words: Sequence[object], wait: float) -> Awaitable[object]:
+            reply = right(redis, line, words, wait)
+            return lose(reply) if scripts.ASK.name(redis) in words and len(lost) < 3 else reply
+
+        with mock.patch.object(connection.Redis, "_begun", loses):
             self.assertEqual(customer.ask(frames.map_update_elem(0, 3, b"key1", bytes(8), 1)).status, 0)
         self.assertEqual(len(lost), 3)
-        self.assertEqual(self.client.shard(0)[0].xlen(ShardKeys(0).frames(0)), 2)
+        self.assertEqual(shard_of(self.client, 0)[0].xlen(ShardKeys(0).frames(0)), 2)
 
     def test_a_call_that_is_not_taken_is_not_sent_later(self) -> None:
         customer = self.client.customer("acme")
@@ -193,20 +195,20 @@ class Calls(ShardTest):
         """A call that was given up is refused when a delayed command with it reaches the server after all."""
         redis, keys = self.empty_shard(0)
         customer = self.client.customer("acme", seconds=0.1)
-        right, late = Script.__call__, list[tuple[object, ...]]()
+        right, late = connection.Redis._begun, list[Sequence[object]]()
 
-        async def delays(script: Script, *arguments: object) -> object:
-            if script is scripts.ASK and not late:
-                late.append(arguments)
+        async def delays(server: connection.Redis, line: Line, words: Sequence[object], wait: float) -> object:
+            if scripts.ASK.name(server) in words and not late:
+                late.append(words)
                 raise Away("cut")
-            return await right(script, *arguments)  # type: ignore[arg-type]
+            return await right(server, line, words, wait)
 
-        with mock.patch.object(Script, "__call__", delays), mock.patch.object(names, "MOST_WAITING", 1):
+        with mock.patch.object(connection.Redis, "_begun", delays), mock.patch.object(names, "MOST_WAITING", 1):
             redis.hset(keys.waiting, 0, 1)
             with self.assertRaisesRegex(NotTaken, "customer acme has as many calls waiting as one may have"):
                 customer.post(CREATE)
             redis.hset(keys.waiting, 0, 0)
-            self.assertEqual(self.client.loop.run(scripts.ASK(*late[0]))[0], b"given up")  # type: ignore[arg-type]
+            self.assertEqual(redis.call(*late[0])[0], b"given up")
         self.assertEqual(redis.xlen(keys.frames(0)), 0)
 
     def test_a_worker_that_comes_later(self) -> None:
@@ -259,7 +261,7 @@ class Calls(ShardTest):
             # The waiting calls of one customer leave the limit of another unchanged.
             ticket = other.post(CREATE)
         self.shard(0, Settings(SECONDS, snapshot_bytes=1 << 20))
-        redis, keys = self.client.shard(0)
+        redis, keys = shard_of(self.client, 0)
         self.assertEqual(other.wait(ticket)[0][8:], bytes([3, 0, 0, 0]))
         self.until(lambda: redis.hget(keys.waiting, 0) == b"0")
         customer.seconds = 30
@@ -269,7 +271,7 @@ class Calls(ShardTest):
         self.shard(0, Settings(SECONDS, snapshot_entries=1, reply_seconds=0.0))
         customer = self.client.customer("acme")
         ticket = customer.post(CREATE)
-        redis, keys = self.client.shard(0)
+        redis, keys = shard_of(self.client, 0)
         for value in range(20):
             customer.wait(customer.post(put(value)))
         self.until(lambda: redis.dropped_id(keys.replies(0)) >= (ticket.entry or b""))
@@ -281,7 +283,7 @@ class Calls(ShardTest):
         """If all tenants have too many bytes of replies, drops the oldest that are in a snapshot; also those of an earlier worker."""
         settings = Settings(SECONDS, snapshot_entries=1, reply_bytes=40_000)
         worker = self.shard(0, settings)
-        redis, keys = self.client.shard(0)
+        redis, keys = shard_of(self.client, 0)
         customers = [self.client.customer(name) for name in ("acme", "other")]
         for customer in customers:
             customer.ask(CREATE)
@@ -306,7 +308,7 @@ class Calls(ShardTest):
     def test_what_one_customer_may_hold(self) -> None:
         """The replies of one that has too many are dropped, the oldest first, and no other one's."""
         self.shard(0, Settings(SECONDS, snapshot_entries=1, reply_bytes_of_customer=10_000))
-        redis, keys = self.client.shard(0)
+        redis, keys = shard_of(self.client, 0)
         other, greedy = self.client.customer("other"), self.client.customer("greedy")
         unread = other.post(CREATE)
         tickets = [greedy.post(CREATE)]
@@ -398,7 +400,7 @@ class Workers(ShardTest):
         self.assertIsNone(first.error)
 
     def test_a_lease_whose_holder_is_gone(self) -> None:
-        redis, keys = self.client.shard(0)
+        redis, keys = shard_of(self.client, 0)
         for field, value in (("token", "token elsewhere process 7"), ("count", "5"), ("milliseconds", "700")):
             redis.hset(keys.lease, field, value)
         began = time.monotonic()
@@ -410,7 +412,7 @@ class Workers(ShardTest):
         worker = self.shard(0)
         customer = self.client.customer("acme")
         customer.ask(CREATE)
-        redis, keys = self.client.shard(0)
+        redis, keys = shard_of(self.client, 0)
         redis.hset(keys.lease, "token", "token elsewhere process 7")
         customer.post(put(1))
         worker.join()
@@ -423,7 +425,7 @@ class Workers(ShardTest):
         self.assertEqual(customer.ask(LOOK_UP).payload, (1).to_bytes(8, "little"))
 
     def test_a_worker_that_is_stopped_while_it_waits(self) -> None:
-        redis, keys = self.client.shard(0)
+        redis, keys = shard_of(self.client, 0)
         for field, value in (("token", "token elsewhere process 7"), ("count", "5"), ("milliseconds", "60000")):
             redis.hset(keys.lease, field, value)
         worker = WorkerThread(self.server.url, 0)
@@ -457,7 +459,7 @@ class Workers(ShardTest):
         for value in range(350):
             customer.ask(put(value))
         first.stop()
-        redis, keys = self.client.shard(0)
+        redis, keys = shard_of(self.client, 0)
         # The entries since the snapshot before the last one are there.
         self.assertLess(redis.xlen(keys.frames(0)), 250)
         self.assertEqual(redis.xlen(keys.replies(0)), 351)
@@ -494,7 +496,7 @@ class Workers(ShardTest):
 
     def test_entries_of_others(self) -> None:
         worker = self.shard(0)
-        redis, keys = self.client.shard(0)
+        redis, keys = shard_of(self.client, 0)
         for tenant in (0, 1):
             for fields in (("x", "y"), ("f", b"\1\2\3"), ("leave", "7")):
                 redis.call("XADD", keys.frames(tenant), "*", *fields)
@@ -505,7 +507,7 @@ class Workers(ShardTest):
     def test_arrivals_of_others(self) -> None:
         """An entry that says of an arrival what no move writes is set aside, by each worker; an operator skips it, and its customer goes on."""
         worker = self.shard(0)
-        redis, keys = self.client.shard(0)
+        redis, keys = shard_of(self.client, 0)
         customer = self.client.customer("acme")
         self.assertEqual(customer.ask(CREATE).status, 3)
         for manifest in (b"\1\2", b"{}", b"[" * 100_000):
@@ -531,7 +533,7 @@ class Workers(ShardTest):
 
     def test_a_snapshot_in_pieces(self) -> None:
         """More bytes than a script is given at once, of tenants that come and go."""
-        redis, keys = self.client.shard(0)
+        redis, keys = shard_of(self.client, 0)
         with mock.patch.object(manifests, "PIECE", 100):
             first = self.shard(0, Settings(SECONDS, snapshot_entries=12))
             for number in range(8):

@@ -12,7 +12,7 @@ from bpfhost.shards.copied import Asked, Copy
 from bpfhost.shards.errors import CopyDiffers, MemoryRefused, StateRefused
 from bpfhost.shards.names import FRAMES
 from bpfhost.shards.serving import Serving, answered
-from bpfhost.shards.link import MACHINE
+from bpfhost.shards.system import MACHINE
 from bpfhost.slots import named_maps, renamed_maps
 from bpfhost.state import at_once, split, state_frames, with_tenant
 from bpfhost.tenancy import Tenancy, status_of

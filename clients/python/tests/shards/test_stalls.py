@@ -16,11 +16,12 @@ from bpfhost.shards.connection import Redis
 from bpfhost.shards.library import Library
 from bpfhost.shards.names import MOST_WAITING
 from bpfhost.shards.serving import Serving
-from bpfhost.shards.link import MACHINE, RedisLink
-from bpfhost.shards.system import Machine, Word, Work
+from bpfhost.shards.link import Word
+from bpfhost.shards.system import MACHINE, Link, Machine, Work
 from bpfhost.shards.reading import TURN_FRAMES, share_of
 from bpfhost.state import Steps
 from tests.common import PROGRAM, HostTest
+from tests.shards.blocking_redis import directory_of, shard_of
 from tests.shards.common import CREATE, LOOK_UP, SECONDS, ShardTest, call_of, put, did, no_history
 from tests.shards.streams import slots_of
 
@@ -83,16 +84,21 @@ class Counting(Machine):
 
     def __init__(self) -> None:
         self.largest = 0
-        super().__init__(lambda url: _CountingLink(self, url))
+
+    def link(self, url: str) -> Link:
+        return _CountingLink(self, super().link(url))
 
 
-class _CountingLink(RedisLink):
-    def __init__(self, counting: Counting, url: str) -> None:
-        super().__init__(url)
-        self._counting = counting
+class _CountingLink:
+    def __init__(self, counting: Counting, link: Link) -> None:
+        self._counting, self._link, self.cut = counting, link, link.cut
+
+    @property
+    def is_over(self) -> bool:
+        return self._link.is_over
 
     def begin(self, words: Sequence[Word], seconds: float) -> asyncio.Future[Any]:
-        reply = super().begin(words, seconds)
+        reply = self._link.begin(words, seconds)
         self._note(sum(len(word) for word in words if isinstance(word, bytes)))
         reply.add_done_callback(self._came)
         return reply
@@ -138,7 +144,7 @@ class Stalls(Waits):
         longest, many = self.longest(work)
         self.assertLess(longest, 1 / 3)
         self.assertGreater(many, 20)
-        redis, keys = self.client.shard(0)
+        redis, keys = shard_of(self.client, 0)
         self.assertLessEqual(int(redis.hget(keys.waiting, 0) or 0), MOST_WAITING)
 
     def test_a_turn(self) -> None:
@@ -206,7 +212,7 @@ class SnapshotStalls(Waits):
         longest, _ = self.longest(work)
         self.assertLess(longest, 1 / 3)
         keys = ShardKeys(0)
-        self.assertGreater(len(self.client.redis.hkeys(keys.pieces)), 4)
+        self.assertGreater(len(directory_of(self.client).hkeys(keys.pieces)), 4)
         self.assertLess(counting.largest, STEP_BYTES)
 
     def test_maps_that_only_programs_have(self) -> None:
@@ -227,7 +233,7 @@ class SnapshotStalls(Waits):
 
         longest, _ = self.longest(work)
         self.assertLess(longest, 1 / 3)
-        self.assertGreater(len(self.client.redis.hkeys(ShardKeys(0).snapshots)), 10)
+        self.assertGreater(len(directory_of(self.client).hkeys(ShardKeys(0).snapshots)), 10)
 
 
 class SlowLink:

@@ -21,6 +21,7 @@ from bpfhost import frames
 from bpfhost.shards import metrics, operating
 from bpfhost.shards.metrics import Page, Told
 from tests.common import PROGRAM, HostTest
+from tests.shards.blocking_redis import shard_of
 from tests.shards.common import CREATE, LOOK_UP, ShardTest, WorkerThread, put, did
 from tests.shards.gateways import UNCOUNTED, customers_file
 from tests.test_command import PACKAGE
@@ -142,7 +143,7 @@ class Processes(ShardTest):
             tickets = [customer.post(put(value)) for value in range(30)]
         worker.send_signal(signal.SIGTERM)
         self.assertEqual(worker.wait(30), 0)
-        redis, keys = self.client.shard(0)
+        redis, keys = shard_of(self.client, 0)
         self.assertEqual(sorted(redis.hgetall(keys.snapshots)), [b"0", b"1", b"2"])
         self.assertIsNone(redis.hget(keys.lease, "token"))
         second = self.shard(0)

@@ -21,10 +21,9 @@ from bpfhost.shards.gateway.customers import Customers, Known
 from bpfhost.shards.gateway.limits import Addresses, GatewayLimits, Rate, Unread, network_of
 from bpfhost.shards.gateway.protocol import Refusal, Why
 from bpfhost.shards.gateway.sharing import SECONDS, Sharing
-from bpfhost.shards.link import MACHINE
 from bpfhost.shards.metrics import Numbers, Told
 from bpfhost.shards.names import PREFIX
-from bpfhost.shards.system import System
+from bpfhost.shards.system import MACHINE, System
 
 # So many connections wait in the system until the gateway accepts them.
 _BACKLOG = 1024

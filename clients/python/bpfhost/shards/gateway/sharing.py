@@ -42,8 +42,8 @@ class Sharing:
         """Writes what this gateway has, and reads what others have."""
         self._turn += 1
         now, (latest, before) = self._client.system.now(), self._sent
-        redis = self._client.redis.until(now + _SECONDS_TO_ANSWER)
-        await redis.hset(self._key, self._name, json.dumps([self._turn, connections, sorted(latest | before)]))
+        redis = self._client.directory.redis.until(now + _SECONDS_TO_ANSWER)
+        await redis.call("HSET", self._key, self._name, json.dumps([self._turn, connections, sorted(latest | before)]))
         self._sent = set(), latest
         found = await redis.hgetall(self._key)
         found.pop(self._name, None)
@@ -55,8 +55,8 @@ class Sharing:
                 self.connections.update(theirs)
                 self._senders.update(senders)
             elif since < now - _SECONDS_GONE:
-                await redis.hdel(self._key, name)
+                await redis.call("HDEL", self._key, name)
 
     async def end(self) -> None:
         """Leaves what a customer may to the others."""
-        await self._client.redis.until(self._client.system.now() + _SECONDS_TO_ANSWER).hdel(self._key, self._name)
+        await self._client.directory.redis.until(self._client.system.now() + _SECONDS_TO_ANSWER).call("HDEL", self._key, self._name)

@@ -10,7 +10,8 @@ from typing import Any
 
 from bpfhost.program import Program
 from bpfhost.shards.errors import Away, RedisError
-from bpfhost.shards.system import Asked, Link, Word
+from bpfhost.shards.link import Word
+from bpfhost.shards.system import Asked, Link
 from tests.shards.simulator.host import FakeHost
 from tests.shards.simulator.server import Scripts, Store
 from tests.shards.simulator.world import World
@@ -94,6 +95,8 @@ class Network:
 
 class SimulatedLink:
     """A connection of a process. The server runs commands in the order in which they were begun."""
+
+    is_over = False
 
     def __init__(self, network: Network, url: str) -> None:
         self.network, self._server = network, network.server(url)

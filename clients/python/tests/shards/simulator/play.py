@@ -36,7 +36,7 @@ from bpfhost.shards import (
     moving,
 )
 from bpfhost.shards.aside import Aside
-from bpfhost.shards.cluster import Place
+from bpfhost.shards.cluster import Nodes
 from bpfhost.shards.connection import Redis
 from bpfhost.shards.errors import RedisError
 from bpfhost.shards.operating import say
@@ -149,7 +149,7 @@ class Play:
         return (f"redis://shard-{shard}" if shard else DIRECTORY) + self._replicas
 
     def _server(self, shard: int) -> Server:
-        return self.network.server(Place.of(self._url(shard)).url)
+        return self.network.server(Nodes.of(self._url(shard)).url)
 
     # Workers, which are started again when they end.
 

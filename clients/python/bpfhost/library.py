@@ -20,12 +20,13 @@ from pathlib import Path
 from types import TracebackType
 
 from bpfhost import frames
-from bpfhost.errors import BpfhostError
+from bpfhost.errors import HostError
 from bpfhost.frames import NO_CONTEXT, Context
 from bpfhost.functions import CONTEXT_WORDS, NO_MEMORY, NO_PART, TOO_BIG, functions_of, version_text
 from bpfhost.numbers import LONGEST_PACKET, LONGEST_PAYLOAD, MOST_TENANTS, REPLY_HEAD, Command, Errno
 from bpfhost.packets import Packets
 from bpfhost.replies import Reply, read_replies
+from bpfhost.shared_object import soname_of
 from bpfhost.state import split
 
 # The versions that have the functions below, as in the name of an installed library (docs/RELEASING.md, "The library's binary interface").
@@ -42,27 +43,36 @@ _CODES = {
 }
 
 
-class LibraryError(BpfhostError):
-    """A library that can't be used, or a call of it that failed."""
+class LibraryError(HostError):
+    """A library that can't be used, or a call of it that failed; then `code` is what the function returned."""
+
+    code = 0
 
 
 class Library:
     """A shared library of the host. Hosts share nothing, and each may belong to a thread of its own."""
 
-    def __init__(self, path: str | os.PathLike[str]) -> None:
-        """Opens a file. Raises LibraryError if there is none, or if it is not a library of this version."""
+    def __init__(self, path: str | os.PathLike[str], keeps_lock: bool = False) -> None:
+        """Opens a file. Raises LibraryError if there is none, or if it is not a library of this version.
+
+        With `keeps_lock`, only a run of packets releases Python's lock: that is better for one thread, and short calls.
+        """
         self.path = Path(path)
         if not self.path.is_file():
-            raise LibraryError(f"there is no library {self.path}")
-        named = _NAME.search(self.path.resolve().name)
-        if named and named[1] != VERSION:
-            raise LibraryError(f"{self.path} is of version {named[1]}, and this client is for {VERSION}")
+            raise LibraryError(f"there is no library {self.path}: tools/library and tools/shared-library make it")
         try:
-            self.functions = functions_of(str(self.path.resolve()))
-        except OSError as error:
+            self._demand_version(self.path.resolve().name)
+            self._demand_version(soname_of(self.path))
+            self.functions = functions_of(str(self.path.resolve()), keeps_lock)
+        except (OSError, ValueError) as error:
             raise LibraryError(f"{self.path} is no shared library that can be opened: {error}") from error
         except AttributeError as error:
             raise LibraryError(f"{self.path} is no library of bpfhost {VERSION}: {error}") from error
+
+    def _demand_version(self, name: str) -> None:
+        named = _NAME.search(name)
+        if named and named[1] != VERSION:
+            raise LibraryError(f"{self.path} is of version {named[1]}, and this client is for {VERSION}")
 
     def __repr__(self) -> str:
         return f"<Library {self.path}>"
@@ -74,7 +84,9 @@ class Library:
     def demand_done(self, code: int) -> None:
         """Raises LibraryError if a function returned a code other than 0."""
         if code:
-            raise LibraryError(f"{self.path}: {_CODES.get(code, f'a function returned {code}')}")
+            failed = LibraryError(f"{self.path}: {_CODES.get(code, f'a function returned {code}')}")
+            failed.code = code
+            raise failed
 
     def host(self, tenants: int = 1, seed: tuple[int, int] | None = None) -> LibraryHost:
         """A host of 1 to 64 tenants. Its seed is two words of 64 bits that no tenant may know: drawn, if they are not given."""
@@ -97,6 +109,7 @@ class LibraryHost:
         # What the library is given: the address of the handle, which is empty after the end.
         self._at = ctypes.byref(self._handle)
         self._room, self._written = ctypes.create_string_buffer(_LONGEST_REPLY), ctypes.c_size_t()
+        self._refused = ctypes.c_bool()
         library.demand_done(library.functions.new(self._at, tenants, first, second))
 
     def __enter__(self) -> LibraryHost:
@@ -135,10 +148,9 @@ class LibraryHost:
 
     def memory_refused(self, tenant: int) -> bool:
         """Whether memory was ever refused to a tenant; False for a number that is not served."""
-        refused = ctypes.c_bool()
         with self._lock:
-            self.library.demand_done(self.library.functions.memory_refused(self._at, tenant, ctypes.byref(refused)))
-        return refused.value
+            self.library.demand_done(self.library.functions.memory_refused(self._at, tenant, ctypes.byref(self._refused)))
+            return self._refused.value
 
     def save_part(self, tenant: int, part: int) -> bytes | None:
         """The frames of one part of a tenant, counted from 0; None after its last part, and if the tenant is not served.
@@ -181,7 +193,17 @@ class LibraryHost:
         if tenant >> 16 or descriptor >> 32:
             raise ValueError("the tenant is a number of 16 bits, and a descriptor one of 32")
         data, ends = _in_one_piece(packets)
-        contexts = _contexts_of(context, len(ends))
+        status, results = self._run(tenant, descriptor, _contexts_of(context, len(ends)), data, ends)
+        if status == -Errno.E2BIG:
+            longest = max(map(sub, ends, (0, *ends)))
+            raise ValueError(f"a packet has {longest:,} bytes, and that of a test run has {LONGEST_PACKET:,} at most")
+        Reply(tenant, Command.PROG_TEST_RUN, status).done()
+        return results.tolist()
+
+    def _run(
+        self, tenant: int, descriptor: int, contexts: tuple[bytes, int, int], data: bytes, ends: array[int]
+    ) -> tuple[int, array[int]]:
+        """The status and the results of runs on packets that are one after another, and end at these places."""
         count, results, status = len(ends), array("I", bytes(4 * len(ends))), ctypes.c_int32()
         places = (ends.buffer_info()[0] or _ANYWHERE, count, results.buffer_info()[0] or _ANYWHERE, count)
         with self._lock:
@@ -189,11 +211,7 @@ class LibraryHost:
                 *(self._at, tenant, descriptor, *contexts, data, len(data), *places, ctypes.byref(status))
             )
             self.library.demand_done(code)
-        if status.value == -Errno.E2BIG:
-            longest = max(map(sub, ends, (0, *ends)))
-            raise ValueError(f"a packet has {longest:,} bytes, and that of a test run has {LONGEST_PACKET:,} at most")
-        Reply(tenant, Command.PROG_TEST_RUN, status.value).done()
-        return results.tolist()
+        return status.value, results
 
 
 class LibraryTenant:

@@ -49,13 +49,13 @@ class Files(TimedTest):
             Library(path)
 
     def test_no_file(self) -> None:
-        self.refused(self.scratch / "none.so", "there is no library .*/none.so")
+        self.refused(self.scratch / "none.so", "there is no library .*/none.so: tools/library and tools/shared-library make it")
         self.refused(self.scratch, "there is no library .*")
 
     def test_no_library(self) -> None:
         path = self.scratch / "text.so"
         path.write_text("no library")
-        self.refused(path, ".*/text.so is no shared library that can be opened: .*text.so: .+")
+        self.refused(path, ".*/text.so is no shared library that can be opened: it is no shared object")
 
     def test_another_library(self) -> None:
         found = sorted(Path("/lib").glob("*/libm.so.6")) or sorted(Path("/usr/lib").glob("*/libm.so.6"))

@@ -1,8 +1,7 @@
-"""The host in the worker's own process: the library for C (docs/EMBEDDING.md) as a shared object, called by ctypes.
+"""The host in the worker's own process: the library for C, as `bpfhost.library` calls it.
 
 The library handles a call's frames in place, without a copy, and writes its replies one after another. One call of the library runs all
-test runs of one program that are alike. The library reports whether memory was ever refused to a tenant, also within a run, and saves a
-tenant for its snapshot.
+test runs of one program that are alike.
 """
 
 from __future__ import annotations
@@ -10,63 +9,32 @@ from __future__ import annotations
 import ctypes
 import os
 import shutil
-import struct
 from array import array
 from collections.abc import Iterable, Iterator
 from pathlib import Path
 
-import bpfhost
 from bpfhost.alike import BEFORE_PACKET, packed, size_of_packet
 from bpfhost.errors import HostError
-from bpfhost.functions import CONTEXT_WORDS, NO_MEMORY, NO_PART, functions_of
+from bpfhost.functions import CONTEXT_WORDS, NO_MEMORY
 from bpfhost.host import LONGEST_REPLY
+from bpfhost.library import VERSION, Library, LibraryError, LibraryHost
 from bpfhost.numbers import REPLY_HEAD, Command
 from bpfhost.program import Program, is_unproved
 from bpfhost.replies import Reply
 from bpfhost.shards.calls import Call
 from bpfhost.shards.errors import MemoryRefused
-from bpfhost.shards.shared_object import soname_of
-from bpfhost.state import Steps, split
+from bpfhost.state import Steps, split, with_tenant
 
-SONAME = f"libbpfhost.so.{bpfhost.__version__.rpartition('.')[0]}"
-_DONE = 0
+SONAME = f"libbpfhost.so.{VERSION}"
 # The size of the buffer for replies in bytes.
 _ROOM = 1 << 16
-
-
-class Library:
-    """The library in a file. Raises HostError with the reason if it can't be used."""
-
-    def __init__(self, path: str | os.PathLike[str]) -> None:
-        self.path = Path(path)
-        if not self.path.is_file():
-            raise HostError(f"there is no library {self.path}: tools/library and tools/shared-library make it")
-        try:
-            soname = soname_of(self.path)
-        except (OSError, ValueError) as error:
-            raise HostError(f"{self.path} is no library of bpfhost: {error}") from None
-        if soname != SONAME:
-            raise HostError(f"{self.path} is {soname}, and this package is made for {SONAME}")
-        try:
-            self.functions = functions_of(str(self.path), keeps_lock=True)
-        except (OSError, AttributeError) as error:
-            raise HostError(f"{self.path} is no library of bpfhost: {error}") from None
-
-    def host(self, tenants: int) -> LibraryHost:
-        """A new host for so many tenants."""
-        return LibraryHost(self, tenants)
-
-    def demand_build_of(self, program: Program) -> None:
-        """Raises HostError if the library is not of the program's build: if one of them has no proofs, and the other has them."""
-        unproved, proved = sorted((str(self.path), os.fspath(program)), key=is_unproved, reverse=True)
-        if is_unproved(unproved) != is_unproved(proved):
-            raise HostError(f"{unproved} is built without proofs, and {proved} with them: a worker takes both of one build")
 
 
 def find_library(named: str | None, program: Program) -> Library | None:
     """The library that is named, that of BPFHOST_LIBRARY, the one next to the program, or that of an installed release.
 
-    They are tried in this order. None if there is none of these, or the name is `none`.
+    They are tried in this order. None if there is none of these, or the name is `none`. Raises HostError if it is not of the program's
+    build: if one of them has no proofs, and the other has them.
     """
     named = named or os.environ.get("BPFHOST_LIBRARY")
     if named == "none":
@@ -79,50 +47,25 @@ def find_library(named: str | None, program: Program) -> Library | None:
         named = next((str(one / SONAME) for one in folders if (one / SONAME).is_file()), None)
     if not named:
         return None
-    library = Library(named)
-    library.demand_build_of(program)
+    library = Library(named, keeps_lock=True)
+    unproved, proved = sorted((str(library.path), os.fspath(program)), key=is_unproved, reverse=True)
+    if is_unproved(unproved) != is_unproved(proved):
+        raise HostError(f"{unproved} is built without proofs, and {proved} with them: a worker takes both of one build")
     return library
 
 
-class LibraryHost:
+class HostHere(LibraryHost):
     """A host in this process, for one thread."""
 
     def __init__(self, library: Library, tenants: int) -> None:
-        self._path, self._functions, self._is_open = library.path, library.functions, False
-        self._handle = ctypes.c_void_p()
-        self._at = ctypes.addressof(self._handle)
-        seed = struct.unpack("<QQ", os.urandom(16))
-        code = library.functions.new(self._at, tenants, *seed)
-        if code != _DONE:
-            raise HostError(f"{library.path} makes no host for {tenants} tenants: code {code}")
-        self._is_open = True
-        self._written, self._status, self._refused = ctypes.c_size_t(), ctypes.c_int32(), ctypes.c_bool()
-        self._room = bytearray(_ROOM)
-        self._room_at = _address_of(self._room)
+        super().__init__(library, tenants)
+        self._answers = bytearray(_ROOM)
+        self._answers_at = _address_of(self._answers)
         self._ends: dict[tuple[int, int], array[int]] = {}
 
     def kill(self) -> None:
         """Ends the host and frees its memory."""
-        if self._is_open:
-            self._is_open = False
-            self._functions.free(self._at)
-
-    def __del__(self) -> None:
-        self.kill()
-
-    def _demand_open(self) -> None:
-        if not self._is_open:
-            raise HostError("the host was ended before this frame")
-
-    def refused_memory(self, tenant: int) -> bool:
-        """Whether memory was ever refused to a tenant."""
-        self._demand_open()
-        self._demand(self._functions.memory_refused(self._at, tenant, ctypes.addressof(self._refused)))
-        return self._refused.value
-
-    def _demand(self, code: int) -> None:
-        if code != _DONE:
-            raise HostError(f"{self._path} handles no frame: code {code}")
+        self.close()
 
     def save(self, tenant: int) -> Steps[bytes]:
         """The frames that restore a tenant, which name tenant 0, in steps: one for each map and each program (docs/EMBEDDING.md).
@@ -130,26 +73,16 @@ class LibraryHost:
         The tenant must get no frame meanwhile. Raises MemoryRefused if the library has no memory for them.
         """
         stream, number = bytearray(), 0
-        while (part := self._part(tenant, number)) is not None:
-            stream += part
-            number += 1
-            yield
+        try:
+            while (part := self.save_part(tenant, number)) is not None:
+                stream += b"".join([with_tenant(frame, 0) for frame in split(part)])
+                number += 1
+                yield
+        except LibraryError as error:
+            if error.code != NO_MEMORY:
+                raise
+            raise MemoryRefused(f"memory was refused to a snapshot of tenant {tenant}") from None
         return bytes(stream)
-
-    def _part(self, tenant: int, number: int) -> bytearray | None:
-        """The frames of a part, which name tenant 0; None after the last part."""
-        self._demand_open()
-        code, frames = self._functions.saved_part(self._at, tenant, number)
-        if code == NO_PART:
-            return None
-        if code == NO_MEMORY:
-            raise MemoryRefused(f"memory was refused to a snapshot of tenant {tenant}")
-        self._demand(code)
-        part, at = bytearray(frames), 0
-        while at < len(part):
-            part[at + 4 : at + 6] = b"\0\0"
-            at += 4 + int.from_bytes(part[at : at + 4], "little")
-        return part
 
     def ask_bytes(self, frames: Iterable[bytes]) -> Iterator[bytes]:
         """The replies to frames, one by one."""
@@ -168,9 +101,8 @@ class LibraryHost:
 
     def _answered(self, stream: bytearray, tenant: int | None) -> bytes:
         """The replies to frames, each handled in place."""
-        self._demand_open()
-        handle, host, written, room, out = self._functions.handle, self._at, self._written, self._room, 0
-        begin, at, place, answers = _address_of(stream), 0, ctypes.addressof(written), list[bytes]()
+        library, host, written, room, out = self.library, self._at, self._written, self._answers, 0
+        handle, begin, at, place, answers = library.functions.handle, _address_of(stream), 0, ctypes.byref(written), list[bytes]()
         named = None if tenant is None else tenant.to_bytes(2, "little")
         while at < len(stream):
             length = int.from_bytes(stream[at : at + 4], "little")
@@ -179,7 +111,7 @@ class LibraryHost:
             if out > _ROOM - LONGEST_REPLY:
                 answers.append(bytes(room[:out]))
                 out = 0
-            self._demand(handle(host, begin + at + 4, length, self._room_at + out, _ROOM - out, place))
+            library.demand_done(handle(host, begin + at + 4, length, self._answers_at + out, _ROOM - out, place))
             if named:
                 room[out + 4 : out + 6] = b"\0\0"
             out += written.value
@@ -189,18 +121,11 @@ class LibraryHost:
 
     def _runs(self, runs: bytes, tenant: int) -> bytes:
         """The replies to packed test runs; empty if the first of them is refused."""
-        self._demand_open()
         size, packets = size_of_packet(runs), runs[BEFORE_PACKET:]
         many = len(packets) // size
-        results = array("I", bytes(4 * many))
         context = (runs[12:BEFORE_PACKET], CONTEXT_WORDS, CONTEXT_WORDS)
-        code = self._functions.run_packets(
-            *(self._at, tenant, int.from_bytes(runs[8:12], "little"), *context, packets, len(packets)),
-            *(self._ends_of(size, many).buffer_info()[0], many, results.buffer_info()[0], many),
-            ctypes.addressof(self._status),
-        )
-        self._demand(code)
-        return b"" if self._status.value else _results(results.tobytes(), many)
+        status, results = self._run(tenant, int.from_bytes(runs[8:12], "little"), context, packets, self._ends_of(size, many))
+        return b"" if status else _results(results.tobytes(), many)
 
     def _ends_of(self, size: int, many: int) -> array[int]:
         """The offsets at which packets of one size end."""

@@ -13,6 +13,7 @@ from bpfhost import frames as make
 from bpfhost.alike import size_of_alike, statuses_are_zero, with_tenant_in_place
 from bpfhost.errors import ReplyError
 from bpfhost.host import LONGEST_REPLY, Host
+from bpfhost.library import Library
 from bpfhost.numbers import MOST_TENANTS, REPLY_HEAD, Command, Errno
 from bpfhost.parts import in_parts
 from bpfhost.program import Program
@@ -20,7 +21,7 @@ from bpfhost.replies import Reply
 from bpfhost.shards.calls import Call, NoCall
 from bpfhost.shards.copied import Asked, Copy
 from bpfhost.shards.errors import CopyDiffers, MemoryRefused, ShardError, StateRefused
-from bpfhost.shards.library import Library, LibraryHost
+from bpfhost.shards.library import HostHere
 from bpfhost.shards.names import FAULT, REPLIES, weight
 from bpfhost.shards.system import Asked as AskedHost
 from bpfhost.shards.steps import in_steps, step
@@ -70,13 +71,13 @@ class Serving:
 
     def _new_host(self, tenants: int) -> AskedHost:
         if self._library and not self.is_careful:
-            return self._library.host(tenants)
+            return HostHere(self._library, tenants)
         return self._system.host(self._program, tenants)
 
     @property
     def is_here(self) -> bool:
         """Whether the host is in this process, and ends with it."""
-        return isinstance(self._host, LibraryHost)
+        return isinstance(self._host, HostHere)
 
     def __enter__(self) -> Serving:
         return self
@@ -97,7 +98,7 @@ class Serving:
         A call that ends the host has no replies, nor has any call after it: then this raises HostError or ReplyError. It raises
         MemoryRefused if memory was refused to the next call.
         """
-        if isinstance(self._host, LibraryHost):
+        if isinstance(self._host, HostHere):
             self._alive()
             for call in calls:
                 yield self._play_here(self._host, call)
@@ -105,7 +106,7 @@ class Serving:
         for is_alike, some in groupby(calls, self._is_alike):
             yield from self._play_alike(list(some)) if is_alike else self._play_each(list(some))
 
-    def _play_here(self, host: LibraryHost, call: Call | NoCall) -> tuple[Written, bool]:
+    def _play_here(self, host: HostHere, call: Call | NoCall) -> tuple[Written, bool]:
         """Plays a call in place. A call that opens and closes nothing is not examined frame by frame."""
         if isinstance(call, NoCall):
             return _fault(call), False
@@ -114,7 +115,7 @@ class Serving:
         self.asked += call.count
         if self.asked % _ASKED_AT_ONCE < call.count:
             self._alive()
-        if host.refused_memory(call.tenant):
+        if host.memory_refused(call.tenant):
             raise _refused(call)
         changed = call.is_short
         if not changed:
@@ -207,7 +208,7 @@ class Serving:
 
     def _replies_to(self, tenant: int, made: Sequence[bytes]) -> list[bytes]:
         """The replies to frames of a state."""
-        if not isinstance(self._host, LibraryHost):
+        if not isinstance(self._host, HostHere):
             return list(self.ask(with_tenant(frame, tenant) for frame in made))
         self.is_new = False
         self.asked += len(made)
@@ -229,7 +230,7 @@ class Serving:
         A host in this process saves it. Otherwise its maps are read: `before` returns the frames of its last snapshot, and `history` its
         frames since then, which are played again if a map has no descriptor any more.
         """
-        if isinstance(self._host, LibraryHost):
+        if isinstance(self._host, HostHere):
             return await in_steps(self._host.save(tenant))
         tenancy = self.tenancies[tenant]
         live = tenancy.live()

@@ -12,6 +12,7 @@ import contextlib
 from collections.abc import Callable
 
 from bpfhost.errors import StateError
+from bpfhost.library import Library
 from bpfhost.program import Program
 from bpfhost.shards import metrics
 from bpfhost.shards.attending import Attending
@@ -20,7 +21,6 @@ from bpfhost.shards.connection import Redis, demand_durable, demand_version, for
 from bpfhost.shards.directory import Directory
 from bpfhost.shards.errors import LeaseLost, LogChanged, RedisError, ShardError, Stopped
 from bpfhost.shards.jobs import Jobs
-from bpfhost.shards.library import Library
 from bpfhost.shards.log import Log
 from bpfhost.shards.loop import new_loop
 from bpfhost.shards.metrics import Told

@@ -17,12 +17,13 @@ from unittest import mock
 
 from bpfhost import Errno, Host, frames
 from bpfhost.errors import HostError
+from bpfhost.library import Library
 from bpfhost.program import is_unproved
 from bpfhost.shards import Settings, ShardKeys, Worker
 from bpfhost.shards.calls import NoCall
 from bpfhost.shards.connection import Redis
 from bpfhost.shards.errors import MemoryRefused
-from bpfhost.shards.library import SONAME, Library, LibraryHost, find_library
+from bpfhost.shards.library import SONAME, HostHere, find_library
 from bpfhost.shards.serving import Serving
 from bpfhost.shards.system import MACHINE
 from bpfhost.state import Steps, at_once, split
@@ -56,7 +57,7 @@ void bpfhost_c_free(void *h) { }
 def loaded() -> Library:
     """The library."""
     assert _FILE is not None
-    return Library(_FILE)
+    return Library(_FILE, keeps_lock=True)
 
 
 @unittest.skipIf(_FILE is None, _WHY)
@@ -102,7 +103,7 @@ class Answers(HostTest):
         library = loaded()
         called = library.functions
         called.run_packets, called.handle = mock.Mock(wraps=called.run_packets), mock.Mock(wraps=called.handle)
-        with contextlib.closing(Closing(library.host(3))) as closing:
+        with contextlib.closing(Closing(HostHere(library, 3))) as closing:
             for frame in (CREATE, frames.prog_load(0, slots_of(PROGRAM, "add")), ZERO):
                 closing.host.answer(call_of(b"1-0", 2, [frame]))
             stream = frames.prog_test_run(0, 4, bytes(64)) * 300
@@ -159,21 +160,19 @@ class Answers(HostTest):
         """The library also reports a refusal within a run, whose reply does not show it."""
         with self.serving() as serving:
             list(serving.play([call_of(b"1-0", 5, [CREATE])]))
-            assert isinstance(serving._host, LibraryHost)
-            self.assertFalse(serving._host.refused_memory(5))
-            with mock.patch.object(LibraryHost, "refused_memory", return_value=True), self.assertRaisesRegex(MemoryRefused, "entry 2-0"):
+            assert isinstance(serving._host, HostHere)
+            self.assertFalse(serving._host.memory_refused(5))
+            with mock.patch.object(HostHere, "memory_refused", return_value=True), self.assertRaisesRegex(MemoryRefused, "entry 2-0"):
                 list(serving.play([NoCall(b"1-5", 5, "no call", 0), call_of(b"2-0", 5, [LOOK_UP])]))
 
     def test_its_end(self) -> None:
-        host = loaded().host(1)
+        host = HostHere(loaded(), 1)
         host.kill()
         host.kill()
-        calls: list[Callable[[], object]] = [lambda: next(host.ask_bytes([CREATE])), lambda: host.refused_memory(0), lambda: host.answer(call_of(b"1-0", 0, [CREATE]))]
+        calls: list[Callable[[], object]] = [lambda: next(host.ask_bytes([CREATE])), lambda: host.memory_refused(0), lambda: host.answer(call_of(b"1-0", 0, [CREATE]))]
         for call in calls:
-            with self.assertRaisesRegex(HostError, "the host was ended"):
+            with self.assertRaisesRegex(HostError, "its host is closed"):
                 call()
-        with self.assertRaisesRegex(HostError, "makes no host for 65 tenants: code -3"):
-            loaded().host(65)
 
 
 @unittest.skipIf(_FILE is None, _WHY)
@@ -212,7 +211,7 @@ class SnapshotStalls(test_stalls.SnapshotStalls):
 class Closing:
     """A host that is ended by `close`."""
 
-    def __init__(self, host: LibraryHost) -> None:
+    def __init__(self, host: HostHere) -> None:
         self.host = host
 
     def close(self) -> None:
@@ -230,19 +229,19 @@ class Refused(HostTest):
         self.refused(self.scratch / "none.so", "there is no library .*none.so: tools/library and tools/shared-library make it")
         text = self.scratch / "text.so"
         text.write_text("a text\n")
-        self.refused(text, "text.so is no library of bpfhost: it is no shared object")
+        self.refused(text, "text.so is no shared library that can be opened: it is no shared object")
         cut = self.scratch / "cut.so"
         cut.write_bytes(loaded().path.read_bytes()[:3000])
-        self.refused(cut, "cut.so is no library of bpfhost: it is no shared object with a soname")
+        self.refused(cut, "cut.so is no shared library that can be opened: it is cut off")
         name = ctypes.util.find_library("c")
         found = next((path for path in Path("/lib").rglob(name or "libc.so.6")), None)
         if found:
-            self.refused(found, f"{name} is {name}, and this package is made for {SONAME}")
+            self.refused(found, f"{name} is no library of bpfhost 0.2: it has no bpfhost_c_abi")
 
     def test_another_version(self) -> None:
         other = self.scratch / SONAME
         other.write_bytes(loaded().path.read_bytes().replace(SONAME.encode(), b"libbpfhost.so.9.9"))
-        self.refused(other, f"is libbpfhost.so.9.9, and this package is made for {SONAME}")
+        self.refused(other, "is of version 9.9, and this client is for 0.2")
 
     def test_another_build(self) -> None:
         """One is built without proofs, and the other with them."""

@@ -11,9 +11,9 @@ from collections.abc import Callable, Iterator, Sequence
 from typing import Any
 
 from bpfhost import MapType, frames
+from bpfhost.library import Library
 from bpfhost.shards import Settings, ShardKeys, Worker, operating
 from bpfhost.shards.connection import Redis
-from bpfhost.shards.library import Library
 from bpfhost.shards.names import MOST_WAITING
 from bpfhost.shards.serving import Serving
 from bpfhost.shards.link import Word

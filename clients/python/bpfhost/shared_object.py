@@ -12,7 +12,7 @@ _SEGMENTS_AT, _SEGMENT, _ENTRY = 32, struct.Struct("<IIQQQQQQ"), struct.Struct("
 
 
 def soname_of(path: Path) -> str:
-    """The soname; raises ValueError if the file is no 64-bit shared object, or has none."""
+    """The soname, or nothing if there is none; raises ValueError if the file is no 64-bit shared object, or is cut off."""
     data = path.read_bytes()
     if not data.startswith(_MAGIC):
         raise ValueError("it is no shared object")
@@ -20,10 +20,12 @@ def soname_of(path: Path) -> str:
         segments = _segments(data)
         entries = [entry for kind, at, _, size in segments if kind == _DYNAMIC for entry in _ENTRY.iter_unpack(data[at : at + size])]
         said: dict[int, int] = {name: value for name, value in reversed(entries)}
-        begin = _place(segments, said[_STRINGS]) + said[_SONAME]
+        if any(at + size > len(data) for _, at, _, size in segments):
+            raise ValueError("it is cut off")
+        begin = _place(segments, said[_STRINGS]) + said.get(_SONAME, 0)
         return data[begin : data.index(b"\0", begin)].decode()
-    except (KeyError, ValueError, struct.error, StopIteration):
-        raise ValueError("it is no shared object with a soname") from None
+    except (KeyError, IndexError, struct.error, StopIteration):
+        raise ValueError("it is no shared object") from None
 
 
 def _segments(data: bytes) -> list[tuple[int, int, int, int]]:

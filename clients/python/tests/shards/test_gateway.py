@@ -16,6 +16,7 @@ import time
 import unittest
 from collections.abc import Callable
 from dataclasses import replace
+from pathlib import Path
 from typing import Any
 
 from bpfhost import Host, MapType, frames
@@ -30,6 +31,7 @@ from tests.shards.certificates import OPENSSL, authority, signed
 from tests.shards.common import CREATE, LOOK_UP, ShardTest, put, did
 from tests.shards.gateways import UNCOUNTED, GatewayThread, Raw, customers_file
 from tests.shards.streams import Stream
+from tests.shards.worker_process import WorkerProcess
 
 LIMITS = GatewayLimits(new=1e6)
 DONE = bytes.fromhex("08000000 0000 0200 00000000")
@@ -402,6 +404,38 @@ class Command(GatewayTest):
                 self.assertEqual(customer.ask(LOOK_UP).status, -2)
                 gateway.send_signal(signal.SIGTERM)
                 self.assertEqual((gateway.wait(20), gateway.stderr.read()), (0, ""))
+
+    def test_memory_comes_back(self) -> None:
+        """A token that takes over its own session again and again, and never reads: at the end the gateway has the memory of before."""
+        self.shard(0)
+        file, address = customers_file(self.scratch, acme="token of acme"), f"unix:{self.scratch}/g"
+        gateway = WorkerProcess(["gateway", "--redis", self.server.url, "--customers", str(file), "--listen", address], self.scratch / "said")
+        self.addCleanup(gateway.wait, 20)
+        self.addCleanup(gateway.send, signal.SIGTERM)
+        self.until(lambda: "the gateway serves" in gateway.said())
+        with GatewayCustomer([address], "token of acme", "one") as customer:
+            large = frames.map_create(0, MapType.HASH, 4, 4096, 1), frames.map_update_elem(0, 3, b"key1", bytes(4096))
+            self.assertEqual([customer.ask(frame).status for frame in large], [3, 0])
+            list(customer.ask_all([LOOK_UP] * 256))
+
+        def memory() -> int:
+            return int(Path(f"/proc/{gateway.pid}/statm").read_text().split()[1]) * resource.getpagesize()
+
+        before, taken, most, opened = memory(), 258, 0, list[Raw]()
+        for _ in range(132):
+            made = Raw(address)
+            self.addCleanup(made.__exit__)
+            opened.append(made)
+            word, _, said = made.say(hello("token of acme", "one", taken)).told()
+            if word == Word.HELLO:
+                taken = said["taken"]
+                made.say(ack(taken) + LOOK_UP * 256)
+            most = max(most, memory())
+        self.assertGreater(taken, 5_000)
+        self.assertLess(most - before, 64 << 20)
+        for made in opened:
+            made.__exit__()
+        self.until(lambda: memory() - before < 10 << 20, "the memory does not come back")
 
     def test_one_sentence(self) -> None:
         file = customers_file(self.scratch, acme="token")

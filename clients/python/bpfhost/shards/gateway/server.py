@@ -4,6 +4,7 @@ from __future__ import annotations
 
 import asyncio
 import contextlib
+import ctypes
 import os
 import socket
 import ssl
@@ -88,6 +89,7 @@ class Gateway:
         self._listening: list[asyncio.Task[None]] = []
         self._new: Rate | None = None
         self.is_ending = False
+        self._has_left = False
         self._redis_says = "was not asked yet"
 
     # Listening.
@@ -205,6 +207,7 @@ class Gateway:
 
     def left(self, known: Known, session: str | None, connection: Connection) -> None:
         """Notes that a connection has ended."""
+        self._has_left = True
         del self.connections[connection]
         self._of[known.name] -= 1
         if not self._of[known.name]:
@@ -260,6 +263,9 @@ class Gateway:
     async def look(self) -> None:
         """Shares the customers' limits with other gateways, and so knows whether the directory's Redis replies."""
         while True:
+            if self._has_left:
+                self._has_left = False
+                _give_memory_back()
             try:
                 await self.sharing.exchange(self._of)
                 self._redis_says = "answers"
@@ -310,6 +316,12 @@ class Gateway:
         with contextlib.suppress(ShardError):
             await self.sharing.end()
         await self.client.close()
+
+
+def _give_memory_back() -> None:
+    """Gives the system what connections had: glibc keeps for itself what was freed."""
+    with contextlib.suppress(AttributeError):
+        ctypes.CDLL(None).malloc_trim(0)
 
 
 def _bound(address: str) -> socket.socket:

@@ -122,7 +122,7 @@ class WorkerThread:
 
     def join(self) -> None:
         """Waits until it ends."""
-        self._thread.join(30)
+        self._thread.join(60)
         assert not self._thread.is_alive()
 
 
@@ -155,7 +155,7 @@ class ShardTest(HostTest):
 
     def until(self, holds: Callable[[], bool], what: str = "it never comes") -> None:
         """Waits until something holds."""
-        end = time.monotonic() + 30
+        end = time.monotonic() + 60
         while not holds():
             self.assertLess(time.monotonic(), end, what)
             time.sleep(0.01)

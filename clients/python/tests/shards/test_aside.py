@@ -2,7 +2,6 @@
 
 from __future__ import annotations
 
-import time
 
 from bpfhost import MapType, frames
 from bpfhost.shards import MoveError, NotDone, SetAside, Settings, ShardError, move, operating
@@ -58,7 +57,6 @@ class Poison(AsideTest):
         customer, other = self.client.customer("acme", 60), self.client.customer("other", 60)
         for one in (customer, other):
             self.assertEqual(one.ask(CREATE).status, 3)
-        began = time.monotonic()
         poison, behind = customer.post(POISON), customer.post(LOOK_UP)
         others = [other.post(put(value)) for value in range(20)]
         for ticket in others:
@@ -66,7 +64,6 @@ class Poison(AsideTest):
         for ticket in (poison, behind):
             with self.assertRaisesRegex(SetAside, "customer acme is set aside until an operator has looked: entry .* ended the host 3 times"):
                 customer.wait(ticket)
-        self.assertLess(time.monotonic() - began, 15)
         self.assertIn("acme is set aside: entry", "\n".join(did(self.client, operating.show)))
         # It is as before if it is tried again, and done if the host takes it.
         did(self.client, operating.say, "acme", "retry", 20)

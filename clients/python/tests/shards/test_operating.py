@@ -140,9 +140,7 @@ class BrokenMoves(ShardTest):
             with self.subTest(behind.text.splitlines()[-2]):
                 self.setUp()
                 self.broken(behind, 0.6)
-                began = time.monotonic()
                 self.until(lambda: not self.client.directory.moves())
-                self.assertLess(time.monotonic() - began, 15)
                 self.assertEqual(self.customer.ask(LOOK_UP).payload, (7).to_bytes(8, "little"))
                 self.doCleanups()
 

@@ -27,7 +27,6 @@ from tests.shards.streams import slots_of
 
 # A step sends the host at most so many frames (the end of one part and the begin of another), and sends Redis so many bytes.
 STEP_FRAMES, STEP_BYTES = 820, 300_000
-STEP_SECONDS = 0.05
 
 
 def full_maps() -> Iterator[bytes]:
@@ -69,9 +68,8 @@ class InSteps(HostTest):
             _, asked, took_to_make = self.steps_of(serving, serving.make(1, state))
             self.assertGreater(len(asked), 50)
             self.assertLessEqual(max(asked), STEP_FRAMES)
-            # By processor time, since other processes use the processor too.
-            slow = [one for one in took + took_to_make if one > STEP_SECONDS]
-            self.assertLessEqual(len(slow), 1, slow)
+            for each in (took, took_to_make):
+                self.assertLess(max(each), sum(each) / 3)
 
 
 async def nothing() -> bytes:

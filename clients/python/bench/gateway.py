@@ -2,9 +2,12 @@
 """Measures how long a customer waits at a gateway, by TLS, alone and beside thousands of connections of others, of which each third says
 nothing, sends half a frame that says who it is, or has a wrong token; and what a frame costs each process.
 
-usage: gateway.py [BPFHOST] [--connections N] [--seconds S] [--folder FOLDER]
+usage: gateway.py [BPFHOST] [--connections N] [--seconds S] [--folder FOLDER] [--before TREE [--rounds N] [--library PATH]]
 
 All is on this machine, with a Redis of its own. Only figures of one run are to be compared.
+
+With --before, what a frame costs is measured with another clone of the repository too, with hosts that are processes, and by a library if
+one is named, in rounds in which the versions take turns; their medians are compared.
 """
 
 from __future__ import annotations
@@ -12,18 +15,25 @@ from __future__ import annotations
 import argparse
 import asyncio
 import contextlib
+import json
 import multiprocessing
+import os
 import resource
+import socket
 import ssl
 import statistics
+import subprocess
 import sys
 import tempfile
 import time
 from collections.abc import Iterator
 from pathlib import Path
+from typing import NamedTuple
 
 sys.dont_write_bytecode = True
-sys.path.insert(0, str(Path(__file__).resolve().parents[1]))
+# The clone that is measured is another one if the process was started for it.
+_TREE = "BPFHOST_BENCH_TREE"
+sys.path.insert(0, os.environ.get(_TREE) or str(Path(__file__).resolve().parents[1]))
 
 from bpfhost import find_program  # noqa: E402
 from bpfhost.shards.command import main as command  # noqa: E402
@@ -37,7 +47,7 @@ from tests.shards.redis_server import RedisServer, missing  # noqa: E402
 _context = multiprocessing.get_context("fork")
 # Kinds of crowds: a connection says these bytes, and waits.
 _SAYS = (b"", hello("wrong")[:-3], hello("wrong"))
-_FRAMES, _SIZES = 20_000, (1, 16, 256)
+_FRAMES, _SIZES = 200_000, (1, 16, 256)
 
 
 def run(words: list[str]) -> None:
@@ -82,6 +92,15 @@ def memory(process: int) -> float:
     return int(Path(f"/proc/{process}/statm").read_text().split()[1]) * 4096 / 1e6
 
 
+class Service(NamedTuple):
+    """A customer, the port of its gateway with the authority of its certificate, and the processes."""
+
+    customer: GatewayCustomer
+    port: int
+    authority: Path
+    processes: dict[str, list[int]]
+
+
 @contextlib.contextmanager
 def started(words: list[str]) -> Iterator[int]:
     """The command in a process, which is killed at the end."""
@@ -94,42 +113,88 @@ def started(words: list[str]) -> Iterator[int]:
         process.join()
 
 
-def measure(folder: Path, program: str, many: int, seconds: float) -> None:
-    """Measures, and prints it."""
+@contextlib.contextmanager
+def service(folder: Path, program: str, words: list[str]) -> Iterator[Service]:
+    """A worker, a gateway and a customer by TLS, with what it sends first."""
     own = authority(folder)
     certificate, key = signed(folder, "gateway", own, "IP:127.0.0.1")
-    with RedisServer(folder) as server, started(["worker", "0", "--redis", server.url, "--bpfhost", program, "--volatile"]) as worker:
-        port = 17_443
-        words = ["gateway", "--redis", server.url, "--customers", str(customers_file(folder, acme="token")), "--listen", f"127.0.0.1:{port}"]
-        with started([*words, "--certificate", str(certificate), "--key", str(key)]) as gateway:
+    with socket.create_server(("127.0.0.1", 0)) as free:
+        port = free.getsockname()[1]
+    served = ["worker", "0", "--bpfhost", program, "--volatile", *words]
+    words = ["gateway", "--customers", str(customers_file(folder, acme="token")), "--listen", f"127.0.0.1:{port}"]
+    with RedisServer(folder) as server, started([*served, "--redis", server.url]) as worker:
+        with started([*words, "--redis", server.url, "--certificate", str(certificate), "--key", str(key)]) as gateway:
             with GatewayCustomer([f"127.0.0.1:{port}"], "token", tls=CustomerTls(own)) as customer:
                 for frame in begins(program):
                     customer.ask(frame)
-                processes = {"gateway": [gateway], "worker": [worker], "host": children([worker])}
-                for size in _SIZES:
-                    _tell_costs(customer, size, processes)
-                print(f"alone: {waits(customer, seconds)}; the gateway has {memory(gateway):.0f} MB", flush=True)
-                others = _context.Process(target=crowd, args=(port, own, many), daemon=True)
-                others.start()
-                time.sleep(2)
-                before = processor_time([gateway])
-                told = waits(customer, seconds)
-                share = (processor_time([gateway]) - before) / seconds
-                print(f"beside {many:,} connections: {told}; the gateway has {memory(gateway):.0f} MB and takes {share:.2f} of a processor")
-                others.kill()
-                others.join()
+                yield Service(customer, port, own, {"gateway": [gateway], "worker": [worker], "host": children([worker])})
 
 
-def _tell_costs(customer: GatewayCustomer, size: int, processes: dict[str, list[int]]) -> None:
-    before, began = {kind: processor_time(of) for kind, of in processes.items()}, time.monotonic()
+def measure(folder: Path, program: str, many: int, seconds: float) -> None:
+    """Measures, and prints it."""
+    with service(folder, program, []) as made:
+        customer, (gateway,) = made.customer, made.processes["gateway"]
+        for size in _SIZES:
+            speed, costs = measured(made, size)
+            print(f"{size} frames a post: {speed:,.0f} frames a second; us a frame: {_told(costs)}")
+        print(f"alone: {waits(customer, seconds)}; the gateway has {memory(gateway):.0f} MB", flush=True)
+        others = _context.Process(target=crowd, args=(made.port, made.authority, many), daemon=True)
+        others.start()
+        time.sleep(2)
+        before = processor_time([gateway])
+        told = waits(customer, seconds)
+        share = (processor_time([gateway]) - before) / seconds
+        print(f"beside {many:,} connections: {told}; the gateway has {memory(gateway):.0f} MB and takes {share:.2f} of a processor")
+        others.kill()
+        others.join()
+
+
+def measured(made: Service, size: int) -> tuple[float, dict[str, float]]:
+    """How many frames there are in a second, in posts of so many, and what each costs, in us of each process."""
+    before, began = {kind: processor_time(of) for kind, of in made.processes.items()}, time.monotonic()
     own, many = time.process_time(), _FRAMES if size > 1 else _FRAMES // 10
-    posted = [customer.post(call(size)) for _ in range(many // size)]
+    posted = [made.customer.post(call(size)) for _ in range(many // size)]
     for one in posted:
-        customer.wait(one)
+        made.customer.wait(one)
     took = time.monotonic() - began
     costs = {"customer": (time.process_time() - own) / many * 1e6}
-    costs |= {kind: (processor_time(of) - before[kind]) / many * 1e6 for kind, of in processes.items()}
-    print(f"{size} frames a post: {many / took:,.0f} frames a second; us a frame: {', '.join(f'{kind} {cost:.1f}' for kind, cost in costs.items())}")
+    costs |= {kind: (processor_time(of) - before[kind]) / many * 1e6 for kind, of in made.processes.items()}
+    return many / took, costs
+
+
+def _told(costs: dict[str, float]) -> str:
+    return ", ".join(f"{kind} {cost:.1f}" for kind, cost in costs.items())
+
+
+# Next to another clone.
+
+
+def measure_sizes(folder: Path, program: str, words: list[str]) -> None:
+    """Measures each size, and writes what was found as JSON."""
+    with service(folder, program, words) as made:
+        print(json.dumps([measured(made, size) for size in _SIZES]))
+
+
+def compare(said: argparse.Namespace, program: str) -> None:
+    """Compares this clone with another one, and prints the medians of the rounds."""
+    trees = {"before": said.before, "now": Path(__file__).resolve().parents[3]}
+    forms = {"by the pipe": ["--library=none"]}
+    if said.library:
+        forms["by the library"] = [f"--library={said.library}"]
+    for name, words in forms.items():
+        found: dict[str, list[list[tuple[float, dict[str, float]]]]] = {which: [] for which in trees}
+        for _ in range(said.rounds):
+            for which, tree in trees.items():
+                environment = {**os.environ, _TREE: str(tree / "clients/python")}
+                asked = [sys.executable, __file__, program, "--folder", str(said.folder), "--sizes", *(f"--word={word}" for word in words)]
+                ended = subprocess.run(asked, env=environment, check=True, capture_output=True, text=True)
+                found[which].append(json.loads(ended.stdout))
+        print(f"{name}:")
+        for at, size in enumerate(_SIZES):
+            before, now = ([one[at] for one in found[which]] for which in trees)
+            speed = statistics.median(one[0] / was[0] for one, was in zip(now, before))
+            costs = statistics.median(sum(one[1].values()) / sum(was[1].values()) for one, was in zip(now, before))
+            print(f"  {size} frames a post: {speed:.2f} times the speed, {costs:.2f} times the processor time", flush=True)
 
 
 def main() -> int:
@@ -139,13 +204,25 @@ def main() -> int:
     parser.add_argument("--connections", type=int, default=10_000)
     parser.add_argument("--seconds", type=float, default=15)
     parser.add_argument("--folder", type=Path, default=Path(tempfile.gettempdir()), help="for the files of Redis")
+    parser.add_argument("--before", type=Path, metavar="TREE", help="another clone, which is measured too")
+    parser.add_argument("--rounds", type=int, default=3)
+    parser.add_argument("--library", help="the library of the workers of both clones")
+    # Of a process that measures one clone.
+    parser.add_argument("--sizes", action="store_true", help=argparse.SUPPRESS)
+    parser.add_argument("--word", action="append", default=[], help=argparse.SUPPRESS)
     said = parser.parse_args()
     why = missing() or (None if OPENSSL else "openssl is missing")
     if why:
         print(f"gateway: skipped, as {why}")
         return 0
     with tempfile.TemporaryDirectory(dir=said.folder) as folder:
-        measure(Path(folder), find_program(said.bpfhost), said.connections, said.seconds)
+        program = find_program(said.bpfhost)
+        if said.sizes:
+            measure_sizes(Path(folder), program, said.word)
+        elif said.before:
+            compare(said, program)
+        else:
+            measure(Path(folder), program, said.connections, said.seconds)
     return 0
 
 

@@ -38,7 +38,6 @@ from bpfhost import Host, MapType, find_program, frames  # noqa: E402
 from bpfhost.shards import Client  # noqa: E402
 from bpfhost.shards.command import main as command  # noqa: E402
 from bpfhost.shards.settings import MOST_ENTRIES  # noqa: E402
-from tests.shards.blocking_redis import shard_of
 from tests.shards.redis_server import RedisServer, missing  # noqa: E402
 from tests.shards.streams import slots_of  # noqa: E402
 
@@ -202,7 +201,7 @@ def replay(folder: Path, program: str, size: int) -> float:
     Redis does not wait for its disk here, since nothing is written in this time, and much before it.
     """
     with tempfile.TemporaryDirectory(dir=folder) as room, RedisServer(Path(room), "no") as server, Client(server.url) as client:
-        redis, keys = shard_of(client, 0)
+        redis, keys = client.loop.run(client.aio.shard(0))
         workers = [_context.Process(target=work, args=(server.url, program, 0, server.url, []), daemon=True) for _ in range(2)]
         workers[0].start()
         until_served(client, 1)
@@ -212,7 +211,7 @@ def replay(folder: Path, program: str, size: int) -> float:
             customer.wait(ticket)
         workers[0].kill()
         workers[0].join()
-        redis.hdel(keys.lease, "token")
+        client.loop.run(redis.call("HDEL", keys.lease, "token"))
         client.directory.withdraw(0)
         began = time.monotonic()
         workers[1].start()

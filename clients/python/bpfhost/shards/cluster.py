@@ -48,8 +48,9 @@ class Nodes:
         cluster, replicas = words.pop("cluster", "0"), words.pop("replicas", "0")
         if cluster not in ("0", "1") or not replicas.isdecimal() or cluster == "1" and found.scheme == "unix":
             raise RedisError(f"{url} is no URL of a Redis: cluster is 0 or 1, of hosts with ports, and replicas is a number")
-        server = f"{found.scheme}://{found.netloc}{found.path}{'?' if words else ''}{urllib.parse.urlencode(words)}"
-        return cls(server, cluster == "1", int(replicas), [found.netloc.rpartition("@")[2]])
+        if "cluster=" in found.query or "replicas=" in found.query:
+            url = f"{found.scheme}://{found.netloc}{found.path}{'?' if words else ''}{urllib.parse.urlencode(words)}"
+        return cls(url, cluster == "1", int(replicas), [found.netloc.rpartition("@")[2]])
 
     @property
     def is_one(self) -> bool:

@@ -4,18 +4,24 @@ from __future__ import annotations
 
 import random
 import re
+import struct
+import subprocess
+import sys
+import unittest
+from collections import Counter
 from html.parser import HTMLParser
 from pathlib import Path
 
 from bpfhost import Host
 from bpfhost.built import built
+from bpfhost.classic import libpcap
 from bpfhost.command import main
 from bpfhost.loading import load_program, lowered_program
 from bpfhost.lowering import LoweringError, as_is
 from bpfhost.objects import ObjectFile, ObjectProgram
 from bpfhost.report import gathered, page
 from bpfhost.report.blocks import blocks_of
-from bpfhost.report.counting import counting
+from bpfhost.report.counting import countings
 from bpfhost.report.folding import boxes_of, edges_of, shown_slots
 from bpfhost.report.gathering import absolute
 from tests.common import PROGRAM
@@ -101,24 +107,40 @@ class Counts(LoweringTest):
     def compare(self, host: Host, found: ObjectFile, program: ObjectProgram) -> int:
         """The counts of each block for some packets; returns how many blocks were compared."""
         blocks = blocks_of(program.slots)
-        counter = counting(found, program, blocks)
-        if counter is None:
-            self.assertGreater(len(program.slots) // 8 + 4 * len(blocks), 4096)
-            return 0
-        loaded = load_program(host.tenant(), counter.object_file, as_is(counter.program))
-        machine = Machine((), b"")
+        visited, results = self.interpreted(program)
+        counts: dict[int, int] = {}
+        for copy in countings(found, program, blocks) if visited else ():
+            loaded = load_program(host.tenant(), copy.object_file, as_is(copy.program))
+            self.assertEqual([host.tenant().prog_test_run(loaded.descriptor, packet) for packet in PACKETS], results)
+            counts |= copy.counts(loaded.maps[-1].map[bytes(4)])
+            host.tenant().close(loaded.descriptor)
+            loaded.maps[-1].map.tenant.close(loaded.maps[-1].map.descriptor)
+        self.assertEqual(counts, {number: visited[blocks[number].slots[-1]] for number in counts})
+        return len(counts)
+
+    def interpreted(self, program: ObjectProgram) -> tuple[Counter[int], list[int]]:
+        """How often the interpreter comes to each slot, for all packets, and its results; nothing if it does not run the program."""
+        machine, results = Machine((), b""), list[int]()
         for packet in PACKETS:
             machine.packet, machine.steps, machine.memory = packet, 0, {}
             try:
-                result = machine.run(program)
+                results.append(machine.run(program))
             except Faulty:
-                return 0
-            self.assertEqual(host.tenant().prog_test_run(loaded.descriptor, packet), result)
-        counts = counter.counts(loaded.maps[-1].map[bytes(4)])
-        self.assertEqual(counts, {number: machine.visited[blocks[number].slots[-1]] for number in counts})
-        host.tenant().close(loaded.descriptor)
-        loaded.maps[-1].map.tenant.close(loaded.maps[-1].map.descriptor)
-        return len(counts)
+                return Counter(), []
+        return machine.visited, results
+
+    def test_several_copies_count_what_has_no_room_in_one(self) -> None:
+        turns = "".join(f"if r6 > {at} goto l{at}\nr0 += 1\nl{at}:\n" for at in range(700))
+        found = object_of(f=f"r6 = *(u32 *)(r1 + 0)\nr0 = 0\n{turns}exit")
+        program = only(found)
+        copies = countings(found, program, blocks_of(program.slots))
+        self.assertEqual(len(copies), 3)
+        with Host(PROGRAM) as host:
+            self.assertEqual(self.compare(host, found, program), len(blocks_of(program.slots)))
+
+    def test_a_program_without_room(self) -> None:
+        found = object_of(f="r0 = 1\n" * 4095 + "exit")
+        self.assertEqual(countings(found, only(found), blocks_of(only(found).slots)), [])
 
 
 class Page(LoweringTest):
@@ -168,3 +190,35 @@ class Command(LoweringTest):
         self.assertEqual(main(["report", "--bpfhost", PROGRAM, str(source), str(SAMPLE), "-o", str(output)]), 1)
         self.assertIn("reason 20", output.read_text())
         self.assertEqual(main(["report", "--bpfhost", PROGRAM, str(source), "-o", str(source)]), 1)
+
+    def test_standard_input_and_output(self) -> None:
+        found = object_of(f="r0 = *(u32 *)(r1 + 0)\nexit")
+        source = self.scratch / "built.json"
+        source.write_text(built(found, as_is(only(found))))
+        call = [sys.executable, "-m", "bpfhost", "report", "--bpfhost", PROGRAM, str(source), "-", "-o", "-"]
+        with SAMPLE.open("rb") as capture:
+            ended = subprocess.run(call, stdin=capture, capture_output=True, text=True, check=False)
+        self.assertEqual(ended.returncode, 0, ended.stderr)
+        self.assertIn("<p>235 packets, 234 kept", ended.stdout)
+        self.assertFalse(Path("-").exists())
+
+    def test_a_capture_that_is_cut_off(self) -> None:
+        found = object_of(f="r0 = 1\nexit")
+        source, capture, output = (self.scratch / name for name in ("built.json", "cut.pcap", "page.html"))
+        source.write_text(built(found, as_is(only(found))))
+        capture.write_bytes(SAMPLE.read_bytes()[:1000])
+        self.assertEqual(main(["report", "--bpfhost", PROGRAM, str(source), str(capture), "-o", str(output)]), 1)
+        self.assertIn("it is cut off in packet", output.read_text())
+
+    @unittest.skipUnless(libpcap.is_there(), "libpcap0.8 is missing")
+    def test_a_filter_gets_packets_as_run_gives_them(self) -> None:
+        capture, output = self.scratch / "null.pcap", self.scratch / "page.html"
+        # Packets of the link type NULL, with the number that macOS has for IPv6; of the second one the capture has 4 bytes of 40.
+        packets = ((30, 24, 24), (30, 4, 40), (2, 24, 24))
+        records = [struct.pack("<4I4s", 1, 0, size, wire, bytes((family, 0, 0, 0))) + bytes(size - 4) for family, size, wire in packets]
+        capture.write_bytes(struct.pack("<IHHiIII", 0xA1B2C3D4, 2, 4, 0, 0, 65535, 0) + b"".join(records))
+        for expression, kept in (("ip6", 2), ("greater 40", 1), ("ip6[0] = 0", 1)):
+            self.assertEqual(main(["report", "--bpfhost", PROGRAM, "--filter", expression, str(capture), "-o", str(output)]), 0)
+            self.assertIn(f"<p>3 packets, {kept} kept", output.read_text(), expression)
+        words = ["report", "--bpfhost", PROGRAM, "--filter", "ip6", "--link-type", "NULL", "-o", str(output)]
+        self.assertEqual(main(words), 0)

@@ -54,15 +54,10 @@ class FilterRun(Subject):
             raise InputError("standard input can be read only once, but is named more often")
 
     def begin(self, capture: Capture, stopping: Stopping) -> Iterator[Piece] | None:
-        pieces, self._link_type = _begun(capture, stopping)
-        self._longest = capture.longest if 0 < capture.longest < 2**31 else SNAPSHOT
-        # Packets of an interface are whole, and those of a file are cut as libpcap cuts them.
-        longest = None if capture.savefile is None else self._longest
-        self.treatment = Treatment(link_type=self._link_type, longest=longest)
-        self._savefile = capture.savefile if self._link_type == capture.link_type else None
-        self._programs = read_filters(self._said, self._link_type, self._savefile)
-        _tell_words(self._programs)
-        return pieces
+        begun = Begun(self._said, capture, stopping)
+        self._link_type, self._longest, self._savefile = begun.link_type, begun.longest, begun.savefile
+        self.treatment, self._programs = begun.treatment, begun.programs
+        return begun.pieces
 
     def load(self, host: Host) -> tuple[Sequence[Loaded], Shown]:
         said, each = self._said, range(self._said.tenants)
@@ -99,6 +94,19 @@ class FilterRun(Subject):
     def notes(self, outcome: Outcome) -> Iterator[str]:
         if outcome.long:
             yield f"{packets(outcome.long)} longer than {LONGEST_PACKET:,} bytes, and run on the first {LONGEST_PACKET:,}"
+
+
+class Begun:
+    """A capture of which the first packets were read, so that its link type is known, and the filters for it."""
+
+    def __init__(self, said: argparse.Namespace, capture: Capture, stopping: Stopping) -> None:
+        self.pieces, self.link_type = _begun(capture, stopping)
+        self.longest = capture.longest if 0 < capture.longest < 2**31 else SNAPSHOT
+        # Packets of an interface are whole, and those of a file are cut as libpcap cuts them.
+        self.treatment = Treatment(link_type=self.link_type, longest=None if capture.savefile is None else self.longest)
+        self.savefile = capture.savefile if self.link_type == capture.link_type else None
+        self.programs = read_filters(said, self.link_type, self.savefile)
+        _tell_words(self.programs)
 
 
 def _begun(capture: Capture, stopping: Stopping) -> tuple[Iterator[Piece], int]:

@@ -59,7 +59,7 @@ def _settle_filters(said: argparse.Namespace) -> None:
             # The table of filters has no name: a word after --csv is the capture.
             files.append(said.csv)
             said.csv = ""
-        if said.link_type is not None:
+        if said.link_type is not None and (files or "interface" in said):
             said.wrong("--link-type is for check, dis and build: packets that are run have their own")
         said.object, said.capture = None, files.pop(0) if files else None
     if files:

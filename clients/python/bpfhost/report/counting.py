@@ -1,12 +1,12 @@
-"""A copy of a program that counts how many runs go through each block.
+"""Copies of a program that count how many runs go through each block.
 
 A block gets three instructions more, at a place at which two registers are not needed: they add 1 to a number of a map of its own. The
-results of the program stay the same.
+results of the program stay the same. If one copy has no room for all blocks, several copies count some of them each.
 """
 
 from __future__ import annotations
 
-from collections.abc import Sequence
+from collections.abc import Mapping, Sequence
 from dataclasses import dataclass, replace
 
 from bpfhost.lowering import instructions as op
@@ -18,12 +18,16 @@ from bpfhost.slots import WIDE_LOAD
 
 NAME = "packets of blocks"
 _WORD = 8
+# The most copies, each of which runs on all packets, and the slots that count a block.
+_MOST_COPIES, _SLOTS = 16, 4
 _SET, _ADD, _OF_VALUE = 0xB7, 0xDB, 2
+# A slot, and two registers that are not needed before it.
+_Place = tuple[int, tuple[int, int]]
 
 
 @dataclass(frozen=True)
 class Counting:
-    """An object with a map more, its program that counts, and the blocks that are counted, in the order of the numbers in the map."""
+    """An object with a map more, its program that counts, and the blocks that it counts, in the order of the numbers in the map."""
 
     object_file: ObjectFile
     program: ObjectProgram
@@ -35,19 +39,28 @@ class Counting:
         return dict(zip(self.counted, numbers))
 
 
-def counting(object_file: ObjectFile, program: ObjectProgram, blocks: Sequence[BasicBlock]) -> Counting | None:
-    """The program that counts; None if the object has no room for another map, or the program for more instructions."""
+def countings(object_file: ObjectFile, program: ObjectProgram, blocks: Sequence[BasicBlock]) -> list[Counting]:
+    """The copies that count; none if the object has no room for another map, or the program for more instructions."""
     found = decoded(program.slots)
     live = _live(found, blocks)
-    places = {number: _place(block, found, live) for number, block in enumerate(blocks)}
-    counted = [number for number, place in places.items() if place is not None][: LONGEST_VALUE // _WORD]
-    added = {place[0]: (place[1], _WORD * at) for at, number in enumerate(counted) for place in [places[number]] if place is not None}
-    if len(object_file.maps) >= MOST_MAPS or len(program.slots) // _WORD + 4 * len(added) > MOST_SLOTS or not counted:
-        return None
-    size = _WORD * len(counted)
+    places = {number: place for number, block in enumerate(blocks) if (place := _place(block, found, live)) is not None}
+    counted = list(places)
+    most = min((MOST_SLOTS - len(program.slots) // _WORD) // _SLOTS, LONGEST_VALUE // _WORD)
+    if len(object_file.maps) >= MOST_MAPS or most <= 0:
+        return []
+    copies = [counted[at : at + most] for at in range(0, len(counted), most)][:_MOST_COPIES]
+    return [_counting(object_file, program, found, {number: places[number] for number in each}) for each in copies]
+
+
+def _counting(
+    object_file: ObjectFile, program: ObjectProgram, found: dict[int, Instruction], places: Mapping[int, _Place]
+) -> Counting:
+    """The copy that counts the blocks of these numbers, at these places."""
+    added = {slot: (registers, _WORD * at) for at, (slot, registers) in enumerate(places.values())}
+    size = _WORD * len(places)
     declared = ObjectMap(NAME, MapType.ARRAY, 4, size, 1, None, None, bytes(size))
     longer = replace(object_file, maps=(*object_file.maps, declared))
-    return Counting(longer, _written(program, found, added, len(object_file.maps)), tuple(counted))
+    return Counting(longer, _written(program, found, added, len(object_file.maps)), tuple(places))
 
 
 def _live(found: dict[int, Instruction], blocks: Sequence[BasicBlock]) -> dict[int, frozenset[int]]:
@@ -61,7 +74,7 @@ def _live(found: dict[int, Instruction], blocks: Sequence[BasicBlock]) -> dict[i
     return live
 
 
-def _place(block: BasicBlock, found: dict[int, Instruction], live: dict[int, frozenset[int]]) -> tuple[int, tuple[int, int]] | None:
+def _place(block: BasicBlock, found: dict[int, Instruction], live: dict[int, frozenset[int]]) -> _Place | None:
     """The first slot of a block before which two registers are not needed, and these registers."""
     for slot in block.slots:
         free = [register for register in range(FRAME_POINTER) if register not in live[slot]]
@@ -71,23 +84,23 @@ def _place(block: BasicBlock, found: dict[int, Instruction], live: dict[int, fro
 
 
 def _written(
-    program: ObjectProgram, found: dict[int, Instruction], added: dict[int, tuple[tuple[int, int], int]], number: int
+    program: ObjectProgram, found: dict[int, Instruction], added: Mapping[int, tuple[tuple[int, int], int]], number: int
 ) -> ObjectProgram:
     """The program with instructions that count before these slots."""
     begins: dict[int, int] = {}
     at = 0
     for slot, each in found.items():
         begins[slot] = at
-        at += each.slots + (4 if slot in added else 0)
+        at += each.slots + (_SLOTS if slot in added else 0)
     pieces: list[bytes] = []
-    map_slots = [MapSlot(begins[each.slot] + (4 if each.slot in added else 0), each.map) for each in program.map_slots]
+    map_slots = [MapSlot(begins[each.slot] + (_SLOTS if each.slot in added else 0), each.map) for each in program.map_slots]
     for slot, each in found.items():
         here = begins[slot]
         if slot in added:
             (base, one), offset = added[slot]
             map_slots.append(MapSlot(here, number))
             pieces += _counts(base, one, offset)
-            here += 4
+            here += _SLOTS
         distance = each.distance() if each.is_goto or each.is_comparison else None
         pieces.append((each if distance is None else each.jumping(begins[slot + 1 + distance] - here - 1)).to_bytes())
     lines = tuple(replace(line, slot=begins[line.slot]) for line in program.lines if line.slot in begins)

@@ -16,7 +16,7 @@ from bpfhost.report.folding import Box, Edge, shown_slots
 _LINE, _HEAD, _GAP, _PAD = 17, 22, 30, 8
 _CHARACTER = 7.3
 _LONGEST, _SHORTEST = 60, 26
-_LABELS, _LANE = 84, 13
+_LANE = 13
 
 
 @dataclass(frozen=True)
@@ -40,9 +40,14 @@ class _Placed:
     top: int
 
     @property
+    def first(self) -> int:
+        """The upper end of the first line, below the head and the count."""
+        return self.top + _HEAD + (0 if self.count is None else _LINE)
+
+    @property
     def bottom(self) -> int:
         """The lower end."""
-        return self.top + _HEAD + _LINE * len(self.lines) + _PAD
+        return self.first + _LINE * len(self.lines) + _PAD
 
 
 def drawn(blocks: Sequence[BasicBlock], boxes: Sequence[Box], edges: Sequence[Edge], content: Content) -> str:
@@ -50,12 +55,16 @@ def drawn(blocks: Sequence[BasicBlock], boxes: Sequence[Box], edges: Sequence[Ed
     placed: list[_Placed] = []
     for box in boxes:
         placed.append(_placed(blocks, box, content, placed[-1].bottom + _GAP if placed else 2))
-    longest = max(len(text) for each in placed for text in (each.head + " " * 18, *(line for line, _ in each.lines)))
+    longest = max(len(text) for each in placed for text in (each.head, *(line for line, _ in each.lines)))
     width = round(_CHARACTER * min(max(longest, _SHORTEST), _LONGEST)) + 2 * _PAD
     lanes = _lanes([edge for edge in edges if edge.end != edge.begin + 1])
-    right = width + _LABELS + _LANE * (max(lanes.values(), default=0) + 1)
+    labels = {edge: _words(edge, placed, blocks) for edge in edges}
+    first_lane = width + round(_CHARACTER * max((len(labels[edge]) for edge in lanes), default=0)) + 2 * _PAD
+    right = first_lane + _LANE * (max(lanes.values(), default=-1) + 1)
     parts = [_box(each, width, content) for each in placed]
-    parts += [_edge(edge, placed, blocks, width, lanes.get(edge)) for edge in edges]
+    for edge in edges:
+        at = first_lane + _LANE * lanes[edge] if edge in lanes else None
+        parts.append(_edge(edge, placed, width, at, labels[edge]))
     height = placed[-1].bottom + 4
     marks = "".join(_arrow(kind) for kind in ("taken", "else"))
     inside = "\n".join(parts)
@@ -87,13 +96,13 @@ def _box(placed: _Placed, width: int, content: Content) -> str:
     if placed.count is not None:
         share = placed.count / content.packets / len(placed.box.blocks) if content.packets else 0
         bar = f'<rect class="share" x="1" y="{placed.top}" width="{round(width * min(share, 1), 1)}" height="4"/>'
-        words = f'<text class="count" x="{width - _PAD + 1}" y="{placed.top + 17}">{_packets(placed.count)}</text>'
+        words = f'<text class="count" x="{_PAD + 1}" y="{placed.top + 17 + _LINE}">{_packets(placed.count)}</text>'
         parts.append(bar + words)
     parts.append(f'<text class="head" x="{_PAD + 1}" y="{placed.top + 17}">{escape(placed.head)}</text>')
     for at, (line, is_refused) in enumerate(placed.lines):
         text = line if len(line) <= _LONGEST else f"{line[: _LONGEST - 1]}…"
         kind = ' class="refused"' if is_refused else ""
-        parts.append(f'<text{kind} x="{_PAD + 1}" y="{placed.top + _HEAD + _LINE * at + 12}">{escape(text)}</text>')
+        parts.append(f'<text{kind} x="{_PAD + 1}" y="{placed.first + _LINE * at + 12}">{escape(text)}</text>')
     return "".join(parts) + "</g>"
 
 
@@ -115,17 +124,23 @@ def _lanes(edges: Sequence[Edge]) -> dict[Edge, int]:
     return found
 
 
-def _edge(edge: Edge, placed: Sequence[_Placed], blocks: Sequence[BasicBlock], width: int, lane: int | None) -> str:
+def _words(edge: Edge, placed: Sequence[_Placed], blocks: Sequence[BasicBlock]) -> str:
+    """The label of an edge: when it is followed, and the slot that it leads to."""
+    begin, end = placed[edge.begin].box, placed[edge.end].box
+    block = blocks[begin.blocks[-1] if edge.end < edge.begin else begin.blocks[0]]
+    word = "if" if edge.is_taken else "else" if block.taken is not None else "then"
+    return f"{word} {blocks[end.blocks[0]].slots[0]}"
+
+
+def _edge(edge: Edge, placed: Sequence[_Placed], width: int, x: int | None, label: str) -> str:
+    """An edge, whose lane is at `x`, or that goes straight down."""
     begin, end = placed[edge.begin], placed[edge.end]
     kind = "taken" if edge.is_taken else "else"
-    block = blocks[begin.box.blocks[-1] if edge.end < edge.begin else begin.box.blocks[0]]
-    word = "if" if edge.is_taken else "else" if block.taken is not None else "then"
-    label = f"{word} {blocks[end.box.blocks[0]].slots[0]}"
-    if lane is None:
+    if x is None:
         x, middle = width // 2, (begin.bottom + end.top) // 2
         path = f"M{x} {begin.bottom} V{end.top - 2}"
         return _line(kind, path) + _label(kind, x + 6, middle + 4, label)
-    x, leave, arrive = width + _LABELS + _LANE * lane, begin.bottom - (14 if edge.is_taken else 5), end.top + 8
+    leave, arrive = begin.bottom - (14 if edge.is_taken else 5), end.top + 8
     path = f"M{width + 1} {leave} H{x} V{arrive} H{width + 3}"
     return _line(kind, path) + _label(kind, width + 6, leave - 4 if edge.is_taken else leave + 12, label)
 

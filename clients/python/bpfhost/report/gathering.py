@@ -3,19 +3,19 @@
 from __future__ import annotations
 
 import re
-from collections.abc import Mapping, Sequence
+from collections.abc import Iterator, Mapping, Sequence
 from dataclasses import dataclass, field
 
-from bpfhost.errors import BpfhostError
-from bpfhost.filtering import Filters, Loaded, Long, Outcome, Short, Treatment
+from bpfhost.captures import Capture, Piece
+from bpfhost.errors import BpfhostError, InputError, Refused
+from bpfhost.filtering import Filters, Loaded, Long, Outcome, Short, Timed, Treatment
 from bpfhost.host import Host
 from bpfhost.loading import LoadedProgram, facts_of, load_program, lowered_program, refused_at
 from bpfhost.lowering import Lowered, as_is
-from bpfhost.maps import Map
 from bpfhost.objects import ObjectFile, ObjectMap, ObjectProgram
 from bpfhost.program import Program
 from bpfhost.report.blocks import BasicBlock, blocks_of
-from bpfhost.report.counting import counting
+from bpfhost.report.counting import Counting, countings
 
 _JUMP = re.compile(r"\b(gotol?) ([+-]\d+)")
 
@@ -59,32 +59,40 @@ def absolute(slot: int, text: str) -> str:
     return _JUMP.sub(lambda match: f"{match[1]} {slot + 1 + int(match[2])}", text)
 
 
-def ran(host: Host, found: Gathered, path: str, limit: int | None = None) -> Ran:
-    """Runs a program, and a copy of it that counts, on the packets of a capture. Raises BpfhostError if the two differ."""
-    outcome, loaded = _run(host, found.object_file, found.lowered, path, limit)
-    maps = [(each.declared, each.map.entries()) for each in loaded.maps]
-    _close(loaded)
-    counter = counting(found.object_file, found.lowered.program, found.blocks)
-    if counter is None:
-        return Ran(path, outcome, maps)
-    counted, again = _run(host, counter.object_file, as_is(counter.program), path, limit)
-    value: Map = again.maps[-1].map
-    counts = counter.counts(value[bytes(4)])
-    if counted.results != outcome.results or [each.map.entries() for each in again.maps[:-1]] != [entries for _, entries in maps]:
-        raise BpfhostError(f"{found.title} returns something else in a copy that counts: a bug of this package")
-    _close(again)
-    return Ran(path, outcome, maps, counts)
+@dataclass(frozen=True)
+class Manner:
+    """How a program gets the packets of a capture: the word of its context that has a number for each packet, if any, and which number."""
+
+    treatment: Treatment = Treatment(Short.PAD, Long.CUT)
+    word: str | None = None
+    number: Timed = Timed.TIME
 
 
-def _run(host: Host, object_file: ObjectFile, lowered: Lowered, path: str, limit: int | None) -> tuple[Outcome, LoadedProgram]:
-    from bpfhost.captures import open_capture
+def ran(bpfhost: Program, found: Gathered, capture: Capture, manner: Manner = Manner(), pieces: Iterator[Piece] | None = None) -> Ran:
+    """Runs a program, and copies of it that count, on the packets of a capture; `pieces` has them if the capture has begun to give them.
 
-    loaded = load_program(host.tenant(), object_file, lowered)
-    with open_capture(path) as capture:
-        return Filters([Loaded([loaded.runs()])], Treatment(Short.PAD, Long.CUT)).run(capture, limit), loaded
+    Raises BpfhostError if a copy differs from the program in its results or its maps.
+    """
+    copies = countings(found.object_file, found.lowered.program, found.blocks)
+    with Host(bpfhost, 1 + len(copies)) as host:
+        loaded = load_program(host.tenant(), found.object_file, found.lowered)
+        counting = _loaded_copies(host, copies)
+        runs = [Loaded([each.runs(manner.word)], manner.number) for each in (loaded, *(each for _, each in counting))]
+        outcome = Filters(runs, manner.treatment).run(capture, pieces=pieces)
+        maps = [each.map.entries() for each in loaded.maps]
+        counts: dict[int, int] = {}
+        for (copy, each), counted in zip(counting, outcome.counts[1:]):
+            *same, numbers = (one.map for one in each.maps)
+            if counted.results != outcome.results or [one.entries() for one in same] != maps:
+                raise BpfhostError(f"{found.title} returns something else in a copy that counts: a bug of this package")
+            counts |= copy.counts(numbers[bytes(4)])
+    shown = [(each.declared, entries) for each, entries in zip(loaded.maps, maps)]
+    return Ran(capture.name, outcome, shown, counts)
 
 
-def _close(loaded: LoadedProgram) -> None:
-    loaded.tenant.close(loaded.descriptor)
-    for each in loaded.maps:
-        loaded.tenant.close(each.map.descriptor)
+def _loaded_copies(host: Host, copies: Sequence[Counting]) -> list[tuple[Counting, LoadedProgram]]:
+    """The copies that count, each in a tenant of its own; none if a tenant has no room for a map more."""
+    try:
+        return [(each, load_program(host.tenant(number), each.object_file, as_is(each.program))) for number, each in enumerate(copies, 1)]
+    except (InputError, Refused):
+        return []

@@ -2,7 +2,7 @@
 
 from __future__ import annotations
 
-from collections.abc import Iterator, Sequence
+from collections.abc import Iterator, Mapping, Sequence
 from dataclasses import replace
 from html import escape
 
@@ -45,7 +45,8 @@ def _verdict(found: Gathered) -> Iterator[str]:
     changes = [*found.object_file.changes, *lowered.changes]
     if changes:
         yield f"<ul>{''.join(f'<li>{escape(change)}</li>' for change in changes)}</ul>"
-    yield f'<p class="soft">{escape(found.object_file.path)}, section {escape(lowered.program.section)}</p>'
+    if found.object_file.path != found.title:
+        yield f'<p class="soft">{escape(found.object_file.path)}, section {escape(lowered.program.section)}</p>'
 
 
 # Lines.
@@ -62,28 +63,52 @@ def _lines(found: Gathered) -> Iterator[str]:
         if line is not None:
             shown.setdefault(key, line)
     yield "<h2>Lines</h2>"
-    known = "What is known is next to the instruction before which it holds: each row has what is new there." if found.facts else _NO_FACTS
-    yield f'<p class="soft">{known} Numbers of slots are absolute.</p>'
+    known = _FACTS if found.facts else _NO_FACTS
+    names = _short_names([line.file for line in shown.values() if line.file != found.object_file.path])
+    sources = ", ".join(escape(name) for name, short in sorted(names.items()) if short != name)
+    places = f" Sources: {sources}." if sources else ""
+    yield f'<p class="soft">{known} Numbers of slots are absolute.{places}</p>'
     sizes = {file: sum(len(slots) for (of, _), slots in groups.items() if of == file) for file, _ in groups}
     for key in sorted(groups, key=lambda key: (-sizes[key[0]], key)):
-        yield _line(found, shown.get(key), groups[key])
+        line = shown.get(key)
+        yield _line(found, line, groups[key], "no line of the source" if line is None else _place(line, names))
 
 
+def _short_names(files: Sequence[str]) -> dict[str, str]:
+    """For each path of a source its last part, if no other path ends like that."""
+    last = {file: file.rpartition("/")[2] for file in files}
+    return {file: short if list(last.values()).count(short) == 1 else file for file, short in last.items()}
+
+
+def _place(line: SourceLine, names: Mapping[str, str]) -> str:
+    """A line by the short name of its file; nothing for an instruction of a filter, whose text has its number."""
+    return str(replace(line, file=names[line.file], text="")) if line.file in names else ""
+
+
+_FACTS = (
+    "What is known is next to the instruction before which it holds: each row has what is new there. "
+    "After “to 9:” is what is new at slot 9 if the run jumps there."
+)
 _NO_FACTS = "What is known before each instruction comes from the program verifier_log, which is missing."
 
 
-def _line(found: Gathered, line: SourceLine | None, slots: Sequence[int]) -> str:
+def _line(found: Gathered, line: SourceLine | None, slots: Sequence[int], place: str) -> str:
     refused = found.lowered.refused
     is_bad = refused is not None and refused[0] in slots
-    name = "no line of the source" if line is None else str(replace(line, text=""))
     code = "" if line is None else f"<code>{escape(line.text.strip())}</code>"
-    head = f'<summary>{code} <span class="at">{escape(name)}, {_ranges(slots)}</span></summary>'
-    why = f'<p class="why">{escape("(slot " + (found.refused or "").partition(" (slot ")[2])}</p>' if is_bad else ""
+    at = f"{escape(place)}, {_ranges(slots)}" if place else _ranges(slots)
+    head = f'<summary>{code} <span class="at">{at}</span></summary>'
+    why = f'<p class="why">{escape(_reason(found.refused or ""))}</p>' if is_bad else ""
     rows = "".join(_row(found, slot) for slot in slots[:_MOST_ROWS])
     more = f'<p class="soft">and {len(slots) - _MOST_ROWS:,} more instructions</p>' if len(slots) > _MOST_ROWS else ""
-    table = f"<table><tr><th class=number>slot</th><th>instruction</th><th>known before it</th></tr>{rows}</table>"
+    table = f'<table class="lines"><tr><th class=number>slot</th><th>instruction</th><th>known before it</th></tr>{rows}</table>'
     kinds = ' class="bad" open' if is_bad else ""
     return f'<details{kinds}>{head}{why}<div class="scroll">{table}</div>{more}</details>'
+
+
+def _reason(refused: str) -> str:
+    """The sentence of a rejection without the line, which is `LINE (slot 4: WORDS, reason 29): NEED; FIX`."""
+    return f"slot {refused.rpartition(' (slot ')[2].replace('): ', ': ', 1)}"
 
 
 def _row(found: Gathered, slot: int) -> str:
@@ -118,10 +143,24 @@ def _graph(found: Gathered) -> Iterator[str]:
     content = Content(found.texts, refused, ran.counts if ran else None, ran.outcome.packets if ran else 0)
     yield "<h2>Blocks</h2>"
     folded = " Copies 2 to n of a block are one box with a dashed frame." if any(box.is_folded for box in boxes) else ""
-    counted = " The bar of a box is the share of the packets that went through it." if ran and ran.counts else ""
+    counted = "" if ran is None else _counted(len(found.blocks), len(ran.counts))
     legend = '<span class="taken">taken, as “if 12”</span> and <span class="else">not taken, as “else 8”</span>'
     yield f'<p class="soft legend">Edges are {legend}, with the slot that they lead to.{folded}{counted}</p>'
     yield f'<div class="scroll">{drawn(found.blocks, boxes, edges, content)}</div>'
+
+
+def _counted(blocks: int, counted: int) -> str:
+    """What the page says of the numbers of packets in the boxes."""
+    told = " The bar of a box is the share of the packets that went through it." if counted else ""
+    missing = blocks - counted
+    return f"{told} {_NOT_COUNTED.format(_many(missing, 'block'))}" if missing else told
+
+
+_NOT_COUNTED = "There is no number of packets for {}: a copy of the program that counts has no room for the instructions."
+
+
+def _many(count: int, what: str) -> str:
+    return f"{count:,} {what}{'' if count == 1 else 's'}"
 
 
 # The capture.
@@ -134,7 +173,7 @@ def _capture(found: Gathered) -> Iterator[str]:
     outcome = ran.outcome
     yield f"<h2>{escape(ran.capture)}</h2>"
     fault = f" {escape(str(outcome.fault))}" if outcome.fault else ""
-    yield f"<p>{outcome.packets:,} packets, {outcome.accepted:,} kept, with {outcome.bytes_kept:,} bytes.{fault}</p>"
+    yield f"<p>{_many(outcome.packets, 'packet')}, {outcome.accepted:,} kept, with {_many(outcome.bytes_kept, 'byte')}.{fault}</p>"
     yield from _results(ran)
     for declared, entries in ran.maps:
         yield from _map(found.object_file, declared, entries)

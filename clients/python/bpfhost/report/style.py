@@ -20,13 +20,13 @@ details.bad { border-color: var(--bad); background: var(--mark); } .why { margin
 .scroll { overflow-x: auto; }
 table { border-collapse: collapse; font-size: .9rem; margin: .3rem 0; } th { text-align: left; color: var(--soft); font-weight: 500; white-space: nowrap; }
 th, td { padding: .15rem .7rem .15rem .5rem; vertical-align: top; border-top: 1px solid var(--line); }
-td.number, th.number { text-align: right; white-space: nowrap; font-variant-numeric: tabular-nums; } td.code { white-space: nowrap; } tr.bad td { background: var(--mark); }
+td.number, th.number { text-align: right; white-space: nowrap; font-variant-numeric: tabular-nums; } @media (min-width: 40rem) { .lines td.code { white-space: nowrap; } } tr.bad td { background: var(--mark); }
 .bar { display: inline-block; height: .8rem; min-width: 1px; background: var(--taken); border-radius: 2px; vertical-align: middle; }
 .bars { width: 100%; max-width: 36rem; } .bars td:last-child { width: 70%; }
 .graph .box rect { fill: var(--card); stroke: var(--line); } .graph .box.folded rect { stroke-dasharray: 5 3; stroke: var(--soft); }
 .graph .box.refused > rect:first-child { stroke: var(--bad); stroke-width: 2; } .graph text { fill: var(--ink); }
 .graph text.refused { fill: var(--bad); font-weight: 700; } .graph .head, .graph .count { fill: var(--soft); }
-.graph .count { text-anchor: end; } .graph .box rect.share { fill: var(--share); stroke: none; stroke-dasharray: none; }
+.graph .box rect.share { fill: var(--share); stroke: none; stroke-dasharray: none; }
 .graph .edge { fill: none; stroke-width: 1.5; } .graph .edge.taken { stroke: var(--taken); } .graph .edge.else { stroke: var(--else); }
 .graph .arrow.taken, .graph text.taken { fill: var(--taken); } .graph .arrow.else, .graph text.else { fill: var(--else); }
 .legend .taken { color: var(--taken); } .legend .else { color: var(--else); }

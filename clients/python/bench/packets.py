@@ -8,8 +8,8 @@ two instructions on them in turn, as `python3 -m bpfhost run` does. It prints th
 the host. A busy machine makes both longer: so it prints all rounds, and the one that cost the client least.
 
 With --filter it runs the command `run --filter EXPRESSION` instead, client and host together, in turn with `tcpdump -w`: on a capture
-without packets, and on one in the format pcap, without and with `--accepted`. It prints the processor time of each and the medians of the
-rounds, and compares the files.
+without packets, and on one in the format pcap, without and with `--accepted`. It prints the processor time of each, the medians of the
+rounds and their ratios, and compares the files.
 """
 
 from __future__ import annotations
@@ -112,7 +112,9 @@ def measure_filter(said: argparse.Namespace, lengths: list[int], scratch: str) -
     middle = {name: statistics.median(rounds) for name, rounds in measured.items()}
     print(", ".join(f"{name}: {seconds:.2f} s" for name, seconds in middle.items()))
     for name in ("run", "run --accepted"):
-        print(f"{name}: {middle[name] - middle['no packets']:.2f} s more than without packets, for {said.packets:,} packets")
+        more = middle[name] - middle["no packets"]
+        ratio = f", {more / middle['tcpdump -w']:.1f} times tcpdump -w" if middle.get("tcpdump -w") else ""
+        print(f"{name}: {more:.2f} s more than without packets, for {said.packets:,} packets{ratio}")
 
 
 WRITERS = {"pcap": write_pcap, "pcapng": write_pcapng}

@@ -87,7 +87,9 @@ class Piece(Packets, ABC):
         if self.longest <= reach:
             return self
         lengths = [reach] * len(self)
-        if self.begun and len(self.begun[0]) == reach:
+        if reach == 0:
+            bodies = [b""] * len(self)
+        elif self.begun and len(self.begun[0]) == reach:
             bodies = list(self.begun)
         else:
             bodies = [self.data[start : start + reach] for start in self.starts]

@@ -2,9 +2,10 @@
 """Compiles the filters of this folder in many ways, lowers them, and runs them. usage: forms.py BPFHOST [--write]
 
 It compares the results with table.md, or writes that page with --write. A filter is compiled by each installed clang, with each of -O1, -O2
-and -Os and for each BPF processor that the compiler knows; those of the folder rewritten with -O2 for one processor. What is accepted runs on two captures, as incoming and as outgoing packets: as
-it was compiled, lowered, and in topological order if it needs no lowering. All forms of a filter have to return the same and to leave the
-same in their maps. If a compiler is missing, its columns are not checked, and a notice is printed.
+and -Os and for each BPF processor that the compiler knows; those of the folder rewritten with -O2 for one processor. What is accepted runs on
+two captures, as incoming and as outgoing packets: as it was compiled, lowered, and in topological order if it needs no lowering. All forms of
+a filter have to return the same and to leave the same in their maps. If a compiler is missing, its columns are not checked, and a notice is
+printed.
 """
 
 from __future__ import annotations
@@ -39,7 +40,7 @@ LEVELS = ("-O1", "-O2", "-Os")
 PROCESSORS = ("v1", "v2", "v3", "v4")
 # The constants of linux/if_packet.h for an incoming and an outgoing packet.
 CONTEXTS = (Context(pkt_type=0), Context(pkt_type=4))
-STEPS = ("maps", "calls", "packet", "fetch", "exchange", "compare", "loops", "order", "index", "equal", "zeros", "copies")
+STEPS = ("maps", "calls", "packet", "fetch", "exchange", "compare", "loops", "order", "scratch", "index", "equal", "known", "zeros", "copies")
 # Filters in this folder have instructions or habits that the host does not have. Each compiler compiles them in one way, for a processor with
 # atomic operations that fetch.
 REWRITTEN = HERE / "rewritten"

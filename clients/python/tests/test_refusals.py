@@ -132,7 +132,7 @@ class Messages(CommandTest, ClangTest):
         """Reason 31 names the field, and what to use instead."""
         for body, wanted in {
             "return *((unsigned *)skb + 17);": "skb->hash is a field that the host's context does not have: compute a number of the addresses",
-            "return *((unsigned *)skb + 13);": "skb->cb is a field that the host's context does not have: keep it in a variable",
+            "return *((unsigned long *)skb + 8);": "skb->cb is a field that the host's context does not have: keep it in a variable",
             "return *((unsigned *)skb + 40);": "skb->wire_len is a field that the host's context does not have \\(",
             "return *((unsigned char *)skb + 16);": "a part of skb->protocol is read: read the whole word into a variable",
             "*((unsigned *)skb + 2) = 7; return 1;": "skb->mark is written, and a program only reads the context",

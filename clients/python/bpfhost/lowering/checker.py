@@ -10,9 +10,12 @@ jumps have to go forward. At the same time it follows the original program (`ori
   slots in the form: jumps, calls and exits of inlined functions for which nothing is saved, and comparisons that are decided by the numbers
   known on this edge (`values`).
 - A slot that is added, before the instruction at its place, changes nothing: a move between registers that hold the same number
-  (`numbering`); a store of 0 into the stack, before anything else; a comparison of an index, after which both edges go on at the same place.
+  (`numbering`); a store of 0 into the stack, before anything else; a comparison of an index, after which both edges go on at the same place;
+  a comparison that is decided by the numbers known before it, whose other edge leads anywhere. To slots that are only reached by such edges
+  no path leads, so they may have any instructions.
 - A register that is a pointer into the stack plus an index holds the index (`indexing`); an access through it is one at a constant place,
   if the index can have only one value there.
+- An access to the scratch words of the context is one to words of the stack, which are set to 0 before anything else (`scratch`).
 
 A frame is right if its registers are other names of the same registers, if its stack and its saved registers are below its caller's stack,
 and if each of the registers 6 to 9 that it writes and its caller reads later is saved before it and restored after it. A sequence is right
@@ -27,12 +30,13 @@ from dataclasses import dataclass
 from bpfhost.lowering import instructions as op
 from bpfhost.lowering.code import Function
 from bpfhost.lowering.frames import Frames
-from bpfhost.lowering.graph import EQUAL, INDEX, ZERO, Origin
+from bpfhost.lowering.graph import EQUAL, INDEX, KNOWN, NEVER, ZERO, Origin
 from bpfhost.lowering.indexing import Bases, TooLarge, at_constant, numbers_of
 from bpfhost.lowering.instructions import CALLEE_SAVED, FRAME_POINTER, Instruction, decoded
 from bpfhost.lowering.numbering import Known, Numbers
 from bpfhost.lowering.original import Original, WrongForm, is_read
 from bpfhost.lowering.ranges import signed
+from bpfhost.lowering.scratch import CONTEXT, base_of, in_stack, room_of, words_of
 from bpfhost.lowering.values import STACK_SIZE, State, edges
 from bpfhost.lowering.zeroing import zero_store
 from bpfhost.numbers import MOST_SLOTS, SLOT_SIZE
@@ -74,17 +78,21 @@ class _Walk:
         self._facts: dict[int, _Facts] = {}
         self._numbers = Numbers()
         self._has_added = any(origin.added for origin in origins)
-        # Whether there was an instruction besides stores of 0.
+        # Whether there was an instruction besides stores of 0, and the words that these set.
         self._has_begun = False
+        self._zeros: set[int] = set()
+        self._scratch = room_of(program.functions, program.frames)
+        self._at_entry = self._numbers.at_entry()
 
     def check(self) -> None:
         """Checks each instruction and each edge."""
-        self._arrive(0, Origin(0, 0), _Facts(State(), self._numbers.at_entry(), Bases()))
+        self._arrive(0, Origin(0, 0), _Facts(State(), self._at_entry, Bases()))
         for slot, found in self._form.items():
-            facts = self._facts.pop(slot, None)
+            facts, origin = self._facts.pop(slot, None), self._origins[slot]
+            if (facts is None) != (origin.added == NEVER):
+                raise WrongForm(f"{'a path leads' if facts else 'no path leads'} to slot {slot}")
             if facts is None:
-                raise WrongForm(f"no path leads to slot {slot}")
-            origin = self._origins[slot]
+                continue
             if found.second and self._origins[slot + 1] != origin._replace(slot=origin.slot + 1):
                 raise WrongForm(f"the second half of slot {slot} is of something else")
             self._has_begun |= origin.added != ZERO
@@ -101,6 +109,9 @@ class _Walk:
         if max(found.dst, found.src) > FRAME_POINTER:
             raise WrongForm(f"slot {slot} is added, and has no such registers")
         is_index = found.kind == op.JMP and found.is_comparison and not found.from_register
+        if origin.added == KNOWN and is_index:
+            self._pass_known(slot, found, place, facts)
+            return
         if origin.added == INDEX and is_index:
             for distance, known in zip((found.offset, 0), edges(facts.state, found)):
                 self._go(slot + 1 + distance, slot, place, _Facts(known or facts.state.copy(), facts.names, facts.bases))
@@ -109,8 +120,18 @@ class _Walk:
         is_zero = found == zero_store(found.offset) and found.offset % 8 == 0 and -STACK_SIZE <= found.offset < 0 and not self._has_begun
         if not (origin.added == EQUAL and is_move or origin.added == ZERO and is_zero):
             raise WrongForm(f"slot {slot} is added, and changes something")
+        self._zeros |= {found.offset} if is_zero else set()
         self._apply(facts, found)
         self._go(slot + 1, slot, place, facts)
+
+    def _pass_known(self, slot: int, found: Instruction, place: Origin, facts: _Facts) -> None:
+        """A comparison that is decided: the edge that is never taken is not followed."""
+        taken, fallen = edges(facts.state, found)
+        if (taken is None) == (fallen is None):
+            raise WrongForm(f"slot {slot} is added, and compares what is not known")
+        known = fallen if taken is None else taken
+        assert known is not None
+        self._go(slot + 1 + (0 if taken is None else found.offset), slot, place, _Facts(known, facts.names, facts.bases))
 
     def _apply(self, facts: _Facts, found: Instruction) -> None:
         facts.state.apply(found)
@@ -137,6 +158,9 @@ class _Walk:
     def _wanted(self, slot: int, found: Instruction, facts: _Facts) -> Instruction:
         """What an instruction becomes if some registers are indices: an access through one of them has one place."""
         facts.bases = Bases(facts.bases.known)
+        base = base_of(found)
+        if base is not None and facts.names[base] == self._at_entry[CONTEXT]:
+            found = self._as_scratch(found)
         try:
             becomes = facts.bases.becomes(found, facts.known)
             if becomes is not None:
@@ -149,6 +173,11 @@ class _Walk:
             raise WrongForm(f"slot {slot} is an access with an index that is not known")
         facts.bases.forget(found)
         return at_constant(found, base + signed(values[0], 64) + found.offset)
+
+    def _as_scratch(self, found: Instruction) -> Instruction:
+        """An access to the scratch words of the context, as one to the stack if its words there were set to 0."""
+        is_there = self._scratch is not None and self._zeros.issuperset(words_of(self._scratch))
+        return in_stack(found, self._scratch) if self._scratch is not None and is_there else found
 
     def _compare(self, slot: int, found: Instruction, wanted: Instruction, facts: _Facts) -> None:
         """A comparison is the one at its place, or its opposite with the edges exchanged."""

@@ -10,8 +10,9 @@ from bpfhost.lowering.errors import Cycle
 from bpfhost.lowering.instructions import Instruction, goto
 
 
-# What is added before a part: a move between registers that hold the same number, a store of 0 at the start, a comparison of an index.
-EQUAL, ZERO, INDEX = "equal", "zeros", "index"
+# What is added before a part: a move between registers that hold the same number, a store of 0 at the start, a comparison of an index, a
+# comparison with a number that is known; and what is only reached by the edge of such a comparison that is never taken.
+EQUAL, ZERO, INDEX, KNOWN, NEVER = "equal", "zeros", "index", "known", "never"
 
 
 class Origin(NamedTuple):

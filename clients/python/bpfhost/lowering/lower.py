@@ -13,11 +13,13 @@ from bpfhost.lowering.copies import Accepted, with_copies
 from bpfhost.lowering.equal import with_moves
 from bpfhost.lowering.errors import Cycle, LoweringError
 from bpfhost.lowering.frames import Frames, frames_of
-from bpfhost.lowering.graph import EQUAL, INDEX, ZERO, Block, Graph, Origin, Written, in_order, without_empty, written
+from bpfhost.lowering.graph import EQUAL, INDEX, KNOWN, ZERO, Block, Graph, Origin, Written, in_order, without_empty, written
 from bpfhost.lowering.indexing import with_trees
 from bpfhost.lowering.inlining import inlined
 from bpfhost.lowering.instructions import decoded
+from bpfhost.lowering.known import with_known
 from bpfhost.lowering.loops import unrolled
+from bpfhost.lowering.scratch import room_of, with_scratch
 from bpfhost.lowering.sequences import COMPARED, EXCHANGED, FETCHED, PACKET, has_sequences, kind_of
 from bpfhost.lowering.zeroing import with_zeros
 from bpfhost.numbers import MOST_SLOTS
@@ -44,9 +46,11 @@ _SEQUENCES = {
 _BACKWARD, _UNREACHED = 2, 4
 # Reasons that another form may avoid: facts lost where edges meet, and the order of blocks (docs/VERIFIER.md, "Reasons").
 _CURABLE = frozenset((_BACKWARD, _UNREACHED, *range(20, 37)))
-# Reasons for which something is added: a pointer that is moved, ranges of numbers, bytes of the stack that nothing wrote.
-_POINTER_MOVED, _UNWRITTEN = 23, 27
+# Reasons for which something is added: a pointer that is moved, ranges of numbers, bytes of the stack that nothing wrote, the context.
+_POINTER_MOVED, _UNWRITTEN, _CONTEXT = 23, 27, 31
 _OF_RANGES = (23, 24, 25, 29, 35)
+_SCRATCH, _SCRATCHES = "scratch", ("access to skb->cb is", "accesses to skb->cb are")
+_DECIDED = ("comparison of one outcome says", "comparisons of one outcome say")
 _ACCESSES = ("access to the stack with an index is", "accesses to the stack with an index are")
 
 
@@ -159,7 +163,7 @@ class _Lowering:
             return self._form(form, None)
         accepted = with_copies(graph, refused, self._ask) or self._copied_with_moves(graph, refused)
         if accepted is None:
-            for step in (INDEX, EQUAL, ZERO):
+            for step in (_SCRATCH, INDEX, EQUAL, KNOWN, ZERO):
                 self._changes.pop(step, None)
             return self._refusal(plain, first)
         more = len(accepted.written.origins) - len(form.origins)
@@ -169,7 +173,7 @@ class _Lowering:
 
     def _with_additions(self, graph: dict[int, Block], form: Written, refused: Refusal) -> tuple[dict[int, Block], Written, Refusal | None]:
         """The graph with what is added for the reasons that the verifier gives, as long as each addition changes its verdict."""
-        additions = [self._indexed, self._moved, self._zeroed]
+        additions = [self._scratched, self._indexed, self._moved, self._known, self._zeroed]
         now: Refusal | None = refused
         while additions and now is not None:
             reason, place = now[1], form.origins[now[0]]
@@ -202,6 +206,13 @@ class _Lowering:
             self._changes[EQUAL] = _moves_in(accepted.written.origins)
         return accepted
 
+    def _scratched(self, graph: dict[int, Block], reason: int) -> _Added | None:
+        room = room_of([self._functions[frame.function] for frame in self._frames], self._frames)
+        found = with_scratch(graph, room) if reason == _CONTEXT else None
+        if found is None:
+            return None
+        return _SCRATCH, f"{_counted(found[1], *_SCRATCHES)} in words of the stack, which begin as 0", found[0]
+
     def _indexed(self, graph: dict[int, Block], reason: int) -> _Added | None:
         found = with_trees(graph) if reason == _POINTER_MOVED else None
         if found is None:
@@ -213,6 +224,12 @@ class _Lowering:
         if found is None:
             return None
         return EQUAL, _moves_in([step.origin for block in found.values() for step in block.steps]), found
+
+    def _known(self, graph: dict[int, Block], reason: int) -> _Added | None:
+        found = with_known(graph) if reason in _OF_RANGES else None
+        if found is None:
+            return None
+        return KNOWN, f"{_counted(found[1], *_DECIDED)} what is known of a number from the stack or from a signed comparison", found[0]
 
     def _zeroed(self, graph: dict[int, Block], reason: int) -> _Added | None:
         found = with_zeros(graph, self._maps) if reason == _UNWRITTEN else None

@@ -1,6 +1,6 @@
 """Ranges of 64-bit numbers: the results of operators and comparisons, by the tables of docs/VERIFIER.md ("Ranges").
 
-If that page does not define an operator, its result is any number. A comparison of constants is decided, also a signed one.
+If that page does not define an operator, its result is any number. A signed comparison says more than on that page.
 """
 
 from __future__ import annotations
@@ -149,7 +149,7 @@ def refine(code: int, a: Range, b: Range, bits: int) -> tuple[Refined, Refined]:
     if code in _AS_UNSIGNED:
         code = _AS_UNSIGNED[code]
         if not _same_sign(a, b, bits):
-            return _signed_constants(code, a, b, bits)
+            return _by_signs(code, a, b, bits)
     if code == op.JSET:
         return _tested(a, b)
     return _held(code, a, b), _held(op.OPPOSITE[code], a, b)
@@ -164,12 +164,31 @@ def _same_sign(a: Range, b: Range, bits: int) -> bool:
     return max(a.hi, b.hi) < least_negative or min(a.lo, b.lo) >= least_negative
 
 
-def _signed_constants(code: int, a: Range, b: Range, bits: int) -> tuple[Refined, Refined]:
-    """A signed comparison of numbers of both signs: decided only for constants, as an unsigned one with the sign bits flipped."""
-    both, sign = (a, b), 1 << bits - 1
-    if not (a.is_constant and b.is_constant):
-        return both, both
-    return (both, None) if _held(code, constant(a.lo ^ sign), constant(b.lo ^ sign)) else (None, both)
+def _by_signs(code: int, a: Range, b: Range, bits: int) -> tuple[Refined, Refined]:
+    """A signed comparison of numbers of both signs: of those of one sign as an unsigned one; of two signs the negative one is less."""
+    taken: Refined = None
+    fallen: Refined = None
+    for x in _of_each_sign(a, bits):
+        for y in _of_each_sign(b, bits):
+            if _same_sign(x, y, bits):
+                taken, fallen = _either(taken, _held(code, x, y)), _either(fallen, _held(op.OPPOSITE[code], x, y))
+            elif (x.lo < y.lo) == (code in (op.JGT, op.JGE)):
+                taken = _either(taken, (x, y))
+            else:
+                fallen = _either(fallen, (x, y))
+    return taken, fallen
+
+
+def _of_each_sign(a: Range, bits: int) -> list[Range]:
+    """The members that are not negative, and those that are, if there are any."""
+    least_negative = 1 << bits - 1
+    parts = (Range(a.lo, min(a.hi, least_negative - 1)), Range(max(a.lo, least_negative), a.hi))
+    return [part for part in parts if part.lo <= part.hi]
+
+
+def _either(a: Refined, b: Refined) -> Refined:
+    """The ranges that include both."""
+    return b if a is None else a if b is None else (hull(a[0], b[0]), hull(a[1], b[1]))
 
 
 def _tested(a: Range, b: Range) -> tuple[Refined, Refined]:

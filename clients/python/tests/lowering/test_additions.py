@@ -8,7 +8,7 @@ from dataclasses import replace
 from bpfhost import Host
 from bpfhost.lowering import Lowered, WrongForm
 from bpfhost.lowering.checker import check
-from bpfhost.lowering.graph import EQUAL, INDEX, ZERO, Origin
+from bpfhost.lowering.graph import EQUAL, INDEX, KNOWN, NEVER, ZERO, Origin
 from bpfhost.lowering.instructions import Instruction, decoded
 from bpfhost.numbers import MapType
 from bpfhost.objects import MapSlot, ObjectFile, ObjectMap, ObjectProgram
@@ -49,6 +49,41 @@ COMPARED = """
     r2 = 0
     call 26
     r0 = *(u8 *)(r10 - 64)
+end:
+    exit"""
+
+# The length of what a helper copies comes from the stack, and from signed comparisons.
+SPILLED = """
+    r6 = *(u32 *)(r1 + 0)
+    r6 &= 31
+    r6 += 1
+    *(u64 *)(r10 - 80) = r6
+    *(u64 *)(r10 - 64) = 0
+    r2 = 0
+    r3 = r10
+    r3 += -64
+    r4 = *(u64 *)(r10 - 80)
+    call 26
+    r0 = *(u8 *)(r10 - 64)
+    r1 = *(u64 *)(r10 - 80)
+    r0 += r1
+    exit"""
+SIGNED = """
+    r6 = *(u32 *)(r1 + 0)
+    w7 = w6
+    w7 += -20
+    w0 = 1
+    if w7 s< 1 goto end
+    w0 = 2
+    if w7 s> 32 goto end
+    *(u64 *)(r10 - 64) = 0
+    r2 = 0
+    r3 = r10
+    r3 += -64
+    r4 = r7
+    call 26
+    r0 = *(u8 *)(r10 - 64)
+    r0 += r7
 end:
     exit"""
 
@@ -174,6 +209,67 @@ class Zeros(AdditionsTest):
         self.assertIn("2 words", lowered.changes[0])
 
 
+class KnownNumbers(AdditionsTest):
+    def test_a_number_from_the_stack(self) -> None:
+        lowered = self.changed(object_of(f=SPILLED), KNOWN)
+        self.assertIn("if r4 > 32 goto", self.text(lowered))
+        self.assertIn("if r4 < 1 goto", self.text(lowered))
+
+    def test_a_part_of_a_word_is_not_known(self) -> None:
+        lowered = self.lowered(object_of(f=SPILLED.replace("r4 = *(u64 *)(r10 - 80)", "r4 = *(u32 *)(r10 - 80)")))
+        self.assertIsNotNone(lowered.refused)
+
+    def test_signed_comparisons(self) -> None:
+        lowered = self.changed(object_of(f=SIGNED), KNOWN)
+        self.assertIn("if r7 > 32 goto", self.text(lowered))
+
+    def test_what_overwrites_the_number(self) -> None:
+        for between in ("*(u8 *)(r10 - 77) = 200", "r3 = r10\nr3 += -80\nr2 = 0\nr4 = 8\nr1 = r8\ncall 26"):
+            text = SPILLED.replace("*(u64 *)(r10 - 64) = 0", f"*(u64 *)(r10 - 64) = 0\n{between}").replace("r6 &=", "r8 = r1\nr6 &=")
+            self.assertIsNotNone(self.lowered(object_of(f=text)).refused, between)
+
+
+# Scratch words of the context: read before they are written, in parts, and in an inlined function.
+SCRATCH = """
+    r6 = r1
+    r7 = *(u32 *)(r1 + 0)
+    r8 = *(u32 *)(r6 + 64)
+    *(u32 *)(r6 + 48) = r7
+    *(u64 *)(r10 - 8) = r7
+    if r7 > 20 goto more
+    *(u16 *)(r1 + 54) = 513
+more:
+    r1 = r6
+    call inner
+    r1 = *(u8 *)(r6 + 55)
+    r0 += r1
+    r1 = *(u32 *)(r6 + 48)
+    r0 += r1
+    r0 += r8
+    r1 = *(u64 *)(r10 - 8)
+    r0 ^= r1
+    exit"""
+INNER = "r0 = *(u32 *)(r1 + 52)\nr2 = r1\n*(u32 *)(r2 + 48) = 7\n*(u64 *)(r10 - 8) = 9\nexit"
+
+
+class Scratch(AdditionsTest):
+    def test_words_of_the_context(self) -> None:
+        lowered = self.changed(object_of(f=SCRATCH, inner=INNER), "scratch")
+        self.assertIn("7 accesses to skb->cb are in words of the stack", " ".join(lowered.changes))
+
+    def test_what_is_no_access_to_them(self) -> None:
+        for text in (
+            "r2 = r1\nr2 += 48\n*(u32 *)(r2 + 0) = 5\nr0 = 0\nexit",
+            "*(u32 *)(r1 + 44) = 5\nr0 = 0\nexit",
+            "*(u64 *)(r1 + 64) = 5\nr0 = 0\nexit",
+            "r2 = 1\nlock *(u32 *)(r1 + 48) += r2\nr0 = 0\nexit",
+            "*(u64 *)(r10 - 496) = 5\n*(u32 *)(r1 + 48) = 5\nr0 = 0\nexit",
+        ):
+            lowered = self.lowered(object_of(f=text))
+            self.assertIsNotNone(lowered.refused, text)
+            self.assertEqual(lowered.steps, (), text)
+
+
 class Checked(LoweringTest):
     """The checker rejects additions that change something."""
 
@@ -234,6 +330,46 @@ class Checked(LoweringTest):
         self.rejects(lowered, moved, (origins[1], origins[0], *origins[2:]))
         after = (origins[1], origins[2]._replace(added=ZERO), *origins[2:])
         self.rejects(lowered, slots[8:16] + slots[:8] + slots[16:], after)
+
+    def test_scratch_words_begin_as_0_and_are_used_by_nothing_else(self) -> None:
+        lowered = self.accepted(object_of(f=SCRATCH, inner=INNER))
+        slots, origins = lowered.program.slots, lowered.origins
+        found = decoded(slots)
+        zeros = [slot for slot, origin in enumerate(origins) if origin.added == ZERO]
+        words = {found[slot].offset for slot in zeros}
+        self.assertEqual(len(words), 3)
+        for slot in zeros:
+            self.rejects(lowered, slots[: 8 * slot] + slots[8 * slot + 8 :], (*origins[:slot], *origins[slot + 1 :]))
+        accesses = [
+            slot for slot, each in found.items() if slot not in zeros and each.kind in (1, 2, 3) and min(words) <= each.offset < min(words) + 24
+        ]
+        self.assertEqual(len(accesses), 7)
+        for slot in accesses:
+            for by in (8, -8, -24):
+                data = bytearray(slots)
+                data[8 * slot + 2 : 8 * slot + 4] = (found[slot].offset + by).to_bytes(2, "little", signed=True)
+                self.rejects(lowered, bytes(data), origins)
+
+    def test_a_comparison_that_has_two_outcomes(self) -> None:
+        for text in (SPILLED, SIGNED):
+            lowered = self.form_of(text)
+            slots, origins = lowered.program.slots, lowered.origins
+            known = [slot for slot, origin in enumerate(origins) if origin.added == KNOWN]
+            for slot in known:
+                data = bytearray(slots)
+                # A smaller number above which there are none, or a greater one below which there are none.
+                data[8 * slot + 4] += -1 if data[8 * slot] == 0x25 else 1
+                self.rejects(lowered, bytes(data), origins)
+            self.assertGreater(len(known), 1)
+
+    def test_what_is_never_reached_is_not_reached(self) -> None:
+        lowered = self.form_of(SPILLED)
+        slots, origins = lowered.program.slots, lowered.origins
+        never = [slot for slot, origin in enumerate(origins) if origin.added == NEVER]
+        self.assertEqual([decoded(slots)[slot].opcode for slot in never], [0xB7, 0x95])
+        for slot in range(len(origins)):
+            marked = (*origins[:slot], origins[slot]._replace(added="" if slot in never else NEVER), *origins[slot + 1 :])
+            self.rejects(lowered, slots, marked)
 
     def test_a_register_that_is_an_index_is_not_used_otherwise(self) -> None:
         lowered = self.form_of(COPIED.format(mask=3, shift=0) + "r0 = *(u8 *)(r3 + 0)\nr0 += r7\nexit")

@@ -38,10 +38,14 @@ class SourceLine:
     column: int
     text: str
 
+    @property
+    def path(self) -> str:
+        """The path of the file, relative to the working directory if the file is in it."""
+        return os.path.normpath(self.file).removeprefix(os.path.join(os.getcwd(), ""))
+
     def __str__(self) -> str:
-        """The line as compilers print it, as `filter.c:23: return table[i];`; the path of a file in the working directory is relative to it."""
-        file = os.path.normpath(self.file).removeprefix(os.path.join(os.getcwd(), ""))
-        return f"{file}:{self.line}: {self.text}".removesuffix(": ")
+        """The line as compilers print it, as `filter.c:23: return table[i];`."""
+        return f"{self.path}:{self.line}: {self.text}".removesuffix(": ")
 
 
 def line_at(lines: Sequence[SourceLine], slot: int) -> SourceLine | None:

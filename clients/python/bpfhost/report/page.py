@@ -64,7 +64,7 @@ def _lines(found: Gathered) -> Iterator[str]:
             shown.setdefault(key, line)
     yield "<h2>Lines</h2>"
     known = _FACTS if found.facts else _NO_FACTS
-    names = _short_names([line.file for line in shown.values() if line.file != found.object_file.path])
+    names = _short_names([line.path for line in shown.values() if line.file != found.object_file.path])
     sources = ", ".join(escape(name) for name, short in sorted(names.items()) if short != name)
     places = f" Sources: {sources}." if sources else ""
     yield f'<p class="soft">{known} Numbers of slots are absolute.{places}</p>'
@@ -82,7 +82,7 @@ def _short_names(files: Sequence[str]) -> dict[str, str]:
 
 def _place(line: SourceLine, names: Mapping[str, str]) -> str:
     """A line by the short name of its file; nothing for an instruction of a filter, whose text has its number."""
-    return str(replace(line, file=names[line.file], text="")) if line.file in names else ""
+    return str(replace(line, file=names[line.path], text="")) if line.path in names else ""
 
 
 _FACTS = (

@@ -144,3 +144,18 @@ class Members(HostTest):
             (op.ARSH, Range(16, 50), constant(4), Range(1, 3)),
         ):
             self.assertEqual(result(code, a, b, 64), wanted, (code, a, b))
+
+    def test_signed_comparisons(self) -> None:
+        """A number of both signs, compared with a number of one: of the negative ones the unsigned numbers are the greatest."""
+        low, most = constant(-(1 << 31), 32).lo, full(32).hi
+        for code, a, b, taken, fallen in (
+            (op.JSLT, full(32), constant(0), Range(low, most), Range(0, low - 1)),
+            (op.JSGE, full(32), constant(0), Range(0, low - 1), Range(low, most)),
+            (op.JSGT, full(32), constant(15), Range(16, low - 1), full(32)),
+            (op.JSLE, full(32), constant(-5, 32), Range(low, most - 4), full(32)),
+            (op.JSGT, Range(3, low + 9), constant(-1, 32), Range(3, low - 1), Range(low, low + 9)),
+            (op.JSGT, Range(3, low - 1), constant(-1, 32), Range(3, low - 1), None),
+            (op.JSLT, Range(low, most), constant(7), Range(low, most), None),
+        ):
+            found = refine(code, a, b, 32)
+            self.assertEqual([each and each[0] for each in found], [taken, fallen], (code, a, b))

@@ -116,7 +116,8 @@ static void checks_overlaps(bpfhost *host)
     CHECK(bpfhost_handle(host, b + all, 8, b, all, &written) == BPFHOST_DONE);
     CHECK(bpfhost_handle(host, b + 1, 0, b, all, &written) == BPFHOST_DONE && written == 12);
     CHECK(bpfhost_are_apart(b, 0, b, 8) && !bpfhost_are_apart(b, 1, b, 8) && bpfhost_are_apart(b, 1, b + 1, 8));
-    CHECK(bpfhost_are_apart((void *)(UINTPTR_MAX - 3), 4, (void *)4, 4));
+    CHECK(bpfhost_are_apart((void *)(UINTPTR_MAX - 4), 4, (void *)4, 4));
+    CHECK(!bpfhost_are_apart((void *)(UINTPTR_MAX - 3), 4, (void *)4, 4) && bpfhost_are_apart((void *)(UINTPTR_MAX - 3), 4, (void *)4, 0));
 }
 
 /* The reply is at the front of the room, and the bytes after it have not changed; a lent reply is the same. */

@@ -10,11 +10,16 @@
  *
  * An arena holds the objects of its function side by side, with few bytes more: the time grows with its size. */
 #include <stddef.h>
+#include <stdlib.h>
 #include <string.h>
 /* In place of memcpy, since cbmc's own takes long: it may change any byte that is copied to, in any way. */
 static void copy(void *to, const void *from, size_t length);
 #define memcpy(to, from, length) copy(to, from, length)
+/* In place of calloc, to know whether it had memory. */
+static void *given(size_t number, size_t size);
+#define calloc(number, size) given(number, size)
 #include <bpfhost.h>
+#undef calloc
 
 #define MOST_OBJECTS 6
 
@@ -33,7 +38,8 @@ static struct {
     bool is_written;
 } objects[MOST_OBJECTS];
 static size_t count;
-static bool is_any_null, is_any_too_long, is_asked;
+static bool is_any_null, is_any_too_long, is_any_size_wrong, is_memory_refused, is_asked;
+static uint32_t abi_of_library = BPFHOST_ABI;
 static uint8_t *arena;
 static size_t arena_size, watched; /* any byte of the arena */
 static uint8_t byte_before;
@@ -50,7 +56,7 @@ static void lie_in(uint8_t *bytes, size_t size)
 /* A length that an object of the arena may have, or one that no object has. */
 static size_t any_length(void)
 {
-    return nondet_bool() ? nondet_uint8_t() : nondet_size_t() | (size_t)PTRDIFF_MAX + 1;
+    return nondet_bool() ? nondet_uint8_t() : nondet_size_t() | ((size_t)PTRDIFF_MAX + 1);
 }
 
 /* As many units as have this length, or more than any object has. */
@@ -120,10 +126,10 @@ static bool may_be_written(void)
 static void end(int code, bool asks)
 {
     const bool do_overlap = overlap();
-    if (is_any_null || is_any_too_long || do_overlap) {
+    if (is_any_null || is_any_too_long || is_any_size_wrong || do_overlap) {
         __CPROVER_assert(!is_asked, "no proved function is called if something is wrong");
         __CPROVER_assert((code == BPFHOST_ERR_NULL && is_any_null) || (code == BPFHOST_ERR_LENGTH && is_any_too_long)
-                             || (code == BPFHOST_ERR_OVERLAP && do_overlap),
+                             || (code == BPFHOST_ERR_SIZE && is_any_size_wrong) || (code == BPFHOST_ERR_OVERLAP && do_overlap),
                          "the code says something that is wrong");
     } else {
         __CPROVER_assert(is_asked == asks, "the proved function is called if nothing is wrong");
@@ -171,6 +177,13 @@ static void copy(void *to, const void *from, size_t length)
     __CPROVER_assert(__CPROVER_w_ok(to, length) && __CPROVER_r_ok(from, length), "what is copied is there");
     __CPROVER_assert(!have_a_byte_in_common(target, source), "what is copied does not overlap");
     change(target);
+}
+
+static void *given(size_t number, size_t size)
+{
+    void *at = calloc(number, size);
+    is_memory_refused = at == NULL;
+    return at;
 }
 
 /* Takes the call of a proved function, and returns a code: if it is DONE, what may be written has changed. */
@@ -237,10 +250,9 @@ uint32_t bpfhost_c_version(void)
     return BPFHOST_VERSION_NUMBER;
 }
 
-/* The library is one for this header or not. */
 uint32_t bpfhost_c_abi(void)
 {
-    return nondet_uint8_t();
+    return abi_of_library;
 }
 
 int32_t bpfhost_c_run_packets(bpfhost *handle, uint16_t tenant, uint32_t fd, const uint32_t *contexts, size_t word_count,
@@ -284,13 +296,16 @@ void bpfhost_c_free(bpfhost *handle)
 
 /* ---- the functions */
 
+/* The library is one for this header or not, and there may be no memory for the handle. */
 void try_new(void)
 {
     uint8_t here[32];
     lie_in(here, sizeof here);
+    abi_of_library = nondet_uint8_t();
     bpfhost **host = ONE(host, WRITTEN);
     const bpfhost_seed *seed = ONE(seed, READ);
-    end(bpfhost_new(host, nondet_size_t(), seed), true);
+    int code = bpfhost_new(host, nondet_size_t(), seed);
+    end(code, abi_of_library == BPFHOST_ABI && !is_memory_refused);
 }
 
 void try_handle(void)
@@ -334,6 +349,18 @@ void try_ask(void)
     end(bpfhost_ask(host, frame, frame_length, reply), true);
 }
 
+void try_ask_sized(void)
+{
+    uint8_t here[56];
+    lie_in(here, sizeof here);
+    size_t frame_length = any_length(), size = any_length();
+    bpfhost *host = HOST;
+    const void *frame = BYTES(frame_length, READ | NULL_IF_EMPTY);
+    void *reply = BYTES(size, WRITTEN);
+    is_any_size_wrong = size == 0;
+    end(bpfhost_ask_sized(host, frame, frame_length, reply, size), true);
+}
+
 /* NO_REPLY may come too, and first: nothing has changed then. */
 void try_read_reply(void)
 {
@@ -343,6 +370,17 @@ void try_read_reply(void)
     const void *bytes = BYTES(length, READ);
     bpfhost_reply *reply = ONE(reply, WRITTEN);
     end(bpfhost_read_reply(bytes, length, reply), false);
+}
+
+void try_read_reply_sized(void)
+{
+    uint8_t here[60];
+    lie_in(here, sizeof here);
+    size_t length = any_length(), size = any_length();
+    const void *bytes = BYTES(length, READ);
+    void *reply = BYTES(size, WRITTEN);
+    is_any_size_wrong = size == 0;
+    end(bpfhost_read_reply_sized(bytes, length, reply, size), false);
 }
 
 void try_context_words(void)
@@ -377,12 +415,34 @@ void try_run_packets_with(void)
     size_t results_size = ends_size > PTRDIFF_MAX ? ends_size : packets * sizeof(uint32_t);
     size_t contexts_size = any_length(), context_count = any_units(contexts_size, sizeof(bpfhost_context));
     bpfhost *host = HOST;
-    const bpfhost_context *contexts = object(contexts_size, alignof(bpfhost_context), READ | NULL_IF_EMPTY);
+    const bpfhost_context *contexts = object(contexts_size, __alignof__(bpfhost_context), READ | NULL_IF_EMPTY);
     const void *bytes = BYTES(byte_count, READ | NULL_IF_EMPTY);
     const size_t *ends = object(ends_size, sizeof *ends, READ | NULL_IF_EMPTY);
     uint32_t *results = object(results_size, sizeof *results, WRITTEN | NULL_IF_EMPTY);
     int32_t *status = ONE(status, WRITTEN);
     end(bpfhost_run_packets_with(host, 1, 3, contexts, context_count, bytes, byte_count, ends, packets, results, status), true);
+}
+
+/* Contexts of up to 12 words, or of no whole words; if there are none, their size counts for nothing. */
+void try_run_packets_sized(void)
+{
+    uint8_t here[84];
+    lie_in(here, sizeof here);
+    size_t byte_count = any_length(), ends_size = any_length(), packets = any_units(ends_size, sizeof(size_t));
+    size_t results_size = ends_size > PTRDIFF_MAX ? ends_size : packets * sizeof(uint32_t);
+    size_t size = nondet_uint8_t(), contexts_size = size == 0 ? 0 : any_length();
+    __CPROVER_assume(size <= 48);
+    size_t context_count = size == 0 ? nondet_size_t() : any_units(contexts_size, size);
+    bpfhost *host = HOST;
+    const void *contexts = object(contexts_size, __alignof__(uint32_t), READ | NULL_IF_EMPTY);
+    const void *bytes = BYTES(byte_count, READ | NULL_IF_EMPTY);
+    const size_t *ends = object(ends_size, sizeof *ends, READ | NULL_IF_EMPTY);
+    uint32_t *results = object(results_size, sizeof *results, WRITTEN | NULL_IF_EMPTY);
+    int32_t *status = ONE(status, WRITTEN);
+    is_any_size_wrong = context_count != 0 && (size == 0 || size % sizeof(uint32_t) != 0);
+    if (size == 0 && context_count != 0 && contexts == NULL)
+        is_any_null = true;
+    end(bpfhost_run_packets_sized(host, 1, 3, contexts, size, context_count, bytes, byte_count, ends, packets, results, status), true);
 }
 
 void try_save_part(void)
@@ -408,7 +468,7 @@ void try_free(void)
     uint8_t here[1];
     lie_in(here, sizeof here);
     bpfhost *host = nondet_bool() ? NULL : (bpfhost *)calloc(1, BPFHOST_HANDLE_SIZE);
-    bool is_null = host == NULL;
+    const bool is_null = host == NULL;
     bpfhost_free(host);
     end(BPFHOST_DONE, !is_null);
 }

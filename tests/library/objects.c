@@ -311,7 +311,8 @@ static void try_function(const struct function *it)
         try_nulls();
 }
 
-/* Objects of up to three bytes around an address, which may be the one at which addresses wrap around. */
+/* Objects of up to three bytes around an address, which may be the one at which addresses wrap around. No object lies there: with one that
+ * reaches it, no other one is apart. */
 static void try_are_apart(uintptr_t around)
 {
     for (unsigned i = 0; i < 8 * 4 * 8 * 4; i++) {
@@ -320,7 +321,7 @@ static void try_are_apart(uintptr_t around)
         bool is_apart = true;
         for (size_t at = 0; at < a_length; at++)
             for (size_t other = 0; other < b_length; other++)
-                is_apart = is_apart && a + at != b + other;
+                is_apart = is_apart && a + at != b + other && a + at != UINTPTR_MAX && b + other != UINTPTR_MAX;
         CHECK(bpfhost_are_apart((const void *)a, a_length, (const void *)b, b_length) == is_apart);
     }
 }

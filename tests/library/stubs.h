@@ -33,11 +33,11 @@ struct piece {
     bool is_written;
 };
 
-/* Whether two objects have a byte in common: it compares the ends, while the header subtracts. */
+/* Whether two objects have a byte in common: it subtracts, while the header compares the ends. */
 static bool share_a_byte(struct piece a, struct piece b)
 {
     uintptr_t from = (uintptr_t)a.at, other = (uintptr_t)b.at;
-    return a.length != 0 && b.length != 0 && from < other + b.length && other < from + a.length;
+    return a.length != 0 && b.length != 0 && (from - other < b.length || other - from < a.length);
 }
 
 /* Reads each byte, so that the address sanitizer sees it. */

@@ -158,11 +158,13 @@ int32_t bpfhost_c_save(bpfhost *handle, uint16_t tenant, size_t part, bpfhost_by
 int32_t bpfhost_c_memory_refused(bpfhost *handle, uint16_t tenant, bool *refused);
 void bpfhost_c_free(bpfhost *handle);
 
-/* Whether two objects have no byte in common. */
+/* Whether two objects have no byte in common. One that goes on past the last address, where none lies, counts as all bytes. */
 static inline bool bpfhost_are_apart(const void *a, size_t a_length, const void *b, size_t b_length)
 {
-    return a_length == 0 || b_length == 0
-        || ((uintptr_t)a - (uintptr_t)b >= b_length && (uintptr_t)b - (uintptr_t)a >= a_length);
+    const uintptr_t a_begin = (uintptr_t)a, a_end = a_begin + a_length, b_begin = (uintptr_t)b, b_end = b_begin + b_length;
+    if (a_begin < a_end && b_begin < b_end)
+        return a_end <= b_begin || b_end <= a_begin;
+    return a_length == 0 || b_length == 0;
 }
 
 /* What is wrong with two objects of a call that may write one of them, or DONE. */

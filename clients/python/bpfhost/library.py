@@ -53,18 +53,24 @@ class Library:
     """A shared library of the host. Hosts share nothing, and each may belong to a thread of its own."""
 
     def __init__(self, path: str | os.PathLike[str], keeps_lock: bool = False) -> None:
-        """Opens a file. Raises LibraryError if there is none, or if it is not a library of this version.
+        """Opens a file, or an installed library by its name, `libbpfhost.so.0.2`, where the system looks for libraries.
 
-        With `keeps_lock`, only a run of packets releases Python's lock: that is better for one thread, and short calls.
+        Raises LibraryError if there is none, or if it is not a library of this version. With `keeps_lock`, only a run of packets releases
+        Python's lock: that is better for one thread, and short calls.
         """
         self.path = Path(path)
-        if not self.path.is_file():
+        is_file = self.path.is_file()
+        if not is_file and os.path.dirname(path):
             raise LibraryError(f"there is no library {self.path}: tools/library and tools/shared-library make it")
+        opened = self.path.resolve() if is_file else self.path
         try:
-            self._demand_version(self.path.resolve().name)
-            self._demand_version(soname_of(self.path))
-            self.functions = functions_of(str(self.path.resolve()), keeps_lock)
+            self._demand_version(opened.name)
+            if is_file:
+                self._demand_version(soname_of(self.path))
+            self.functions = functions_of(str(opened), keeps_lock)
         except (OSError, ValueError) as error:
+            if not is_file:
+                raise LibraryError(f"there is no library {self.path}, neither here nor where the system looks for libraries") from error
             raise LibraryError(f"{self.path} is no shared library that can be opened: {error}") from error
         except AttributeError as error:
             raise LibraryError(f"{self.path} is no library of bpfhost {VERSION}: {error}") from error

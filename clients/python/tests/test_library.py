@@ -51,6 +51,7 @@ class Files(TimedTest):
     def test_no_file(self) -> None:
         self.refused(self.scratch / "none.so", "there is no library .*/none.so: tools/library and tools/shared-library make it")
         self.refused(self.scratch, "there is no library .*")
+        self.refused(Path("libnone.so.0.2"), "there is no library libnone.so.0.2, neither here nor where the system looks for libraries")
 
     def test_no_library(self) -> None:
         path = self.scratch / "text.so"
@@ -89,6 +90,14 @@ class Calls(TimedTest):
 
     def test_version(self) -> None:
         self.assertEqual(self.library.version(), __version__)
+
+    def test_by_its_name(self) -> None:
+        """A name without a folder is that of a library where the system looks for libraries."""
+        (self.scratch / "libbpfhost.so.0.2").symlink_to(self.library.path.resolve())
+        code = "from bpfhost.library import Library; print(Library('libbpfhost.so.0.2').version())"
+        environment = {**os.environ, "LD_LIBRARY_PATH": str(self.scratch), "PYTHONPATH": str(CLIENT)}
+        ended = subprocess.run([sys.executable, "-c", code], capture_output=True, check=False, text=True, cwd="/", env=environment)
+        self.assertEqual((ended.stdout, ended.stderr), (f"{__version__}\n", ""))
 
     def test_batches(self) -> None:
         """As packets, as a list, in any place of the bytes, and none."""

@@ -195,7 +195,7 @@ static void restores(bpfhost *host, uint16_t tenant, const uint8_t *frames, size
 static bool takes(void *context, const uint8_t *frames, size_t length)
 {
     struct target *target = (struct target *)context;
-    CHECK(length <= BPFHOST_LONGEST_PART);
+    CHECK(frames != NULL && length <= BPFHOST_LONGEST_PART);
     if (target->host != NULL)
         restores(target->host, target->tenant, frames, length);
     else {

@@ -158,7 +158,7 @@ int32_t bpfhost_c_save(bpfhost *handle, uint16_t tenant, size_t part, bpfhost_by
 int32_t bpfhost_c_memory_refused(bpfhost *handle, uint16_t tenant, bool *refused);
 void bpfhost_c_free(bpfhost *handle);
 
-/* Whether two objects have no byte in common. One that goes on past the last address, where none lies, counts as all bytes. */
+/* Whether two objects have no byte in common. One that reaches the last address counts as all bytes: no object lies there. */
 static inline bool bpfhost_are_apart(const void *a, size_t a_length, const void *b, size_t b_length)
 {
     const uintptr_t a_begin = (uintptr_t)a, a_end = a_begin + a_length, b_begin = (uintptr_t)b, b_end = b_begin + b_length;
@@ -590,7 +590,8 @@ static inline int bpfhost_save_part(bpfhost *host, uint16_t tenant, size_t part,
 }
 
 /* Takes the frames of one part of a tenant: writes them to a file, say. They are lent: once it has used them, it may serve other tenants
- * of the host. `context` is that of bpfhost_save. false stops the save. */
+ * of the host. A part may be empty, as the last one is if all descriptors are open: then `length` is 0, and `frames` is not null. `context` is
+ * that of bpfhost_save. false stops the save. */
 typedef bool bpfhost_sink(void *context, const uint8_t *frames, size_t length);
 
 /* Saves a tenant: gives its parts (bpfhost_save_part) to the sink, one after another. What the sink is given, in this order, restores the

@@ -7,7 +7,7 @@ from __future__ import annotations
 
 import ctypes
 from dataclasses import dataclass
-from typing import Any
+from typing import Any, NoReturn
 
 # Codes: there is no memory for a host, for a part of a save or for contexts; there are no more parts; the library does not know a word of a
 # context.
@@ -45,6 +45,26 @@ class Functions:
         lent = (_SIZE * 2)()
         code = self.save(handle, tenant, part, lent)
         return code, ctypes.string_at(*lent) if lent[1] else b""
+
+
+class OneOwner:
+    """What frees a host at its end. A copy would free it too, so it can be neither copied nor pickled."""
+
+    def __reduce__(self) -> NoReturn:
+        raise TypeError("a host can't be copied: give what saves a tenant to another host, which restores it")
+
+
+def lent_bytes(data: object) -> Any:
+    """Bytes as ctypes passes them on: the memory of a writable buffer itself, and a copy of another one that is not `bytes`.
+
+    Raises TypeError for what is no buffer, as a str, of which ctypes would pass wide characters.
+    """
+    if isinstance(data, bytes):
+        return data
+    with memoryview(data) as view:  # type: ignore[arg-type]
+        if view.readonly or not view.c_contiguous or not view.nbytes:
+            return view.tobytes()
+        return (ctypes.c_char * view.nbytes).from_buffer(data)  # type: ignore[arg-type]
 
 
 def functions_of(path: str, keeps_lock: bool = False) -> Functions:

@@ -18,16 +18,18 @@ from itertools import accumulate
 from operator import sub
 from pathlib import Path
 from types import TracebackType
+from typing import Any
 
 from bpfhost import frames
 from bpfhost.errors import HostError
 from bpfhost.frames import NO_CONTEXT, Context
-from bpfhost.functions import CONTEXT_WORDS, NO_MEMORY, NO_PART, TOO_BIG, functions_of, version_text
+from bpfhost.functions import CONTEXT_WORDS, NO_MEMORY, NO_PART, TOO_BIG, OneOwner, functions_of, lent_bytes, version_text
 from bpfhost.numbers import LONGEST_PACKET, LONGEST_PAYLOAD, MOST_TENANTS, REPLY_HEAD, Command, Errno
 from bpfhost.packets import Packets
 from bpfhost.replies import Reply, read_replies
 from bpfhost.shared_object import soname_of
 from bpfhost.state import split
+from bpfhost.tenant import Commands
 
 # The versions that have the functions below, as in the name of an installed library (docs/RELEASING.md, "The library's binary interface").
 VERSION = "0.2"
@@ -53,7 +55,7 @@ class Library:
     """A shared library of the host. Hosts share nothing, and each may belong to a thread of its own."""
 
     def __init__(self, path: str | os.PathLike[str], keeps_lock: bool = False) -> None:
-        """Opens a file, or an installed library by its name, `libbpfhost.so.0.2`, where the system looks for libraries.
+        """Opens a file, or an installed library by its name, `libbpfhost.so.0.2`, as the system's loader finds it.
 
         Raises LibraryError if there is none, or if it is not a library of this version. With `keeps_lock`, only a run of packets releases
         Python's lock: that is better for one thread, and short calls.
@@ -70,7 +72,7 @@ class Library:
             self.functions = functions_of(str(opened), keeps_lock)
         except (OSError, ValueError) as error:
             if not is_file:
-                raise LibraryError(f"there is no library {self.path}, neither here nor where the system looks for libraries") from error
+                raise LibraryError(f"there is no library {self.path}, neither here nor among those that are installed") from error
             raise LibraryError(f"{self.path} is no shared library that can be opened: {error}") from error
         except AttributeError as error:
             raise LibraryError(f"{self.path} is no library of bpfhost {VERSION}: {error}") from error
@@ -99,7 +101,7 @@ class Library:
         return LibraryHost(self, tenants, seed)
 
 
-class LibraryHost:
+class LibraryHost(OneOwner):
     """A host in this process, as a context manager that frees it on exit. Threads may share it: they wait for one another."""
 
     def __init__(self, library: Library, tenants: int = 1, seed: tuple[int, int] | None = None) -> None:
@@ -117,6 +119,9 @@ class LibraryHost:
         self._room, self._written = ctypes.create_string_buffer(_LONGEST_REPLY), ctypes.c_size_t()
         self._refused = ctypes.c_bool()
         library.demand_done(library.functions.new(self._at, tenants, first, second))
+
+    def __repr__(self) -> str:
+        return f"<LibraryHost of {self.library!r}>"
 
     def __enter__(self) -> LibraryHost:
         return self
@@ -139,11 +144,12 @@ class LibraryHost:
             raise ValueError(f"tenant {number} is not served: this host has the tenants 0 to {self.tenants - 1}")
         return LibraryTenant(self, number)
 
-    def handle(self, frame: bytes) -> bytes:
+    def handle(self, frame: bytes | bytearray | memoryview) -> bytes:
         """Handles a frame without its length field, valid or not; returns the bytes of the reply, with its length field."""
+        lent = lent_bytes(frame)
         with self._lock:
             written = ctypes.byref(self._written)
-            code = self.library.functions.handle(self._at, frame, len(frame), self._room, _LONGEST_REPLY, written)
+            code = self.library.functions.handle(self._at, lent, len(lent), self._room, _LONGEST_REPLY, written)
             self.library.demand_done(code)
             return ctypes.string_at(self._room, self._written.value)
 
@@ -151,6 +157,10 @@ class LibraryHost:
         """Handles a whole frame, as the functions of `bpfhost.frames` make it; returns its reply."""
         (reply,) = read_replies(self.handle(frame[_LENGTH_FIELD:]))
         return reply
+
+    def ask_all(self, frames: Iterable[bytes]) -> Iterator[Reply]:
+        """Handles whole frames, one after another, as their replies are asked for."""
+        return map(self.ask, frames)
 
     def memory_refused(self, tenant: int) -> bool:
         """Whether memory was ever refused to a tenant; False for a number that is not served."""
@@ -162,7 +172,7 @@ class LibraryHost:
         """The frames of one part of a tenant, counted from 0; None after its last part, and if the tenant is not served.
 
         A new tenant of this number that is given the frames of all parts in their order (`restore`) replies to each frame as this one does.
-        Other tenants may be served between two parts; this one must not change before its last part is taken.
+        A part may have no frames: b"". Other tenants may be served between two parts; this one must not change before its last part is taken.
         """
         with self._lock:
             code, frames = self.library.functions.saved_part(self._at, tenant, part)
@@ -220,15 +230,8 @@ class LibraryHost:
         return status.value, results
 
 
-class LibraryTenant:
-    """One tenant of a host in this process. Each command that the host refuses raises Refused, which has the reply."""
-
-    def __init__(self, host: LibraryHost, number: int) -> None:
-        """The tenant of this number, from 0."""
-        self.host, self.number = host, number
-
-    def __repr__(self) -> str:
-        return f"<LibraryTenant {self.number} of {self.host.library!r}>"
+class LibraryTenant(Commands[LibraryHost]):
+    """One tenant of a host in this process: maps, single runs and `close` as those of `bpfhost.Tenant`, and these."""
 
     def prog_load(self, slots: bytes) -> int:
         """Loads a socket filter; returns its descriptor. Raises ProgramRefused, with the slot and the reason, if it is rejected."""
@@ -255,9 +258,9 @@ class LibraryTenant:
         """Gives the frames of a save, of a tenant of this number, to this one, which is new (`LibraryHost.restore`)."""
         self.host.restore(self.number, saved)
 
-    def close(self, descriptor: int) -> None:
-        """Closes a descriptor of a map or of a program."""
-        self.host.ask(frames.close(self.number, descriptor)).done()
+    def memory_refused(self) -> bool:
+        """Whether memory was ever refused to this tenant."""
+        return self.host.memory_refused(self.number)
 
 
 @lru_cache(maxsize=64)
@@ -275,15 +278,18 @@ def _contexts_of(context: Context | Sequence[Context], packets: int) -> tuple[by
     return b"".join(map(_words_of, context)), len(context) * CONTEXT_WORDS, CONTEXT_WORDS
 
 
-def _in_one_piece(packets: Packets | Iterable[bytes]) -> tuple[bytes, array[int]]:
+def _in_one_piece(packets: Packets | Iterable[bytes]) -> tuple[Any, array[int]]:
     """Packets one after another, and the end of each."""
     if not isinstance(packets, Packets):
         listed = list(packets)
-        return b"".join(listed), array("Q", accumulate(map(len, listed)))
+        joined, ends = b"".join(listed), array("Q", accumulate(map(len, listed)))
+        if ends and ends[-1] != len(joined):
+            raise TypeError("a packet is bytes, and no array of larger numbers")
+        return joined, ends
     first = packets.starts[0] if len(packets) else 0
     ends = array("Q", accumulate(packets.lengths, initial=first))
     if ends[:-1] == array("Q", packets.starts) and first == 0:
-        return packets.data, ends[1:]
+        return lent_bytes(packets.data), ends[1:]
     data = memoryview(packets.data)
     joined = b"".join(data[start : start + length] for start, length in zip(packets.starts, packets.lengths))
     return joined, array("Q", accumulate(packets.lengths))

@@ -3,7 +3,7 @@
 from __future__ import annotations
 
 from collections.abc import Iterator, MutableMapping
-from typing import TYPE_CHECKING
+from typing import TYPE_CHECKING, Any
 
 from bpfhost import frames
 from bpfhost.errors import Refused
@@ -11,7 +11,7 @@ from bpfhost.numbers import Errno, MapType
 from bpfhost.program import MapShape
 
 if TYPE_CHECKING:
-    from bpfhost.tenant import Tenant
+    from bpfhost.tenant import Commands
 
 
 class Map(MutableMapping[bytes, bytes]):
@@ -21,7 +21,7 @@ class Map(MutableMapping[bytes, bytes]):
     step of an iteration: it sees changes made meanwhile, and it starts again from the first key if the last key was deleted.
     """
 
-    def __init__(self, tenant: Tenant, descriptor: int, shape: MapShape) -> None:
+    def __init__(self, tenant: Commands[Any], descriptor: int, shape: MapShape) -> None:
         """Names a map of this shape by the tenant's descriptor."""
         self.tenant = tenant
         self.descriptor = descriptor

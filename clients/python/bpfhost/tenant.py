@@ -1,10 +1,10 @@
-"""One tenant of a running host: its commands, by their names."""
+"""One tenant of a running host: its commands, by their names. A host in this process has the same commands (`bpfhost.library`)."""
 
 from __future__ import annotations
 
 import time
 from collections.abc import Iterable, Iterator
-from typing import TYPE_CHECKING
+from typing import TYPE_CHECKING, Generic, Protocol, TypeVar
 
 from bpfhost import frames
 from bpfhost.classic.semantics import Length, Semantics
@@ -22,20 +22,33 @@ if TYPE_CHECKING:
     from bpfhost.replies import Reply
 
 
-class Tenant:
-    """One tenant of a host. Each command that the host refuses raises Refused, which has the reply.
+class Asked(Protocol):
+    """What handles frames."""
+
+    def ask(self, frame: bytes) -> Reply:
+        """Handles a whole frame; returns its reply."""
+
+    def ask_all(self, frames: Iterable[bytes]) -> Iterator[Reply]:
+        """Handles whole frames; returns their replies in order."""
+
+
+HostT = TypeVar("HostT", bound=Asked)
+
+
+class Commands(Generic[HostT]):
+    """The commands of one tenant of a host. Each command that the host refuses raises Refused, which has the reply.
 
     docs/PROTOCOL.md lists each command's errors. A refused command changes nothing. A reply to another command or another tenant raises
     ReplyError.
     """
 
-    def __init__(self, host: Host, number: int) -> None:
+    def __init__(self, host: HostT, number: int) -> None:
         """The tenant of this number, from 0."""
         self.host = host
         self.number = number
 
     def __repr__(self) -> str:
-        return f"<Tenant {self.number} of {self.host!r}>"
+        return f"<{type(self).__name__} {self.number} of {self.host!r}>"
 
     def map_create(self, map_type: MapType, key_size: int, value_size: int, max_entries: int) -> Map:
         """Creates a map; sizes are in bytes. Its descriptor is the lowest free one."""
@@ -63,6 +76,21 @@ class Tenant:
                 return None
             raise
 
+    def prog_test_run(self, descriptor: int, packet: bytes = b"", context: Context = NO_CONTEXT) -> int:
+        """Runs a program on a packet and returns its result."""
+        return self._done(frames.prog_test_run(self.number, descriptor, packet, context)).result()
+
+    def close(self, descriptor: int) -> None:
+        """Closes a descriptor of a map or of a program."""
+        self._done(frames.close(self.number, descriptor))
+
+    def _done(self, frame: bytes) -> Reply:
+        return answered(frame, self.host.ask(frame))
+
+
+class Tenant(Commands["Host"]):
+    """One tenant of a host."""
+
     def prog_load(self, slots: bytes, name: str = "") -> Prog:
         """Loads a socket filter, with a name of the caller's choice. Raises ProgramRefused, with the slot and the reason, if it is rejected."""
         return Prog.of(self, self._done(frames.prog_load(self.number, slots)).status, name)
@@ -82,7 +110,7 @@ class Tenant:
     def prog_test_run(self, descriptor: int, packet: bytes = b"", context: Context = NO_CONTEXT) -> int:
         """Runs a program on a packet and returns its result."""
         begun = time.perf_counter_ns()
-        result = self._done(frames.prog_test_run(self.number, descriptor, packet, context)).result()
+        result = super().prog_test_run(descriptor, packet, context)
         if isinstance(descriptor, Prog):
             descriptor.count(1, time.perf_counter_ns() - begun)
         return result
@@ -92,13 +120,6 @@ class Tenant:
     ) -> Iterator[tuple[int, ...]]:
         """Runs a program on many packets and returns the results in order (`TestRuns`)."""
         return TestRuns(self.host, self.number, descriptor, context).results(pieces)
-
-    def close(self, descriptor: int) -> None:
-        """Closes a descriptor of a map or of a program."""
-        self._done(frames.close(self.number, descriptor))
-
-    def _done(self, frame: bytes) -> Reply:
-        return answered(frame, self.host.ask(frame))
 
 
 def answered(frame: bytes, reply: Reply) -> Reply:

@@ -5,14 +5,20 @@ The library is the shared object that the variable BPFHOST_LIBRARY names, or is 
 
 from __future__ import annotations
 
+import copy
+import gc
+import mmap
 import os
+import pickle
 import re
 import shutil
 import subprocess
 import sys
 import threading
 import unittest
+from array import array
 from pathlib import Path
+from typing import Any
 
 from bpfhost import Context, Host, Packets, ProgramRefused, Refused, __version__, frames
 from bpfhost.library import Library, LibraryError, LibraryHost
@@ -29,6 +35,11 @@ IS_THERE = bool(NAMED) or (ARCHIVE is not None and ARCHIVE.is_file() and shutil.
 MARK = bytes.fromhex("6110080000000000 9500000000000000")
 # Counts in the array of descriptor 3: r1 = 1; r2 = the value of index 0; lock *(u64 *)(r2 + 0) += r1; r0 = it; exit.
 COUNT = bytes.fromhex("b701000001000000 1822000003000000 0000000000000000 db12000000000000 7920000000000000 9500000000000000")
+# r2 = 0; r3 = r10 - 8; r4 = 1; load a byte of the packet; r0 = it, or the error if there is none.
+FIRST_BYTE = bytes.fromhex(
+    "b702000000000000 bfa3000000000000 07030000f8ffffff b704000001000000 850000001a000000"
+    "5500010000000000 71a0f8ff00000000 9500000000000000"
+)
 # A save of a tenant with nothing open: a program at each descriptor, which are all closed.
 EMPTY = b"".join([FILLER] * 64 + [frames.close(0, number) for number in range(3, 67)])
 
@@ -51,7 +62,7 @@ class Files(TimedTest):
     def test_no_file(self) -> None:
         self.refused(self.scratch / "none.so", "there is no library .*/none.so: tools/library and tools/shared-library make it")
         self.refused(self.scratch, "there is no library .*")
-        self.refused(Path("libnone.so.0.2"), "there is no library libnone.so.0.2, neither here nor where the system looks for libraries")
+        self.refused(Path("libnone.so.0.2"), "there is no library libnone.so.0.2, neither here nor among those that are installed")
 
     def test_no_library(self) -> None:
         path = self.scratch / "text.so"
@@ -92,7 +103,7 @@ class Calls(TimedTest):
         self.assertEqual(self.library.version(), __version__)
 
     def test_by_its_name(self) -> None:
-        """A name without a folder is that of a library where the system looks for libraries."""
+        """A name without a folder is that of an installed library."""
         (self.scratch / "libbpfhost.so.0.2").symlink_to(self.library.path.resolve())
         code = "from bpfhost.library import Library; print(Library('libbpfhost.so.0.2').version())"
         environment = {**os.environ, "LD_LIBRARY_PATH": str(self.scratch), "PYTHONPATH": str(CLIENT)}
@@ -206,6 +217,17 @@ class Calls(TimedTest):
             self.assertEqual(refused.exception.status, -24)
         self.assertEqual(tenant.run_packets(count, [b""]), [3])
 
+    def test_empty_part(self) -> None:
+        """The last part of a tenant whose descriptors are all open closes none of them."""
+        tenant = self.host.tenant()
+        self.assertEqual([tenant.prog_load(ONE) for _ in range(64)], list(range(3, 67)))
+        parts = list(tenant.save_parts())
+        self.assertEqual((len(parts), parts[-1], all(parts[:-1])), (66, b"", True))
+        with self.library.host() as other:
+            for part in parts:
+                other.restore(0, part)
+            self.assertEqual(other.tenant().save(), tenant.save())
+
     def test_bad_saves(self) -> None:
         """Cut, or of another tenant: nothing is handled."""
         tenant = self.host.tenant(1)
@@ -226,6 +248,66 @@ class Calls(TimedTest):
         with self.assertRaises(ProgramRefused):
             self.host.tenant().prog_load(ONE[:8])
         self.assertFalse(self.host.memory_refused(0))
+
+    def test_frames_in_other_buffers(self) -> None:
+        """Bytes of any kind, and no text, of which a call would read wide characters."""
+        frame = frames.close(0, 3)[4:]
+        wanted = self.host.handle(frame)
+        for buffer in (bytearray(frame), memoryview(frame), memoryview(bytearray(frame)), memoryview(b"." + frame)[1:]):
+            self.assertEqual(self.host.handle(buffer), wanted)
+        self.assertEqual(self.host.handle(bytearray()), self.host.handle(b""))
+        for wrong in ("abc", None, 3):
+            with self.assertRaises(TypeError):
+                self.host.handle(wrong)  # type: ignore[arg-type]
+
+    def test_packets_in_other_buffers(self) -> None:
+        """Packets from the first byte of a buffer on, which are not copied, and from a later one on."""
+        tenant = self.host.tenant()
+        descriptor = tenant.prog_load(FIRST_BYTE)
+        data = bytes(range(1, 101))
+        mapped = mmap.mmap(-1, len(data))
+        mapped.write(data)
+        self.addCleanup(mapped.close)
+        buffers: list[Any] = [data, bytearray(data), memoryview(data), memoryview(bytearray(data)), mapped]
+        for buffer in buffers:
+            self.assertEqual(tenant.run_packets(descriptor, Packets(buffer, [0, 10], [10, 90])), [1, 11])
+            self.assertEqual(tenant.run_packets(descriptor, Packets(buffer, [5, 50], [10, 50])), [6, 51])
+        self.assertEqual(tenant.run_packets(descriptor, [bytearray(b"a"), memoryview(b"b")]), [97, 98])
+        with self.assertRaisesRegex(TypeError, "a packet is bytes, and no array of larger numbers"):
+            tenant.run_packets(descriptor, [array("I", [1, 2])])  # type: ignore[list-item]
+        with self.assertRaises(TypeError):
+            tenant.run_packets(descriptor, ["a"])  # type: ignore[list-item]
+
+    def test_commands(self) -> None:
+        """Maps, single runs and whether memory was refused, as of a tenant over pipes."""
+        tenant = self.host.tenant(2)
+        counts = tenant.map_create(MapType.ARRAY, 4, 8, 1)
+        words = tenant.map_create(MapType.HASH, 2, 8, 4)
+        self.assertEqual((counts.descriptor, words.descriptor), (3, 4))
+        words[b"no"], words[b"my"] = bytes(8), b"12345678"
+        self.assertEqual((words[b"my"], sorted(words), len(words)), (b"12345678", [b"my", b"no"], 2))
+        self.assertEqual(sorted(words.entries()), [(b"my", b"12345678"), (b"no", bytes(8))])
+        del words[b"no"]
+        self.assertEqual((list(words), len(words)), ([b"my"], 1))
+        with self.assertRaises(KeyError):
+            words[b"no"]
+        with self.assertRaises(Refused):
+            tenant.map_lookup_elem(9, b"no")
+        count = tenant.prog_load(COUNT)
+        self.assertEqual([tenant.prog_test_run(count), tenant.prog_test_run(count, b"a")], [1, 2])
+        self.assertEqual(int.from_bytes(counts[bytes(4)], "little"), 2)
+        self.assertEqual(tenant.prog_test_run(tenant.prog_load(MARK), b"", Context(mark=9)), 9)
+        self.assertFalse(tenant.memory_refused())
+        words.close()
+        self.assertRegex(repr(tenant), "<LibraryTenant 2 of <LibraryHost of <Library .*>>>")
+
+    def test_no_copies(self) -> None:
+        """A copy would free the host of its original."""
+        for copied in (copy.copy, copy.deepcopy, pickle.dumps):
+            with self.assertRaisesRegex(TypeError, "a host can't be copied"):
+                copied(self.host)  # type: ignore[operator]
+        gc.collect()
+        self.assertEqual(self.host.ask(frames.close(0, 3)).status, -9)
 
     def test_closed(self) -> None:
         with self.library.host() as host:

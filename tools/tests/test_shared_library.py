@@ -3,6 +3,7 @@
 from __future__ import annotations
 
 import os
+import re
 import shutil
 import subprocess
 import tempfile
@@ -12,8 +13,11 @@ from pathlib import Path
 TOP = Path(__file__).resolve().parents[2]
 VERSION = (TOP / "VERSION").read_text().strip()
 SONAME = f"libbpfhost.so.{VERSION.rpartition('.')[0]}"
-# Two functions of the library's own names, and one that is not given.
-SOURCE = "int bpfhost_c_new(void) { return 1; }\nint helps(void) { return 2; }\nint bpfhost_c_free(void) { return helps(); }\n"
+HEADER = (TOP / "clients/c/include/bpfhost.h").read_text()
+PROVED = sorted(set(re.findall(r"\bbpfhost_c_\w+(?=\()", HEADER)))
+INLINE = re.findall(r"(?m)^static inline .*?\b(bpfhost_\w+)\(", HEADER)
+# In the place of the proved functions, and one that is not given.
+SOURCE = "int helps(void) { return 2; }\n" + "".join(f"int {name}(void) {{ return helps(); }}\n" for name in PROVED)
 
 
 @unittest.skipUnless(shutil.which("cc") and shutil.which("nm"), "there is no C compiler")
@@ -45,9 +49,23 @@ class SharedLibrary(unittest.TestCase):
             self.assertEqual((out / "libbpfhost.so").resolve().name, f"libbpfhost.so.{VERSION}")
             self.assertEqual((out / SONAME).readlink(), Path(f"libbpfhost.so.{VERSION}"))
             shown = subprocess.run(["nm", "-D", "--defined-only", out / SONAME], capture_output=True, text=True, check=True)
-            self.assertEqual([line.split()[-1] for line in shown.stdout.splitlines()], ["bpfhost_c_free", "bpfhost_c_new"])
+            node = f"BPFHOST_{VERSION.rpartition('.')[0]}"
+            names = [line.split()[-1] for line in shown.stdout.splitlines()]
+            self.assertEqual(sorted(names), sorted([node, *(f"{name}@@{node}" for name in [*PROVED, *INLINE])]))
             said = subprocess.run(["objdump", "-p", out / SONAME], capture_output=True, text=True, check=True)
             self.assertRegex(said.stdout, rf"SONAME +{SONAME}\n")
+
+    def test_all_functions_are_exported(self) -> None:
+        """Those of the header, in its order."""
+        exported = (TOP / "clients/c/exported.c").read_text()
+        self.assertEqual(re.findall(r"(?m)^EXPORT\((\w+)\);$", exported), INLINE)
+
+    def test_no_global_data(self) -> None:
+        """What the file of exported functions adds is code and constants."""
+        source, include = TOP / "clients/c/exported.c", TOP / "clients/c/include"
+        subprocess.run(["cc", "-O2", "-fPIC", f"-I{include}", "-c", str(source), "-o", "exported.o"], cwd=self.scratch, check=True)
+        shown = subprocess.run(["nm", "--defined-only", "exported.o"], cwd=self.scratch, capture_output=True, text=True, check=True)
+        self.assertEqual([line for line in shown.stdout.splitlines() if line.split()[-2] in "bBdDC"], [])
 
     def test_a_library_without_proofs(self) -> None:
         """The file UNPROVED is copied along."""

@@ -1,0 +1,70 @@
+/* The functions of bpfhost.h as symbols of the shared library, for callers without a C compiler, as ctypes, Node, Java or Go.
+ * tools/shared-library compiles this file with the library. A symbol is another name of the header's own function, and has the version of the
+ * library's soname. Of data the file has only constants. */
+#include <bpfhost.h>
+
+#define TEXT_OF(number) #number
+#define TEXT(number) TEXT_OF(number)
+#define NODE "BPFHOST_" TEXT(BPFHOST_VERSION_MAJOR) "." TEXT(BPFHOST_VERSION_MINOR)
+#define EXPORT(name) \
+    extern __typeof__(name) exported_##name __attribute__((alias(#name))); \
+    __asm__(".symver exported_" #name ", " #name "@@" NODE)
+
+/* Each of the header's functions, in its order (tools/tests/test_shared_library.py). */
+EXPORT(bpfhost_version);
+EXPORT(bpfhost_library_version);
+EXPORT(bpfhost_are_apart);
+EXPORT(bpfhost_pair_code);
+EXPORT(bpfhost_bytes_at);
+EXPORT(bpfhost_random_seed);
+EXPORT(bpfhost_new);
+EXPORT(bpfhost_frame_code);
+EXPORT(bpfhost_handle);
+EXPORT(bpfhost_may_empty);
+EXPORT(bpfhost_handle_lent);
+EXPORT(bpfhost_context_at);
+EXPORT(bpfhost_context_words);
+EXPORT(bpfhost_contexts_code);
+EXPORT(bpfhost_packets_code);
+EXPORT(bpfhost_written_code);
+EXPORT(bpfhost_run_code);
+EXPORT(bpfhost_run_given);
+EXPORT(bpfhost_run_packets_sized);
+EXPORT(bpfhost_run_packets_with);
+EXPORT(bpfhost_run_packets);
+EXPORT(bpfhost_gather);
+EXPORT(bpfhost_span_code);
+EXPORT(bpfhost_scattered_code);
+EXPORT(bpfhost_scattered_run_code);
+EXPORT(bpfhost_scattered_status);
+EXPORT(bpfhost_run_some);
+EXPORT(bpfhost_run_scattered);
+EXPORT(bpfhost_save_part);
+EXPORT(bpfhost_save);
+EXPORT(bpfhost_memory_refused);
+EXPORT(bpfhost_free);
+EXPORT(bpfhost_put16);
+EXPORT(bpfhost_put32);
+EXPORT(bpfhost_put_bytes);
+EXPORT(bpfhost_get16);
+EXPORT(bpfhost_get32);
+EXPORT(bpfhost_frame_begin);
+EXPORT(bpfhost_frame_map_create);
+EXPORT(bpfhost_may_copy);
+EXPORT(bpfhost_frame_of_key);
+EXPORT(bpfhost_frame_map_lookup);
+EXPORT(bpfhost_frame_map_delete);
+EXPORT(bpfhost_frame_map_next_key);
+EXPORT(bpfhost_frame_map_update);
+EXPORT(bpfhost_frame_prog_load);
+EXPORT(bpfhost_frame_test_run_head);
+EXPORT(bpfhost_frame_prog_test_run);
+EXPORT(bpfhost_frame_close);
+EXPORT(bpfhost_read_reply);
+EXPORT(bpfhost_read_reply_sized);
+EXPORT(bpfhost_ask);
+EXPORT(bpfhost_ask_sized);
+EXPORT(bpfhost_frame_of_tenant);
+EXPORT(bpfhost_restore);
+EXPORT(bpfhost_code_text);
+EXPORT(bpfhost_reason_text);

@@ -20,7 +20,8 @@ pub record PartsAreApart : Type 0 where
   pub own : (m : Memory) (t : ℕ) (new : List ℕ) → IsPart m t → length new ≡ m.part → part_bytes (with_part m t new) t ≡ new
   pub size : (m : Memory) (t : ℕ) (new : List ℕ) → IsPart m t → length new ≡ m.part → size_of (with_part m t new) ≡ size_of m
 
--- bytes written at offset `at` of part t are written there in the part's bytes, through the memory or through the part
+-- bytes written at offset `at` of part t are written there in the part's bytes, through the memory
+-- or through the part
 pub record WritesAreInParts : Type 0 where
   pub bytes : (m : Memory) (t at : ℕ) (new : List ℕ) → IsPart m t → at + length new ≤ m.part → part_bytes (with_bytes m (part_start m t + at) new) t ≡ written_at (part_bytes m t) at new
   pub memory : (m : Memory) (t at : ℕ) (new : List ℕ) → IsPart m t → at + length new ≤ m.part → with_part m t (written_at (part_bytes m t) at new) ≡ with_bytes m (part_start m t + at) new

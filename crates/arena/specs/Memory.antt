@@ -1,5 +1,6 @@
--- The memory of all tenants, with loads, stores and copies. Loads and stores are those of RFC 9669, section 5.1, on a
--- little-endian machine; addresses from 2 ^ 32 on and a part for each tenant are this project's own.
+-- The memory of all tenants, with loads, stores and copies. Loads and stores are those of RFC 9669,
+-- section 5.1, on a little-endian machine; addresses from 2 ^ 32 on and a part for each tenant are
+-- this project's own.
 use Rattle.std.specs.Prelude.{ℕ, ◌+◌, ◌-◌, ◌*◌, ◌&&◌, List, length, Option, Some, None, nat_le, if◌then◌else◌, refl, take, drop, ◌++◌}
 use Rattle.std.specs.Coded.{Coded, code_by, coded×, coded_ℕ, coded_list}
 use Rattle.words.specs.Bytes.{number_of, low_bytes}

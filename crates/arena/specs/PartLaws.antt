@@ -1,5 +1,6 @@
--- Laws of parts of the memory and of addresses in it, of the definitions of `Memory` and `Apart`, proved here for the proofs
--- of the crates above. This project's own. No contract cites them, so they are not part of what has to be trusted.
+-- Laws of parts of the memory and of addresses in it, of the definitions of `Memory` and `Apart`,
+-- proved here for the proofs of the crates above. This project's own. No contract cites them, so
+-- they are not part of what has to be trusted.
 use Rattle.std.proofs.Common.{◌≡◌, ℕ, suc, ◌+◌, ◌-◌, ◌*◌, ◌≤◌, ◌&&◌, leb, Some, None, ap, ◌∙◌, arith}
 use Rattle.std.proofs.lemmas.Bool.{cond-true, and_from, le-leb}
 use Rattle.std.proofs.lemmas.Nat.{mul-le}

@@ -1,6 +1,7 @@
--- What the words of a call name: a map of the run, and bytes in the tenant's part. The arguments of helpers are the kernel's
--- (linux/bpf.h, bpf_func_id), EINVAL is an error of bpf(2), and EFAULT one of errno(3). Which words name what is this project's
--- own, and so is the result if they name nothing: no accepted program makes such a call.
+-- What the words of a call name: a map of the run, and bytes in the tenant's part. The arguments of
+-- helpers are the kernel's (linux/bpf.h, bpf_func_id), EINVAL is an error of bpf(2), and EFAULT one
+-- of errno(3). Which words name what is this project's own, and so is the result if they name
+-- nothing: no accepted program makes such a call.
 use Rattle.std.specs.Prelude.{◌≡◌, ℕ, ◌+◌, ◌-◌, ◌==◌, ◌&&◌, nat_le, if◌then◌else◌, List, slice_get, slice_index, Option, Some, None, option_map}
 use Rattle.words.specs.Bytes.{bytes_at}
 use Rattle.tagged_model.specs.declared.fault.MapFault.TheVariants.{Invalid}
@@ -18,7 +19,8 @@ bound_map bind w = if w == 0 then None else slice_get bind (w - 1)
 
 -- ---- bytes at an address
 
--- the offset of n bytes at an address, in a part of this size that begins at `start`; None if they don't lie in it
+-- the offset of n bytes at an address, in a part of this size that begins at `start`; None if they
+-- don't lie in it
 abbrev pub part_offset : ℕ → ℕ → ℕ → ℕ → Option ℕ
 part_offset start part n address =
     if nat_le (base + start) address && nat_le (address + n) (base + start + part)

@@ -1,4 +1,5 @@
--- From the lines of a text to a program, or to the first fault. The grammar and the faults are this project's own.
+-- From the lines of a text to a program, or to the first fault. The grammar and the faults are this
+-- project's own.
 use Rattle.std.specs.Prelude.{◌≡◌, ℕ, suc, ◌+◌, ◌<◌, Bool, false, ◌&&◌, ◌||◌, not, ℤ, pos, ◌-ℤ◌, List, [], ◌∷◌, take, map, slice_get, Option, Some, None, is_some, option_map, unwrap_or, nat_lt, nat_le, if◌then◌else◌}
 use Rattle.std.specs.Str.{bytes_eq}
 use Rattle.insn_set.specs.declared.insn.Insn.{Insn}
@@ -90,7 +91,8 @@ AreRead [] [] = Unit {0}
 AreRead (bytes ∷ more) (line ∷ lines) = ReadAs bytes line × AreRead more lines
 AreRead _ _ = ⊥
 
--- the program of the text is these instructions: no line has a fault, there is a slot, and the lines have their written forms
+-- the program of the text is these instructions: no line has a fault, there is a slot, and the
+-- lines have their written forms
 pub record IsAssembled (text : List ℕ) (insns : List Insn) : Type 0 where
   pub lines : List (Option Line)
   pub read : AreRead (text_lines text) lines

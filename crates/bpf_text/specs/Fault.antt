@@ -20,7 +20,8 @@ memory_fault = record { line = 0; kind = Memory }
 abbrev pub empty_fault : TextFault
 empty_fault = record { line = 0; kind = Empty }
 
--- Below, `fault_at i` is the fault of line i + 1, of the lowest kind that the line has; None if it has no fault.
+-- Below, `fault_at i` is the fault of line i + 1, of the lowest kind that the line has; None if it
+-- has no fault.
 
 -- no line below has a fault
 abbrev pub NoneBelow : (ℕ → Option TextFaultKind) → ℕ → Type 0

@@ -16,7 +16,8 @@ unfoldable pub hex_text : List ℕ → List ℕ
 hex_text (a ∷ b ∷ c ∷ d ∷ e ∷ f ∷ g ∷ h ∷ bytes) = encode_lower (a ∷ b ∷ c ∷ d ∷ e ∷ f ∷ g ∷ h ∷ []) ++ 10 ∷ hex_text bytes
 hex_text _ = []
 
--- the bytes on a line without blanks at its ends: no byte if it is empty, else eight bytes in sixteen digits of either case
+-- the bytes on a line without blanks at its ends: no byte if it is empty, else eight bytes in
+-- sixteen digits of either case
 abbrev pub hex_digits : List ℕ → Option (List ℕ)
 hex_digits digits = if length digits == 0 then Some [] else result_ok (decode_sized digits 8)
 

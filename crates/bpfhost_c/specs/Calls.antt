@@ -22,8 +22,8 @@ abbrev pub states : Option Session → List TenantState
 states None = []
 states (Some s) = s.host.states
 
--- A reply lies at an address: it is the bytes of the vector of the session's last reply, which begin there. The session owns
--- them, and the handle owns the session.
+-- A reply lies at an address: it is the bytes of the vector of the session's last reply, which
+-- begin there. The session owns them, and the handle owns the session.
 abbrev pub StandsAt : Option Session → List ℕ → Ptr → ℕ → Type 0
 StandsAt None reply at length = ⊥
 StandsAt (Some s) reply at length = (s.reply.items ≡ reply) × (at ≡ vec_ptr s.reply) × (length ≡ vec_len s.reply)

@@ -1,5 +1,6 @@
--- The commands that frames carry. Their numbers are those of linux/bpf.h (bpf_cmd), their fields those of bpf(2); the
--- layout of a body, and the number 256, which closes a descriptor, are this project's own.
+-- The commands that frames carry. Their numbers are those of linux/bpf.h (bpf_cmd), their fields
+-- those of bpf(2); the layout of a body, and the number 256, which closes a descriptor, are this
+-- project's own.
 use Rattle.std.specs.Prelude.{ℕ, zero, suc, ◌+◌, ◌*◌, ◌==◌, nat_le, nat_lt, List, [], ◌∷◌, length, drop, Result, Ok, Err, if◌then◌else◌}
 use Rattle.byteorder.specs.Endian.{little_number}
 use Rattle.command_frames.specs.declared.command.BadFrame.{BadFrame}

@@ -1,5 +1,5 @@
--- Frames: a stream is a list of them and a rest, and each has a reply. Their format is this project's own; a status is
--- a result of bpf(2).
+-- Frames: a stream is a list of them and a rest, and each has a reply. Their format is this
+-- project's own; a status is a result of bpf(2).
 use Rattle.std.specs.Prelude.{ℕ, ℤ, ◌+◌, ◌<◌, ◌^◌, List, ◌++◌, length, drop, nat_lt, Option, Some, None, if◌then◌else◌, ◌⊎◌}
 use Rattle.std.specs.Int.{w32, cast_unsigned}
 use Rattle.byteorder.specs.Endian.{little_number, little_bytes}
@@ -49,7 +49,8 @@ longest_payload = 4096
 abbrev pub longest_reply : ℕ
 longest_reply = 4 + reply_head + longest_payload
 
--- a reply: the length of what follows it, the tenant, the command and the status, and then the payload
+-- a reply: the length of what follows it, the tenant, the command and the status, and then the
+-- payload
 abbrev pub front_bytes : ℕ → ℕ → ℤ → ℕ → List ℕ
 front_bytes tenant command status size =
     little_bytes 4 size ++ (little_bytes 2 tenant ++ (little_bytes 2 command ++ little_bytes 4 (cast_unsigned w32 status)))

@@ -1,5 +1,5 @@
--- Descriptors: the numbers from 3 to 66, and what each open one names. A new one is the lowest free number, as that of
--- open(2); the bounds are this project's own.
+-- Descriptors: the numbers from 3 to 66, and what each open one names. A new one is the lowest free
+-- number, as that of open(2); the bounds are this project's own.
 use Rattle.std.specs.Prelude.{◌≡◌, ℕ, ◌+◌, ◌-◌, nat_lt, is_none, List, Option, Some, None, option_map, option_and_then, position, replicate, slice_get, slice_set, Result, Ok, Err, if◌then◌else◌}
 
 -- the lowest descriptor
@@ -33,7 +33,8 @@ module _ {A : Type 0} where
   abbrev pub with_closed : List (Option A) → ℕ → List (Option A)
   with_closed table fd = if nat_lt fd first_descriptor then table else slice_set table (fd - first_descriptor) None
 
-  -- x is opened at the lowest free descriptor; if no descriptor is free, x is returned and the table is unchanged
+  -- x is opened at the lowest free descriptor; if no descriptor is free, x is returned and the
+  -- table is unchanged
   abbrev pub OpensLowest : Option ℕ → List (Option A) → A → Result ℕ A → List (Option A) → Type 0
   OpensLowest (Some fd) old x answer new = (answer ≡ Ok fd) × (new ≡ with_open old fd x)
   OpensLowest None old x answer new = (answer ≡ Err x) × (new ≡ old)

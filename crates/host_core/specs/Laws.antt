@@ -16,21 +16,23 @@ abbrev pub EachIsToldByItsMachine : List TenantState → List (List ℕ) → Lis
 EachIsToldByItsMachine before frames replies after =
     (t : ℕ) → AloneWithRefusals (slice_get before t) (frames_of t frames) (replies_of t frames replies) (slice_get after t)
 
--- a tenant to which no memory was refused gets exactly the replies of its own machine, whatever was refused to others
+-- a tenant to which no memory was refused gets exactly the replies of its own machine, whatever was
+-- refused to others
 abbrev pub UnrefusedAreToldAlone : Type 0
 UnrefusedAreToldAlone =
     (before after : List TenantState) (frames replies : List (List ℕ)) → EachIsToldByItsMachine before frames replies after → Noninterference before frames replies after
 
--- Over a sequence of calls, each tenant gets replies that its machine may give to its own frames, and if no memory was
--- refused to it, exactly those of its machine without refusals; and no test run faults.
+-- Over a sequence of calls, each tenant gets replies that its machine may give to its own frames,
+-- and if no memory was refused to it, exactly those of its machine without refusals; and no test
+-- run faults.
 abbrev pub CallsAreToldAlone : Type 0
 CallsAreToldAlone =
     (before after : List TenantState) (turns : List Turn) → HandlesInOrder before turns after
     → EachIsToldByItsMachine before (frames_in turns) (replies_in turns) after × Noninterference before (frames_in turns) (replies_in turns) after
     × NoneFaults (replies_in turns)
 
--- After each number of turns, each tenant to which no memory was refused until then got exactly the replies of its own machine, whatever
--- is refused to it later.
+-- After each number of turns, each tenant to which no memory was refused until then got exactly the
+-- replies of its own machine, whatever is refused to it later.
 abbrev pub EachIsToldAloneUntilRefused : Type 0
 EachIsToldAloneUntilRefused =
     (before after : List TenantState) (turns : List Turn) (n : ℕ)
@@ -38,15 +40,17 @@ EachIsToldAloneUntilRefused =
     → Noninterference before (frames_in (take n turns)) (replies_in (take n turns))
     (states_after before (take n turns))
 
--- The same by a tenant's own replies: if none of the replies to it is that memory was refused, it gets exactly the replies of its
--- own machine without refusals of memory. Whether its flag is set before does not matter, nor what is refused to others.
+-- The same by a tenant's own replies: if none of the replies to it is that memory was refused, it
+-- gets exactly the replies of its own machine without refusals of memory. Whether its flag is set
+-- before does not matter, nor what is refused to others.
 abbrev pub NoninterferenceByReplies
     : List TenantState → List (List ℕ) → List (List ℕ) → List TenantState → Type 0
 NoninterferenceByReplies before frames replies after =
     (t : ℕ) → let own = replies_of t frames replies in NoneIsRefusedMemory own
     → IsToldAlone (slice_get before t) (frames_of t frames) own (slice_get after t)
 
--- This holds from any number of turns on, for any number of turns, from the states that the tenants then have.
+-- This holds from any number of turns on, for any number of turns, from the states that the tenants
+-- then have.
 abbrev pub EachStretchIsToldAlone : Type 0
 EachStretchIsToldAlone =
     (before after : List TenantState) (turns : List Turn) (m n : ℕ)
@@ -55,8 +59,9 @@ EachStretchIsToldAlone =
     let those = take n (drop m turns) in
     NoninterferenceByReplies start (frames_in those) (replies_in those) (states_after start those)
 
--- Two streams that agree on a tenant's state at the start and on its frames give it the same replies, if neither refuses memory
--- to it: it can observe neither the frames of others nor how they interleave with its own.
+-- Two streams that agree on a tenant's state at the start and on its frames give it the same
+-- replies, if neither refuses memory to it: it can observe neither the frames of others nor how
+-- they interleave with its own.
 abbrev pub SameFramesSameReplies : Type 0
 SameFramesSameReplies =
     (t : ℕ) (before after before_too after_too : List TenantState)
@@ -75,8 +80,8 @@ pub record BeginsAlike (old new old_too new_too : List TenantState) (t : ℕ) : 
   pub unrefused : IsUnrefused (slice_get new t)
   pub unrefused_too : IsUnrefused (slice_get new_too t)
 
--- Two streams with the same frames have the same replies, and the same bytes are written, whatever hosts serve them, if each tenant
--- of these frames has the same state at the beginning of both.
+-- Two streams with the same frames have the same replies, and the same bytes are written, whatever
+-- hosts serve them, if each tenant of these frames has the same state at the beginning of both.
 abbrev pub SameFramesSameOutput : Type 0
 SameFramesSameOutput =
     (old new old_too new_too : StreamState) (count count_too : ℕ) (rest rest_too : List ℕ)
@@ -86,15 +91,17 @@ SameFramesSameOutput =
 
 -- ---- how a stream ends
 
--- the end of a call that allows `limit` frames, on a stream of so many frames and a rest that is no whole frame
+-- the end of a call that allows `limit` frames, on a stream of so many frames and a rest that is no
+-- whole frame
 abbrev pub stream_result : ℕ → ℕ → List ℕ → Result ℕ ServeFault
 stream_result limit many rest =
     if nat_lt limit many then Err (record { kind = TooManyFrames; frames = limit }) else
     (if length rest == 0 then Ok many else
     (if many == limit then Err (record { kind = TooManyFrames; frames = limit }) else Err (record { kind = Truncated; frames = many })))
 
--- No content of a frame ends a stream: if the bytes of the reader are known, no call of the reader or the writer fails, and there is
--- memory for the buffers, the end of a call depends only on the number of frames, and on whether bytes follow them.
+-- No content of a frame ends a stream: if the bytes of the reader are known, no call of the reader
+-- or the writer fails, and there is memory for the buffers, the end of a call depends only on the
+-- number of frames, and on whether bytes follow them.
 abbrev pub NoContentEndsAStream : Type 0
 NoContentEndsAStream =
     (limit : ℕ) (result : Result ℕ ServeFault) (old new : StreamState) (bytes : List ℕ) (frames : List (List ℕ)) (rest : List ℕ)

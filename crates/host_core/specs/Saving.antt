@@ -1,4 +1,5 @@
--- How a host keeps the births of its tenants' objects, and the frames that it saves of a tenant. This project's own.
+-- How a host keeps the births of its tenants' objects, and the frames that it saves of a tenant.
+-- This project's own.
 use Rattle.std.specs.Prelude.{◌≡◌, ◌≢◌, ◌⊎◌, ℕ, ◌<◌, ◌^◌, List, [], ◌∷◌, length, slice_get, Option, Some, option_and_then, option_map}
 use Rattle.std.specs.List.{AllByRecursion, flat_map}
 use Rattle.command_frames.specs.Frame.{framed, owner}
@@ -12,7 +13,8 @@ use Rattle.host_core.specs.Batch.{RunsFor, ChangesTenant}
 use Rattle.host_core.specs.Handled.{Handles}
 use Rattle.host_core.specs.States.{HostState, new_host}
 
--- a frame with its reply, and the births before and after it: those of its tenant change as its command says, and no others do
+-- a frame with its reply, and the births before and after it: those of its tenant change as its
+-- command says, and no others do
 pub record Records (frame reply : List ℕ) (before after : HostState) : Type 0 where
   pub own : (s : TenantState) (births : List Birth) → slice_get before.states (owner frame) ≡ Some s → slice_get before.births (owner frame) ≡ Some births
       → (t : TenantState) × (later : List Birth) × (slice_get after.states (owner frame) ≡ Some t) × (slice_get after.births (owner frame) ≡ Some later)
@@ -50,7 +52,8 @@ Calls before (next ∷ later) after = Call before next × Calls next later after
 abbrev pub AreParts : HostState → ℕ → List (List ℕ) → Type 0
 AreParts host tenant saved = (part : ℕ) → saved_part host tenant part ≡ slice_get saved part
 
--- The parts of each tenant, one after another, are frames with their lengths, each the tenant's own, and they restore it.
+-- The parts of each tenant, one after another, are frames with their lengths, each the tenant's
+-- own, and they restore it.
 abbrev pub AreRestored : HostState → Type 0
 AreRestored host =
     (tenant : ℕ) (s : TenantState) → tenant < 2 ^ 16 → slice_get host.states tenant ≡ Some s

@@ -1,4 +1,5 @@
--- The effect of a call of `serve`: the frames that it reads, the replies to them, and the point at which it stops. This project's own.
+-- The effect of a call of `serve`: the frames that it reads, the replies to them, and the point at
+-- which it stops. This project's own.
 use Rattle.std.specs.Prelude.{◌≡◌, ◌≢◌, Bool, true, false, ℕ, ◌<◌, ◌≤◌, List, [], ◌∷◌, ◌++◌, length, take, slice_get, Option, Some, None, Result, IfOk, IfErr, OnOk}
 use Rattle.std.specs.List.{flat_map, AllByRecursion}
 use Rattle.std.specs.Io.KnownBytes.{Consumes, Appends, IsAtEnd}
@@ -19,8 +20,9 @@ abbrev pub IsUnrefused : Option TenantState → Type 0
 IsUnrefused None = Unit {0}
 IsUnrefused (Some s) = s.refused ≡ false
 
--- Each tenant to which no memory was refused gets exactly the replies that its own machine, which has no other tenants, gives to
--- its own frames without refusals of memory. The same holds for each number that is not served.
+-- Each tenant to which no memory was refused gets exactly the replies that its own machine, which
+-- has no other tenants, gives to its own frames without refusals of memory. The same holds for each
+-- number that is not served.
 abbrev pub Noninterference :
     List TenantState → List (List ℕ) → List (List ℕ) → List TenantState → Type 0
 Noninterference before frames replies after =
@@ -33,8 +35,8 @@ NoneFaults replies = AllByRecursion (λ reply. ¬ IsFault reply) replies
 
 -- ---- calls of `serve`
 
--- the tenants' states; the bytes that the reader has left and those that the writer holds, if they are known; whether all that
--- was written is flushed; and how many calls of each failed so far
+-- the tenants' states; the bytes that the reader has left and those that the writer holds, if they
+-- are known; whether all that was written is flushed; and how many calls of each failed so far
 pub record StreamState : Type 0 where
   pub states : List TenantState
   pub input : Option (List ℕ)
@@ -58,7 +60,8 @@ stream_state source sink states reader writer = record {
 abbrev pub NoCallFailed : StreamState → StreamState → Type 0
 NoCallFailed old new = (new.read_failures ≡ old.read_failures) × (new.write_failures ≡ old.write_failures)
 
--- frames were read and got replies, one after another, and then the bytes `rest` were read; of the replies, `out` was written
+-- frames were read and got replies, one after another, and then the bytes `rest` were read; of the
+-- replies, `out` was written
 pub record Serves (old new : StreamState) (turns : List Turn) (rest out : List ℕ) : Type 0 where
   pub each : AllByRecursion IsFrame (frames_in turns)
   pub read : Consumes old.input new.input (flat_map framed (frames_in turns) ++ rest)
@@ -74,8 +77,9 @@ abbrev pub AnswersFrames : StreamState → StreamState → ℕ → List ℕ → 
 AnswersFrames old new count rest =
     (turns : List Turn) × (length turns ≡ count) × Serves old new turns rest (joined_replies (replies_in turns))
 
--- `count` frames were read, and then bytes that are no whole frame; the replies to the frames were written, one after another.
--- Each tenant to which no memory was refused got exactly those of its own machine, and no test run faulted.
+-- `count` frames were read, and then bytes that are no whole frame; the replies to the frames were
+-- written, one after another. Each tenant to which no memory was refused got exactly those of its
+-- own machine, and no test run faulted.
 pub record ServesAlone (old new : StreamState) (count : ℕ) (rest : List ℕ) : Type 0 where
   pub frames : List (List ℕ)
   pub replies : List (List ℕ)
@@ -111,14 +115,16 @@ StopsWithFault old new Memory count = (count ≡ 0) × (new ≡ old)
 abbrev pub StopsAlone : StreamState → StreamState → ServeFaultKind → ℕ → Type 0
 StopsAlone old new kind count = kind ≢ Write → (rest : List ℕ) × ServesAlone old new count rest
 
--- if everything was flushed before, everything is flushed again, including the replies that were written since
+-- if everything was flushed before, everything is flushed again, including the replies that were
+-- written since
 pub record IsFlushedAgain (old new : StreamState) : Type 0 where
   pub again : old.flushed ≡ true → new.flushed ≡ true
 
--- A call of `serve` that allows `limit` frames, from the state before it to the state after it. With Ok, `done` and `alone`:
--- the input is at its end. With a fault, `fault` and `alone_before`: what happened until then. `alone` and `alone_before` are
--- about the tenants to which no memory was refused. If everything was flushed before the call, then at each end but a fault of the
--- writer all replies are flushed; so they are before anything more is read.
+-- A call of `serve` that allows `limit` frames, from the state before it to the state after it.
+-- With Ok, `done` and `alone`: the input is at its end. With a fault, `fault` and `alone_before`:
+-- what happened until then. `alone` and `alone_before` are about the tenants to which no memory was
+-- refused. If everything was flushed before the call, then at each end but a fault of the writer
+-- all replies are flushed; so they are before anything more is read.
 pub record ServesStream (limit : ℕ) (result : Result ℕ ServeFault)
     (old new : StreamState) : Type 0 where
   pub done : IfOk result (λ count. ServesToEnd old new count)

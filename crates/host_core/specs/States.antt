@@ -5,7 +5,8 @@ use Rattle.saving.specs.Recorded.{RecordedTenant, tenant_state}
 use Rattle.saving.specs.declared.birth.Birth.{Birth}
 use Rattle.tenant.specs.State.{TenantState, new_tenant}
 
--- the states of the tenants from number t on; the values of a tenant's maps lie in its part of the memory
+-- the states of the tenants from number t on; the values of a tenant's maps lie in its part of the
+-- memory
 unfoldable pub states_from : Memory → ℕ → List RecordedTenant → List TenantState
 states_from m t [] = []
 states_from m t (k ∷ ks) = tenant_state (part_bytes m t) k ∷ states_from m (t + 1) ks

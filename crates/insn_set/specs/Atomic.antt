@@ -1,5 +1,5 @@
--- The number, the symbol and the operator of an atomic operation, and the number of bytes that it changes: RFC 9669, section 5.3. The
--- symbols are this project's own.
+-- The number, the symbol and the operator of an atomic operation, and the number of bytes that it
+-- changes: RFC 9669, section 5.3. The symbols are this project's own.
 use Rattle.std.specs.Prelude.{ℕ, Bool, List, codes}
 use Rattle.words.specs.declared.operator.AluOp.TheVariants.{Add, Or, And, Xor}
 use Rattle.words.specs.declared.operator.Operator.{Operator}

@@ -1,5 +1,6 @@
--- The atomic operation with a number, and the one with a symbol, by the table of the code; they undo `atomic_number` and
--- `atomic_symbol`. RFC 9669, section 5.3; the symbols are this project's own.
+-- The atomic operation with a number, and the one with a symbol, by the table of the code; they
+-- undo `atomic_number` and `atomic_symbol`. RFC 9669, section 5.3; the symbols are this project's
+-- own.
 use Rattle.std.specs.Prelude.{ℕ, List, Option, map}
 use Rattle.insn_set.specs.declared.atomic.AtomicOp.{AtomicOp}
 use Rattle.insn_set.specs.declared.atomic.TheConstants.{OPERATIONS}

@@ -1,4 +1,5 @@
--- The number and the symbol of a condition: RFC 9669, section 4.3, the table of codes. The symbols are this project's own.
+-- The number and the symbol of a condition: RFC 9669, section 4.3, the table of codes. The symbols
+-- are this project's own.
 use Rattle.std.specs.Prelude.{ℕ, List, codes}
 use Rattle.words.specs.declared.operator.Condition.{Condition}
 use Rattle.words.specs.declared.operator.Condition.TheVariants.{Equal, Above, AboveOrEqual, CommonBit, NotEqual, SignedAbove, SignedAboveOrEqual, Below, BelowOrEqual, SignedBelow, SignedBelowOrEqual}

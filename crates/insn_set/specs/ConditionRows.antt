@@ -1,5 +1,6 @@
--- The condition with a number, and the one with a symbol, by the table of the code; they undo `condition_number` and
--- `condition_symbol`. RFC 9669, section 4.3; the symbols are this project's own.
+-- The condition with a number, and the one with a symbol, by the table of the code; they undo
+-- `condition_number` and `condition_symbol`. RFC 9669, section 4.3; the symbols are this project's
+-- own.
 use Rattle.std.specs.Prelude.{ℕ, List, Option, map}
 use Rattle.words.specs.declared.operator.Condition.{Condition}
 use Rattle.insn_set.specs.declared.condition.TheConstants.{CONDITIONS}

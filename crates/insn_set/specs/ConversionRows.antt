@@ -1,5 +1,5 @@
--- The byte-order conversion with a name, and the sign extension with a name, by the tables of the code; they undo `order_name` and
--- `narrow_name`. This project's own.
+-- The byte-order conversion with a name, and the sign extension with a name, by the tables of the
+-- code; they undo `order_name` and `narrow_name`. This project's own.
 use Rattle.std.specs.Prelude.{ℕ, List, Option, map}
 use Rattle.words.specs.declared.operator.ByteOrder.{ByteOrder}
 use Rattle.words.specs.declared.operator.KeptBits.{KeptBits}

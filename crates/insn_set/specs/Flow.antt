@@ -1,5 +1,6 @@
--- The successors of an instruction: the next one, or a jump's target (RFC 9669, section 4.3); the register that the instruction
--- writes; and the map that it names. All are read from its row of the table.
+-- The successors of an instruction: the next one, or a jump's target (RFC 9669, section 4.3); the
+-- register that the instruction writes; and the map that it names. All are read from its row of the
+-- table.
 use Rattle.std.specs.Prelude.{ℕ, ℤ, pos, negsuc, Option, Some, None, ◌+◌, ◌+ℤ◌, length, Bool, true, false, if◌then◌else◌}
 use Rattle.insn_set.specs.declared.insn.Insn.{Insn}
 use Rattle.insn_set.specs.declared.profile.Successors.{Successors}

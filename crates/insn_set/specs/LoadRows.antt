@@ -1,5 +1,5 @@
--- The load with an opcode, and the size with a name, by the table of the code; they undo `load_opcode` and `size_name`. RFC 9669,
--- sections 5.1 and 5.2; the names are this project's own.
+-- The load with an opcode, and the size with a name, by the table of the code; they undo
+-- `load_opcode` and `size_name`. RFC 9669, sections 5.1 and 5.2; the names are this project's own.
 use Rattle.std.specs.Prelude.{ℕ, Bool, List, Option, map}
 use Rattle.words.specs.declared.stack.AccessSize.{AccessSize}
 use Rattle.insn_set.specs.declared.load.TheConstants.{LOADS}

@@ -1,5 +1,5 @@
--- The numbers of RFC 9669, sections 3.3 (classes), 4 (arithmetic, byte order, jumps) and 5 (loads, stores): an opcode
--- is a sum of three of them.
+-- The numbers of RFC 9669, sections 3.3 (classes), 4 (arithmetic, byte order, jumps) and 5 (loads,
+-- stores): an opcode is a sum of three of them.
 use Rattle.std.specs.Prelude.{ℕ, ◌+◌, ◌*◌, Bool, true, false, ℤ}
 use Rattle.std.specs.Int.{w16, w32, cast_unsigned}
 use Rattle.words.specs.declared.operator.ByteOrder.{ByteOrder}

@@ -1,5 +1,5 @@
--- The code, the offset and the symbol of an operator with two operands: RFC 9669, section 4.1, the table of codes. The symbols are this
--- project's own.
+-- The code, the offset and the symbol of an operator with two operands: RFC 9669, section 4.1, the
+-- table of codes. The symbols are this project's own.
 use Rattle.std.specs.Prelude.{ℕ, List, codes}
 use Rattle.words.specs.declared.operator.AluOp.{AluOp}
 use Rattle.words.specs.declared.operator.AluOp.TheVariants.{Add, Sub, Mul, Div, SignedDiv, Or, And, ShiftLeft, ShiftRight, Mod, SignedMod, Xor, Mov, SignedShiftRight}

@@ -1,5 +1,6 @@
--- The properties of an instruction that no register value affects: a table with a row for each. RFC 9669, section 4 (arithmetic and
--- jumps) and section 5 (loads, stores, atomic operations); that it is one table is this project's own.
+-- The properties of an instruction that no register value affects: a table with a row for each. RFC
+-- 9669, section 4 (arithmetic and jumps) and section 5 (loads, stores, atomic operations); that it
+-- is one table is this project's own.
 use Rattle.std.specs.Prelude.{ℕ, Option, Some, None}
 use Rattle.insn_set.specs.declared.insn.Operand.{Operand}
 use Rattle.insn_set.specs.declared.insn.Operand.TheVariants.{Imm, Reg}
@@ -13,8 +14,8 @@ use Rattle.insn_set.specs.declared.profile.Reference.{Reference}
 use Rattle.insn_set.specs.declared.profile.Reference.TheVariants as names
 use Rattle.insn_set.specs.declared.profile.Profile.{Profile}
 
--- the registers of its first and its second operand, the register that it writes, its successors, what it
--- names, and the number of its slots
+-- the registers of its first and its second operand, the register that it writes, its successors,
+-- what it names, and the number of its slots
 abbrev pub row : Option ℕ → Option ℕ → Option ℕ → Successors → Reference → ℕ → Profile
 row first second written successors reference slots =
     record { first_read = first; second_read = second; written = written; successors = successors; reference = reference; slots = slots }

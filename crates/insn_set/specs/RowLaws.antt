@@ -1,5 +1,6 @@
--- A number and a symbol are those of the row that is found by them, for each family that has a table. This project's own. No contract
--- cites these laws, so they are not part of what has to be trusted.
+-- A number and a symbol are those of the row that is found by them, for each family that has a
+-- table. This project's own. No contract cites these laws, so they are not part of what has to be
+-- trusted.
 use Rattle.std.specs.Prelude.{ℕ, Bool, true, false, List, IsTrue, not, ◌&&◌}
 use Rattle.std.proofs.Common.{◌≡◌, Some, refl}
 use Rattle.std.proofs.lemmas.Bool.{false≢true}

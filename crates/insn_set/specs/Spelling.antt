@@ -1,4 +1,5 @@
--- The bytes that spell an instruction: its one or two slots, RFC 9669, sections 3.1 and 3.2; its fields, sections 4 and 5.
+-- The bytes that spell an instruction: its one or two slots, RFC 9669, sections 3.1 and 3.2; its
+-- fields, sections 4 and 5.
 use Rattle.std.specs.Prelude.{◌≡◌, ℕ, ◌+◌, ◌/◌, ◌%◌, ◌^◌, ◌==◌, ◌<◌, ◌≤◌, Bool, List, [], ◌∷◌, length, take, FitsSigned}
 use Rattle.std.specs.List.{flat_map}
 use Rattle.std.specs.Int.{w16, w32}

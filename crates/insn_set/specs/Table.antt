@@ -1,4 +1,5 @@
--- Tables: a row for each value of a family, with its number and its symbol, or only with its name. This project's own.
+-- Tables: a row for each value of a family, with its number and its symbol, or only with its name.
+-- This project's own.
 use Rattle.std.specs.Prelude.{ℕ, ◌==◌, List, [], ◌∷◌, map, Option, Some, None, if◌then◌else◌}
 use Rattle.std.specs.Str.{bytes_eq}
 use Rattle.std.specs.Map.{lookup}

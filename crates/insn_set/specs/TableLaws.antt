@@ -1,5 +1,6 @@
--- What is found in a table passes each test that its rows pass, and is undone by the function whose values its rows have: one
--- computation over the rows shows it. This project's own. No contract cites these laws, so they are not part of what has to be trusted.
+-- What is found in a table passes each test that its rows pass, and is undone by the function whose
+-- values its rows have: one computation over the rows shows it. This project's own. No contract
+-- cites these laws, so they are not part of what has to be trusted.
 use Rattle.std.proofs.Common.{◌≡◌, ℕ, Bool, true, false, cond, eqb, List, [], ◌∷◌, Some, refl}
 use Rattle.std.specs.Str.{bytes_eq}
 use Rattle.std.specs.List.{list_all}

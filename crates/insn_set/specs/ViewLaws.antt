@@ -1,5 +1,6 @@
--- Laws of `view`, of the definitions of `View`, `Profile` and `Spelling`, proved here for the proofs of the crates above. This project's
--- own. No contract cites them, so they are not part of what has to be trusted.
+-- Laws of `view`, of the definitions of `View`, `Profile` and `Spelling`, proved here for the
+-- proofs of the crates above. This project's own. No contract cites them, so they are not part of
+-- what has to be trusted.
 use Rattle.std.proofs.Common.{◌≡◌, length, refl}
 use Rattle.insn_set.specs.declared.insn.Insn.{Insn}
 use Rattle.insn_set.specs.declared.insn.Insn.TheVariants.{Alu, Const}

@@ -1,5 +1,6 @@
--- How a conditional jump refines the ranges of its operands on each of its two edges. None: the edge can't be taken. The
--- comparisons are those of RFC 9669, section 4.3; the refinement is this project's own.
+-- How a conditional jump refines the ranges of its operands on each of its two edges. None: the
+-- edge can't be taken. The comparisons are those of RFC 9669, section 4.3; the refinement is this
+-- project's own.
 use Rattle.std.specs.Prelude.{ℕ, ◌+◌, ◌-◌, ◌^◌, ◌==◌, min, max, nat_lt, nat_le, ◌&&◌, if◌then◌else◌, Option, Some, None}
 use Rattle.std.specs.Option.{option_map}
 use Rattle.interval.specs.declared.range.Range.{Range}

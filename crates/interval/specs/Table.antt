@@ -1,5 +1,5 @@
--- The range of each operator's results, of operands in two ranges. The operators are those of RFC 9669, sections 4.1
--- and 4.2; the ranges are this project's own.
+-- The range of each operator's results, of operands in two ranges. The operators are those of RFC
+-- 9669, sections 4.1 and 4.2; the ranges are this project's own.
 use Rattle.std.specs.Prelude.{ℕ, ◌+◌, ◌-◌, ◌*◌, ◌/◌, ◌%◌, ◌^◌, min, max, nat_lt, nat_le, Bool, ◌&&◌, if◌then◌else◌}
 use Rattle.std.specs.Int.{w64, leading_zeros}
 use Rattle.interval.specs.declared.range.Range.{Range}
@@ -103,7 +103,8 @@ are_constants (End how kept) a b = is_constant a
 abbrev pub result_range : ℕ → Operator → Range → Range → Range
 result_range n op a b = if are_constants op a b then constant (combined n op a.lo b.lo) else general_range n op a b
 
--- the range of the members modulo 2 ^ n: all numbers of n bits if a member is truncated, unless there is only one member
+-- the range of the members modulo 2 ^ n: all numbers of n bits if a member is truncated, unless
+-- there is only one member
 abbrev pub range_modulo : ℕ → Range → Range
 range_modulo n r = if nat_lt r.hi (2 ^ n) then r else (if is_constant r then constant (r.lo % 2 ^ n) else full n)
 

@@ -1,5 +1,5 @@
--- The contents of a log: the verdict on a program, and the facts before each instruction that the verifier's pass reached. This
--- project's own.
+-- The contents of a log: the verdict on a program, and the facts before each instruction that the
+-- verifier's pass reached. This project's own.
 use Rattle.std.specs.Prelude.{◌≡◌, ◌⊎◌, ℕ, ◌+◌, Bool, true, false, List, [], map, Option, Some, None}
 use Rattle.insn_set.specs.declared.insn.Insn.{Insn}
 use Rattle.insn_set.specs.Program.{slot_count}

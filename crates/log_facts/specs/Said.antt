@@ -27,7 +27,8 @@ AddsVerdict (Some fault) old new = (more : List ℕ) × (new ≡ old ++ refusal_
 abbrev pub EndsInVerdict : Option VerifyFault → List ℕ → Type 0
 EndsInVerdict fault text = (lines : List ℕ) × AreLines lines × AddsVerdict fault lines text
 
--- the text says whether the program is accepted, and if not, at which slot and for which reason it is rejected
+-- the text says whether the program is accepted, and if not, at which slot and for which reason it
+-- is rejected
 abbrev pub SaysVerdict : List Insn → List Named → Bool → List ℕ → Type 0
 SaysVerdict code named true text = EndsInVerdict None text
 SaysVerdict code named false text = (fault : VerifyFault) × IsRefused code named fault.slot fault.reason × EndsInVerdict (Some fault) text

@@ -1,5 +1,6 @@
--- Laws of the masks of bytes of a slot, of the definition `bits_in` of `Many`, proved here for the proofs of the crates above.
--- This project's own. No contract cites them, so they are not part of what has to be trusted.
+-- Laws of the masks of bytes of a slot, of the definition `bits_in` of `Many`, proved here for the
+-- proofs of the crates above. This project's own. No contract cites them, so they are not part of
+-- what has to be trusted.
 use Rattle.std.proofs.Common.{◌≡◌, ℕ, zero, suc, ◌+◌, ◌-◌, ◌*◌, ◌^◌, ◌<◌, ◌≤◌, min, sym, ap, subst, ◌∙◌, ⊎_elim, arith}
 use Rattle.std.proofs.Math.Nat.{pow-le-pow_right}
 use Rattle.std.proofs.lemmas.Bool.{cases_lt}

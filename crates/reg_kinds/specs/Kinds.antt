@@ -1,5 +1,5 @@
--- Kinds of values, and facts as tables of them. The facts at program entry are the kernel's (the kernel documentation of the
--- verifier); kinds are this project's own.
+-- Kinds of values, and facts as tables of them. The facts at program entry are the kernel's (the
+-- kernel documentation of the verifier); kinds are this project's own.
 use Rattle.std.specs.Prelude.{ℕ, pos, ◌==◌, if◌then◌else◌, Bool, true, false, List, map, slice_index_or, slice_set}
 use Rattle.std.specs.List.{range_with_len}
 use Rattle.words.specs.Stack.{stack_slots}
@@ -43,7 +43,8 @@ with_slots f s = record { registers = f.registers; slots = tabulate stack_slots 
 abbrev pub facts_of : (ℕ → Kind) → (ℕ → Slot) → Facts
 facts_of k s = record { registers = tabulate 11 k; slots = tabulate stack_slots s }
 
--- at program entry: the context in register 1, the frame pointer in register 10, no stack byte written
+-- at program entry: the context in register 1, the frame pointer in register 10, no stack byte
+-- written
 abbrev pub entry_kind : ℕ → Kind
 entry_kind r = if r == 1 then Ctx else (if r == 10 then Stack (pos 0) else Unreadable)
 

@@ -1,5 +1,6 @@
--- Byte ranges of the stack that may span many slots: what a helper reads and writes. Starts count from the stack's lower
--- end; a mask has bit k for byte k of a slot. The rules are this project's own.
+-- Byte ranges of the stack that may span many slots: what a helper reads and writes. Starts count
+-- from the stack's lower end; a mask has bit k for byte k of a slot. The rules are this project's
+-- own.
 use Rattle.std.specs.Prelude.{ℕ, zero, suc, ◌+◌, ◌-◌, ◌*◌, ◌^◌, ◌==◌, ℤ, min, bit_and, nat_le, Bool, false, not, ◌||◌, if◌then◌else◌, Result, Ok, Err}
 use Rattle.words.specs.Stack.{stack_slots, is_in_stack, byte_index, touches}
 use Rattle.reg_kinds.specs.declared.kind.Kind.{Kind}
@@ -36,7 +37,8 @@ stack_input f x n =
     (if any_below stack_slots (λ i. is_touched_spill (slot_at f i) (touches (byte_index x) n i)) then Err PartOfSpill else
     (if any_below stack_slots (λ i. lacks (slot_at f i) (bits_in (byte_index x) n i)) then Err UnwrittenStack else Ok tt))
 
--- after a write of lo to hi bytes the first lo count as written, and of a spill that may be touched no other byte does
+-- after a write of lo to hi bytes the first lo count as written, and of a spill that may be touched
+-- no other byte does
 abbrev pub filled : Facts → ℤ → ℕ → ℕ → Facts
 filled f x lo hi = with_slots f (λ i. if touches (byte_index x) hi i then bytes_over (slot_at f i) (bits_in (byte_index x) lo i) else slot_at f i)
 

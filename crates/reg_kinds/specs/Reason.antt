@@ -1,4 +1,5 @@
--- Why a program is rejected, and the number of each reason. The rules and their numbers are this project's own.
+-- Why a program is rejected, and the number of each reason. The rules and their numbers are this
+-- project's own.
 use Rattle.std.specs.Prelude.{ℕ, Result, Ok, Err}
 use Rattle.reg_kinds.specs.declared.reason.Reason.{Reason}
 use Rattle.reg_kinds.specs.declared.reason.Reason.TheVariants.{JumpOutside, JumpBackward, FallsOff, Unreachable, UnknownHelper, FramePointerWritten, DescriptorNotOpen, DescriptorNotMap, NoDirectValue, UnreadableRegister, ResultNotScalar, NotPointer, PointerArithmetic, OffsetTooLarge, OutsideStack, UnalignedStack, UnwrittenStack, PartOfSpill, OutsideValue, MaybeNull, ContextAccess, PointerStored, PointerComparison, HelperArgument, LengthUnbounded, UnalignedAtomic, Memory}

@@ -1,6 +1,6 @@
--- Laws of lists made of a function (`tabulate` of `Kinds`), and of lists with one element written, as the lists of facts are.
--- Proved here for the proofs of the crates above. This project's own. No contract cites them, so they are not part of what has to be
--- trusted.
+-- Laws of lists made of a function (`tabulate` of `Kinds`), and of lists with one element written,
+-- as the lists of facts are. Proved here for the proofs of the crates above. This project's own. No
+-- contract cites them, so they are not part of what has to be trusted.
 use Rattle.std.proofs.Common.{◌≡◌, ℕ, ◌<◌, ◌≤◌, ◌==◌, if◌then◌else◌, List, length, get_or, set, sym, subst, ⊎_elim, arith, get_or-set_same, get_or-set_other}
 use Rattle.std.proofs.Math.ListN.{length-set}
 use Rattle.std.proofs.lemmas.Bool.{cases_lt, cond_both, eqb-true, eqb-false}
@@ -40,7 +40,8 @@ set-at P xs i x d here past =
     (λ le. subst P (sym (get_or_past (set xs i x) i d (let l = length-set xs i x in omega arith))) past)
     (cases_lt i (length xs))
 
--- a relation between elements and a function's values, and between x and y, holds once x and y are written at i
+-- a relation between elements and a function's values, and between x and y, holds once x and y are
+-- written at i
 pub in_written : {X Y : Type 0} (P : X → Y → Type 0) (xs : List X) (g : ℕ → Y) (i : ℕ) (x d : X) (y : Y) → P x y → P d y → ((k : ℕ) → P (get_or xs k d) (g k)) → (k : ℕ) → P (get_or (set xs i x) k d) (if k == i then y else g k)
 in_written P xs g i x d y here past others k =
     cond_both (k == i) y (g k) (λ z. P (get_or (set xs i x) k d) z)

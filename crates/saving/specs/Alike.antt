@@ -1,5 +1,5 @@
--- States of the machine of one tenant that no command distinguishes: they differ in the handles of their maps, and in whether memory
--- was ever refused. This project's own.
+-- States of the machine of one tenant that no command distinguishes: they differ in the handles of
+-- their maps, and in whether memory was ever refused. This project's own.
 use Rattle.std.specs.Prelude.{◌≡◌, ℕ, true, List, length, map, Option, IsSome, option_map}
 use Rattle.fd_table.specs.Table.{most}
 use Rattle.tenant.specs.declared.object.OpenObject.{OpenObject}
@@ -25,7 +25,8 @@ moved_objects move objects = map (option_map (moved_object move)) objects
 
 -- ---- alike states
 
--- the second state has the objects of the first, with their handles renamed, and exactly its live maps, no two of them with one handle
+-- the second state has the objects of the first, with their handles renamed, and exactly its live
+-- maps, no two of them with one handle
 pub record IsMovedBy (move : ℕ → ℕ) (s t : TenantState) : Type 0 where
   pub objects : t.objects ≡ moved_objects move s.objects
   pub same : (handle : ℕ) → IsSome (live s handle) → live t (move handle) ≡ live s handle

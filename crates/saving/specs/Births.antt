@@ -1,5 +1,6 @@
--- The births of a tenant's objects, in their order. A state does not record in which order its objects were created, and a program
--- its maps by the descriptors that they had when it was loaded. This project's own.
+-- The births of a tenant's objects, in their order. A state does not record in which order its
+-- objects were created, and a program its maps by the descriptors that they had when it was loaded.
+-- This project's own.
 use Rattle.std.specs.Prelude.{◌≡◌, ◌≢◌, ℕ, ◌+◌, ◌<◌, ◌≤◌, ◌==◌, Bool, true, false, List, [], ◌∷◌, ℤ, pos, negsuc, Option, Some, None, IsSome, is_some, filter, if◌then◌else◌}
 use Rattle.std.specs.List.{list_any, AllByRecursion}
 use Rattle.command_frames.specs.Command.{Command, map_create, map_lookup, map_update, map_delete, map_next_key, prog_load, prog_test_run, close}
@@ -39,7 +40,8 @@ is_of_program fd (OfProgram n) = n == fd
 abbrev pub IsMapBorn : TenantState → List Birth → ℕ → Type 0
 IsMapBorn s older handle = IsSome (live s handle) × (list_any (is_of_map handle) older ≡ false)
 
--- the program is open, and the latest older birth at each descriptor by which it names a map is the birth of this map
+-- the program is open, and the latest older birth at each descriptor by which it names a map is the
+-- birth of this map
 abbrev pub IsProgramBorn : TenantState → List Birth → ℕ → Type 0
 IsProgramBorn s older fd =
     (l : LoadedProgram) × (named s.objects fd ≡ Some (object.Program l))

@@ -1,4 +1,5 @@
--- The program that keeps a descriptor open while a tenant is restored: it returns 0. This project's own.
+-- The program that keeps a descriptor open while a tenant is restored: it returns 0. This project's
+-- own.
 use Rattle.std.specs.Prelude.{true, pos, List, [], ◌∷◌}
 use Rattle.words.specs.declared.operator.AluOp.TheVariants as alu
 use Rattle.insn_set.specs.declared.insn.Insn.{Insn}

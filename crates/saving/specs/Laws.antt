@@ -38,7 +38,8 @@ pub record AlikeStatesReplyAlike : Type 0 where
   pub same : (s t : TenantState) (frames replies others : List (List ℕ)) (after end : Option TenantState) → HoldsItsMaps s → HoldsItsMaps t → IsAlike s t → IsToldAlone (Some s) frames replies after → IsToldAlone (Some t) frames others end
       → others ≡ replies
 
--- the births of a tenant's objects: a new tenant has none, each command preserves the invariant, and there is a bound on their number
+-- the births of a tenant's objects: a new tenant has none, each command preserves the invariant,
+-- and there is a bound on their number
 pub record BirthsAreKept : Type 0 where
   pub new : AreBirths new_tenant []
   pub kept : (refused : Bool) (s : TenantState) (command : Command) (a : Answer)
@@ -46,7 +47,8 @@ pub record BirthsAreKept : Type 0 where
       → AreBirths a.after (births_after command a births)
   pub few : (s : TenantState) (births : List Birth) → HoldsItsMaps s → AreBirths s births → length births ≤ most + most_maps
 
--- a new tenant that gets the commands of a save succeeds at each, and is then alike to the saved state
+-- a new tenant that gets the commands of a save succeeds at each, and is then alike to the saved
+-- state
 abbrev pub RestoredIsAlike : Type 0
 RestoredIsAlike = (s : TenantState) (births : List Birth) → IsRestorable s → AreBirths s births → (t : TenantState) × Leads new_tenant (restored s births) t × IsAlike s t × HoldsItsMaps t
 
@@ -54,7 +56,8 @@ RestoredIsAlike = (s : TenantState) (births : List Birth) → IsRestorable s →
 abbrev pub FramesHaveOwners : Type 0
 FramesHaveOwners = (tenant : ℕ) (c : Command) → tenant < 2 ^ 16 → owner (frame_of tenant c) ≡ tenant
 
--- a test run fits into a frame: it has ten words of context, each in four bytes, and a packet that is not too long
+-- a test run fits into a frame: it has ten words of context, each in four bytes, and a packet that
+-- is not too long
 abbrev pub FitsFrame : BatchInput → Type 0
 FitsFrame input =
     (length input.words ≡ given_words) × AllByRecursion (λ word. word < 2 ^ 32) input.words
@@ -70,7 +73,8 @@ TestRunsHaveFrames =
     (tenant fd : ℕ) (inputs : List BatchInput) → fd < 2 ^ 32 → AllByRecursion FitsFrame inputs
     → AreTestRuns fd (map (test_run_frame tenant fd) inputs) inputs
 
--- a new tenant that gets the commands of a save as frames succeeds at each, and is then alike to the saved state
+-- a new tenant that gets the commands of a save as frames succeeds at each, and is then alike to
+-- the saved state
 abbrev pub RestoredByFrames : Type 0
 RestoredByFrames =
     (tenant : ℕ) (s : TenantState) (births : List Birth) → IsRestorable s → AreBirths s births
@@ -85,14 +89,16 @@ pub record RestorableIsKept : Type 0 where
 
 -- ---- histories
 
--- a list of commands, whether memory is refused to them or not, and the state and the births before and after it
+-- a list of commands, whether memory is refused to them or not, and the state and the births before
+-- and after it
 abbrev pub IsHistory : TenantState → List Birth → List Command → TenantState → List Birth → Type 0
 IsHistory s births [] t later = (t ≡ s) × (later ≡ births)
 IsHistory s births (c ∷ cs) t later =
     (refused : Bool) × (a : Answer) × Answers refused s c a
     × IsHistory a.after (births_after c a births) cs t later
 
--- A new tenant succeeds at each of these frames, and from then on it gives each list of frames the replies that this state gives.
+-- A new tenant succeeds at each of these frames, and from then on it gives each list of frames the
+-- replies that this state gives.
 abbrev pub IsRestoredBy : TenantState → List (List ℕ) → Type 0
 IsRestoredBy s saved =
     (t : TenantState) × (given : List (List ℕ)) × IsToldAlone (Some new_tenant) saved given (Some t) × AreGood saved given

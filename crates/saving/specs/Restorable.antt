@@ -1,4 +1,5 @@
--- The invariant of the maps and the programs of a state by which they can be created again. This project's own.
+-- The invariant of the maps and the programs of a state by which they can be created again. This
+-- project's own.
 use Rattle.std.specs.Prelude.{◌≡◌, false, ℕ, zero, suc, ◌+◌, ◌≤◌, ◌==◌, List, [], ◌∷◌, ◌++◌, length, Some, option_map}
 use Rattle.std.specs.List.{list_any, AllByRecursion}
 use Rattle.std.specs.Map.{lookup, keys_of}
@@ -23,7 +24,8 @@ abbrev pub AreDistinct : List (List ℕ) → Type 0
 AreDistinct [] = Unit {0}
 AreDistinct (key ∷ keys) = (list_any (is_key key) keys ≡ false) × AreDistinct keys
 
--- keys have the map's key size and none occurs twice; at most `max_entries` are present or deleted, and an array has its indices
+-- keys have the map's key size and none occurs twice; at most `max_entries` are present or deleted,
+-- and an array has its indices
 pub record IsWholeTable {A : Type 0} (t : Table A) : Type 0 where
   pub keys : AllByRecursion (λ e. length e.0 ≡ t.shape.key_size) t.entries
   pub distinct : AreDistinct (keys_of t.entries)
@@ -42,7 +44,8 @@ shapes_from s maps fd zero = []
 shapes_from s maps fd (suc n) =
     entry_of fd (option_map (λ t. target.Map t.shape) (and_then (lookup (λ m. m == fd) maps) (live s))) ++ shapes_from s maps (fd + 1) n
 
--- a program was accepted with the shapes that its maps have, and has a handle for each map that it loads
+-- a program was accepted with the shapes that its maps have, and has a handle for each map that it
+-- loads
 pub record IsWholeProgram (s : TenantState) (l : LoadedProgram) : Type 0 where
   pub program : IsProgram l.insns
   pub named : List Named

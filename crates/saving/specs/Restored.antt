@@ -1,5 +1,6 @@
--- The commands that restore a state: a walk over the births in order. Each descriptor is open at all times, if to nothing else then to
--- a program of two instructions, so a new object gets the descriptor that was closed last. This project's own.
+-- The commands that restore a state: a walk over the births in order. Each descriptor is open at
+-- all times, if to nothing else then to a program of two instructions, so a new object gets the
+-- descriptor that was closed last. This project's own.
 use Rattle.std.specs.Prelude.{◌≡◌, ℕ, zero, suc, ◌+◌, pos, false, List, [], ◌∷◌, ◌++◌, map, Option, Some, None, is_none, if◌then◌else◌}
 use Rattle.insn_set.specs.declared.insn.Insn.{Insn}
 use Rattle.insn_set.specs.Program.{program_bytes}

@@ -1,5 +1,5 @@
--- A tenant is saved in parts: the frames that open all descriptors, those that create each object that was born, and those that close
--- the descriptors that are not open. This project's own.
+-- A tenant is saved in parts: the frames that open all descriptors, those that create each object
+-- that was born, and those that close the descriptors that are not open. This project's own.
 use Rattle.std.specs.Prelude.{◌≡◌, ℕ, List, [], ◌∷◌, ◌++◌, map, reverse}
 use Rattle.std.specs.List.{flat_map}
 use Rattle.command_frames.specs.Command.{Command, close}

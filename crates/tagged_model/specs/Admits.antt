@@ -16,8 +16,8 @@ use Rattle.tagged_model.specs.declared.value.Tagged.TheVariants.{Scalar, Map, Po
 use Rattle.tagged_model.specs.Cells.{Cell, holds, byte_at}
 use Rattle.tagged_model.specs.State.{RunState, RunMap, set_at}
 
--- what facts do not determine: for each site the result of the look-up there, which is the same in all its copies; and for each map
--- the number of objects that it has had, or fewer
+-- what facts do not determine: for each site the result of the look-up there, which is the same in
+-- all its copies; and for each map the number of objects that it has had, or fewer
 pub record Witness : Type 0 where
   pub gave : ℕ → Tagged
   pub objects : ℕ → ℕ

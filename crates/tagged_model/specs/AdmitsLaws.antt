@@ -1,5 +1,6 @@
--- Every cell has the bytes of the empty mask: a law of the definition `HasBytes` of `Admits`, proved here for the proofs of the
--- crates above. This project's own. No contract cites it, so it is not part of what has to be trusted.
+-- Every cell has the bytes of the empty mask: a law of the definition `HasBytes` of `Admits`,
+-- proved here for the proofs of the crates above. This project's own. No contract cites it, so it
+-- is not part of what has to be trusted.
 use Rattle.std.proofs.Common.{arith}
 use Rattle.std.proofs.lemmas.Nat.Bits.{bit_at-zero}
 use Rattle.tagged_model.specs.Cells.{Cell}

@@ -1,5 +1,5 @@
--- Cells, eight bytes of the stack each, and their loads and stores. Loads and stores are those of RFC 9669, sections 5.1 and 5.2;
--- that a pointer is kept whole is this project's own.
+-- Cells, eight bytes of the stack each, and their loads and stores. Loads and stores are those of
+-- RFC 9669, sections 5.1 and 5.2; that a pointer is kept whole is this project's own.
 use Rattle.std.specs.Prelude.{ℕ, zero, suc, ◌+◌, ◌-◌, ◌*◌, Bool, true, false, ◌&&◌, nat_lt, nat_le, if◌then◌else◌, List, [], ◌∷◌, length, slice_get, Option, Some, None, option_map}
 use Rattle.words.specs.declared.stack.AccessSize.{AccessSize}
 use Rattle.words.specs.declared.stack.AccessSize.TheVariants.{Double}
@@ -52,7 +52,8 @@ write_cell c j size (Scalar n) = Some (written_over c j (low_bytes (bytes_of siz
 write_cell c j Double v = Some (holds v)
 write_cell c j _ v = None
 
--- slot i of the stack after these bytes are written at index p of the stack; if they touch it, a value kept whole is lost
+-- slot i of the stack after these bytes are written at index p of the stack; if they touch it, a
+-- value kept whole is lost
 abbrev pub cell_over : ℕ → Cell → ℕ → List ℕ → Cell
 cell_over i c p bs =
     if touches p (length bs) i then bytes (λ j. if nat_le p (8 * i + j) && nat_lt (8 * i + j) (p + length bs) then slice_get bs (8 * i + j - p) else byte_at c j) else c

@@ -1,6 +1,6 @@
--- Laws of helpers, of the definitions of `Helpers`: a helper's number, and what a call leaves of the state before it, whichever
--- helper it calls. Proved here for the proofs of the crates above. This project's own. No contract cites them, so they are not
--- part of what has to be trusted.
+-- Laws of helpers, of the definitions of `Helpers`: a helper's number, and what a call leaves of
+-- the state before it, whichever helper it calls. Proved here for the proofs of the crates above.
+-- This project's own. No contract cites them, so they are not part of what has to be trusted.
 use Rattle.std.proofs.Common.{◌≡◌, ℕ, zero, suc, ◌+◌, ◌==◌, ℤ, pos, negsuc, nat_le, Bool, true, false, cond, List, [], ◌∷◌, length, Option, Some, None, refl, sym, ap, subst, ◌∙◌}
 use Rattle.std.specs.Prelude.{find}
 use Rattle.std.specs.Ordering.{int_eq}
@@ -36,7 +36,8 @@ number_of_found id helper e = (signed_Decides id (pos (id_of helper))).0 (found_
 
 -- ---- what a call leaves
 
--- a map after a call: the same, or with bytes written into a value, or after an update or a delete, whatever its result
+-- a map after a call: the same, or with bytes written into a value, or after an update or a delete,
+-- whatever its result
 pub data MapAfterCall (t : RunMap) : RunMap → Type 0 where
   unchanged : MapAfterCall t t
   written : (number : ℕ) (offset : ℤ) (bs value : List ℕ) → value_written (t.values number) offset bs ≡ Some value → MapAfterCall t (with_value t number value)
@@ -49,7 +50,8 @@ EntryAfterCall None None = Unit {0}
 EntryAfterCall (Some t) (Some u) = MapAfterCall t u
 EntryAfterCall _ _ = ⊥
 
--- a state after a call, from the state before it: the words of the context are the same, and each map is one after a call
+-- a state after a call, from the state before it: the words of the context are the same, and each
+-- map is one after a call
 pub record IsAfterCall (s t : RunState) : Type 0 where
   pub words : t.words ≡ s.words
   pub maps : (m : ℕ) → EntryAfterCall (s.maps m) (t.maps m)

@@ -1,6 +1,7 @@
--- The helpers: their numbers and arguments are the kernel's (linux/bpf.h, bpf_func_id); a call is that of RFC 9669, section 4.3.1,
--- and which registers it reads and clobbers is the kernel documentation's calling convention (bpf/standardization/abi.rst). The
--- results of maps are in the definition of a map. No documentation says that a failed load of bytes writes zeros: it is this
+-- The helpers: their numbers and arguments are the kernel's (linux/bpf.h, bpf_func_id); a call is
+-- that of RFC 9669, section 4.3.1, and which registers it reads and clobbers is the kernel
+-- documentation's calling convention (bpf/standardization/abi.rst). The results of maps are in the
+-- definition of a map. No documentation says that a failed load of bytes writes zeros: it is this
 -- project's own, and as the kernel does.
 use Rattle.std.specs.Prelude.{ℕ, ◌+◌, ◌-◌, ◌%◌, ◌^◌, ◌==◌, ℤ, pos, Bool, ◌&&◌, nat_le, if◌then◌else◌, List, [], ◌∷◌, length, replicate, find, Option, Some, None, Result, Ok, Err}
 use Rattle.std.specs.Ordering.{int_eq}

@@ -41,8 +41,8 @@ StackInputAdmits =
     (witness : Witness) (f : Facts) (s : RunState) (x : ℤ) (n : ℕ) → IsInRange s → AdmitsBy witness f s → stack_input f x n ≡ Ok tt
     → (bs : List ℕ) × (stack_bytes s x n ≡ Some bs) × (length bs ≡ n) × AreBytes bs
 
--- if the facts allow a helper to write lo to hi bytes of the stack, the facts after it admit the state
--- after a write of any such length
+-- if the facts allow a helper to write lo to hi bytes of the stack, the facts after it admit the
+-- state after a write of any such length
 abbrev pub StackOutputAdmits : Type 0
 StackOutputAdmits =
     (witness : Witness) (f g : Facts) (s : RunState) (x : ℤ) (lo hi : ℕ) (bs : List ℕ) → IsInRange s → AdmitsBy witness f s → AreBytes bs → lo ≤ length bs → length bs ≤ hi → stack_filled f x lo hi ≡ Ok g
@@ -68,7 +68,8 @@ ObjectWriteAdmits =
     → pos 0 ≤ℤ y → (y +ℤ pos (length bs)) ≤ℤ pos shape.value_size
     → (u : RunState) × (object_written s m number y bs ≡ Some u) × AdmitsBy witness f u × IsInRange u × HasMaps shapes u × (u.at ≡ s.at)
 
--- the facts describe the state by the witness: they admit it, its numbers are in range, and it has a map of each shape
+-- the facts describe the state by the witness: they admit it, its numbers are in range, and it has
+-- a map of each shape
 pub record Describes (witness : Witness) (f : Facts) (shapes : ℕ → Option MapShape) (s : RunState) : Type 0 where
   pub admits : AdmitsBy witness f s
   pub proper : IsInRange s
@@ -92,8 +93,8 @@ pub record KeepsShape (shape : MapShape) (t u : RunMap) : Type 0 where
   pub more : t.count ≤ u.count
   pub bytes : (number : ℕ) → AreBytes (u.values number)
 
--- the calls of a map keep its shape and its objects, and a look-up gives one of its objects; so does a load of
--- the direct value, if it has one
+-- the calls of a map keep its shape and its objects, and a look-up gives one of its objects; so
+-- does a load of the direct value, if it has one
 pub record MapCallsKeep : Type 0 where
   pub direct : (shape : MapShape) (t : RunMap) (offset : ℕ) → IsMapOf shape t → has_direct_value shape offset ≡ true → (number : ℕ) × (direct_object t.table offset ≡ Some number) × (number < t.count)
   pub owned : (shape : MapShape) (t : RunMap) (key : List ℕ) (number : ℕ) → IsMapOf shape t → look_up t.table key ≡ Some number → number < t.count

@@ -1,12 +1,13 @@
--- Laws of maps, whatever their objects are. The calls are those of bpf(2); the laws are this project's own.
+-- Laws of maps, whatever their objects are. The calls are those of bpf(2); the laws are this
+-- project's own.
 use Rattle.std.specs.Prelude.{◌≡◌, ◌≢◌, ℕ, List, Some, None, option_map}
 use Rattle.std.specs.Result.{result_map_both}
 use Rattle.tagged_model.specs.declared.shape.MapShape.{MapShape}
 use Rattle.tagged_model.specs.declared.fault.MapFault.TheVariants.{Memory}
 use Rattle.tagged_model.specs.Table as map
 
--- whatever values the objects represent, such as elements or bytes: the results are those of the map of these values, and that map
--- changes as the definition says
+-- whatever values the objects represent, such as elements or bytes: the results are those of the
+-- map of these values, and that map changes as the definition says
 pub record CallsRefineValues (A B : Type 0) : Type 0 where
   pub new : (value : A → B) (object : ℕ → A) (shape : MapShape) → map.with_values value (map.new_table object shape) ≡ map.new_table (λ i. value (object i)) shape
   pub found : (value : A → B) (t : map.Table A) (key : List ℕ) → map.look_up (map.with_values value t) key ≡ option_map value (map.look_up t key)

@@ -1,11 +1,13 @@
--- The shapes that a map may have. The limits are this project's own; kinds and fields are those of bpf(2), BPF_MAP_CREATE.
+-- The shapes that a map may have. The limits are this project's own; kinds and fields are those of
+-- bpf(2), BPF_MAP_CREATE.
 use Rattle.std.specs.Prelude.{ℕ, ◌+◌, ◌*◌, ◌/◌, ◌==◌, Bool, ◌&&◌, nat_le, if◌then◌else◌, Option, Some, None}
 use Rattle.tagged_model.specs.declared.shape.MapKind.{MapKind}
 use Rattle.tagged_model.specs.declared.shape.MapKind.TheVariants.{Hash, Array}
 use Rattle.tagged_model.specs.declared.shape.ShapeFault.{ShapeFault}
 use Rattle.tagged_model.specs.declared.shape.ShapeFault.TheVariants.{Invalid, TooBig}
 
--- the length in bytes of the longest key and of the longest value, the most entries, and the size in bytes of the largest area
+-- the length in bytes of the longest key and of the longest value, the most entries, and the size
+-- in bytes of the largest area
 abbrev pub longest_key : ℕ
 longest_key = 512
 

@@ -1,5 +1,5 @@
--- The invariant of a run's states, which each step keeps: bytes are below 256, the context has its words, and each map has
--- its shape. This project's own.
+-- The invariant of a run's states, which each step keeps: bytes are below 256, the context has its
+-- words, and each map has its shape. This project's own.
 use Rattle.std.specs.Prelude.{◌≡◌, ℕ, ◌<◌, ◌^◌, List, [], ◌∷◌, length, Option, Some}
 use Rattle.std.specs.List.{All}
 use Rattle.std.specs.Map.{keys_of}
@@ -27,7 +27,8 @@ abbrev pub KeysHaveObjects : ℕ → List (List ℕ × ℕ) → Type 0
 KeysHaveObjects count [] = Unit {0}
 KeysHaveObjects count (e ∷ es) = (e.1 < count) × KeysHaveObjects count es
 
--- t is a map of this shape: an array has all its indices, and each object, also a deleted one, has the size of a value
+-- t is a map of this shape: an array has all its indices, and each object, also a deleted one, has
+-- the size of a value
 pub record IsMapOf (shape : MapShape) (t : RunMap) : Type 0 where
   pub shaped : t.table.shape ≡ shape
   pub indices : shape.kind ≡ Array → keys_of t.table.entries ≡ keys_of (indexed (λ i. i) 0 shape.max_entries)

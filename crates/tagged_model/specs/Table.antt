@@ -1,6 +1,8 @@
--- What a map is (bpf(2); the kernel documentation of BPF_MAP_TYPE_ARRAY and BPF_MAP_TYPE_HASH): a list of keys with their objects,
--- in order. An object is anything that represents a value: its number in a run, its element in an area, its bytes. The order of the
--- refusals, the order of a hash map's keys, and that objects deleted in a run count until the run ends are this project's own.
+-- What a map is (bpf(2); the kernel documentation of BPF_MAP_TYPE_ARRAY and BPF_MAP_TYPE_HASH): a
+-- list of keys with their objects, in order. An object is anything that represents a value: its
+-- number in a run, its element in an area, its bytes. The order of the refusals, the order of a
+-- hash map's keys, and that objects deleted in a run count until the run ends are this project's
+-- own.
 use Rattle.std.specs.Prelude.{ℕ, zero, suc, ◌+◌, ◌==◌, ◌&&◌, nat_eq, nat_le, nat_lt, Bool, true, false, if◌then◌else◌, List, [], ◌∷◌, ◌++◌, length, map, Option, Some, None, is_some, Result, Ok, Err}
 use Rattle.std.specs.Map.{lookup, remove_entry, set_value}
 use Rattle.std.specs.Cmp.Lexicographic.{pointwise}
@@ -75,7 +77,8 @@ exist = 2
 
 -- ---- the calls
 
--- the verdict on an update: a refusal, the object of a present key, or a new key, which needs a new object
+-- the verdict on an update: a refusal, the object of a present key, or a new key, which needs a new
+-- object
 pub data Verdict (A : Type 0) : Type 0 where
   Refused : (fault : MapFault) → Verdict A
   Present : (object : A) → Verdict A
@@ -86,7 +89,8 @@ module _ {A : Type 0} where
   abbrev pub look_up : Table A → List ℕ → Option A
   look_up t key = found key t.entries
 
-  -- a hash map is full if its keys and the objects deleted in this run are as many as its most entries
+  -- a hash map is full if its keys and the objects deleted in this run are as many as its most
+  -- entries
   abbrev pub is_full : Table A → Bool
   is_full t = (length t.entries + t.deleted) == t.shape.max_entries
 

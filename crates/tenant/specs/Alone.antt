@@ -27,8 +27,9 @@ AnswersFrame refused s (Ok command) a = Answers refused s command a
 abbrev pub unserved_errno : List ℕ → Errno
 unserved_errno frame = if nat_lt (length frame) head_length then Invalid else NotPermitted
 
--- a frame, its reply, and the state of its tenant before and after it, if memory is refused or not; a tenant that is not served
--- has no state, and the reply reports that, or that the frame has no head
+-- a frame, its reply, and the state of its tenant before and after it, if memory is refused or not;
+-- a tenant that is not served has no state, and the reply reports that, or that the frame has no
+-- head
 abbrev pub RepliesUnder : Bool → List ℕ → List ℕ → Option TenantState → Option TenantState → Type 0
 RepliesUnder refused frame reply None after =
     (after ≡ None) × (reply ≡ reply_to frame (status_of (unserved_errno frame)) [])
@@ -64,7 +65,8 @@ replies_of t (frame ∷ frames) [] = []
 replies_of t (frame ∷ frames) (reply ∷ replies) =
     if owner frame == t then reply ∷ replies_of t frames replies else replies_of t frames replies
 
--- a tenant's frames in order, each with its reply in this relation, and the states before and after them
+-- a tenant's frames in order, each with its reply in this relation, and the states before and after
+-- them
 abbrev pub RepliesInOrder : (List ℕ → List ℕ → Option TenantState → Option TenantState → Type 0) → Option TenantState → List (List ℕ) → List (List ℕ) → Option TenantState → Type 0
 RepliesInOrder tells before [] [] after = after ≡ before
 RepliesInOrder tells before (frame ∷ frames) (reply ∷ replies) after =

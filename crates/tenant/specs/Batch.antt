@@ -1,4 +1,5 @@
--- A program on many packets: the test runs of the packets, one after another. Packets are counted from 0. This project's own.
+-- A program on many packets: the test runs of the packets, one after another. Packets are counted
+-- from 0. This project's own.
 use Rattle.std.specs.Prelude.{◌≡◌, ℕ, pos, nat_lt, List, [], ◌∷◌, ◌++◌, length, drop, Option, Some, None, option_map, Ok, if◌then◌else◌}
 use Rattle.byteorder.specs.Endian.{little_bytes}
 use Rattle.command_frames.specs.Command.{prog_test_run, parsed}
@@ -18,8 +19,8 @@ use Rattle.tenant.specs.State.{TenantState}
 
 -- ---- the runs
 
--- The test-run commands of packets, one after another, each on the words of context that are given with it: each succeeds with its
--- result, and the states before and after them.
+-- The test-run commands of packets, one after another, each on the words of context that are given
+-- with it: each succeeds with its result, and the states before and after them.
 unfoldable pub RunsInOrder : ℕ → TenantState → List BatchInput → List ℕ → TenantState → Type 0
 RunsInOrder fd before [] [] after = after ≡ before
 RunsInOrder fd before (input ∷ inputs) (result ∷ results) after =
@@ -60,14 +61,16 @@ packet_errno Contexts = Invalid
 packet_errno Outside = Invalid
 packet_errno TooLong = TooBig
 
--- Why packets with these ends in `many` bytes and so many arrays of words are refused: there is room for fewer results, or words for
--- neither all packets together nor each of them, or the first packet that is outside or too long.
+-- Why packets with these ends in `many` bytes and so many arrays of words are refused: there is
+-- room for fewer results, or words for neither all packets together nor each of them, or the first
+-- packet that is outside or too long.
 abbrev pub packets_refusal : ℕ → ℕ → List ℕ → ℕ → Option Errno
 packets_refusal contexts many ends room =
     if nat_lt room (length ends) then Some Invalid else option_map packet_errno (batch_fault contexts many ends)
 
--- Why a batch is rejected, before the first packet: what is named is no program; there is room for fewer results than packets; there
--- is neither one context nor one for each packet; or a packet is outside, or too long.
+-- Why a batch is rejected, before the first packet: what is named is no program; there is room for
+-- fewer results than packets; there is neither one context nor one for each packet; or a packet is
+-- outside, or too long.
 abbrev pub batch_refusal : Option OpenObject → ℕ → ℕ → List ℕ → ℕ → Option Errno
 batch_refusal o contexts many ends room = else_refusal (object_refusal o) (packets_refusal contexts many ends room)
 

@@ -13,7 +13,8 @@ use Rattle.tenant.specs.Loaded.{LoadedProgram, map_handles}
 use Rattle.bpf_maps.specs.Limits.{most_maps}
 use Rattle.tenant.specs.State.{Map, TenantState}
 
--- the open objects by descriptors, the live maps by handles, and whether memory was refused to a load
+-- the open objects by descriptors, the live maps by handles, and whether memory was refused to a
+-- load
 pub record KeptTenant : Type 0 where
   pub objects : List (Option OpenObject)
   pub live : LiveMaps
@@ -65,14 +66,16 @@ pub record AreHeld (t : LiveMaps) : Type 0 where
   pub some : (handle : ℕ) → IsSome (live_at t handle) → 1 ≤ holds_at t handle
   pub ended : (handle : ℕ) → (keys_at t handle).kept ≡ []
 
--- a program has a handle for each map that it loads, no handle twice, and the maps there have the shapes with which it was verified
+-- a program has a handle for each map that it loads, no handle twice, and the maps there have the
+-- shapes with which it was verified
 pub record IsBound (t : LiveMaps) (l : LoadedProgram) : Type 0 where
   pub each : keys_of l.maps ≡ maps_of l.insns
   pub once : (handle : ℕ) → times_listed handle (map_handles l) ≤ 1
   pub shaped : (fd handle : ℕ) → lookup (λ m. m == fd) l.maps ≡ Some handle
       → IsSome (live_at t handle) × (shapes_named l.named fd ≡ Some (shape_at t handle))
 
--- each map has as many references as there are names of its handle, and no two descriptors name the same map
+-- each map has as many references as there are names of its handle, and no two descriptors name the
+-- same map
 pub record IsWellFormedTenant (k : KeptTenant) : Type 0 where
   pub all : length k.objects ≡ most
   pub maps : AreHeld k.live

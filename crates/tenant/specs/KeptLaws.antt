@@ -1,5 +1,6 @@
--- Laws of the maps under their handles, proved here for the proofs of this crate and of the crates above. This project's own. No
--- contract cites them, so they are not part of what has to be trusted.
+-- Laws of the maps under their handles, proved here for the proofs of this crate and of the crates
+-- above. This project's own. No contract cites them, so they are not part of what has to be
+-- trusted.
 use Rattle.std.proofs.Common.{◌≡◌, ℕ, ◌<◌, ◌≤◌, ◌⊎◌, inl, inr, List, length, Option, Some, None, is_some, refl, sym, ap, ◌∙◌, get_or, arith}
 use Rattle.std.specs.Prelude.{option_map}
 use Rattle.std.proofs.lemmas.Bool.{cases_lt}

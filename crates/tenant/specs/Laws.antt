@@ -1,5 +1,5 @@
--- The machine is deterministic: if memory is refused to the same commands, they have the same results and frames the same replies.
--- What the replies say of refused memory. This project's own.
+-- The machine is deterministic: if memory is refused to the same commands, they have the same
+-- results and frames the same replies. What the replies say of refused memory. This project's own.
 use Rattle.std.specs.Prelude.{◌≡◌, ◌≢◌, ◌⊎◌, ℕ, Bool, true, false, [], List, Option, Some, Ok}
 use Rattle.command_frames.specs.Command.{Command, map_create, prog_load, parsed}
 use Rattle.tenant.specs.State.{TenantState}
@@ -50,8 +50,9 @@ takes_memory other = false
 abbrev pub IsNoRefusal : TenantState → Answer → Type 0
 IsNoRefusal s a = (a.status ≢ status_of NoMemory) × (a.after.refused ≡ s.refused)
 
--- A refusal of memory changes only what a creation or a load does: its status is ENOMEM, and only the flag changes. Nothing else has this
--- status or sets the flag: no command to which memory is not refused, and no other command.
+-- A refusal of memory changes only what a creation or a load does: its status is ENOMEM, and only
+-- the flag changes. Nothing else has this status or sets the flag: no command to which memory is
+-- not refused, and no other command.
 pub record RefusalsAreTold : Type 0 where
   pub refused : (s : TenantState) (command : Command) (a : Answer) → Answers true s command a
       → Answers false s command a ⊎ ((takes_memory command ≡ true) × (a ≡ refuses_for_memory s))
@@ -67,7 +68,8 @@ OnlyCreationsAndLoadsAreRefused =
     → IsRefusedMemory reply
     → (command : Command) × (parsed frame ≡ Ok command) × (takes_memory command ≡ true)
 
--- if none of a tenant's replies is that memory was refused, they are those of its machine without refusals, whatever its flag was
+-- if none of a tenant's replies is that memory was refused, they are those of its machine without
+-- refusals, whatever its flag was
 abbrev pub UnrefusedRepliesMeanAlone : Type 0
 UnrefusedRepliesMeanAlone =
     (before after : Option TenantState) (frames replies : List (List ℕ))

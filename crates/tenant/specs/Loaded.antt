@@ -3,8 +3,9 @@ use Rattle.std.specs.Prelude.{ℕ, List, map}
 use Rattle.insn_set.specs.declared.insn.Insn.{Insn}
 use Rattle.tagged_model.specs.declared.shape.Named.{Named}
 
--- Its instructions; the objects that the descriptors in their text named when it was loaded; and for each of these descriptors the
--- handle of its map, in the order of first use. It keeps its maps when their descriptors are closed.
+-- Its instructions; the objects that the descriptors in their text named when it was loaded; and
+-- for each of these descriptors the handle of its map, in the order of first use. It keeps its maps
+-- when their descriptors are closed.
 pub record LoadedProgram : Type 0 where
   pub insns : List Insn
   pub named : List Named

@@ -1,5 +1,6 @@
--- The machine of one tenant: the answer to each command, and the open objects and the maps after it (bpf(2); for a test run
--- linux/bpf.h, BPF_PROG_TEST_RUN). The order of the refusals is this project's own.
+-- The machine of one tenant: the answer to each command, and the open objects and the maps after it
+-- (bpf(2); for a test run linux/bpf.h, BPF_PROG_TEST_RUN). The order of the refusals is this
+-- project's own.
 use Rattle.std.specs.Prelude.{◌≡◌, ℕ, ◌+◌, ℤ, pos, Bool, true, false, ◌||◌, ◌==◌, nat_lt, List, [], ◌∷◌, ◌++◌, length, take, drop, replicate, Option, Some, None, option_map, slice_set, Result, Ok, Err, if◌then◌else◌, MatchBool, refl}
 use Rattle.std.specs.Map.{lookup}
 use Rattle.byteorder.specs.Endian.{little_bytes}
@@ -166,8 +167,8 @@ codec_errno kind.Empty = TooBig
 codec_errno kind.TooLong = TooBig
 codec_errno kind.Memory = NoMemory
 
--- a program of a wrong shape is invalid, or names a descriptor that is not open; access is denied to one that is
--- unsafe, or writes the frame pointer
+-- a program of a wrong shape is invalid, or names a descriptor that is not open; access is denied
+-- to one that is unsafe, or writes the frame pointer
 abbrev pub verdict_errno : Reason → Errno
 verdict_errno reason.JumpOutside = Invalid
 verdict_errno reason.JumpBackward = Invalid
@@ -299,7 +300,8 @@ closed s fd (Some o) = gives [] (with_objects s (table.with_closed s.objects fd)
 
 -- ---- every command
 
--- The answer of a command, whether memory is refused to it or not. Only MAP_CREATE and PROG_LOAD take memory.
+-- The answer of a command, whether memory is refused to it or not. Only MAP_CREATE and PROG_LOAD
+-- take memory.
 abbrev pub Answers : Bool → TenantState → Command → Answer → Type 0
 Answers refused s (map_create kind key value max flags) a =
     a ≡ created refused s (asked_shape (kind_of kind) key value max flags)

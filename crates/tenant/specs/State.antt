@@ -1,5 +1,5 @@
--- The state of a tenant: its open objects, its live maps, and whether memory was ever refused to it. Descriptors and maps are those
--- of bpf(2); the limits are this project's own.
+-- The state of a tenant: its open objects, its live maps, and whether memory was ever refused to
+-- it. Descriptors and maps are those of bpf(2); the limits are this project's own.
 use Rattle.std.specs.Prelude.{ℕ, ◌+◌, ◌==◌, Bool, false, if◌then◌else◌, List, [], ◌∷◌, replicate, Option, Some, None, is_none, position, slice_index_or, slice_set}
 use Rattle.std.specs.List.{list_any}
 use Rattle.std.specs.Option.{option_map_or}
@@ -16,7 +16,8 @@ use Rattle.fd_table.specs.Table.{nothing_open}
 abbrev pub Map : Type 0
 Map = Table (List ℕ)
 
--- the open objects by descriptors, and the live maps by their handles; while a map is live, no other gets its handle
+-- the open objects by descriptors, and the live maps by their handles; while a map is live, no
+-- other gets its handle
 pub record TenantState : Type 0 where
   pub objects : List (Option OpenObject)
   pub maps : List (Option Map)
@@ -51,7 +52,8 @@ with_map_at s handle t = record s { maps = slice_set s.maps handle (Some t) }
 
 -- ---- the names of a map
 
--- an object names the map of a handle: it is a descriptor of the map, or a program that was loaded with it
+-- an object names the map of a handle: it is a descriptor of the map, or a program that was loaded
+-- with it
 abbrev pub names : ℕ → OpenObject → Bool
 names handle (object.Map p) = p == handle
 names handle (object.Program l) = list_any (λ m. m.1 == handle) l.maps

@@ -1,4 +1,5 @@
--- The forms of a line: the table of the grammar, for reading and for printing. It is this project's own.
+-- The forms of a line: the table of the grammar, for reading and for printing. It is this project's
+-- own.
 use Rattle.std.specs.Prelude.{ℕ, ◌≤◌, Bool, true, false, ◌&&◌, ◌||◌, not, IsTrue, List, [], ◌∷◌, codes, Option, Some, None}
 use Rattle.insn_set.specs.Sizes.{is_short}
 use Rattle.insn_set.specs.Operator.{alu_symbol}
@@ -24,7 +25,8 @@ use Rattle.text_line.specs.declared.form.Form.TheVariants as form
 use Rattle.text_line.specs.Token.{Token, name, number, symbol}
 use Rattle.text_line.specs.Names.{register_name, sign_name, jump_name}
 
--- A line is laid out as tokens and single spaces (`None`). On reading, any blanks may be between tokens.
+-- A line is laid out as tokens and single spaces (`None`). On reading, any blanks may be between
+-- tokens.
 abbrev pub TokenLayout : Type 0
 TokenLayout = List (Option Token)
 
@@ -96,8 +98,9 @@ tokens_of [] = []
 tokens_of (None ∷ rest) = tokens_of rest
 tokens_of (Some t ∷ rest) = t ∷ tokens_of rest
 
--- the values of the types that are forms: registers up to 10, sign extension from fewer bits than the register has, a byte-order
--- conversion of 64 bits, a load without sign extension of a double word
+-- the values of the types that are forms: registers up to 10, sign extension from fewer bits than
+-- the register has, a byte-order conversion of 64 bits, a load without sign extension of a double
+-- word
 abbrev pub IsSource : SourceOperand → Type 0
 IsSource (source.Number n) = Unit {0}
 IsSource (source.Reg r) = r ≤ 10

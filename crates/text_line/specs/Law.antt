@@ -16,7 +16,8 @@ OneReading = (bytes : List ℕ) (a b : Option Line) → ReadAs bytes a → ReadA
 abbrev pub OneInsn : Type 0
 OneInsn = (a b : Insn) → written a ≡ written b → a ≡ b
 
--- the written form of an instruction has its numbers in range, no label, the instruction's slots, and nothing left to resolve
+-- the written form of an instruction has its numbers in range, no label, the instruction's slots,
+-- and nothing left to resolve
 pub record IsWrittenInRange (insn : Insn) : Type 0 where
   pub fits : form_fits (written insn) ≡ true
   pub no_label : names_label (written insn) ≡ false

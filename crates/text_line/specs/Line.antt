@@ -4,7 +4,8 @@ use Rattle.text_line.specs.declared.form.Form.{Form}
 use Rattle.text_line.specs.Token.{Token, name, symbol, IsTokens}
 use Rattle.text_line.specs.Form.{layout, tokens_of, IsForm, names_label}
 
--- Nothing; a label; or an instruction, with the label that its jump names: the empty list if it names none.
+-- Nothing; a label; or an instruction, with the label that its jump names: the empty list if it
+-- names none.
 pub data Line : Type 0 where
   blank : Line
   label : List ℕ → Line

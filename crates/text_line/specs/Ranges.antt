@@ -1,5 +1,5 @@
--- The ranges of numbers, the labels as numbers, and the slots of a form. A number's range is that of its field (RFC
--- 9669, section 3.1); a label's distance is this project's own.
+-- The ranges of numbers, the labels as numbers, and the slots of a form. A number's range is that
+-- of its field (RFC 9669, section 3.1); a label's distance is this project's own.
 use Rattle.std.specs.Prelude.{ℕ, Bool, true, false, ◌&&◌, not, ℤ, Option, Some, None, is_some, nat_le, ◌==◌, if◌then◌else◌}
 use Rattle.text_line.specs.declared.form.Number.{Number}
 use Rattle.text_line.specs.declared.form.SourceOperand.{SourceOperand}

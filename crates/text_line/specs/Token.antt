@@ -63,7 +63,8 @@ pub record BeginsWith (text : List ℕ) (token : Token) (rest : List ℕ) : Type
 abbrev pub is_over : List ℕ → Bool
 is_over text = length text == 0 || starts_with nat_eq text (codes "//")
 
--- The text from here on has these tokens: after spaces, tabs and carriage returns comes the first of them, and then the others.
+-- The text from here on has these tokens: after spaces, tabs and carriage returns comes the first
+-- of them, and then the others.
 abbrev pub HasTokens : List ℕ → List Token → Type 0
 HasTokens text [] = IsTrue (is_over (skip_blanks text))
 HasTokens text (t ∷ ts) = (rest : List ℕ) × BeginsWith (skip_blanks text) t rest × HasTokens rest ts

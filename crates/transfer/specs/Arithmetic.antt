@@ -1,5 +1,6 @@
--- The kind that an operator leaves in its destination: a number in the range of its results, or a moved pointer. The operators are
--- those of RFC 9669, section 4.1; the rules are this project's own.
+-- The kind that an operator leaves in its destination: a number in the range of its results, or a
+-- moved pointer. The operators are those of RFC 9669, section 4.1; the rules are this project's
+-- own.
 use Rattle.std.specs.Prelude.{ℕ, ◌^◌, ℤ, pos, ◌+ℤ◌, ◌-ℤ◌, Bool, true, false, ◌||◌, nat_lt, nat_le, if◌then◌else◌, Option, Some, None, Result, Ok, Err}
 use Rattle.interval.specs.declared.range.Range.{Range}
 use Rattle.words.specs.declared.operator.Operator.{Operator}
@@ -97,7 +98,8 @@ difference_kind a b = Err PointerArithmetic
 abbrev pub unless_maybe : Kind → Kind → Result Kind Reason → Result Kind Reason
 unless_maybe a b r = if is_maybe a || is_maybe b then Err MaybeNull else r
 
--- a 64-bit move copies any value; 64-bit sums and differences move pointers; everything else is only for numbers
+-- a 64-bit move copies any value; 64-bit sums and differences move pointers; everything else is
+-- only for numbers
 abbrev pub arithmetic_kind : Bool → AluOp → Kind → Kind → Result Kind Reason
 arithmetic_kind true alu.Mov a b = Ok b
 arithmetic_kind true alu.Add a b = unless_maybe a b (sum_kind a b)

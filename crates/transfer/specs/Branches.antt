@@ -1,5 +1,5 @@
--- The facts on the two edges of a conditional jump. The comparisons are those of RFC 9669, section 4.3;
--- the rules are this project's own.
+-- The facts on the two edges of a conditional jump. The comparisons are those of RFC 9669, section
+-- 4.3; the rules are this project's own.
 use Rattle.std.specs.Prelude.{ℕ, ◌==◌, Bool, true, false, not, if◌then◌else◌, Option, Some, None, option_map, Result, Ok, Err}
 use Rattle.interval.specs.declared.range.Range.{Range}
 use Rattle.interval.specs.Refine.{RangePair, refined}

@@ -1,5 +1,6 @@
--- The conditions of a call on the facts, and the facts after it. The conditions are tried in the order in which they are written.
--- The arguments are those of linux/bpf.h (bpf_func_id); the rules are this project's own.
+-- The conditions of a call on the facts, and the facts after it. The conditions are tried in the
+-- order in which they are written. The arguments are those of linux/bpf.h (bpf_func_id); the rules
+-- are this project's own.
 use Rattle.std.specs.Prelude.{ℕ, ◌^◌, ◌==◌, ℤ, pos, ◌+ℤ◌, int_le, nat_le, ◌&&◌, ◌||◌, if◌then◌else◌, Option, Some, None, Result, Ok, Err}
 use Rattle.interval.specs.declared.range.Range.{Range}
 use Rattle.interval.specs.Ranges.{full}

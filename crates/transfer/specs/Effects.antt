@@ -1,5 +1,6 @@
--- The transfer function: the facts on the edges out of an instruction, from those before it; or why the instruction may not be run.
--- The conditions are tried in the order in which they are written. The rules and their order are this project's own.
+-- The transfer function: the facts on the edges out of an instruction, from those before it; or why
+-- the instruction may not be run. The conditions are tried in the order in which they are written.
+-- The rules and their order are this project's own.
 use Rattle.std.specs.Prelude.{ℕ, ◌*◌, ◌%◌, ℤ, pos, negsuc, ◌+ℤ◌, ◌==◌, Bool, true, false, ◌&&◌, nat_lt, if◌then◌else◌, Option, Some, None, Result, Ok, Err}
 use Rattle.std.specs.Ordering.{int_eq}
 use Rattle.words.specs.declared.stack.AccessSize.{AccessSize}

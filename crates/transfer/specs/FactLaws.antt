@@ -1,5 +1,6 @@
--- Laws of facts that are well formed at a slot, of the definitions of `Sound`, proved here for the proofs of the crates above. This
--- project's own. No contract cites them, so they are not part of what has to be trusted.
+-- Laws of facts that are well formed at a slot, of the definitions of `Sound`, proved here for the
+-- proofs of the crates above. This project's own. No contract cites them, so they are not part of
+-- what has to be trusted.
 use Rattle.std.proofs.Common.{ℕ, ◌<◌, arith}
 use Rattle.reg_kinds.specs.declared.kind.Kind.{Kind}
 use Rattle.reg_kinds.specs.declared.kind.Kind.TheVariants as kind

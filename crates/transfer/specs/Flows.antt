@@ -1,4 +1,5 @@
--- The edges out of an instruction, with their facts, from the result of the code. This project's own.
+-- The edges out of an instruction, with their facts, from the result of the code. This project's
+-- own.
 use Rattle.std.specs.Prelude.{Some, None, option_map}
 use Rattle.reg_kinds.specs.declared.facts.Facts.{Facts}
 use Rattle.transfer.specs.declared.branches.Flow.{Flow}
@@ -18,7 +19,8 @@ edges_of (Compares dst src falls jumps) f =
     record { falling = option_map (with_pair f dst src) falls; jumping = option_map (with_pair f dst src) jumps }
 edges_of (Settles site jumps_on_null) f = settled_edges jumps_on_null site f
 
--- the stack of facts g is that of facts f, except for the slots that the flow says may have been written
+-- the stack of facts g is that of facts f, except for the slots that the flow says may have been
+-- written
 abbrev pub KeepsStack : Flow → Facts → Facts → Type 0
 KeepsStack (WritesSlot i) f g = ChangesAtMost (Some i) f g
 KeepsStack Writes f g = Unit {0}

@@ -49,7 +49,8 @@ IsNoValue shapes (names.Helper id) = ⊥
 IsNoValue shapes (names.Map fd) = ⊥
 IsNoValue shapes (names.Value fd off) = (shape : MapShape) × (shapes fd ≡ Some shape) × (has_direct_value shape off ≡ false)
 
--- the reason is one of these, and applies to the instruction, or it is from the kinds of the operands
+-- the reason is one of these, and applies to the instruction, or it is from the kinds of the
+-- operands
 abbrev pub IsReasonFor : Shapes → View → Reason → Type 0
 IsReasonFor shapes v UnknownHelper = IsUnknownHelper (profile_of v).reference
 IsReasonFor shapes v DescriptorNotMap = IsUnshapedMap shapes (profile_of v).reference

@@ -1,5 +1,5 @@
--- Soundness: the facts on the edge that a step takes admit the state after it. The edge that a jump takes and its target are those of RFC
--- 9669, section 4.3; the rest is this project's own.
+-- Soundness: the facts on the edge that a step takes admit the state after it. The edge that a jump
+-- takes and its target are those of RFC 9669, section 4.3; the rest is this project's own.
 use Rattle.std.specs.Prelude.{◌≡◌, ℕ, ◌<◌, ◌^◌, Bool, true, false, Option, Some, None, IsSome, unwrap_or, Ok}
 use Rattle.insn_set.specs.declared.insn.Insn.{Insn}
 use Rattle.insn_set.specs.View.{View, jump, branch, view}
@@ -57,7 +57,8 @@ abbrev pub EdgeAdmits : Shapes → Option Facts → Option ℕ → RunState → 
 EdgeAdmits shapes None slot t = ⊥
 EdgeAdmits shapes (Some f) slot t = (slot ≡ Some t.at) × (witness : Witness) × Describes witness f shapes t
 
--- the edge that is taken admits the state: if the step jumps, the edge to `target`, else the edge to `next`
+-- the edge that is taken admits the state: if the step jumps, the edge to `target`, else the edge
+-- to `next`
 abbrev pub TakenEdgeAdmits : Bool → Shapes → ℕ → Option ℕ → Edges → RunState → Type 0
 TakenEdgeAdmits true shapes next target edges t = EdgeAdmits shapes edges.jumping target t
 TakenEdgeAdmits false shapes next target edges t = EdgeAdmits shapes edges.falling (Some next) t
@@ -68,8 +69,9 @@ CoversStep shapes i s edges (goes t) = TakenEdgeAdmits (takes_jump i s) shapes (
 CoversStep shapes i s edges (ends n) = n < 2 ^ 32
 CoversStep shapes i s edges faults = ⊥
 
--- soundness: if facts describe a state and let an instruction be run, its step is no fault, and the edge that it takes admits the
--- state after it; the state has a map of each shape, and so has the next one
+-- soundness: if facts describe a state and let an instruction be run, its step is no fault, and the
+-- edge that it takes admits the state after it; the state has a map of each shape, and so has the
+-- next one
 abbrev pub TransferIsSound : Type 0
 TransferIsSound =
     (witness : Witness) (shapes : Shapes) (i : Insn) (f : Facts) (s : RunState) (edges : Edges) → IsInsn i → IsSome (jumps_to i s.at) → AreWellFormedAt s.at f → Describes witness f shapes s → effect shapes s.at i f ≡ Ok edges
@@ -86,14 +88,16 @@ TransferKeepsWellFormed = (shapes : Shapes) (at n : ℕ) (i : Insn) (f : Facts) 
 
 -- ---- calls
 
--- after a call the state is at the same slot, and these facts describe it, by a witness that may be different:
+-- after a call the state is at the same slot, and these facts describe it, by a witness that may be
+-- different:
 -- it has the result of a new look-up
 pub record CallIsAdmitted (g : Facts) (shapes : Shapes) (s u : RunState) : Type 0 where
   pub witness : Witness
   pub still : Describes witness g shapes u
   pub at : u.at ≡ s.at
 
--- if facts describe a state and allow a call, the machine has a step for it, and the facts after it describe the state after it
+-- if facts describe a state and allow a call, the machine has a step for it, and the facts after it
+-- describe the state after it
 abbrev pub CallsAreSound : Type 0
 CallsAreSound =
     (witness : Witness) (shapes : Shapes) (h : Helper) (f g : Facts) (s : RunState) → AreBelow s.at f → Describes witness f shapes s → call_facts shapes s.at h f ≡ Ok g

@@ -1,5 +1,6 @@
--- The facts before each slot: at slot 0 those at entry, else the join of those on all edges that lead there. Jumps lead only
--- forward, so the facts before a slot depend on the slots below it. This project's own.
+-- The facts before each slot: at slot 0 those at entry, else the join of those on all edges that
+-- lead there. Jumps lead only forward, so the facts before a slot depend on the slots below it.
+-- This project's own.
 use Rattle.std.specs.Prelude.{ℕ, zero, suc, ◌==◌, Bool, List, Option, Some, None, Result, Ok, Err, if◌then◌else◌}
 use Rattle.insn_set.specs.declared.insn.Insn.{Insn}
 use Rattle.insn_set.specs.Program.{begins_at}

@@ -1,5 +1,5 @@
--- The judgement of slots: the program that they spell is accepted, or they are rejected because of one slot. What is rejected, in which
--- order, and the numbers are this project's own.
+-- The judgement of slots: the program that they spell is accepted, or they are rejected because of
+-- one slot. What is rejected, in which order, and the numbers are this project's own.
 use Rattle.std.specs.Prelude.{◌≡◌, ℕ, ◌+◌, List, ◌++◌, Result, Ok, Err, codes}
 use Rattle.std.specs.Fmt.{decimal}
 use Rattle.insn_set.specs.declared.insn.Insn.{Insn}
@@ -35,7 +35,8 @@ abbrev pub IsRefusedFor : List Named → List ℕ → ℕ → Cause → Type 0
 IsRefusedFor named slots slot (Slots kind) = IsProgramFault slots (record { slot = slot; kind = kind })
 IsRefusedFor named slots slot (Verdict reason) = (insns : List Insn) × IsProgram insns × (slots ≡ program_bytes insns) × IsRefused insns named slot reason
 
--- the slots are this program's, which is accepted, or this is their refusal; there is at most one judgement
+-- the slots are this program's, which is accepted, or this is their refusal; there is at most one
+-- judgement
 abbrev pub Judges : List Named → List ℕ → Result (List Insn) Refusal → Type 0
 Judges named slots (Ok insns) = IsProgram insns × (slots ≡ program_bytes insns) × IsAccepted insns named
 Judges named slots (Err refusal) = IsRefusedFor named slots refusal.slot refusal.cause

@@ -1,4 +1,5 @@
--- The descriptors of the maps that a program loads, or of which it loads values, and the shapes of these maps. This project's own.
+-- The descriptors of the maps that a program loads, or of which it loads values, and the shapes of
+-- these maps. This project's own.
 use Rattle.std.specs.Prelude.{ℕ, Bool, ◌==◌, not, List, [], ◌∷◌}
 use Rattle.std.specs.List.{list_any, filter, filter_map}
 use Rattle.insn_set.specs.declared.insn.Insn.{Insn}

@@ -1,5 +1,5 @@
--- The shape of a program: the edges of its instructions, which of them can be reached, and what is wrong with one whatever the
--- registers hold. The rules and their order are this project's own.
+-- The shape of a program: the edges of its instructions, which of them can be reached, and what is
+-- wrong with one whatever the registers hold. The rules and their order are this project's own.
 use Rattle.std.specs.Prelude.{ℕ, zero, suc, ◌==◌, Bool, true, false, not, ◌&&◌, ◌||◌, nat_lt, nat_le, List, [], ◌∷◌, Option, Some, None, is_some, if◌then◌else◌}
 use Rattle.std.specs.Option.{option_map_or}
 use Rattle.insn_set.specs.declared.insn.Insn.{Insn}
@@ -27,7 +27,8 @@ abbrev pub is_slot : Option ℕ → ℕ → Bool
 is_slot None i = false
 is_slot (Some n) i = n == i
 
--- the edges of an instruction at slot n that lead to slot i; a jump to the same or an earlier slot is no edge
+-- the edges of an instruction at slot n that lead to slot i; a jump to the same or an earlier slot
+-- is no edge
 abbrev pub falls_into : Insn → ℕ → ℕ → Bool
 falls_into insn n i = falls insn && falls_to insn n == i
 

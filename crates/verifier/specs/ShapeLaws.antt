@@ -1,5 +1,6 @@
--- Laws of the instructions of a program without a fault of its shape, of the definitions of `Shape`, proved here for the proofs of
--- this crate and of those above. This project's own. No contract cites them, so they are not part of what has to be trusted.
+-- Laws of the instructions of a program without a fault of its shape, of the definitions of
+-- `Shape`, proved here for the proofs of this crate and of those above. This project's own. No
+-- contract cites them, so they are not part of what has to be trusted.
 use Rattle.std.proofs.Common.{◌≡◌, ℕ, Bool, true, false, not, ◌&&◌, List, [], ◌∷◌, Some, None, sym, ap, ◌∙◌, inl, inr}
 use Rattle.std.specs.Prelude.{nat_le}
 use Rattle.std.proofs.lemmas.Bool.{not-false, cases_Bool, cond-true, cond-false}
@@ -23,7 +24,8 @@ passed line lines none =
       | inr fails ↦ (fails, sym (cond-false line.0 (Some line.1) (first_reason lines) fails) ∙ none)
     ]
 
--- the instruction has no fault: its edges lead to other instructions, it can be reached, and what it names exists
+-- the instruction has no fault: its edges lead to other instructions, it can be reached, and what
+-- it names exists
 pub record IsFine (code : List Insn) (named : List Named) (i : Insn) (at : ℕ) : Type 0 where
   pub inside : (jumps i && leads_outside code (jumps_to i at)) ≡ false
   pub forward : (jumps i && leads_backward (jumps_to i at) at) ≡ false

@@ -26,8 +26,9 @@ use Rattle.verifier.specs.Verdict.{HasNoFault, IsAccepted}
 
 -- ---- one step
 
--- in a program without a fault of its shape: if the facts before a slot describe a state there, and let the instruction be run, the
--- machine has a step; the next state has a map of each shape again, and the facts on the edge that the step takes admit it
+-- in a program without a fault of its shape: if the facts before a slot describe a state there, and
+-- let the instruction be run, the machine has a step; the next state has a map of each shape again,
+-- and the facts on the edge that the step takes admit it
 abbrev pub StepIsSound : Type 0
 StepIsSound =
     (code : List Insn) (named : List Named) (witness : Witness) (s : RunState) (i : Insn) (f : Facts) (edges : Edges) → IsProgram code → HasNoFault (structure_fault code named) → begins_at code s.at ≡ Some i
@@ -41,7 +42,8 @@ pub record IsAdmitted (shapes : Shapes) (code : List Insn) (s : RunState) : Type
   pub known : facts_before shapes code s.at ≡ Some facts
   pub still : Describes witness facts shapes s
 
--- the step is no fault; a state after it is at a later slot, and the facts before that slot describe it
+-- the step is no fault; a state after it is at a later slot, and the facts before that slot
+-- describe it
 abbrev pub NextIsAdmitted : Shapes → List Insn → ℕ → Step → Type 0
 NextIsAdmitted shapes code at (goes t) = (at < t.at) × IsAdmitted shapes code t
 NextIsAdmitted shapes code at (ends n) = n < 2 ^ 32

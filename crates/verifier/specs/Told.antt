@@ -1,5 +1,5 @@
--- What a watcher receives: each slot at which an instruction begins and facts are known, with the facts before
--- it, in order. This project's own.
+-- What a watcher receives: each slot at which an instruction begins and facts are known, with the
+-- facts before it, in order. This project's own.
 use Rattle.std.specs.Prelude.{◌≡◌, ◌⊎◌, ℕ, zero, suc, ◌+◌, List, [], ◌++◌, Option, option_map, option_to_list}
 use Rattle.insn_set.specs.declared.insn.Insn.{Insn}
 use Rattle.insn_set.specs.Program.{begins_at, slot_count}
@@ -17,7 +17,8 @@ use Rattle.verifier.specs.Verdict.{HasNoFault, IsFirstFault, safety_fault, memor
 abbrev pub known_at : ℕ → Option Facts → List (ℕ × Facts)
 known_at slot known = option_to_list (option_map (λ f. (slot, f)) known)
 
--- the slots below n that a run may reach, as far as is known, in order, each with the facts before it
+-- the slots below n that a run may reach, as far as is known, in order, each with the facts before
+-- it
 unfoldable pub reached : Shapes → List Insn → ℕ → List (ℕ × Facts)
 reached shapes code zero = []
 reached shapes code (suc n) = reached shapes code n ++ known_at n (and_then (begins_at code n) (λ insn. facts_before shapes code n))

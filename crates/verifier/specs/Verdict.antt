@@ -1,5 +1,6 @@
--- The verdict on a program: the first fault of its shape, else the first instruction that may not be run with the
--- facts before it, else it is accepted. The rules and their order are this project's own.
+-- The verdict on a program: the first fault of its shape, else the first instruction that may not
+-- be run with the facts before it, else it is accepted. The rules and their order are this
+-- project's own.
 use Rattle.std.specs.Prelude.{◌≡◌, ℕ, ◌<◌, List, Option, Some, None, Result, Ok, Err, ◌⊎◌}
 use Rattle.insn_set.specs.declared.insn.Insn.{Insn}
 use Rattle.insn_set.specs.Program.{begins_at}
@@ -31,7 +32,8 @@ pub record IsFirstFault (fault_at : ℕ → Option Reason) (slot : ℕ) (reason 
 abbrev pub HasNoFault : (ℕ → Option Reason) → Type 0
 HasNoFault fault_at = (n : ℕ) → fault_at n ≡ None
 
--- the shape is checked before safety; the shapes of maps are those of the objects that the descriptors name
+-- the shape is checked before safety; the shapes of maps are those of the objects that the
+-- descriptors name
 abbrev pub IsRefused : List Insn → List Named → ℕ → Reason → Type 0
 IsRefused code named slot reason =
     IsFirstFault (structure_fault code named) slot reason ⊎ (HasNoFault (structure_fault code named) × IsFirstFault (safety_fault (shapes_of code named) code) slot reason)
@@ -43,6 +45,7 @@ IsAccepted code named = HasNoFault (structure_fault code named) × HasNoFault (s
 abbrev pub memory_fault : VerifyFault
 memory_fault = record { slot = 0; reason = Memory }
 
--- the error for a program that is not accepted: the slot and the reason for which it is rejected, or out of memory
+-- the error for a program that is not accepted: the slot and the reason for which it is rejected,
+-- or out of memory
 abbrev pub IsFaultOf : List Insn → List Named → VerifyFault → Type 0
 IsFaultOf code named e = (e ≡ memory_fault) ⊎ IsRefused code named e.slot e.reason

@@ -1,5 +1,6 @@
--- Laws of bytes that are written into a list and read from it, and of the bytes of a number, of the definitions of `Bytes`, proved
--- here for the proofs of the crates above. This project's own. No contract cites them, so they are not part of what has to be trusted.
+-- Laws of bytes that are written into a list and read from it, and of the bytes of a number, of the
+-- definitions of `Bytes`, proved here for the proofs of the crates above. This project's own. No
+-- contract cites them, so they are not part of what has to be trusted.
 use Rattle.std.proofs.Common.{◌≡◌, ◌⊎◌, inl, inr, ℕ, zero, suc, ◌+◌, ◌-◌, ◌*◌, ◌/◌, ◌%◌, ◌<◌, ◌≤◌, ◌^◌, List, [], ◌∷◌, ◌++◌, length, get_or, take, drop, slice_range, refl, sym, ap, ◌∙◌, ⊎_elim, arith}
 use Rattle.std.proofs.Math.Nat.{pow-suc}
 use Rattle.std.proofs.Math.Seq.{take-take, drop-append-add, take-append_seam, drop-append_seam}

@@ -1,4 +1,5 @@
--- Numbers and their bytes, in little-endian order (RFC 9669, section 5, on a little-endian machine).
+-- Numbers and their bytes, in little-endian order (RFC 9669, section 5, on a little-endian
+-- machine).
 use Rattle.std.specs.Prelude.{ℕ, zero, suc, ◌+◌, ◌*◌, ◌/◌, ◌%◌, List, [], ◌∷◌, ◌++◌, length, take, drop}
 
 -- the number of these bytes

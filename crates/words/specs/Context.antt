@@ -1,4 +1,5 @@
--- The context of a program: words, of which the first is the packet's length, as in __sk_buff (linux/bpf.h).
+-- The context of a program: words, of which the first is the packet's length, as in __sk_buff
+-- (linux/bpf.h).
 use Rattle.std.specs.Prelude.{ℕ}
 
 -- the number of the others, which the caller of a test run gives (this project's own)

@@ -1,5 +1,6 @@
--- Laws of words read as signed numbers, and of signed numbers as words, of the definitions of `Words`, proved here for the proofs
--- of the crates above. This project's own. No contract cites them, so they are not part of what has to be trusted.
+-- Laws of words read as signed numbers, and of signed numbers as words, of the definitions of
+-- `Words`, proved here for the proofs of the crates above. This project's own. No contract cites
+-- them, so they are not part of what has to be trusted.
 use Rattle.std.proofs.Common.{◌≡◌, ℕ, ◌<◌, ◌≤◌, ◌^◌, ℤ, pos, negsuc, ◌-ℤ◌, arith}
 use Rattle.std.specs.Prelude.{nat_lt}
 use Rattle.std.proofs.lemmas.Bool.{lt-ltb, le-ltb, cond-true, cond-false}

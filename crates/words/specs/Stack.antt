@@ -1,6 +1,7 @@
--- The stack of a program, and which of its bytes an access touches. Offsets count from the stack's upper end, so its bytes have
--- offsets -512 to -1; byte indices count from its lowest byte. The stack's size is that of linux/filter.h (MAX_BPF_STACK), those of loads
--- and stores are of RFC 9669, section 5.
+-- The stack of a program, and which of its bytes an access touches. Offsets count from the stack's
+-- upper end, so its bytes have offsets -512 to -1; byte indices count from its lowest byte. The
+-- stack's size is that of linux/filter.h (MAX_BPF_STACK), those of loads and stores are of RFC
+-- 9669, section 5.
 use Rattle.std.specs.Prelude.{ℕ, ◌+◌, ◌-◌, ◌*◌, ◌/◌, ◌%◌, ◌==◌, ℤ, pos, negsuc, ◌+ℤ◌, int_le, unsigned_abs, nat_lt, Bool, true, false, ◌&&◌}
 use Rattle.words.specs.declared.stack.AccessSize.{AccessSize}
 use Rattle.words.specs.declared.stack.AccessSize.TheVariants.{Byte, Half, Word, Double}
@@ -35,7 +36,8 @@ is_in_stack offset n = int_le (negsuc (stack_size - 1)) offset && int_le (offset
 abbrev pub byte_index : ℤ → ℕ
 byte_index offset = unsigned_abs (offset +ℤ pos stack_size)
 
--- an offset is a multiple of n if its byte index is: the stack's size is a multiple of each access size
+-- an offset is a multiple of n if its byte index is: the stack's size is a multiple of each access
+-- size
 abbrev pub is_aligned : ℤ → ℕ → Bool
 is_aligned offset n = byte_index offset % n == 0
 

@@ -1,5 +1,6 @@
--- Laws of byte indices in the stack, of the definitions of `Stack`, proved here for the proofs of the crates above. This project's own.
--- No contract cites them, so they are not part of what has to be trusted.
+-- Laws of byte indices in the stack, of the definitions of `Stack`, proved here for the proofs of
+-- the crates above. This project's own. No contract cites them, so they are not part of what has to
+-- be trusted.
 use Rattle.std.proofs.Common.{◌≡◌, ℕ, ◌+◌, ◌-◌, ◌%◌, ◌≤◌, int_le, ℤ, pos, negsuc, ◌+ℤ◌, ◌≤ℤ◌, unsigned_abs, true, ap, arith}
 use Rattle.std.proofs.lemmas.Bool.{and_parts}
 use Rattle.std.proofs.lemmas.Int.{ints}
@@ -7,7 +8,8 @@ use Rattle.words.specs.declared.stack.AccessSize.{AccessSize}
 use Rattle.words.specs.declared.stack.AccessSize.TheVariants.{Byte, Half, Word, Double}
 use Rattle.words.specs.Stack.{bytes_of, is_in_stack, byte_index}
 
--- if n bytes at an offset lie in the stack, the offset's byte index is 512 above it, and the n bytes there end at 512 or below
+-- if n bytes at an offset lie in the stack, the offset's byte index is 512 above it, and the n
+-- bytes there end at 512 or below
 pub in_stack : (n : ℕ) (y : ℤ) → is_in_stack y n ≡ true → (pos (byte_index y) ≡ pos 512 +ℤ y) × (byte_index y + n ≤ 512)
 in_stack n (pos y) h =
     let a = and_parts (int_le (negsuc 511) (pos y)) (int_le (pos y +ℤ pos n) (pos 0)) h in

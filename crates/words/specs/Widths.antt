@@ -1,5 +1,5 @@
--- The number of bits that an operator or a condition reads: wide ones read whole words, the others low halves. The widths are those
--- of the classes of RFC 9669, section 3.3.
+-- The number of bits that an operator or a condition reads: wide ones read whole words, the others
+-- low halves. The widths are those of the classes of RFC 9669, section 3.3.
 use Rattle.std.specs.Prelude.{ℕ, Bool, true, false}
 
 abbrev pub width : Bool → ℕ

@@ -1,4 +1,5 @@
--- What the operators mean, on whole numbers below 2 ^ n (RFC 9669, sections 4.1 and 4.2). One equation for each.
+-- What the operators mean, on whole numbers below 2 ^ n (RFC 9669, sections 4.1 and 4.2). One
+-- equation for each.
 use Rattle.std.specs.Prelude.{ℕ, suc, ◌+◌, ◌-◌, ◌*◌, ◌/◌, ◌%◌, ◌^◌, ◌==◌, nat_lt, if◌then◌else◌, ℤ, pos, negsuc, ◌-ℤ◌, ◌*ℤ◌, int_div}
 use Rattle.std.specs.Int.{Width, int_shr, swap_bytes}
 
@@ -35,7 +36,8 @@ divide a b = if b == 0 then 0 else a / b
 abbrev pub remainder : ℕ → ℕ → ℕ
 remainder a b = if b == 0 then a else a % b
 
--- `int_div` rounds toward zero; the least number divided by -1 is 2 ^ (n - 1), which `unsigned` makes the least number again
+-- `int_div` rounds toward zero; the least number divided by -1 is 2 ^ (n - 1), which `unsigned`
+-- makes the least number again
 abbrev pub signed_divide : ℕ → ℕ → ℕ → ℕ
 signed_divide n a b = if b == 0 then 0 else unsigned n (int_div (signed n a) (signed n b))
 
@@ -65,6 +67,7 @@ sign_extend n k a = unsigned n (signed k (a % 2 ^ k))
 abbrev pub low : ℕ → ℕ → ℕ
 low k a = a % 2 ^ k
 
--- the low k bits of a with their bytes reversed, if w has k bits: written little-endian, read big-endian
+-- the low k bits of a with their bytes reversed, if w has k bits: written little-endian, read
+-- big-endian
 abbrev pub reversed : Width → ℕ → ℕ → ℕ
 reversed w k a = swap_bytes w (a % 2 ^ k)

@@ -1,4 +1,5 @@
--- The helpers on words and bytes. The helpers are those of linux/bpf.h (bpf_func_id); their form on words is this project's own.
+-- The helpers on words and bytes. The helpers are those of linux/bpf.h (bpf_func_id); their form on
+-- words is this project's own.
 use Rattle.std.specs.Prelude.{◌≡◌, Result, Ok, Err, ℕ, ◌+◌, List, Option, Some, None, option_map}
 use Rattle.words.specs.Bytes.{bytes_at}
 use Rattle.tagged_model.specs.Table.{look_up, verdict, removal}

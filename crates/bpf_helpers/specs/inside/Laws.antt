@@ -30,8 +30,8 @@ StackBytesAreThere =
     → HasStack env l memory start s.cells → start + stack_size ≤ length memory → stack_bytes s y n ≡ Some bs
     → bytes_at memory (start + byte_index y) n ≡ bs
 
--- after bytes are written across slots, the memory represents the cells after it: a spilled pointer that they touch is lost,
--- and all other slots are unchanged
+-- after bytes are written across slots, the memory represents the cells after it: a spilled pointer
+-- that they touch is lost, and all other slots are unchanged
 abbrev pub StackBytesAreWritten : Type 0
 StackBytesAreWritten =
     (env : Environment) (l : Layout) (memory : List ℕ) (start : ℕ) (s t : RunState) (y : ℤ) (bs : List ℕ)
@@ -40,7 +40,8 @@ StackBytesAreWritten =
 
 -- ---- the bytes that a helper writes
 
--- if the machine writes bytes through a pointer, the memory with these bytes at its address represents the state after it
+-- if the machine writes bytes through a pointer, the memory with these bytes at its address
+-- represents the state after it
 abbrev pub OutputsKeepSimulation : Type 0
 OutputsKeepSimulation =
     (env : Environment) (l : Layout) (flat : FlatState) (s u : RunState)
@@ -112,8 +113,8 @@ DeletesKeepSimulation =
     → (word ≡ (removed map key).answer)
     × Simulates env l (with_held flat flat.memory new) (with_map s m (removed map key).map)
 
--- the packet bytes, or zeros, that the machine writes have an offset in the part, and the memory with them there
--- represents the state with them
+-- the packet bytes, or zeros, that the machine writes have an offset in the part, and the memory
+-- with them there represents the state with them
 pub record LoadKeepsSimulation (env : Environment) (l : Layout) (flat : FlatState) (s u : RunState)
     : Type 0 where
   pub offset : ℕ

@@ -45,7 +45,8 @@ abbrev pub kept_slot : Option Definition → ℕ
 kept_slot None = 0
 kept_slot (Some definition) = definition.slot
 
--- A label past the last slot that a program may have is taken to be at that slot: the text has a line that is too long.
+-- A label past the last slot that a program may have is taken to be at that slot: the text has a
+-- line that is too long.
 abbrev pub kept_distance : Option Definition → ℕ → ℤ
 kept_distance definition slot = pos (min (kept_slot definition) most_slots) -ℤ pos (slot + 1)
 

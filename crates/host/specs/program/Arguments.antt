@@ -1,4 +1,5 @@
--- The program's arguments, and the task that they name. The arguments are this project's own; how arguments are parsed is clap's.
+-- The program's arguments, and the task that they name. The arguments are this project's own; how
+-- arguments are parsed is clap's.
 use Rattle.std.specs.Prelude.{◌≡◌, ◌⊎◌, ℕ, true, List, [], Option, Some, None, codes, if◌then◌else◌, option_and_then, option_map, unwrap_or}
 use Rattle.std.specs.Str.{bytes_eq}
 use Rattle.clap.specs.Words.{App, Kinds, Row, Rule, Shape, Text, all_of, fault_of, first_of, new_app, new_rule, subcommand_of, with_rule, with_subcommand}
@@ -13,8 +14,9 @@ use Rattle.host_core.specs.Limits.{most_tenants}
 use Rattle.host.specs.declared.program.texts.TextTask.{TextTask}
 use Rattle.host.specs.declared.program.texts.TextTask.TheVariants.{Assemble, Disassemble}
 
--- The command line in clap's terms: one of the subcommands `serve`, `asm`, `dis` and `verify`, which is required, and so is
--- the option `--tenants` of `serve`. The arguments of `verify` are those for its maps.
+-- The command line in clap's terms: one of the subcommands `serve`, `asm`, `dis` and `verify`,
+-- which is required, and so is the option `--tenants` of `serve`. The arguments of `verify` are
+-- those for its maps.
 abbrev pub tenants_option : Rule
 tenants_option = record (new_rule (codes "tenants")) {
   long = Some (codes "tenants");
@@ -71,7 +73,8 @@ map_arguments rows = unwrap_or (all_of (codes "map") rows) []
 
 -- ---- the task that the arguments name
 
--- serve frames to a number of tenants; read a text and write another one; verify a program, with arguments for its maps
+-- serve frames to a number of tenants; read a text and write another one; verify a program, with
+-- arguments for its maps
 pub data Asked : Type 0 where
   Serves : ℕ → Asked
   Rewrites : TextTask → Asked
@@ -100,6 +103,7 @@ HasWrongMapArgument maps = (number : ℕ) × IsFirstWrongArgument maps number
 abbrev pub AreWrongArguments : List Text → Type 0
 AreWrongArguments arguments = (asked_by_arguments arguments ≡ None) ⊎ ((maps : List Text) × (asked_by_arguments arguments ≡ Some (Verifies maps)) × HasWrongMapArgument maps)
 
--- if the task is to verify a program and the input's bytes are known, the input has a program that is accepted
+-- if the task is to verify a program and the input's bytes are known, the input has a program that
+-- is accepted
 abbrev pub AcceptsAsked : List Text → Option (List ℕ) → Type 0
 AcceptsAsked arguments input = (maps : List Text) → asked_by_arguments arguments ≡ Some (Verifies maps) → AcceptsIfKnown maps input

@@ -1,5 +1,6 @@
--- Map arguments: a descriptor, a kind, the sizes of a key and of a value in bytes, and the most entries, with colons between
--- them. The format is this project's own; the fields are those of bpf(2), BPF_MAP_CREATE.
+-- Map arguments: a descriptor, a kind, the sizes of a key and of a value in bytes, and the most
+-- entries, with colons between them. The format is this project's own; the fields are those of
+-- bpf(2), BPF_MAP_CREATE.
 use Rattle.std.specs.Prelude.{◌≡◌, ◌≢◌, ℕ, ◌+◌, ◌-◌, ◌==◌, Bool, true, List, [], ◌∷◌, ◌++◌, length, Option, Some, None, codes, if◌then◌else◌, option_and_then}
 use Rattle.std.specs.List.{AllPairs, AllZip, join_with_byte, list_any}
 use Rattle.clap.specs.Words.{Text}
@@ -26,8 +27,8 @@ is_descriptor fd = is_from_to fds.first_descriptor (fds.first_descriptor + fds.m
 abbrev pub descriptor_number : Text → Option ℕ
 descriptor_number text = option_and_then (λ fd. if is_descriptor fd then Some fd else None) (decimal_number text)
 
--- The fields of a shape in text. Which shapes there are is `MapShape`'s own invariant: each field in its limits, and no
--- more bytes of values than a map may have.
+-- The fields of a shape in text. Which shapes there are is `MapShape`'s own invariant: each field
+-- in its limits, and no more bytes of values than a map may have.
 pub record IsShapeOf (shape : MapShape) (kind key_size value_size max_entries : Text) : Type 0 where
   pub kind_is : kind ≡ kind_name shape.kind
   pub key_size_is : decimal_number key_size ≡ Some shape.key_size
@@ -57,7 +58,8 @@ pub record AreMapArguments (arguments : List Text) (maps : List Named) : Type 0 
 abbrev pub has_descriptor : ℕ → List Named → Bool
 has_descriptor fd maps = list_any (λ (map : Named). map.fd == fd) maps
 
--- the arguments before this one name maps, and it names no map, or a descriptor of theirs; arguments are counted from 1
+-- the arguments before this one name maps, and it names no map, or a descriptor of theirs;
+-- arguments are counted from 1
 pub record IsFirstWrongArgument (arguments : List Text) (number : ℕ) : Type 0 where
   pub before : List Text
   pub argument : Text

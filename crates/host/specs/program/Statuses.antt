@@ -12,7 +12,8 @@ use Rattle.host_core.specs.declared.server.ServeFaultKind.TheVariants as fault
 use Rattle.host.specs.declared.program.failure.Failure.{Failure}
 use Rattle.host.specs.declared.program.failure.Failure.TheVariants.{WrongArguments, MapArgument, Truncated, TooManyFrames, TooLong, Line, Slot, Read, Write, Seed, Memory}
 
--- The exit status: 1 if the input is rejected, 2 if arguments are wrong, 3 if input or output failed or maps have no seed, 4 if out of memory.
+-- The exit status: 1 if the input is rejected, 2 if arguments are wrong, 3 if input or output
+-- failed or maps have no seed, 4 if out of memory.
 abbrev pub exit_status : Failure → ℕ
 exit_status (Truncated frames) = 1
 exit_status TooManyFrames = 1

@@ -1,4 +1,5 @@
--- A program as hex lines, which `dis` and `verify` read, and lines whose slots are no program. This project's own.
+-- A program as hex lines, which `dis` and `verify` read, and lines whose slots are no program. This
+-- project's own.
 use Rattle.std.specs.Prelude.{◌≡◌, ℕ, List, IsUtf8}
 use Rattle.bpf_text.specs.HexText.{IsHexText}
 use Rattle.insn_set.specs.Program.{IsProgram, program_bytes}

@@ -6,7 +6,8 @@ use Rattle.saving.specs.declared.birth.Birth.{Birth}
 use Rattle.saving.specs.Laws.{IsHistory}
 use Rattle.host_core.specs.States.{HostState}
 
--- the state and the births of a new tenant after some commands, whether memory is refused to them or not
+-- the state and the births of a new tenant after some commands, whether memory is refused to them
+-- or not
 abbrev pub IsReached : TenantState → List Birth → Type 0
 IsReached s births = (commands : List Command) × IsHistory new_tenant [] commands s births
 

@@ -52,7 +52,8 @@ AreApart {K} eq es = (i j : ℕ) (a b : K × ℕ) → slice_get es i ≡ Some a 
 abbrev pub HasRoom : {K S : Type 0} → ℕ → IndexMap K ℕ S → Type 0
 HasRoom bound table = bound ≤ index_map_len table + spare table
 
--- the table has room for the entries of all elements, and the rows, of which there are none, for half of them
+-- the table has room for the entries of all elements, and the rows, of which there are none, for
+-- half of them
 pub record IsWhole {K S : Type 0} (table : IndexMap K ℕ S) (indices : List ℕ) (order : Order) (rows capacity : ℕ) : Type 0 where
   pub indexed : IsIndexed table.entries indices order
   pub room : HasRoom order.bound table

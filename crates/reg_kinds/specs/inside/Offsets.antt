@@ -1,4 +1,5 @@
--- In each range of offsets that is defined, the low end is at most the high end. This project's own.
+-- In each range of offsets that is defined, the low end is at most the high end. This project's
+-- own.
 use Rattle.std.specs.Prelude.{ℤ, ◌≤ℤ◌}
 use Rattle.std.specs.Int.{int_min, int_max}
 use Rattle.std.proofs.Common.{arith}

@@ -1,4 +1,5 @@
--- The commands that close a descriptor and put the keys of a map, and the ones that are left. This project's own.
+-- The commands that close a descriptor and put the keys of a map, and the ones that are left. This
+-- project's own.
 use Rattle.std.specs.Prelude.{ℕ, nat_eq, is_none, if◌then◌else◌, List, [], ◌∷◌, map, Option, Some, None}
 use Rattle.command_frames.specs.Command.{Command, close}
 use Rattle.tenant.specs.declared.object.OpenObject.{OpenObject}

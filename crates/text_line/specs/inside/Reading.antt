@@ -153,7 +153,8 @@ leading_wide_value ts =
     (match_option (after_word (codes "map_value") ts) (leading_number ts >>= λ n. Some (value.Number n.0, n.1)) (λ rest. leading_map_value rest))
     (λ rest. leading_constant rest >>= λ n. Some (value.MapFd n.0, n.1))
 
--- the size of an atomic operation whose memory operand has this size: neither signed nor below 4 bytes (RFC 9669, section 5.3)
+-- the size of an atomic operation whose memory operand has this size: neither signed nor below 4
+-- bytes (RFC 9669, section 5.3)
 abbrev pub atomic_size_of : Bool → AccessSize → Option AtomicSize
 atomic_size_of false size.Word = Some atomic_size.Word
 atomic_size_of false size.Double = Some atomic_size.Double

@@ -1,5 +1,5 @@
--- The token at the front of a text, in the order in which the code looks for it. It is the longest, which is proved.
--- This project's own.
+-- The token at the front of a text, in the order in which the code looks for it. It is the longest,
+-- which is proved. This project's own.
 use Rattle.std.specs.Prelude.{ℕ, ◌==◌, Bool, ◌&&◌, List, length, take, drop, slice_index, nat_eq, Option, Some, None, option_map, if◌then◌else◌, find}
 use Rattle.std.specs.List.{starts_with, prefix_len}
 use Rattle.std.specs.Char.{is_ascii_digit}

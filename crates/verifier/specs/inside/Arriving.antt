@@ -1,5 +1,5 @@
--- The facts during a forward pass over the slots (dataflow analysis: facts are propagated along each edge, and joined if
--- edges meet). This project's own.
+-- The facts during a forward pass over the slots (dataflow analysis: facts are propagated along
+-- each edge, and joined if edges meet). This project's own.
 use Rattle.std.specs.Prelude.{◌≡◌, ℕ, List, Option}
 use Rattle.reg_kinds.specs.declared.facts.Facts.{Facts}
 use Rattle.verifier.specs.declared.pass.Pass.{Pass}
@@ -12,10 +12,12 @@ use Rattle.verifier.specs.inside.Numbers.{facts_on, entry_of}
 abbrev pub brought_to : ℕ → List (Option NumberedFacts) → Option Facts
 brought_to slot entries = facts_on (entry_of slot entries)
 
--- the entry of slot i after a jump with these facts: they are joined into it if i is the target, else it is unchanged
+-- the entry of slot i after a jump with these facts: they are joined into it if i is the target,
+-- else it is unchanged
 abbrev pub Brings : Option ℕ → Option Facts → List (Option NumberedFacts) → List (Option NumberedFacts) → ℕ → Type 0
 Brings target facts old new i = brought_to i new ≡ joined (brought_to i old) (only_if (is_slot target i) facts)
 
--- the facts that arrive at a slot at which an instruction begins: on the falling edge into it, and on jumps
+-- the facts that arrive at a slot at which an instruction begins: on the falling edge into it, and
+-- on jumps
 abbrev pub arriving_at : ℕ → Pass → Option Facts
 arriving_at slot pass = joined (facts_on pass.falling) (brought_to slot pass.entries)

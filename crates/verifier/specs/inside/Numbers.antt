@@ -1,5 +1,5 @@
--- Numbers of the parts of stacks. A number identifies the facts about a part, so that a part is not joined again if it is known to be
--- joined already. This project's own.
+-- Numbers of the parts of stacks. A number identifies the facts about a part, so that a part is not
+-- joined again if it is known to be joined already. This project's own.
 use Rattle.std.specs.Prelude.{◌≡◌, ◌≢◌, ◌⊎◌, ℕ, ◌+◌, ◌*◌, ◌<◌, ◌≤◌, Bool, not, List, length, replicate, slice_index_or, slice_set, Option, Some, None, Ok}
 use Rattle.std.specs.Option.{option_map}
 use Rattle.words.specs.Stack.{stack_slots}
@@ -28,7 +28,8 @@ facts_on o = option_map (λ x. x.facts) o
 abbrev pub entry_of : ℕ → List (Option NumberedFacts) → Option NumberedFacts
 entry_of i entries = slice_index_or entries i None
 
--- for a slot of the stack, the number of its part, and the number of the part that this part includes
+-- for a slot of the stack, the number of its part, and the number of the part that this part
+-- includes
 abbrev pub number_of : NumberedFacts → ℕ → ℕ
 number_of x i = slice_index_or x.numbers (part_of i) 0
 
@@ -50,8 +51,8 @@ abbrev pub part_renumbered : NumberedFacts → ℕ → ℕ → NumberedFacts
 part_renumbered x i fresh =
     record { facts = x.facts; numbers = slice_set x.numbers (part_of i) fresh; includes = slice_set x.includes (part_of i) 0 }
 
--- the join of slot s with slot t, of parts with the numbers n and k: unchanged if the part of s includes that of t; else a part
--- that changes has the number `fresh`
+-- the join of slot s with slot t, of parts with the numbers n and k: unchanged if the part of s
+-- includes that of t; else a part that changes has the number `fresh`
 abbrev pub IsJoinedSlot : ℕ → Slot → ℕ → ℕ → Slot → ℕ → Slot → ℕ → ℕ → Type 0
 IsJoinedSlot fresh s n m t k s' n' m' =
     ((m ≡ k) × (s' ≡ s) × (n' ≡ n) × (m' ≡ m))
@@ -154,7 +155,8 @@ abbrev pub IsInStack : Flow → Type 0
 IsInStack (WritesSlot i) = i < stack_slots
 IsInStack flow = Unit {0}
 
--- the facts in hand after the instruction: each part of the stack that may have changed has a new number
+-- the facts in hand after the instruction: each part of the stack that may have changed has a new
+-- number
 abbrev pub noted : Flow → ℕ → NumberedFacts → NumberedFacts
 noted (WritesSlot i) fresh x = part_renumbered x i fresh
 noted Writes fresh x = renumbered x fresh
@@ -176,7 +178,8 @@ IsPastIf shapes n insn (Some x) entries_old new entries_new = IsPast shapes n in
 
 -- ---- the meaning of each number, for numbers below a bound
 
--- slot s is the slot that number n means, and a join with the slot that number m means, which its part includes, changes nothing
+-- slot s is the slot that number n means, and a join with the slot that number m means, which its
+-- part includes, changes nothing
 pub record IsNumberedSlot (held : ℕ → Slot) (bound : ℕ) (s : Slot) (n m : ℕ) : Type 0 where
   pub is : s ≡ held n
   pub some : 0 < n

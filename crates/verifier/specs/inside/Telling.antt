@@ -16,7 +16,8 @@ StopsTelling old new slot known fault = (fault ≡ memory_fault) × ((new ≡ ol
 abbrev pub IsFaultTold : Shapes → ℕ → Insn → Option Facts → Option (List (ℕ × Facts)) → Option (List (ℕ × Facts)) → VerifyFault → Type 0
 IsFaultTold shapes slot insn known old new fault = IsFaultFrom shapes slot insn known fault × (new ≡ with_more old (known_at slot known))
 
--- the first safety fault, and the watcher has received the facts up to its slot; or out of memory at some slot
+-- the first safety fault, and the watcher has received the facts up to its slot; or out of memory
+-- at some slot
 abbrev pub IsFirstTold : Shapes → List Insn → Option (List (ℕ × Facts)) → Option (List (ℕ × Facts)) → VerifyFault → Type 0
 IsFirstTold shapes code old new fault =
     ((fault ≡ memory_fault) × (n : ℕ) × IsToldBelow n shapes code old new)

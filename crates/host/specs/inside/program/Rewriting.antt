@@ -64,8 +64,8 @@ IsInputRefused Disassemble input failure = IsNoProgramText input failure
 
 -- ---- the streams
 
--- the bytes that the reader has left and those that the writer holds, if they are known, and how many calls of each
--- failed so far
+-- the bytes that the reader has left and those that the writer holds, if they are known, and how
+-- many calls of each failed so far
 pub record Streams : Type 0 where
   pub input : Option (List ℕ)
   pub output : Option (List ℕ)
@@ -87,8 +87,8 @@ pub record ReadsWholeInput (before after : Option (List ℕ)) (input : List ℕ)
   pub read : Consumes before after input
   pub end : IsAtEnd after
 
--- why there is no input: it is too long, and then one byte more than allowed was read; a call failed; or memory ran out
--- before anything was read
+-- why there is no input: it is too long, and then one byte more than allowed was read; a call
+-- failed; or memory ran out before anything was read
 abbrev pub HasNoInput : Failure → Option (List ℕ) → Option (List ℕ) → ℕ → ℕ → Type 0
 HasNoInput TooLong before after failures_before failures_after =
     ((bytes : List ℕ) × (length bytes ≡ LONGEST_INPUT + 1) × Consumes before after bytes) × (failures_after ≡ failures_before)
@@ -108,7 +108,8 @@ HasNoInput Seed before after failures_before failures_after = ⊥
 abbrev pub WritesNothing : Streams → Streams → Type 0
 WritesNothing old new = (new.output ≡ old.output) × (new.write_failures ≡ old.write_failures)
 
--- Below, `made` relates an input to its output, and `refused` relates it to the failure for which it is rejected.
+-- Below, `made` relates an input to its output, and `refused` relates it to the failure for which
+-- it is rejected.
 
 -- the input was read, and its whole output written; no call failed
 pub record WritesWholeOutput (made : List ℕ → List ℕ → Type 0) (old new : Streams) : Type 0 where

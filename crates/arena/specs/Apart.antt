@@ -11,21 +11,44 @@ IsPart m t = (size_of m ≡ m.parts * m.part) × (t < m.parts)
 -- bytes written within part t leave every other part u unchanged
 abbrev pub WritesStayInside : Type 0
 WritesStayInside =
-    (m : Memory) (t u offset : ℕ) (new : List ℕ) → IsPart m t → part_start m t ≤ offset → offset + length new ≤ part_start m t + m.part → u ≢ t
+    (m : Memory) (t u offset : ℕ) (new : List ℕ)
+    → IsPart m t
+    → part_start m t ≤ offset
+    → offset + length new ≤ part_start m t + m.part
+    → u ≢ t
     → part_bytes (with_bytes m offset new) u ≡ part_bytes m u
 
 -- replacing all bytes of part t changes no other part, and not the size
 pub record PartsAreApart : Type 0 where
-  pub others : (m : Memory) (t u : ℕ) (new : List ℕ) → IsPart m t → length new ≡ m.part → u ≢ t → part_bytes (with_part m t new) u ≡ part_bytes m u
-  pub own : (m : Memory) (t : ℕ) (new : List ℕ) → IsPart m t → length new ≡ m.part → part_bytes (with_part m t new) t ≡ new
-  pub size : (m : Memory) (t : ℕ) (new : List ℕ) → IsPart m t → length new ≡ m.part → size_of (with_part m t new) ≡ size_of m
+  pub others : (m : Memory) (t u : ℕ) (new : List ℕ)
+      → IsPart m t
+      → length new ≡ m.part
+      → u ≢ t
+      → part_bytes (with_part m t new) u ≡ part_bytes m u
+  pub own : (m : Memory) (t : ℕ) (new : List ℕ)
+      → IsPart m t
+      → length new ≡ m.part
+      → part_bytes (with_part m t new) t ≡ new
+  pub size : (m : Memory) (t : ℕ) (new : List ℕ)
+      → IsPart m t
+      → length new ≡ m.part
+      → size_of (with_part m t new) ≡ size_of m
 
 -- bytes written at offset `at` of part t are written there in the part's bytes, through the memory
 -- or through the part
 pub record WritesAreInParts : Type 0 where
-  pub bytes : (m : Memory) (t at : ℕ) (new : List ℕ) → IsPart m t → at + length new ≤ m.part → part_bytes (with_bytes m (part_start m t + at) new) t ≡ written_at (part_bytes m t) at new
-  pub memory : (m : Memory) (t at : ℕ) (new : List ℕ) → IsPart m t → at + length new ≤ m.part → with_part m t (written_at (part_bytes m t) at new) ≡ with_bytes m (part_start m t + at) new
-  pub size : (m : Memory) (t at : ℕ) (new : List ℕ) → IsPart m t → at + length new ≤ m.part → size_of (with_bytes m (part_start m t + at) new) ≡ size_of m
+  pub bytes : (m : Memory) (t at : ℕ) (new : List ℕ)
+      → IsPart m t
+      → at + length new ≤ m.part
+      → part_bytes (with_bytes m (part_start m t + at) new) t ≡ written_at (part_bytes m t) at new
+  pub memory : (m : Memory) (t at : ℕ) (new : List ℕ)
+      → IsPart m t
+      → at + length new ≤ m.part
+      → with_part m t (written_at (part_bytes m t) at new) ≡ with_bytes m (part_start m t + at) new
+  pub size : (m : Memory) (t at : ℕ) (new : List ℕ)
+      → IsPart m t
+      → at + length new ≤ m.part
+      → size_of (with_bytes m (part_start m t + at) new) ≡ size_of m
 
 -- ---- by address
 
@@ -41,11 +64,18 @@ asked_in m t n at = offset_of (size_of m) n (base + (part_start m t + at))
 -- loads, stores and copies within part t are those of its bytes
 pub record HasAccesses (m : Memory) (t : ℕ) : Type 0 where
   pub found : (at n : ℕ) → at + n ≤ m.part → asked_in m t n at ≡ Some (part_start m t + at)
-  pub bytes : (at n : ℕ) → at + n ≤ m.part → bytes_at m.bytes (part_start m t + at) n ≡ bytes_at (part_bytes m t) at n
-  pub load : (at n : ℕ) → at + n ≤ m.part → loaded m n (asked_in m t n at) ≡ Some (number_of (bytes_at (part_bytes m t) at n))
-  pub store : (at n value : ℕ) → at + n ≤ m.part → IsWrittenAt m t at (low_bytes n value) (stored m n value (asked_in m t n at))
+  pub bytes : (at n : ℕ)
+      → at + n ≤ m.part
+      → bytes_at m.bytes (part_start m t + at) n ≡ bytes_at (part_bytes m t) at n
+  pub load : (at n : ℕ)
+      → at + n ≤ m.part
+      → loaded m n (asked_in m t n at) ≡ Some (number_of (bytes_at (part_bytes m t) at n))
+  pub store : (at n value : ℕ)
+      → at + n ≤ m.part
+      → IsWrittenAt m t at (low_bytes n value) (stored m n value (asked_in m t n at))
   pub copy : (to from n : ℕ) → to + n ≤ m.part → from + n ≤ m.part
-      → IsWrittenAt m t to (bytes_at (part_bytes m t) from n) (copied m n (asked_in m t n from) (asked_in m t n to))
+      → IsWrittenAt m t to (bytes_at (part_bytes m t) from n)
+        (copied m n (asked_in m t n from) (asked_in m t n to))
 
 abbrev pub AccessesAreInParts : Type 0
 AccessesAreInParts = (m : Memory) (t : ℕ) → IsPart m t → HasAccesses m t

@@ -13,7 +13,10 @@ pub record Memory : Type 0 where
   pub part : ℕ
 
 abbrev pub memory_code : Coded Memory
-memory_code = code_by (List ℕ × (ℕ × ℕ)) (coded× (coded_list coded_ℕ) (coded× coded_ℕ coded_ℕ)) (λ m. (m.bytes, (m.parts, m.part))) (λ p. record { bytes = p.0; parts = p.1.0; part = p.1.1 }) (λ _. refl)
+memory_code =
+    code_by (List ℕ × (ℕ × ℕ)) (coded× (coded_list coded_ℕ) (coded× coded_ℕ coded_ℕ))
+    (λ m. (m.bytes, (m.parts, m.part))) (λ p. record { bytes = p.0; parts = p.1.0; part = p.1.1 })
+    (λ _. refl)
 
 abbrev pub size_of : Memory → ℕ
 size_of m = length m.bytes
@@ -24,7 +27,10 @@ base = 4294967296
 
 -- the offset from base of n bytes at an address; None if they are not in a memory of that size
 abbrev pub offset_of : ℕ → ℕ → ℕ → Option ℕ
-offset_of size n address = if nat_le base address && nat_le (address + n) (base + size) then Some (address - base) else None
+offset_of size n address =
+    if nat_le base address && nat_le (address + n) (base + size)
+    then Some (address - base)
+    else None
 
 -- ---- loads, stores and copies; without an offset, nothing is loaded or changed
 
@@ -33,7 +39,11 @@ loaded m n None = None
 loaded m n (Some offset) = Some (number_of (bytes_at m.bytes offset n))
 
 abbrev pub with_bytes : Memory → ℕ → List ℕ → Memory
-with_bytes m offset new = record { bytes = written_at m.bytes offset new; parts = m.parts; part = m.part }
+with_bytes m offset new = record {
+  bytes = written_at m.bytes offset new;
+  parts = m.parts;
+  part = m.part
+}
 
 abbrev pub stored : Memory → ℕ → ℕ → Option ℕ → Memory
 stored m n value None = m
@@ -58,4 +68,8 @@ refilled bytes others = take (length bytes) (others ++ drop (length others) byte
 
 -- the memory with new written over part t
 abbrev pub with_part : Memory → ℕ → List ℕ → Memory
-with_part m t new = record { bytes = refilled m.bytes (written_at m.bytes (part_start m t) new); parts = m.parts; part = m.part }
+with_part m t new = record {
+  bytes = refilled m.bytes (written_at m.bytes (part_start m t) new);
+  parts = m.parts;
+  part = m.part
+}

@@ -36,7 +36,8 @@ defines name (Some (code form n)) = false
 -- the first line that defines a label, counted from 0
 unfoldable pub label_line : List ℕ → List (Option Line) → Option ℕ
 label_line name [] = None
-label_line name (line ∷ lines) = if defines name line then Some 0 else option_map suc (label_line name lines)
+label_line name (line ∷ lines) =
+    if defines name line then Some 0 else option_map suc (label_line name lines)
 
 -- the slot of a label: the number of slots before its line
 abbrev pub label_slot : List (Option Line) → List ℕ → ℕ
@@ -58,11 +59,14 @@ passes before slots = nat_le before most_slots && nat_lt most_slots (before + sl
 abbrev pub line_fault : List (Option Line) → ℕ → ℕ → Option Line → Option TextFaultKind
 line_fault lines i before None = Some Syntax
 line_fault lines i before (Some blank) = None
-line_fault lines i before (Some (label name)) = if is_twice lines i name then Some LabelTwice else None
+line_fault lines i before (Some (label name)) =
+    if is_twice lines i name then Some LabelTwice else None
 line_fault lines i before (Some (code form name)) =
     if form_fits form then
     (if is_known lines form name then
-    (if passes before (form_slots form) then Some TooLong else None) else Some UnknownLabel) else Some Range
+    (if passes before (form_slots form) then Some TooLong else None) else
+    Some UnknownLabel) else
+    Some Range
 
 abbrev pub line_fault_of : List (Option Line) → ℕ → Option (Option Line) → Option TextFaultKind
 line_fault_of lines i None = None
@@ -83,7 +87,8 @@ forms_from all slot [] = []
 forms_from all slot (None ∷ lines) = forms_from all slot lines
 forms_from all slot (Some blank ∷ lines) = forms_from all slot lines
 forms_from all slot (Some (label n) ∷ lines) = forms_from all slot lines
-forms_from all slot (Some (code form n) ∷ lines) = resolved (distance all slot n) form ∷ forms_from all (slot + form_slots form) lines
+forms_from all slot (Some (code form n) ∷ lines) =
+    resolved (distance all slot n) form ∷ forms_from all (slot + form_slots form) lines
 
 -- each line has its reading
 abbrev pub AreRead : List (List ℕ) → List (Option Line) → Type 0

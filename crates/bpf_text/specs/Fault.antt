@@ -28,14 +28,16 @@ abbrev pub NoneBelow : (ℕ → Option TextFaultKind) → ℕ → Type 0
 NoneBelow fault_at n = (i : ℕ) → i < n → fault_at i ≡ None
 
 -- the fault of the first line that has one
-pub record IsFirstFaultyLine (fault_at : ℕ → Option TextFaultKind) (fault : TextFault) : Type 0 where
+pub record IsFirstFaultyLine (fault_at : ℕ → Option TextFaultKind)
+    (fault : TextFault) : Type 0 where
   pub index : ℕ
   pub line : fault.line ≡ index + 1
   pub here : fault_at index ≡ Some fault.kind
   pub below : NoneBelow fault_at index
 
 -- no line has a fault, and there is no slot
-pub record IsEmpty (fault_at : ℕ → Option TextFaultKind) (slots : ℕ) (fault : TextFault) : Type 0 where
+pub record IsEmpty (fault_at : ℕ → Option TextFaultKind) (slots : ℕ)
+    (fault : TextFault) : Type 0 where
   pub fault_is : fault ≡ empty_fault
   pub none : (i : ℕ) → fault_at i ≡ None
   pub slots_is : slots ≡ 0

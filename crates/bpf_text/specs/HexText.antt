@@ -13,7 +13,8 @@ use Rattle.bpf_text.specs.Lines.{text_lines}
 
 -- each eight bytes as a line of sixteen lower-case digits
 unfoldable pub hex_text : List ℕ → List ℕ
-hex_text (a ∷ b ∷ c ∷ d ∷ e ∷ f ∷ g ∷ h ∷ bytes) = encode_lower (a ∷ b ∷ c ∷ d ∷ e ∷ f ∷ g ∷ h ∷ []) ++ 10 ∷ hex_text bytes
+hex_text (a ∷ b ∷ c ∷ d ∷ e ∷ f ∷ g ∷ h ∷ bytes) =
+    encode_lower (a ∷ b ∷ c ∷ d ∷ e ∷ f ∷ g ∷ h ∷ []) ++ 10 ∷ hex_text bytes
 hex_text _ = []
 
 -- the bytes on a line without blanks at its ends: no byte if it is empty, else eight bytes in
@@ -31,7 +32,10 @@ hex_bytes lines = flat_map (λ line. unwrap_or (hex_line line) []) lines
 -- the fault of a line with these bytes, after lines of `before` bytes
 abbrev pub hex_fault : ℕ → Option (List ℕ) → Option TextFaultKind
 hex_fault before None = Some Syntax
-hex_fault before (Some bytes) = if nat_le before (8 * most_slots) && nat_lt (8 * most_slots) (before + length bytes) then Some TooLong else None
+hex_fault before (Some bytes) =
+    if nat_le before (8 * most_slots) && nat_lt (8 * most_slots) (before + length bytes)
+    then Some TooLong
+    else None
 
 abbrev pub hex_fault_of : ℕ → Option (List ℕ) → Option TextFaultKind
 hex_fault_of before None = None
@@ -48,4 +52,5 @@ pub record IsHexText (text bytes : List ℕ) : Type 0 where
 
 -- the text's own fault: that of its first line that has one, or that it has no slot
 abbrev pub IsHexFault : List ℕ → TextFault → Type 0
-IsHexFault text fault = let lines = text_lines text in IsFaultBy (hex_fault_at lines) (length (hex_bytes lines)) fault
+IsHexFault text fault =
+    let lines = text_lines text in IsFaultBy (hex_fault_at lines) (length (hex_bytes lines)) fault

@@ -13,7 +13,10 @@ OneProgram = (text : List ℕ) (a b : List Insn) → IsAssembled text a → IsAs
 
 -- a text with a program has no fault of its own
 abbrev pub ProgramHasNoFault : Type 0
-ProgramHasNoFault = (text : List ℕ) (insns : List Insn) (fault : TextFault) → IsAssembled text insns → ¬ IsOwnFault text fault
+ProgramHasNoFault =
+    (text : List ℕ) (insns : List Insn) (fault : TextFault)
+    → IsAssembled text insns
+    → ¬ IsOwnFault text fault
 
 -- a text has at most one fault of its own
 abbrev pub OneFault : Type 0
@@ -25,4 +28,7 @@ PrintedIsAssembled = (insns : List Insn) → IsProgram insns → IsAssembled (pr
 
 -- the slots of the hex lines of a program are its slots
 abbrev pub HexLinesAreRead : Type 0
-HexLinesAreRead = (insns : List Insn) → IsProgram insns → IsHexText (hex_text (program_bytes insns)) (program_bytes insns)
+HexLinesAreRead =
+    (insns : List Insn)
+    → IsProgram insns
+    → IsHexText (hex_text (program_bytes insns)) (program_bytes insns)

@@ -26,12 +26,14 @@ states (Some s) = s.host.states
 -- begin there. The session owns them, and the handle owns the session.
 abbrev pub StandsAt : Option Session → List ℕ → Ptr → ℕ → Type 0
 StandsAt None reply at length = ⊥
-StandsAt (Some s) reply at length = (s.reply.items ≡ reply) × (at ≡ vec_ptr s.reply) × (length ≡ vec_len s.reply)
+StandsAt (Some s) reply at length =
+    (s.reply.items ≡ reply) × (at ≡ vec_ptr s.reply) × (length ≡ vec_len s.reply)
 
 -- the frames of a save lie at an address in the same way
 abbrev pub SavedAt : Option Session → List ℕ → Ptr → ℕ → Type 0
 SavedAt None frames at length = ⊥
-SavedAt (Some s) frames at length = (s.saved.items ≡ frames) × (at ≡ vec_ptr s.saved) × (length ≡ vec_len s.saved)
+SavedAt (Some s) frames at length =
+    (s.saved.items ≡ frames) × (at ≡ vec_ptr s.saved) × (length ≡ vec_len s.saved)
 
 -- ---- return codes
 
@@ -52,7 +54,9 @@ room_code before room = if nat_lt room longest_reply then ERR_BUFFER_TOO_SMALL e
 -- the code of a call that saves a part, unless it is out of memory
 abbrev pub save_code : Option Session → ℕ → ℕ → ℤ
 save_code before tenant part =
-    if is_none before then ERR_NO_HOST else (if is_none (saved_part (host_of before) tenant part) then ERR_NO_PART else DONE)
+    if is_none before
+      then ERR_NO_HOST
+      else (if is_none (saved_part (host_of before) tenant part) then ERR_NO_PART else DONE)
 
 -- the code of a call with contexts of `size` words, unless it is out of memory
 abbrev pub run_code : Option Session → ℕ → List ℕ → ℤ

@@ -6,7 +6,9 @@ use Rattle.bpfhost_c.specs.declared.codes.TheConstants.{DONE, ERR_SIZE, ERR_TOO_
 
 -- the words that a run is given of a context: 0 for each that it does not have, and none after them
 abbrev pub fitted : List ℕ → List ℕ
-fitted words = take (min (length words) given_words) words ++ drop (min (length words) given_words) (replicate given_words 0)
+fitted words =
+    take (min (length words) given_words) words
+    ++ drop (min (length words) given_words) (replicate given_words 0)
 
 -- each word after those that a run is given is 0
 abbrev pub has_known_words : List ℕ → Bool
@@ -15,11 +17,13 @@ has_known_words words = list_all (λ word. nat_eq word 0) (drop given_words word
 -- so many contexts, each of `size` words, one after another
 abbrev pub fitted_all : ℕ → ℕ → List ℕ → List (List ℕ)
 fitted_all size zero words = []
-fitted_all size (suc count) words = fitted (take size words) ∷ fitted_all size count (drop size words)
+fitted_all size (suc count) words =
+    fitted (take size words) ∷ fitted_all size count (drop size words)
 
 abbrev pub have_known_words : ℕ → ℕ → List ℕ → Bool
 have_known_words size zero words = true
-have_known_words size (suc count) words = has_known_words (take size words) && have_known_words size count (drop size words)
+have_known_words size (suc count) words =
+    has_known_words (take size words) && have_known_words size count (drop size words)
 
 -- the contexts of a call, each of `size` words, as a run is given them
 abbrev pub contexts_of : ℕ → List ℕ → List (List ℕ)

@@ -25,7 +25,10 @@ head_length = 4
 
 -- the head of a frame; None in fewer bytes
 abbrev pub head_of : List ℕ → Option Head
-head_of frame = if nat_lt (length frame) head_length then None else Some (record { tenant = little_number 2 frame; command = little_number 2 (drop 2 frame) })
+head_of frame =
+    if nat_lt (length frame) head_length
+    then None
+    else Some (record { tenant = little_number 2 frame; command = little_number 2 (drop 2 frame) })
 
 -- the tenant of a frame, and 65535 if it is too short for a head
 abbrev pub owner : List ℕ → ℕ
@@ -33,7 +36,8 @@ owner frame = if nat_lt (length frame) head_length then 65535 else little_number
 
 -- the number of its command, and 65535 if it is too short for a head
 abbrev pub command_number : List ℕ → ℕ
-command_number frame = if nat_lt (length frame) head_length then 65535 else little_number 2 (drop 2 frame)
+command_number frame =
+    if nat_lt (length frame) head_length then 65535 else little_number 2 (drop 2 frame)
 
 -- ---- the reply
 
@@ -53,10 +57,14 @@ longest_reply = 4 + reply_head + longest_payload
 -- payload
 abbrev pub front_bytes : ℕ → ℕ → ℤ → ℕ → List ℕ
 front_bytes tenant command status size =
-    little_bytes 4 size ++ (little_bytes 2 tenant ++ (little_bytes 2 command ++ little_bytes 4 (cast_unsigned w32 status)))
+    little_bytes 4 size
+      ++
+        (little_bytes 2 tenant
+          ++ (little_bytes 2 command ++ little_bytes 4 (cast_unsigned w32 status)))
 
 abbrev pub reply_bytes : ℕ → ℕ → ℤ → List ℕ → List ℕ
-reply_bytes tenant command status payload = front_bytes tenant command status (reply_head + length payload) ++ payload
+reply_bytes tenant command status payload =
+    front_bytes tenant command status (reply_head + length payload) ++ payload
 
 -- the reply to a frame
 abbrev pub reply_to : List ℕ → ℤ → List ℕ → List ℕ

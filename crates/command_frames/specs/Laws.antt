@@ -26,7 +26,10 @@ OneStream =
 -- whole frames in front of a stream are its first ones
 abbrev pub FramesInFront : Type 0
 FramesInFront =
-    (bytes : List ℕ) (first frames : List (List ℕ)) (left rest : List ℕ) → AllByRecursion IsFrame first → bytes ≡ flat_map framed first ++ left → IsStream bytes frames rest
+    (bytes : List ℕ) (first frames : List (List ℕ)) (left rest : List ℕ)
+    → AllByRecursion IsFrame first
+    → bytes ≡ flat_map framed first ++ left
+    → IsStream bytes frames rest
     → (more : List (List ℕ)) × (frames ≡ first ++ more) × IsStream left more rest
 
 -- ---- replies

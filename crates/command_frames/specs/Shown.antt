@@ -7,7 +7,8 @@ use Rattle.command_frames.specs.declared.command.Command.TheVariants as code
 use Rattle.command_frames.specs.Command.{Command, map_create, map_lookup, map_update, map_delete, map_next_key, prog_load, prog_test_run, close}
 
 abbrev pub shown_command : CodeCommand → Command
-shown_command (code.MapCreate kind key_size value_size max_entries flags) = map_create kind key_size value_size max_entries flags
+shown_command (code.MapCreate kind key_size value_size max_entries flags) =
+    map_create kind key_size value_size max_entries flags
 shown_command (code.MapLookup fd key) = map_lookup fd key.now
 shown_command (code.MapUpdate fd flags rest) = map_update fd flags rest.now
 shown_command (code.MapDelete fd key) = map_delete fd key.now

@@ -5,4 +5,7 @@ use Rattle.fd_table.specs.Table.{most}
 
 -- a bit is 0 if its entry is free, and 1 if it is taken
 abbrev pub TellsTaken : {A : Type 0} → ℕ → List (Option A) → Type 0
-TellsTaken word entries = (index : ℕ) → index < most → bit_at word index ≡ (if is_none (slice_index_or entries index None) then 0 else 1)
+TellsTaken word entries =
+    (index : ℕ)
+    → index < most
+    → bit_at word index ≡ (if is_none (slice_index_or entries index None) then 0 else 1)

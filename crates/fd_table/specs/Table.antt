@@ -20,7 +20,10 @@ module _ {A : Type 0} where
 
   -- what a descriptor names, if it is open
   abbrev pub named : List (Option A) → ℕ → Option A
-  named table fd = if nat_lt fd first_descriptor then None else flattened (slice_get table (fd - first_descriptor))
+  named table fd =
+      if nat_lt fd first_descriptor
+      then None
+      else flattened (slice_get table (fd - first_descriptor))
 
   -- the lowest descriptor that is not open
   abbrev pub lowest : List (Option A) → Option ℕ
@@ -31,7 +34,8 @@ module _ {A : Type 0} where
 
   -- fd is closed; the table is unchanged if it is not open
   abbrev pub with_closed : List (Option A) → ℕ → List (Option A)
-  with_closed table fd = if nat_lt fd first_descriptor then table else slice_set table (fd - first_descriptor) None
+  with_closed table fd =
+      if nat_lt fd first_descriptor then table else slice_set table (fd - first_descriptor) None
 
   -- x is opened at the lowest free descriptor; if no descriptor is free, x is returned and the
   -- table is unchanged

@@ -11,7 +11,8 @@ use Rattle.tenant.specs.State.{TenantState}
 use Rattle.host_core.specs.Handled.{Turn, frames_in, replies_in, HandlesInOrder}
 
 -- a batch of a tenant that is served, and its state before and after it
-abbrev pub RunsFor : ℕ → Option TenantState → List BatchInput → List ℕ → List ℕ → Option TenantState → Type 0
+abbrev pub RunsFor : ℕ → Option TenantState → List BatchInput → List ℕ → List ℕ → Option TenantState
+    → Type 0
 RunsFor fd None inputs room written after = ⊥
 RunsFor fd (Some s) inputs room written after =
     (last : TenantState) × RunsBatch fd s inputs room written last × (after ≡ Some last)
@@ -19,7 +20,8 @@ RunsFor fd (Some s) inputs room written after =
 -- why a batch is rejected: its tenant is not served, or the error of the tenant
 abbrev pub refusal_for : Option TenantState → ℕ → ℕ → ℕ → List ℕ → ℕ → Option Errno
 refusal_for None fd contexts many ends room = Some NotPermitted
-refusal_for (Some s) fd contexts many ends room = batch_refusal (named s.objects fd) contexts many ends room
+refusal_for (Some s) fd contexts many ends room =
+    batch_refusal (named s.objects fd) contexts many ends room
 
 -- the status of a batch, as that of the frames: 0, or the negated error number
 abbrev pub batch_status : Option Errno → ℤ
@@ -34,7 +36,14 @@ pub record ChangesTenant (tenant : ℕ) (before after : List TenantState) : Type
 -- the runs of a batch are the calls on the test-run frames of its packets, one after another
 abbrev pub BatchIsItsCalls : Type 0
 BatchIsItsCalls =
-    (tenant fd : ℕ) (frames : List (List ℕ)) (inputs : List BatchInput) (results : List ℕ) (before after : List TenantState) (s last : TenantState)
+    (tenant fd : ℕ) (frames : List (List ℕ)) (inputs : List BatchInput) (results : List ℕ)
+      (before after : List TenantState) (s last : TenantState)
     → AllByRecursion (λ frame. owner frame ≡ tenant) frames → AreTestRuns fd frames inputs
-    → slice_get before tenant ≡ Some s → RunsInOrder fd s inputs results last → slice_get after tenant ≡ Some last → ChangesTenant tenant before after
-    → (turns : List Turn) × (frames_in turns ≡ frames) × (replies_in turns ≡ result_replies frames results) × HandlesInOrder before turns after
+    → slice_get before tenant ≡ Some s
+    → RunsInOrder fd s inputs results last
+    → slice_get after tenant ≡ Some last
+    → ChangesTenant tenant before after
+    → (turns : List Turn)
+      × (frames_in turns ≡ frames)
+      × (replies_in turns ≡ result_replies frames results)
+      × HandlesInOrder before turns after

@@ -12,15 +12,20 @@ use Rattle.host_core.specs.declared.server.ServeFaultKind.TheVariants.{Truncated
 use Rattle.host_core.specs.Served.{IsUnrefused, Noninterference, NoneFaults, StreamState, ServesAlone, ServesStream, NoCallFailed}
 
 -- each tenant gets replies that its own machine may give to its own frames
-abbrev pub EachIsToldByItsMachine : List TenantState → List (List ℕ) → List (List ℕ) → List TenantState → Type 0
+abbrev pub EachIsToldByItsMachine : List TenantState → List (List ℕ) → List (List ℕ)
+    → List TenantState → Type 0
 EachIsToldByItsMachine before frames replies after =
-    (t : ℕ) → AloneWithRefusals (slice_get before t) (frames_of t frames) (replies_of t frames replies) (slice_get after t)
+    (t : ℕ)
+    → AloneWithRefusals (slice_get before t) (frames_of t frames) (replies_of t frames replies)
+      (slice_get after t)
 
 -- a tenant to which no memory was refused gets exactly the replies of its own machine, whatever was
 -- refused to others
 abbrev pub UnrefusedAreToldAlone : Type 0
 UnrefusedAreToldAlone =
-    (before after : List TenantState) (frames replies : List (List ℕ)) → EachIsToldByItsMachine before frames replies after → Noninterference before frames replies after
+    (before after : List TenantState) (frames replies : List (List ℕ))
+    → EachIsToldByItsMachine before frames replies after
+    → Noninterference before frames replies after
 
 -- Over a sequence of calls, each tenant gets replies that its machine may give to its own frames,
 -- and if no memory was refused to it, exactly those of its machine without refusals; and no test
@@ -28,7 +33,8 @@ UnrefusedAreToldAlone =
 abbrev pub CallsAreToldAlone : Type 0
 CallsAreToldAlone =
     (before after : List TenantState) (turns : List Turn) → HandlesInOrder before turns after
-    → EachIsToldByItsMachine before (frames_in turns) (replies_in turns) after × Noninterference before (frames_in turns) (replies_in turns) after
+    → EachIsToldByItsMachine before (frames_in turns) (replies_in turns) after
+      × Noninterference before (frames_in turns) (replies_in turns) after
     × NoneFaults (replies_in turns)
 
 -- After each number of turns, each tenant to which no memory was refused until then got exactly the
@@ -85,9 +91,16 @@ pub record BeginsAlike (old new old_too new_too : List TenantState) (t : ℕ) : 
 abbrev pub SameFramesSameOutput : Type 0
 SameFramesSameOutput =
     (old new old_too new_too : StreamState) (count count_too : ℕ) (rest rest_too : List ℕ)
-    → (one : ServesAlone old new count rest) (other : ServesAlone old_too new_too count_too rest_too)
-    → one.frames ≡ other.frames → AllByRecursion (λ frame. BeginsAlike old.states new.states old_too.states new_too.states (owner frame)) one.frames
-    → (one.replies ≡ other.replies) × (out : List ℕ) × Appends old.output new.output out × Appends old_too.output new_too.output out
+    → (one : ServesAlone old new count rest)
+      (other : ServesAlone old_too new_too count_too rest_too)
+    → one.frames ≡ other.frames
+    → AllByRecursion
+        (λ frame.
+          BeginsAlike old.states new.states old_too.states new_too.states (owner frame)) one.frames
+    → (one.replies ≡ other.replies)
+      × (out : List ℕ)
+      × Appends old.output new.output out
+      × Appends old_too.output new_too.output out
 
 -- ---- how a stream ends
 
@@ -97,13 +110,20 @@ abbrev pub stream_result : ℕ → ℕ → List ℕ → Result ℕ ServeFault
 stream_result limit many rest =
     if nat_lt limit many then Err (record { kind = TooManyFrames; frames = limit }) else
     (if length rest == 0 then Ok many else
-    (if many == limit then Err (record { kind = TooManyFrames; frames = limit }) else Err (record { kind = Truncated; frames = many })))
+    (if many == limit
+      then Err (record { kind = TooManyFrames; frames = limit })
+      else Err (record { kind = Truncated; frames = many })))
 
 -- No content of a frame ends a stream: if the bytes of the reader are known, no call of the reader
 -- or the writer fails, and there is memory for the buffers, the end of a call depends only on the
 -- number of frames, and on whether bytes follow them.
 abbrev pub NoContentEndsAStream : Type 0
 NoContentEndsAStream =
-    (limit : ℕ) (result : Result ℕ ServeFault) (old new : StreamState) (bytes : List ℕ) (frames : List (List ℕ)) (rest : List ℕ)
-    → ServesStream limit result old new → NoCallFailed old new → result ≢ Err (record { kind = Memory; frames = 0 })
-    → old.input ≡ Some bytes → IsStream bytes frames rest → result ≡ stream_result limit (length frames) rest
+    (limit : ℕ) (result : Result ℕ ServeFault) (old new : StreamState) (bytes : List ℕ)
+      (frames : List (List ℕ)) (rest : List ℕ)
+    → ServesStream limit result old new
+    → NoCallFailed old new
+    → result ≢ Err (record { kind = Memory; frames = 0 })
+    → old.input ≡ Some bytes
+    → IsStream bytes frames rest
+    → result ≡ stream_result limit (length frames) rest

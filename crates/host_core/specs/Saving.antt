@@ -16,27 +16,40 @@ use Rattle.host_core.specs.States.{HostState, new_host}
 -- a frame with its reply, and the births before and after it: those of its tenant change as its
 -- command says, and no others do
 pub record Records (frame reply : List ℕ) (before after : HostState) : Type 0 where
-  pub own : (s : TenantState) (births : List Birth) → slice_get before.states (owner frame) ≡ Some s → slice_get before.births (owner frame) ≡ Some births
-      → (t : TenantState) × (later : List Birth) × (slice_get after.states (owner frame) ≡ Some t) × (slice_get after.births (owner frame) ≡ Some later)
+  pub own : (s : TenantState) (births : List Birth)
+      → slice_get before.states (owner frame) ≡ Some s
+      → slice_get before.births (owner frame) ≡ Some births
+      → (t : TenantState)
+        × (later : List Birth)
+        × (slice_get after.states (owner frame) ≡ Some t)
+        × (slice_get after.births (owner frame) ≡ Some later)
       × RecordsFrame frame reply s t births later
-  pub others : (other : ℕ) → other ≢ owner frame → slice_get after.births other ≡ slice_get before.births other
+  pub others : (other : ℕ)
+      → other ≢ owner frame
+      → slice_get after.births other ≡ slice_get before.births other
   pub count : length after.births ≡ length before.births
 
 -- the frames of a part of a tenant, if it is served and has so many parts
 abbrev pub saved_part : HostState → ℕ → ℕ → Option (List ℕ)
 saved_part host tenant part =
-    option_and_then (λ s. option_and_then (λ births. option_map (frames_of tenant) (slice_get (parts s births) part))
+    option_and_then (λ s.
+    option_and_then (λ births. option_map (frames_of tenant) (slice_get (parts s births) part))
     (slice_get host.births tenant)) (slice_get host.states tenant)
 
 -- ---- calls one after another
 
 abbrev pub HandlesFrame : HostState → HostState → Type 0
-HandlesFrame before after = (frame : List ℕ) × (reply : List ℕ) × Handles before.states frame reply after.states × Records frame reply before after
+HandlesFrame before after =
+    (frame : List ℕ)
+    × (reply : List ℕ)
+    × Handles before.states frame reply after.states
+    × Records frame reply before after
 
 abbrev pub RunsPackets : HostState → HostState → Type 0
 RunsPackets before after =
     (tenant : ℕ) × (fd : ℕ) × (inputs : List BatchInput) × (room : List ℕ) × (written : List ℕ)
-    × RunsFor fd (slice_get before.states tenant) inputs room written (slice_get after.states tenant)
+    × RunsFor fd (slice_get before.states tenant) inputs room written
+      (slice_get after.states tenant)
     × ChangesTenant tenant before.states after.states × (after.births ≡ before.births)
 
 -- what a call does to a host: it handles a frame, runs a program on packets, or changes nothing
@@ -58,8 +71,13 @@ abbrev pub AreRestored : HostState → Type 0
 AreRestored host =
     (tenant : ℕ) (s : TenantState) → tenant < 2 ^ 16 → slice_get host.states tenant ≡ Some s
     → (saved : List (List ℕ)) × (frames : List (List ℕ)) × AreParts host tenant saved
-    × (flat_map (λ bytes. bytes) saved ≡ flat_map framed frames) × AllByRecursion (λ frame. owner frame ≡ tenant) frames × IsRestoredBy s frames
+    × (flat_map (λ bytes. bytes) saved ≡ flat_map framed frames)
+    × AllByRecursion (λ frame. owner frame ≡ tenant) frames
+    × IsRestoredBy s frames
 
 -- so they do after any of these calls on a new host
 abbrev pub TenantsAreRestored : Type 0
-TenantsAreRestored = (count : ℕ) (calls : List HostState) (host : HostState) → Calls (new_host count) calls host → AreRestored host
+TenantsAreRestored =
+    (count : ℕ) (calls : List HostState) (host : HostState)
+    → Calls (new_host count) calls host
+    → AreRestored host

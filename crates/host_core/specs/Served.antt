@@ -46,7 +46,13 @@ pub record StreamState : Type 0 where
   pub write_failures : ℕ
 
 -- the state of a stream with these tenants' states, this reader and this writer
-abbrev pub stream_state : {R W : Type 0} → OfSource R → OfSink W → List TenantState → R → W → StreamState
+abbrev pub stream_state : {R W : Type 0}
+    → OfSource R
+    → OfSink W
+    → List TenantState
+    → R
+    → W
+    → StreamState
 stream_state source sink states reader writer = record {
   states = states;
   input = source.remaining reader;
@@ -58,7 +64,8 @@ stream_state source sink states reader writer = record {
 
 -- no call failed in between
 abbrev pub NoCallFailed : StreamState → StreamState → Type 0
-NoCallFailed old new = (new.read_failures ≡ old.read_failures) × (new.write_failures ≡ old.write_failures)
+NoCallFailed old new =
+    (new.read_failures ≡ old.read_failures) × (new.write_failures ≡ old.write_failures)
 
 -- frames were read and got replies, one after another, and then the bytes `rest` were read; of the
 -- replies, `out` was written
@@ -75,7 +82,9 @@ joined_replies replies = flat_map (λ reply. reply) replies
 -- `count` frames got replies, and each reply was written whole
 abbrev pub AnswersFrames : StreamState → StreamState → ℕ → List ℕ → Type 0
 AnswersFrames old new count rest =
-    (turns : List Turn) × (length turns ≡ count) × Serves old new turns rest (joined_replies (replies_in turns))
+    (turns : List Turn)
+    × (length turns ≡ count)
+    × Serves old new turns rest (joined_replies (replies_in turns))
 
 -- `count` frames were read, and then bytes that are no whole frame; the replies to the frames were
 -- written, one after another. Each tenant to which no memory was refused got exactly those of its
@@ -95,20 +104,32 @@ pub record ServesAlone (old new : StreamState) (count : ℕ) (rest : List ℕ) :
 abbrev pub CutsLastReply : StreamState → StreamState → ℕ → Type 0
 CutsLastReply old new count =
     (turns : List Turn) × (last : Turn) × (n : ℕ) × (length turns ≡ count)
-    × Serves old new (turns ++ last ∷ []) [] (joined_replies (replies_in turns) ++ take n last.reply)
+    × Serves old new (turns ++ last ∷ []) []
+      (joined_replies (replies_in turns) ++ take n last.reply)
 
 -- the end of a call that replies to `count` frames: the input is at its end
 abbrev pub ServesToEnd : StreamState → StreamState → ℕ → Type 0
-ServesToEnd old new count = AnswersFrames old new count [] × IsAtEnd new.input × NoCallFailed old new
+ServesToEnd old new count =
+    AnswersFrames old new count [] × IsAtEnd new.input × NoCallFailed old new
 
 -- the end of a call with a fault, after `count` replies were written whole
 abbrev pub StopsWithFault : StreamState → StreamState → ServeFaultKind → ℕ → Type 0
 StopsWithFault old new Read count =
-    (rest : List ℕ) × IsPartial rest × AnswersFrames old new count rest × (old.read_failures < new.read_failures)
-StopsWithFault old new Write count = CutsLastReply old new count × (old.write_failures < new.write_failures)
+    (rest : List ℕ)
+    × IsPartial rest
+    × AnswersFrames old new count rest
+    × (old.read_failures < new.read_failures)
+StopsWithFault old new Write count =
+    CutsLastReply old new count × (old.write_failures < new.write_failures)
 StopsWithFault old new Truncated count =
-    (rest : List ℕ) × IsPartial rest × (0 < length rest) × AnswersFrames old new count rest × IsAtEnd new.input × NoCallFailed old new
-StopsWithFault old new TooManyFrames count = (byte : ℕ) × AnswersFrames old new count (byte ∷ []) × NoCallFailed old new
+    (rest : List ℕ)
+    × IsPartial rest
+    × (0 < length rest)
+    × AnswersFrames old new count rest
+    × IsAtEnd new.input
+    × NoCallFailed old new
+StopsWithFault old new TooManyFrames count =
+    (byte : ℕ) × AnswersFrames old new count (byte ∷ []) × NoCallFailed old new
 StopsWithFault old new Memory count = (count ≡ 0) × (new ≡ old)
 
 -- at any fault but Write, the frames before it are served like those of a whole stream

@@ -18,7 +18,14 @@ use Rattle.insn_set.specs.declared.profile.Profile.{Profile}
 -- what it names, and the number of its slots
 abbrev pub row : Option ℕ → Option ℕ → Option ℕ → Successors → Reference → ℕ → Profile
 row first second written successors reference slots =
-    record { first_read = first; second_read = second; written = written; successors = successors; reference = reference; slots = slots }
+    record {
+      first_read = first;
+      second_read = second;
+      written = written;
+      successors = successors;
+      reference = reference;
+      slots = slots
+    }
 
 -- the register of an operand, if it is one
 abbrev pub register_of : Operand → Option ℕ
@@ -49,11 +56,14 @@ loaded_register (stores size src) = None
 loaded_register (changes size op src) = None
 
 abbrev pub profile_of : View → Profile
-profile_of (binary wide op dst src) = row (first_operand op dst) (register_of src) (Some dst) to.Next names.Nothing 1
+profile_of (binary wide op dst src) =
+    row (first_operand op dst) (register_of src) (Some dst) to.Next names.Nothing 1
 profile_of (unary wide op dst src) = row (Some src) None (Some dst) to.Next names.Nothing 1
 profile_of (jump off) = row None None None (to.Jump off) names.Nothing 1
-profile_of (branch wide cond dst src off) = row (Some dst) (register_of src) None (to.NextOrJump off) names.Nothing 1
-profile_of (access what base off) = row (Some base) (stored_register what) (loaded_register what) to.Next names.Nothing 1
+profile_of (branch wide cond dst src off) =
+    row (Some dst) (register_of src) None (to.NextOrJump off) names.Nothing 1
+profile_of (access what base off) =
+    row (Some base) (stored_register what) (loaded_register what) to.Next names.Nothing 1
 profile_of (wide_load dst value) = row None None (Some dst) to.Next (reference_of value) 2
 profile_of (call id) = row None None None to.Next (names.Helper id) 1
 profile_of exit = row (Some 0) None None to.Nothing names.Nothing 1

@@ -44,7 +44,9 @@ atomic_symbol_again _ = refl
 pub atomic_number_is : (n : ℕ) (op : AtomicOp) → atomic_by_number n ≡ Some op → atomic_number op ≡ n
 atomic_number_is n op e = number_of atomic_number atomic_rows n op refl e
 
-pub atomic_symbol_is : (s : List ℕ) (op : AtomicOp) → atomic_by_symbol s ≡ Some op → atomic_symbol op ≡ s
+pub atomic_symbol_is : (s : List ℕ) (op : AtomicOp)
+    → atomic_by_symbol s ≡ Some op
+    → atomic_symbol op ≡ s
 atomic_symbol_is s op e = symbol_of atomic_symbol atomic_rows s op refl e
 
 -- ---- conditions
@@ -57,10 +59,14 @@ pub condition_symbol_again : (c : Condition) → condition_by_symbol (condition_
 condition_symbol_again Equal = refl
 condition_symbol_again _ = refl
 
-pub condition_number_is : (n : ℕ) (c : Condition) → condition_by_number n ≡ Some c → condition_number c ≡ n
+pub condition_number_is : (n : ℕ) (c : Condition)
+    → condition_by_number n ≡ Some c
+    → condition_number c ≡ n
 condition_number_is n c e = number_of condition_number condition_rows n c refl e
 
-pub condition_symbol_is : (s : List ℕ) (c : Condition) → condition_by_symbol s ≡ Some c → condition_symbol c ≡ s
+pub condition_symbol_is : (s : List ℕ) (c : Condition)
+    → condition_by_symbol s ≡ Some c
+    → condition_symbol c ≡ s
 condition_symbol_is s c e = symbol_of condition_symbol condition_rows s c refl e
 
 -- ---- operators: of two with one code, the unsigned one is found
@@ -87,37 +93,52 @@ alu_symbol_is s o e = symbol_of alu_symbol alu_rows s o refl e
 
 -- ---- loads: a double word has no sign extension
 
-pub load_opcode_again : (signed : Bool) (s : AccessSize) → IsTrue (not (signed && is_double s)) → load_by_opcode (load_opcode signed s) ≡ Some (signed, s)
+pub load_opcode_again : (signed : Bool) (s : AccessSize)
+    → IsTrue (not (signed && is_double s))
+    → load_by_opcode (load_opcode signed s) ≡ Some (signed, s)
 load_opcode_again true Double h = absurd (false≢true h)
 load_opcode_again false Byte h = refl
 load_opcode_again _ _ h = refl
 
-pub size_name_again : (signed : Bool) (s : AccessSize) → IsTrue (not (signed && is_double s)) → size_by_name (size_name signed s) ≡ Some (signed, s)
+pub size_name_again : (signed : Bool) (s : AccessSize)
+    → IsTrue (not (signed && is_double s))
+    → size_by_name (size_name signed s) ≡ Some (signed, s)
 size_name_again true Double h = absurd (false≢true h)
 size_name_again false Byte h = refl
 size_name_again _ _ h = refl
 
-pub load_opcode_is : (n : ℕ) (l : Bool × AccessSize) → load_by_opcode n ≡ Some l → load_opcode l.0 l.1 ≡ n
+pub load_opcode_is : (n : ℕ) (l : Bool × AccessSize)
+    → load_by_opcode n ≡ Some l
+    → load_opcode l.0 l.1 ≡ n
 load_opcode_is n l e = number_of (λ l. load_opcode l.0 l.1) load_rows n l refl e
 
-pub load_listed : (n : ℕ) (l : Bool × AccessSize) → load_by_opcode n ≡ Some l → IsTrue (not (l.0 && is_double l.1))
+pub load_listed : (n : ℕ) (l : Bool × AccessSize)
+    → load_by_opcode n ≡ Some l
+    → IsTrue (not (l.0 && is_double l.1))
 load_listed n l e = found_number (λ l _. not (l.0 && is_double l.1)) load_rows n l refl e
 
-pub size_listed : (s : List ℕ) (l : Bool × AccessSize) → size_by_name s ≡ Some l → IsTrue (not (l.0 && is_double l.1))
+pub size_listed : (s : List ℕ) (l : Bool × AccessSize)
+    → size_by_name s ≡ Some l
+    → IsTrue (not (l.0 && is_double l.1))
 size_listed s l e = found_symbol (λ l _. not (l.0 && is_double l.1)) load_rows s l refl e
 
-pub size_name_is : (s : List ℕ) (l : Bool × AccessSize) → size_by_name s ≡ Some l → size_name l.0 l.1 ≡ s
+pub size_name_is : (s : List ℕ) (l : Bool × AccessSize)
+    → size_by_name s ≡ Some l
+    → size_name l.0 l.1 ≡ s
 size_name_is s l e = symbol_of (λ l. size_name l.0 l.1) load_rows s l refl e
 
 -- ---- byte-order conversions and sign extensions
 
-pub order_name_again : (how : ByteOrder) (b : KeptBits) → order_by_name (order_name how b) ≡ Some (how, b)
+pub order_name_again : (how : ByteOrder) (b : KeptBits)
+    → order_by_name (order_name how b) ≡ Some (how, b)
 order_name_again Little Bits16 = refl
 order_name_again Big Bits16 = refl
 order_name_again Swap Bits16 = refl
 order_name_again _ _ = refl
 
-pub order_name_is : (s : List ℕ) (o : ByteOrder × KeptBits) → order_by_name s ≡ Some o → order_name o.0 o.1 ≡ s
+pub order_name_is : (s : List ℕ) (o : ByteOrder × KeptBits)
+    → order_by_name s ≡ Some o
+    → order_name o.0 o.1 ≡ s
 order_name_is s o e = name_of (λ o. order_name o.0 o.1) orders s o refl e
 
 pub narrow_name_again : (b : ExtendedBits) → narrow_by_name (narrow_name b) ≡ Some b

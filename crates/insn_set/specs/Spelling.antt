@@ -29,22 +29,31 @@ abbrev pub imm_field : Operand → ℕ
 imm_field (Imm n) = imm_bits n
 imm_field (Reg r) = 0
 
--- ---- the grammar: one case for each form, section 4 (arithmetic, jumps) and section 5 (loads, stores, atomic operations)
+-- ---- the grammar: one case for each form, section 4 (arithmetic, jumps) and section 5 (loads,
+-- stores, atomic operations)
 
 -- the first slot
 abbrev pub first : Insn → SlotFields
-first (Alu wide op dst src) = slot (opcode (alu_number op) (source_bit src) (alu_class wide)) dst (src_field src) (alu_offset op) (imm_field src)
+first (Alu wide op dst src) =
+    slot (opcode (alu_number op) (source_bit src) (alu_class wide)) dst (src_field src)
+    (alu_offset op) (imm_field src)
 first (Movsx m) = slot (opcode 11 1 (alu_class m.wide)) m.dst m.src (extended_bits m.bits) 0
 first (Neg wide dst) = slot (opcode 8 0 (alu_class wide)) dst 0 0 0
 first (End how width dst) = slot (end_opcode how) dst 0 0 (kept_bits width)
 first (Ja off) = slot (opcode 0 0 5) 0 0 (offset_bits off) 0
 first (Jal off) = slot (opcode 0 0 6) 0 0 0 (imm_bits off)
-first (Jump wide cond dst src off) = slot (opcode (condition_number cond) (source_bit src) (jump_class wide)) dst (src_field src) (offset_bits off) (imm_field src)
+first (Jump wide cond dst src off) =
+    slot (opcode (condition_number cond) (source_bit src) (jump_class wide)) dst (src_field src)
+    (offset_bits off) (imm_field src)
 first (Call id) = slot (opcode 8 0 5) 0 0 0 (imm_bits id)
 first Exit = slot (opcode 9 0 5) 0 0 0 0
-first (Load l) = slot (memory_opcode (load_mode l.signed) l.size 1) l.dst l.src (offset_bits l.off) 0
-first (Store s dst src off) = slot (memory_opcode 3 s (2 + source_bit src)) dst (src_field src) (offset_bits off) (imm_field src)
-first (Atomic size op dst src off) = slot (memory_opcode 6 (access_size size) 3) dst src (offset_bits off) (atomic_number op)
+first (Load l) =
+    slot (memory_opcode (load_mode l.signed) l.size 1) l.dst l.src (offset_bits l.off) 0
+first (Store s dst src off) =
+    slot (memory_opcode 3 s (2 + source_bit src)) dst (src_field src) (offset_bits off)
+    (imm_field src)
+first (Atomic size op dst src off) =
+    slot (memory_opcode 6 (access_size size) 3) dst src (offset_bits off) (atomic_number op)
 first (Const dst value) = slot 0x18 dst 0 0 (value % 2 ^ 32)
 first (MapFd dst fd) = slot 0x18 dst 1 0 (imm_bits fd)
 first (MapValue dst fd off) = slot 0x18 dst 2 0 (imm_bits fd)
@@ -81,7 +90,8 @@ IsInsnUpTo top (Neg wide dst) = dst ≤ top
 IsInsnUpTo top (End how width dst) = dst ≤ top
 IsInsnUpTo top (Ja off) = FitsSigned w16 off
 IsInsnUpTo top (Jal off) = FitsSigned w32 off
-IsInsnUpTo top (Jump wide cond dst src off) = (dst ≤ top) × IsOperandUpTo top src × FitsSigned w16 off
+IsInsnUpTo top (Jump wide cond dst src off) =
+    (dst ≤ top) × IsOperandUpTo top src × FitsSigned w16 off
 IsInsnUpTo top (Call id) = FitsSigned w32 id
 IsInsnUpTo top Exit = Unit {0}
 IsInsnUpTo top (Load l) = (l.dst ≤ top) × (l.src ≤ top) × FitsSigned w16 l.off

@@ -16,16 +16,26 @@ IsOfWords r = r.hi < 2 ^ 64
 -- the result of two members is a member of the table's range
 abbrev pub ResultsAreMembers : ℕ → Type 0
 ResultsAreMembers n =
-    (op : Operator) (a b : Range) (x y : ℕ) → IsOfWords a → IsOfWords b → IsMember x a → IsMember y b → IsMember (operate n op x y) (range_of n op a b)
+    (op : Operator) (a b : Range) (x y : ℕ)
+    → IsOfWords a
+    → IsOfWords b
+    → IsMember x a
+    → IsMember y b
+    → IsMember (operate n op x y) (range_of n op a b)
 
 -- the table's range for ranges of words is a range of words
 abbrev pub ResultsAreWords : ℕ → Type 0
-ResultsAreWords n = (op : Operator) (a b : Range) → IsOfWords a → IsOfWords b → IsOfWords (range_of n op a b)
+ResultsAreWords n =
+    (op : Operator) (a b : Range) → IsOfWords a → IsOfWords b → IsOfWords (range_of n op a b)
 
 -- two members that take an edge are members of the ranges on it
 abbrev pub EdgesKeepMembers : ℕ → Type 0
 EdgesKeepMembers n =
-    (condition : Condition) (a b : Range) (x y : ℕ) → IsOfWords a → IsOfWords b → IsMember x a → IsMember y b →
+    (condition : Condition) (a b : Range) (x y : ℕ)
+    → IsOfWords a
+    → IsOfWords b
+    → IsMember x a
+    → IsMember y b →
     (IsTrue (compares n condition x y) → IsPairOn (refined n condition a b).0 x y)
     × (IsFalse (compares n condition x y) → IsPairOn (refined n condition a b).1 x y)
 
@@ -36,16 +46,23 @@ IsPairOfWords (Some p) = IsOfWords p.0 × IsOfWords p.1
 -- the ranges on both edges are ranges of words
 abbrev pub EdgesAreWords : ℕ → Type 0
 EdgesAreWords n =
-    (condition : Condition) (a b : Range) → IsOfWords a → IsOfWords b → IsPairOfWords (refined n condition a b).0 × IsPairOfWords (refined n condition a b).1
+    (condition : Condition) (a b : Range)
+    → IsOfWords a
+    → IsOfWords b
+    → IsPairOfWords (refined n condition a b).0 × IsPairOfWords (refined n condition a b).1
 
 -- the hull includes the members of both
 abbrev pub HullHoldsBoth : Type 0
-HullHoldsBoth = (a b : Range) (x : ℕ) → (IsMember x a → IsMember x (hull a b)) × (IsMember x b → IsMember x (hull a b))
+HullHoldsBoth =
+    (a b : Range) (x : ℕ)
+    → (IsMember x a → IsMember x (hull a b)) × (IsMember x b → IsMember x (hull a b))
 
 -- every range that includes the members of both includes those of the hull
 abbrev pub HullIsLeast : Type 0
 HullIsLeast =
-    (a b c : Range) → ((x : ℕ) → IsMember x a → IsMember x c) → ((x : ℕ) → IsMember x b → IsMember x c) →
+    (a b c : Range)
+    → ((x : ℕ) → IsMember x a → IsMember x c)
+    → ((x : ℕ) → IsMember x b → IsMember x c) →
     (x : ℕ) → IsMember x (hull a b) → IsMember x c
 
 abbrev pub HullCommutes : Type 0

@@ -15,7 +15,9 @@ use Rattle.interval.specs.Ranges.{span, constant, is_constant, full}
 abbrev pub sum_range : ℕ → Range → Range → Range
 sum_range n a b =
     if nat_lt (a.hi + b.hi) (2 ^ n) then span (a.lo + b.lo) (a.hi + b.hi) else
-    (if nat_le (2 ^ n) (a.lo + b.lo) then span (a.lo + b.lo - 2 ^ n) (a.hi + b.hi - 2 ^ n) else full n)
+    (if nat_le (2 ^ n) (a.lo + b.lo)
+      then span (a.lo + b.lo - 2 ^ n) (a.hi + b.hi - 2 ^ n)
+      else full n)
 
 abbrev pub difference_range : ℕ → Range → Range → Range
 difference_range n a b =
@@ -23,7 +25,8 @@ difference_range n a b =
     (if nat_lt a.hi b.lo then span (a.lo + 2 ^ n - b.hi) (a.hi + 2 ^ n - b.lo) else full n)
 
 abbrev pub product_range : ℕ → Range → Range → Range
-product_range n a b = if nat_lt (a.hi * b.hi) (2 ^ n) then span (a.lo * b.lo) (a.hi * b.hi) else full n
+product_range n a b =
+    if nat_lt (a.hi * b.hi) (2 ^ n) then span (a.lo * b.lo) (a.hi * b.hi) else full n
 
 abbrev pub quotient_range : Range → Range → Range
 quotient_range a b = if nat_le 1 b.lo then span (a.lo / b.hi) (a.hi / b.lo) else span 0 a.hi
@@ -49,7 +52,8 @@ abbrev pub xor_range : Range → Range → Range
 xor_range a b = span 0 (digits_end a b)
 
 abbrev pub scaled_range : ℕ → Range → ℕ → Range
-scaled_range n a k = if nat_lt (a.hi * 2 ^ k) (2 ^ n) then span (a.lo * 2 ^ k) (a.hi * 2 ^ k) else full n
+scaled_range n a k =
+    if nat_lt (a.hi * 2 ^ k) (2 ^ n) then span (a.lo * 2 ^ k) (a.hi * 2 ^ k) else full n
 
 abbrev pub shift_left_range : ℕ → Range → Range → Range
 shift_left_range n a b = if is_constant b then scaled_range n a (b.lo % n) else full n
@@ -59,7 +63,8 @@ shift_right_range n a b =
     if is_constant b then span (a.lo / 2 ^ (b.lo % n)) (a.hi / 2 ^ (b.lo % n)) else span 0 a.hi
 
 abbrev pub signed_shift_right_range : ℕ → Range → Range → Range
-signed_shift_right_range n a b = if nat_lt a.hi (2 ^ (n - 1)) then shift_right_range n a b else full n
+signed_shift_right_range n a b =
+    if nat_lt a.hi (2 ^ (n - 1)) then shift_right_range n a b else full n
 
 abbrev pub sign_extend_range : ℕ → ℕ → Range → Range
 sign_extend_range n k b = if nat_lt b.hi (2 ^ (k - 1)) then b else full n
@@ -101,15 +106,18 @@ are_constants (End how kept) a b = is_constant a
 
 -- constant operands give a constant result
 abbrev pub result_range : ℕ → Operator → Range → Range → Range
-result_range n op a b = if are_constants op a b then constant (combined n op a.lo b.lo) else general_range n op a b
+result_range n op a b =
+    if are_constants op a b then constant (combined n op a.lo b.lo) else general_range n op a b
 
 -- the range of the members modulo 2 ^ n: all numbers of n bits if a member is truncated, unless
 -- there is only one member
 abbrev pub range_modulo : ℕ → Range → Range
-range_modulo n r = if nat_lt r.hi (2 ^ n) then r else (if is_constant r then constant (r.lo % 2 ^ n) else full n)
+range_modulo n r =
+    if nat_lt r.hi (2 ^ n) then r else (if is_constant r then constant (r.lo % 2 ^ n) else full n)
 
 abbrev pub operand_range : ℕ → Range → Range
 operand_range n r = if nat_lt n 64 then range_modulo n r else r
 
 abbrev pub range_of : ℕ → Operator → Range → Range → Range
-range_of n op a b = result_range n op (operand_range (bits_read n op) a) (operand_range (bits_read n op) b)
+range_of n op a b =
+    result_range n op (operand_range (bits_read n op) a) (operand_range (bits_read n op) b)

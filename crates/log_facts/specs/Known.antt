@@ -22,19 +22,24 @@ IsKnownBelow n code named known = facts_by_slot known ≡ reached (shapes_of cod
 
 -- an accepted program, and what is known before all its slots
 abbrev pub IsAcceptedWith : List Insn → List Named → List KnownFacts → Type 0
-IsAcceptedWith code named known = IsAccepted code named × IsKnownBelow (slot_count code) code named known
+IsAcceptedWith code named known =
+    IsAccepted code named × IsKnownBelow (slot_count code) code named known
 
 -- a program rejected for its shape, so that no pass over its slots began, and nothing is known
 abbrev pub IsMisshapen : List Insn → List Named → List KnownFacts → VerifyFault → Type 0
-IsMisshapen code named known fault = IsFirstFault (structure_fault code named) fault.slot fault.reason × (known ≡ [])
+IsMisshapen code named known fault =
+    IsFirstFault (structure_fault code named) fault.slot fault.reason × (known ≡ [])
 
 -- a program rejected for its safety, and what is known before the slots up to that of the fault
 abbrev pub IsUnsafe : List Insn → List Named → List KnownFacts → VerifyFault → Type 0
 IsUnsafe code named known fault =
-    HasNoFault (structure_fault code named) × IsFirstFault (safety_fault (shapes_of code named) code) fault.slot fault.reason × IsKnownBelow (fault.slot + 1) code named known
+    HasNoFault (structure_fault code named)
+    × IsFirstFault (safety_fault (shapes_of code named) code) fault.slot fault.reason
+    × IsKnownBelow (fault.slot + 1) code named known
 
 abbrev pub IsRefusedWith : List Insn → List Named → List KnownFacts → VerifyFault → Type 0
-IsRefusedWith code named known fault = IsMisshapen code named known fault ⊎ IsUnsafe code named known fault
+IsRefusedWith code named known fault =
+    IsMisshapen code named known fault ⊎ IsUnsafe code named known fault
 
 -- the verdict: the fault for which the program is rejected, if it is not accepted
 abbrev pub IsJudged : List Insn → List Named → List KnownFacts → Option VerifyFault → Type 0

@@ -31,4 +31,7 @@ EndsInVerdict fault text = (lines : List ℕ) × AreLines lines × AddsVerdict f
 -- is rejected
 abbrev pub SaysVerdict : List Insn → List Named → Bool → List ℕ → Type 0
 SaysVerdict code named true text = EndsInVerdict None text
-SaysVerdict code named false text = (fault : VerifyFault) × IsRefused code named fault.slot fault.reason × EndsInVerdict (Some fault) text
+SaysVerdict code named false text =
+    (fault : VerifyFault)
+    × IsRefused code named fault.slot fault.reason
+    × EndsInVerdict (Some fault) text

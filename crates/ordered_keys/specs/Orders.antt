@@ -41,7 +41,9 @@ abbrev pub bounded_keys : {K : Type 0} → ℕ → List (K × ℕ) → BoundedKe
 bounded_keys bound es = record { bound = bound; entries = es }
 
 abbrev pub bounded_keys_code : {K : Type 0} → Coded K → Coded (BoundedKeys K)
-bounded_keys_code {K} k = code_by (ℕ × List (K × ℕ)) (coded× coded_ℕ (coded_list (coded× k coded_ℕ))) (λ b. (b.bound, b.entries)) (λ p. bounded_keys p.0 p.1) (λ _. refl)
+bounded_keys_code {K} k =
+    code_by (ℕ × List (K × ℕ)) (coded× coded_ℕ (coded_list (coded× k coded_ℕ)))
+    (λ b. (b.bound, b.entries)) (λ p. bounded_keys p.0 p.1) (λ _. refl)
 
 module _ {K : Type 0} where
   abbrev pub first_key_of : List (K × ℕ) → Option K

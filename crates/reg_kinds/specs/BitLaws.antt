@@ -9,7 +9,8 @@ use Rattle.reg_kinds.specs.Many.{bits_in}
 
 less_one : (x y : ℕ) → 0 < x → (x - 1) * y + y ≡ x * y
 less_one zero y h = absurd (omega arith)
-less_one (suc x) y h = let back : suc x - 1 ≡ x = omega arith in ap (λ (k : ℕ). k * y + y) back ∙ next x y
+less_one (suc x) y h =
+    let back : suc x - 1 ≡ x = omega arith in ap (λ (k : ℕ). k * y + y) back ∙ next x y
   where
     next : (x y : ℕ) → x * y + y ≡ suc x * y
     next x y = grind arith
@@ -31,5 +32,7 @@ bits_in_small p n i =
     let b = p - 8 * i in
     ⊎_elim
     (λ lt. let few : a + b ≤ 8 = omega arith in ones_small a b few)
-    (λ le. let none : a ≡ 0 = omega arith in subst (λ k. (2 ^ k - 1) * 2 ^ b < 256) (sym none) (omega arith))
+    (λ le.
+      let none : a ≡ 0 = omega arith in
+      subst (λ k. (2 ^ k - 1) * 2 ^ b < 256) (sym none) (omega arith))
     (cases_lt b 8)

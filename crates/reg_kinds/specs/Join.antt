@@ -16,7 +16,8 @@ kind_join (MapRef m) (MapRef n) = if m == n then MapRef m else Unreadable
 kind_join (Stack x) (Stack y) = if int_eq x y then Stack x else Unreadable
 kind_join Ctx Ctx = Ctx
 kind_join (Value p) (Value q) = if p.map == q.map then Value (offsets_hull p q) else Unreadable
-kind_join (MaybeValue m s) (MaybeValue n t) = if (m == n) && (s == t) then MaybeValue m s else Unreadable
+kind_join (MaybeValue m s) (MaybeValue n t) =
+    if (m == n) && (s == t) then MaybeValue m s else Unreadable
 kind_join _ _ = Unreadable
 
 -- the slot that holds a spilled value of this kind; no written byte if it is Unreadable
@@ -31,7 +32,8 @@ slot_join _ _ = Bytes 0
 
 abbrev pub facts_join : Facts → Facts → Facts
 facts_join a b =
-    facts_of (λ r. kind_join (kind_at a r) (kind_at b r)) (λ i. slot_join (slot_at a i) (slot_at b i))
+    facts_of (λ r. kind_join (kind_at a r) (kind_at b r))
+      (λ i. slot_join (slot_at a i) (slot_at b i))
 
 -- the stack has eight parts, of eight slots each
 abbrev pub stack_parts : ℕ
@@ -42,4 +44,5 @@ part_of i = i / 8
 
 -- the slots of facts a, those of one part joined with facts b
 abbrev pub part_joined : ℕ → Facts → Facts → ℕ → Slot
-part_joined part a b i = if part_of i == part then slot_join (slot_at a i) (slot_at b i) else slot_at a i
+part_joined part a b i =
+    if part_of i == part then slot_join (slot_at a i) (slot_at b i) else slot_at a i

@@ -11,4 +11,9 @@ value_span m lo hi = record { map = m; lo = lo; hi = int_max lo hi; ordered = at
 -- into values of the first one's map, with the least range of offsets that includes both
 abbrev pub offsets_hull : ValuePointer → ValuePointer → ValuePointer
 offsets_hull p q =
-    record { map = p.map; lo = int_min p.lo q.lo; hi = int_max p.hi q.hi; ordered = offsets_ordered p q }
+    record {
+      map = p.map;
+      lo = int_min p.lo q.lo;
+      hi = int_max p.hi q.hi;
+      ordered = offsets_ordered p q
+    }

@@ -24,7 +24,8 @@ settled_spill true m = Bytes 0xff
 settled_spill false m = Spill (Value (value_span m (pos 0) (pos 0)))
 
 abbrev pub slot_settled : ℕ → Bool → Slot → Slot
-slot_settled site null (Spill (MaybeValue m s)) = if s == site then settled_spill null m else Spill (MaybeValue m s)
+slot_settled site null (Spill (MaybeValue m s)) =
+    if s == site then settled_spill null m else Spill (MaybeValue m s)
 slot_settled site null s = s
 
 abbrev pub facts_settled : ℕ → Bool → Facts → Facts

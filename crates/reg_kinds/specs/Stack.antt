@@ -34,10 +34,12 @@ loaded size false = Scalar (full (8 * bytes_of size))
 
 abbrev pub read_slot : Slot → ℕ → AccessSize → Bool → Result Kind Reason
 read_slot (Spill k) bits size signed = if is_double size then Ok k else Err PartOfSpill
-read_slot (Bytes mask) bits size signed = if bit_and mask bits == bits then Ok (loaded size signed) else Err UnwrittenStack
+read_slot (Bytes mask) bits size signed =
+    if bit_and mask bits == bits then Ok (loaded size signed) else Err UnwrittenStack
 
 abbrev pub stack_read : Facts → ℤ → AccessSize → Bool → Result Kind Reason
-stack_read f offset size signed = and_then_ok (touched offset size) (λ t. read_slot (slot_at f t.0) t.1 size signed)
+stack_read f offset size signed =
+    and_then_ok (touched offset size) (λ t. read_slot (slot_at f t.0) t.1 size signed)
 
 -- ---- stores
 
@@ -49,11 +51,14 @@ bytes_over (Spill k) bits = Bytes bits
 -- the slot after a store; a pointer is spilled whole, or the store is rejected
 abbrev pub slot_written : Slot → ℕ → AccessSize → Kind → Result Slot Reason
 slot_written s bits size k =
-    if is_pointer k then (if is_double size then Ok (Spill k) else Err PartOfSpill) else Ok (bytes_over s bits)
+    if is_pointer k
+      then (if is_double size then Ok (Spill k) else Err PartOfSpill)
+      else Ok (bytes_over s bits)
 
 -- the facts after a store
 abbrev pub facts_written : Facts → AccessSize → Kind → ℕ × ℕ → Result Facts Reason
-facts_written f size k t = and_then_ok (slot_written (slot_at f t.0) t.1 size k) (λ s. Ok (with_slot f t.0 s))
+facts_written f size k t =
+    and_then_ok (slot_written (slot_at f t.0) t.1 size k) (λ s. Ok (with_slot f t.0 s))
 
 abbrev pub stack_write : Facts → ℤ → AccessSize → Kind → Result Facts Reason
 stack_write f offset size Unreadable = Err UnreadableRegister

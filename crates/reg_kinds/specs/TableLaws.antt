@@ -11,7 +11,9 @@ use Rattle.reg_kinds.specs.Kinds.{tabulate}
 -- ---- a list made of a function
 
 -- the element at i is f i
-pub tabulate-at : {X : Type 0} (f : ℕ → X) (n i : ℕ) (d : X) → i < n → get_or (tabulate n f) i d ≡ f i
+pub tabulate-at : {X : Type 0} (f : ℕ → X) (n i : ℕ) (d : X)
+    → i < n
+    → get_or (tabulate n f) i d ≡ f i
 unfolding tabulate
 tabulate-at f n i d h = get_or-map-range_with_len f 0 n i i d h (omega arith)
 
@@ -21,10 +23,14 @@ unfolding tabulate
 length-tabulate f n = length-map-range_with_len f 0 n
 
 tabulate-past : {X : Type 0} (f : ℕ → X) (n i : ℕ) (d : X) → n ≤ i → get_or (tabulate n f) i d ≡ d
-tabulate-past f n i d h = let l = length-tabulate f n in get_or_past (tabulate n f) i d (omega arith)
+tabulate-past f n i d h =
+    let l = length-tabulate f n in get_or_past (tabulate n f) i d (omega arith)
 
 -- what holds of f i, and of the default past the end, holds of the element read at i
-pub in_table : {X : Type 0} (P : X → Type 0) (f : ℕ → X) (n i : ℕ) (d : X) → P (f i) → P d → P (get_or (tabulate n f) i d)
+pub in_table : {X : Type 0} (P : X → Type 0) (f : ℕ → X) (n i : ℕ) (d : X)
+    → P (f i)
+    → P d
+    → P (get_or (tabulate n f) i d)
 in_table P f n i d here past =
     ⊎_elim
     (λ lt. subst P (sym (tabulate-at f n i d lt)) here)
@@ -33,21 +39,39 @@ in_table P f n i d here past =
 
 -- ---- a list with one element written
 
-set-at : {X : Type 0} (P : X → Type 0) (xs : List X) (i : ℕ) (x d : X) → P x → P d → P (get_or (set xs i x) i d)
+set-at : {X : Type 0} (P : X → Type 0) (xs : List X) (i : ℕ) (x d : X)
+    → P x
+    → P d
+    → P (get_or (set xs i x) i d)
 set-at P xs i x d here past =
     ⊎_elim
     (λ lt. subst P (sym (get_or-set_same xs i x d lt)) here)
-    (λ le. subst P (sym (get_or_past (set xs i x) i d (let l = length-set xs i x in omega arith))) past)
+    (λ le.
+      subst P (sym (get_or_past (set xs i x) i d (let l = length-set xs i x in omega arith))) past)
     (cases_lt i (length xs))
 
 -- a relation between elements and a function's values, and between x and y, holds once x and y are
 -- written at i
-pub in_written : {X Y : Type 0} (P : X → Y → Type 0) (xs : List X) (g : ℕ → Y) (i : ℕ) (x d : X) (y : Y) → P x y → P d y → ((k : ℕ) → P (get_or xs k d) (g k)) → (k : ℕ) → P (get_or (set xs i x) k d) (if k == i then y else g k)
+pub in_written : {X Y : Type 0} (P : X → Y → Type 0) (xs : List X) (g : ℕ → Y) (i : ℕ) (x d : X)
+      (y : Y)
+    → P x y
+    → P d y
+    → ((k : ℕ) → P (get_or xs k d) (g k))
+    → (k : ℕ)
+    → P (get_or (set xs i x) k d) (if k == i then y else g k)
 in_written P xs g i x d y here past others k =
     cond_both (k == i) y (g k) (λ z. P (get_or (set xs i x) k d) z)
-    (λ t. subst (λ j. P (get_or (set xs i x) j d) y) (sym (eqb-true k i t)) (set-at (λ z. P z y) xs i x d here past))
+    (λ t.
+      subst (λ j. P (get_or (set xs i x) j d) y) (sym (eqb-true k i t))
+      (set-at (λ z. P z y) xs i x d here past))
     (λ t. subst (λ z. P z (g k)) (sym (get_or-set_other xs i k x d (eqb-false k i t))) (others k))
 
 -- what holds of the elements of a list, and of x, holds of the elements once x is written at i
-pub in_set : {X : Type 0} (P : X → Type 0) (xs : List X) (i : ℕ) (x d : X) → P x → P d → ((k : ℕ) → P (get_or xs k d)) → (k : ℕ) → P (get_or (set xs i x) k d)
-in_set P xs i x d here past others k = in_written {Y = ℕ} (λ z _. P z) xs (λ _. 0) i x d 0 here past others k
+pub in_set : {X : Type 0} (P : X → Type 0) (xs : List X) (i : ℕ) (x d : X)
+    → P x
+    → P d
+    → ((k : ℕ) → P (get_or xs k d))
+    → (k : ℕ)
+    → P (get_or (set xs i x) k d)
+in_set P xs i x d here past others k =
+    in_written {Y = ℕ} (λ z _. P z) xs (λ _. 0) i x d 0 here past others k

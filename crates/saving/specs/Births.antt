@@ -54,12 +54,19 @@ IsBorn s older (OfProgram fd) = IsProgramBorn s older fd
 -- the births of an object's maps are older, and no older birth at the descriptor is of a program
 abbrev pub AreInOrder : TenantState → List Birth → Type 0
 AreInOrder s [] = Unit {0}
-AreInOrder s (b ∷ older) = (first_descriptor ≤ number b) × (number b < first_descriptor + most) × (list_any (is_of_program (number b)) older ≡ false) × IsBorn s older b × AreInOrder s older
+AreInOrder s (b ∷ older) =
+    (first_descriptor ≤ number b)
+    × (number b < first_descriptor + most)
+    × (list_any (is_of_program (number b)) older ≡ false)
+    × IsBorn s older b
+    × AreInOrder s older
 
 -- the births of the live maps and the open programs of a state
 pub record AreBirths (s : TenantState) (births : List Birth) : Type 0 where
   pub order : AreInOrder s births
-  pub latest : (fd : ℕ) (o : OpenObject) → named s.objects fd ≡ Some o → latest_at births fd ≡ Some (birth_of fd o)
+  pub latest : (fd : ℕ) (o : OpenObject)
+      → named s.objects fd ≡ Some o
+      → latest_at births fd ≡ Some (birth_of fd o)
 
 -- ---- the births after a command
 

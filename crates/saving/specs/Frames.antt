@@ -16,13 +16,17 @@ command_code (prog_test_run fd words packet) = 10
 command_code (close fd) = 256
 
 abbrev pub body_of : Command → List ℕ
-body_of (map_create kind key value max flags) = little_bytes 4 kind ++ (little_bytes 4 key ++ (little_bytes 4 value ++ (little_bytes 4 max ++ little_bytes 4 flags)))
+body_of (map_create kind key value max flags) =
+    little_bytes 4 kind
+    ++
+      (little_bytes 4 key ++ (little_bytes 4 value ++ (little_bytes 4 max ++ little_bytes 4 flags)))
 body_of (map_lookup fd key) = little_bytes 4 fd ++ key
 body_of (map_update fd flags bytes) = little_bytes 4 fd ++ (little_bytes 8 flags ++ bytes)
 body_of (map_delete fd key) = little_bytes 4 fd ++ key
 body_of (map_next_key fd key) = little_bytes 4 fd ++ key
 body_of (prog_load kind slots) = little_bytes 4 kind ++ slots
-body_of (prog_test_run fd words packet) = little_bytes 4 fd ++ (flat_map (little_bytes 4) words ++ packet)
+body_of (prog_test_run fd words packet) =
+    little_bytes 4 fd ++ (flat_map (little_bytes 4) words ++ packet)
 body_of (close fd) = little_bytes 4 fd
 
 -- the frame of a command to a tenant

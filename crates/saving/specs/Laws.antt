@@ -31,11 +31,25 @@ AlikeIsBisimulation =
 
 -- states that are alike give each list of frames the same replies
 pub record AlikeStatesReplyAlike : Type 0 where
-  pub alone : (s t : TenantState) (frames replies : List (List ℕ)) (after : Option TenantState) → HoldsItsMaps s → HoldsItsMaps t → IsAlike s t → IsToldAlone (Some s) frames replies after
+  pub alone : (s t : TenantState) (frames replies : List (List ℕ)) (after : Option TenantState)
+      → HoldsItsMaps s
+      → HoldsItsMaps t
+      → IsAlike s t
+      → IsToldAlone (Some s) frames replies after
       → (end : Option TenantState) × IsToldAlone (Some t) frames replies end
-  pub refused : (s t : TenantState) (frames replies : List (List ℕ)) (after : Option TenantState) → HoldsItsMaps s → HoldsItsMaps t → IsAlike s t → AloneWithRefusals (Some s) frames replies after
+  pub refused : (s t : TenantState) (frames replies : List (List ℕ)) (after : Option TenantState)
+      → HoldsItsMaps s
+      → HoldsItsMaps t
+      → IsAlike s t
+      → AloneWithRefusals (Some s) frames replies after
       → (end : Option TenantState) × AloneWithRefusals (Some t) frames replies end
-  pub same : (s t : TenantState) (frames replies others : List (List ℕ)) (after end : Option TenantState) → HoldsItsMaps s → HoldsItsMaps t → IsAlike s t → IsToldAlone (Some s) frames replies after → IsToldAlone (Some t) frames others end
+  pub same : (s t : TenantState) (frames replies others : List (List ℕ))
+        (after end : Option TenantState)
+      → HoldsItsMaps s
+      → HoldsItsMaps t
+      → IsAlike s t
+      → IsToldAlone (Some s) frames replies after
+      → IsToldAlone (Some t) frames others end
       → others ≡ replies
 
 -- the births of a tenant's objects: a new tenant has none, each command preserves the invariant,
@@ -45,12 +59,19 @@ pub record BirthsAreKept : Type 0 where
   pub kept : (refused : Bool) (s : TenantState) (command : Command) (a : Answer)
       (births : List Birth) → HoldsItsMaps s → AreBirths s births → Answers refused s command a
       → AreBirths a.after (births_after command a births)
-  pub few : (s : TenantState) (births : List Birth) → HoldsItsMaps s → AreBirths s births → length births ≤ most + most_maps
+  pub few : (s : TenantState) (births : List Birth)
+      → HoldsItsMaps s
+      → AreBirths s births
+      → length births ≤ most + most_maps
 
 -- a new tenant that gets the commands of a save succeeds at each, and is then alike to the saved
 -- state
 abbrev pub RestoredIsAlike : Type 0
-RestoredIsAlike = (s : TenantState) (births : List Birth) → IsRestorable s → AreBirths s births → (t : TenantState) × Leads new_tenant (restored s births) t × IsAlike s t × HoldsItsMaps t
+RestoredIsAlike =
+    (s : TenantState) (births : List Birth)
+    → IsRestorable s
+    → AreBirths s births
+    → (t : TenantState) × Leads new_tenant (restored s births) t × IsAlike s t × HoldsItsMaps t
 
 -- the owner of a frame is its tenant
 abbrev pub FramesHaveOwners : Type 0
@@ -78,7 +99,9 @@ TestRunsHaveFrames =
 abbrev pub RestoredByFrames : Type 0
 RestoredByFrames =
     (tenant : ℕ) (s : TenantState) (births : List Birth) → IsRestorable s → AreBirths s births
-    → (t : TenantState) × (replies : List (List ℕ)) × IsToldAlone (Some new_tenant) (map (frame_of tenant) (restored s births)) replies (Some t)
+    → (t : TenantState)
+      × (replies : List (List ℕ))
+      × IsToldAlone (Some new_tenant) (map (frame_of tenant) (restored s births)) replies (Some t)
     × AreGood (map (frame_of tenant) (restored s births)) replies × IsAlike s t × HoldsItsMaps t
 
 -- a new tenant can be restored, and each command preserves this
@@ -101,12 +124,21 @@ IsHistory s births (c ∷ cs) t later =
 -- replies that this state gives.
 abbrev pub IsRestoredBy : TenantState → List (List ℕ) → Type 0
 IsRestoredBy s saved =
-    (t : TenantState) × (given : List (List ℕ)) × IsToldAlone (Some new_tenant) saved given (Some t) × AreGood saved given
-    × ((frames replies : List (List ℕ)) (after : Option TenantState) → IsToldAlone (Some s) frames replies after → (end : Option TenantState) × IsToldAlone (Some t) frames replies end)
-    × ((frames replies others : List (List ℕ)) (after end : Option TenantState) → IsToldAlone (Some s) frames replies after → IsToldAlone (Some t) frames others end → others ≡ replies)
+    (t : TenantState)
+    × (given : List (List ℕ))
+    × IsToldAlone (Some new_tenant) saved given (Some t)
+    × AreGood saved given
+    × ((frames replies : List (List ℕ)) (after : Option TenantState)
+      → IsToldAlone (Some s) frames replies after
+      → (end : Option TenantState) × IsToldAlone (Some t) frames replies end)
+    × ((frames replies others : List (List ℕ)) (after end : Option TenantState)
+      → IsToldAlone (Some s) frames replies after
+      → IsToldAlone (Some t) frames others end
+      → others ≡ replies)
 
 -- the state after any history is restored
 abbrev pub HistoriesAreRestored : Type 0
 HistoriesAreRestored =
-    (tenant : ℕ) (commands : List Command) (s : TenantState) (births : List Birth) → IsHistory new_tenant [] commands s births
+    (tenant : ℕ) (commands : List Command) (s : TenantState) (births : List Birth)
+    → IsHistory new_tenant [] commands s births
     → IsRestoredBy s (map (frame_of tenant) (restored s births))

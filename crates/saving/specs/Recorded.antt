@@ -22,7 +22,8 @@ tenant_state part t = state_in part t.kept
 -- the invariant: exactly the maps that an open object names are live, and the births are those of
 -- the state
 abbrev pub IsRecorded : RecordedTenant → Type 0
-IsRecorded t = (part : List ℕ) → HoldsItsMaps (tenant_state part t) × AreBirths (tenant_state part t) t.births
+IsRecorded t =
+    (part : List ℕ) → HoldsItsMaps (tenant_state part t) × AreBirths (tenant_state part t) t.births
 
 -- a frame that carries no command changes no births
 abbrev pub births_after_frame : Result Command BadFrame → Answer → List Birth → List Birth
@@ -31,7 +32,8 @@ births_after_frame (Ok command) a births = births_after command a births
 
 -- a frame, its reply, and the state and the births of its tenant before and after it; memory may be
 -- refused
-pub record RecordsFrame (frame reply : List ℕ) (before after : TenantState) (births later : List Birth) : Type 0 where
+pub record RecordsFrame (frame reply : List ℕ) (before after : TenantState)
+    (births later : List Birth) : Type 0 where
   pub refused : Bool
   pub answer : Answer
   pub answers : AnswersFrame refused before (parsed frame) answer

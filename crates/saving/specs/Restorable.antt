@@ -30,7 +30,8 @@ pub record IsWholeTable {A : Type 0} (t : Table A) : Type 0 where
   pub keys : AllByRecursion (λ e. length e.0 ≡ t.shape.key_size) t.entries
   pub distinct : AreDistinct (keys_of t.entries)
   pub few : length t.entries + t.deleted ≤ t.shape.max_entries
-  pub indices : t.shape.kind ≡ Array → keys_of t.entries ≡ keys_of (indexed (λ i. i) 0 t.shape.max_entries)
+  pub indices : t.shape.kind ≡ Array
+      → keys_of t.entries ≡ keys_of (indexed (λ i. i) 0 t.shape.max_entries)
 
 -- values have the map's value size, too, and no run is in progress
 pub record IsWholeMap (t : Map) : Type 0 where
@@ -42,7 +43,9 @@ pub record IsWholeMap (t : Map) : Type 0 where
 unfoldable pub shapes_from : TenantState → List (ℕ × ℕ) → ℕ → ℕ → List Named
 shapes_from s maps fd zero = []
 shapes_from s maps fd (suc n) =
-    entry_of fd (option_map (λ t. target.Map t.shape) (and_then (lookup (λ m. m == fd) maps) (live s))) ++ shapes_from s maps (fd + 1) n
+    entry_of fd
+        (option_map (λ t. target.Map t.shape) (and_then (lookup (λ m. m == fd) maps) (live s)))
+      ++ shapes_from s maps (fd + 1) n
 
 -- a program was accepted with the shapes that its maps have, and has a handle for each map that it
 -- loads
@@ -58,4 +61,6 @@ pub record IsRestorable (s : TenantState) : Type 0 where
   pub held : HoldsItsMaps s
   pub area : maps_area s.maps ≤ most_bytes
   pub maps : (handle : ℕ) (t : Map) → live s handle ≡ Some t → IsWholeMap t
-  pub programs : (fd : ℕ) (l : LoadedProgram) → named s.objects fd ≡ Some (object.Program l) → IsWholeProgram s l
+  pub programs : (fd : ℕ) (l : LoadedProgram)
+      → named s.objects fd ≡ Some (object.Program l)
+      → IsWholeProgram s l

@@ -26,7 +26,8 @@ kind_number Hash = 1
 kind_number Array = 2
 
 abbrev pub create_of : MapShape → Command
-create_of shape = map_create (kind_number shape.kind) shape.key_size shape.value_size shape.max_entries 0
+create_of shape =
+    map_create (kind_number shape.kind) shape.key_size shape.value_size shape.max_entries 0
 
 abbrev pub put_of : ℕ → List ℕ × List ℕ → Command
 put_of fd e = map_update fd 0 (e.0 ++ e.1)
@@ -57,7 +58,8 @@ born s (b ∷ older) = born s older ++ (close (number b) ∷ made s b)
 -- the commands that close the descriptors from fd on, if they are not open in the state
 unfoldable pub closings : List (Option OpenObject) → ℕ → ℕ → List Command
 closings objects fd zero = []
-closings objects fd (suc n) = (if is_none (named objects fd) then close fd ∷ [] else []) ++ closings objects (fd + 1) n
+closings objects fd (suc n) =
+    (if is_none (named objects fd) then close fd ∷ [] else []) ++ closings objects (fd + 1) n
 
 abbrev pub restored : TenantState → List Birth → List Command
 restored s births = filled most ++ (born s births ++ closings s.objects first_descriptor most)

@@ -16,7 +16,9 @@ birth_commands s b = close (number b) ∷ made s b
 
 -- the parts, with the oldest birth first
 abbrev pub parts : TenantState → List Birth → List (List Command)
-parts s births = filled most ∷ (map (birth_commands s) (reverse births) ++ closings s.objects first_descriptor most ∷ [])
+parts s births =
+    filled most
+    ∷ (map (birth_commands s) (reverse births) ++ closings s.objects first_descriptor most ∷ [])
 
 -- the frames of commands to a tenant, each with its length before it
 abbrev pub frames_of : ℕ → List Command → List ℕ
@@ -24,4 +26,6 @@ frames_of tenant commands = flat_map (λ c. framed (frame_of tenant c)) commands
 
 -- all parts together are the commands that restore the tenant
 abbrev pub PartsAreWhole : Type 0
-PartsAreWhole = (s : TenantState) (births : List Birth) → flat_map (λ part. part) (parts s births) ≡ restored s births
+PartsAreWhole =
+    (s : TenantState) (births : List Birth)
+    → flat_map (λ part. part) (parts s births) ≡ restored s births

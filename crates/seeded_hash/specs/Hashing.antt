@@ -6,7 +6,10 @@ use Rattle.seeded_hash.specs.declared.SeededHasher.{SeededHasher}
 
 -- the seed of sixteen bytes: the numbers of the first eight and of the last eight, little-endian
 abbrev pub seed_of : List ℕ → HashSeed
-seed_of bytes = record { state = from_le_bytes w64 (take 8 bytes); factor = from_le_bytes w64 (drop 8 bytes) }
+seed_of bytes = record {
+  state = from_le_bytes w64 (take 8 bytes);
+  factor = from_le_bytes w64 (drop 8 bytes)
+}
 
 -- the hasher of a seed
 abbrev pub started : HashSeed → SeededHasher
@@ -18,7 +21,9 @@ folded_product a b = bit_xor (bit_and (a * b) (2 ^ 64 - 1)) (a * b / 2 ^ 64)
 
 -- the four bytes from i on, little-endian
 unfoldable pub half_at : List ℕ → ℕ → ℕ
-half_at bs i = slice_index bs i + slice_index bs (i + 1) * 256 + slice_index bs (i + 2) * 65536 + slice_index bs (i + 3) * 16777216
+half_at bs i =
+    slice_index bs i + slice_index bs (i + 1) * 256 + slice_index bs (i + 2) * 65536
+    + slice_index bs (i + 3) * 16777216
 
 -- a shift to the left, modulo 2 ^ 64
 abbrev pub shifted : ℕ → ℕ → ℕ
@@ -33,24 +38,35 @@ unfoldable pub short_word : List ℕ → ℕ
 short_word bs =
     let n = length bs in
     if nat_le 4 n then bit_or (half_at bs 0) (shifted (half_at bs (n - 4)) 32)
-    else (if nat_lt 0 n then bit_or (bit_or (slice_index bs 0) (shifted (slice_index bs (n / 2)) 8)) (shifted (slice_index bs (n - 1)) 16) else 0)
+    else
+      (if nat_lt 0 n
+        then bit_or (bit_or (slice_index bs 0) (shifted (slice_index bs (n / 2)) 8))
+          (shifted (slice_index bs (n - 1)) 16)
+        else 0)
 
 -- the state after the words at i and at j
 abbrev pub mixed : ℕ → List ℕ → ℕ → ℕ → ℕ → ℕ
-mixed factor bs state i j = folded_product (bit_xor (word_at bs i) state) (bit_xor (word_at bs j) factor)
+mixed factor bs state i j =
+    folded_product (bit_xor (word_at bs i) state) (bit_xor (word_at bs j) factor)
 
 -- the state after the first n blocks of sixteen bytes
 unfoldable pub blocks_mixed : ℕ → List ℕ → ℕ → ℕ → ℕ
 blocks_mixed factor bs state zero = state
-blocks_mixed factor bs state (suc n) = mixed factor bs (blocks_mixed factor bs state n) (16 * n) (16 * n + 8)
+blocks_mixed factor bs state (suc n) =
+    mixed factor bs (blocks_mixed factor bs state n) (16 * n) (16 * n + 8)
 
 -- the hasher after a write
 unfoldable pub written : SeededHasher → List ℕ → SeededHasher
 written h bs =
     let n = length bs in
     let state = (h.state + n) % 2 ^ 64 in
-    let short = folded_product (bit_xor (short_word bs) state) (bit_xor (rotate_left w64 (short_word bs) 32) h.factor) in
-    let long = folded_product (mixed h.factor bs (blocks_mixed h.factor bs state ((n - 1) / 16)) (n - 16) (n - 8)) h.factor in
+    let short =
+        folded_product (bit_xor (short_word bs) state)
+        (bit_xor (rotate_left w64 (short_word bs) 32) h.factor) in
+    let long =
+        folded_product
+        (mixed h.factor bs (blocks_mixed h.factor bs state ((n - 1) / 16)) (n - 16)
+          (n - 8)) h.factor in
     record { state = if nat_le n 8 then short else long; factor = h.factor }
 
 -- the hash at the end

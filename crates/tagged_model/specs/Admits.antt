@@ -30,11 +30,19 @@ IsScalarOf r v = (n : ℕ) × (v ≡ Scalar n) × IsMember n r × (n < 2 ^ 64)
 
 -- a pointer into a value of the map, at an offset in the known range
 abbrev pub IsValueOf : Witness → ValuePointer → Tagged → Type 0
-IsValueOf witness p v = (number : ℕ) × (x : ℤ) × (v ≡ Pointer (object.Value p.map number) x) × (p.lo ≤ℤ x) × (x ≤ℤ p.hi) × (number < witness.objects p.map)
+IsValueOf witness p v =
+    (number : ℕ)
+    × (x : ℤ)
+    × (v ≡ Pointer (object.Value p.map number) x)
+    × (p.lo ≤ℤ x)
+    × (x ≤ℤ p.hi)
+    × (number < witness.objects p.map)
 
 -- null, or a pointer to the start of a value of map m
 abbrev pub IsLookup : Witness → ℕ → Tagged → Type 0
-IsLookup witness m v = (v ≡ Scalar 0) ⊎ ((number : ℕ) × (v ≡ Pointer (object.Value m number) (pos 0)) × (number < witness.objects m))
+IsLookup witness m v =
+    (v ≡ Scalar 0)
+    ⊎ ((number : ℕ) × (v ≡ Pointer (object.Value m number) (pos 0)) × (number < witness.objects m))
 
 abbrev pub IsOfKind : Witness → Kind → Tagged → Type 0
 IsOfKind witness kind.Unreadable v = Unit {0}
@@ -64,7 +72,8 @@ HoldsWhole witness k c = (v : Tagged) × (c ≡ holds v) × IsOfKind witness k v
 
 -- eight zero bytes represent the null of a look-up
 abbrev pub HoldsNull : Witness → Kind → Cell → Type 0
-HoldsNull witness (kind.MaybeValue m site) c = (witness.gave site ≡ Scalar 0) × ((j : ℕ) → j < 8 → byte_at c j ≡ Some 0)
+HoldsNull witness (kind.MaybeValue m site) c =
+    (witness.gave site ≡ Scalar 0) × ((j : ℕ) → j < 8 → byte_at c j ≡ Some 0)
 HoldsNull witness _ c = ⊥
 
 -- the bytes of the mask are present
@@ -107,4 +116,7 @@ pub record AreBelow (n : ℕ) (f : Facts) : Type 0 where
 
 -- the witness after a look-up at a site that gave v
 abbrev pub witness_at : Witness → RunState → ℕ → Tagged → Witness
-witness_at witness s site v = record { gave = set_at witness.gave site v; objects = λ m. objects_of (s.maps m) }
+witness_at witness s site v = record {
+  gave = set_at witness.gave site v;
+  objects = λ m. objects_of (s.maps m)
+}

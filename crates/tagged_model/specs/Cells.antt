@@ -26,7 +26,8 @@ byte_at (bytes b) j = b j
 -- the n bytes at index p, if none of them is absent
 unfoldable pub gathered : (ℕ → Option ℕ) → ℕ → ℕ → Option (List ℕ)
 gathered byte p zero = Some []
-gathered byte p (suc n) = and_then (byte p) (λ b. and_then (gathered byte (suc p) n) (λ bs. Some (b ∷ bs)))
+gathered byte p (suc n) =
+    and_then (byte p) (λ b. and_then (gathered byte (suc p) n) (λ bs. Some (b ∷ bs)))
 
 -- a loaded number as a word: sign-extended, or zero-extended
 abbrev pub widened : AccessSize → Bool → ℕ → ℕ
@@ -44,7 +45,9 @@ read_cell (bytes b) j size signed = number_from size signed (gathered b j (bytes
 
 -- the cell with these bytes written over it at offset j; a value kept whole is lost
 abbrev pub written_over : Cell → ℕ → List ℕ → Cell
-written_over c j bs = bytes (λ k. if nat_le j k && nat_lt k (j + length bs) then slice_get bs (k - j) else byte_at c k)
+written_over c j bs =
+    bytes
+    (λ k. if nat_le j k && nat_lt k (j + length bs) then slice_get bs (k - j) else byte_at c k)
 
 -- the cell after a store; None for a store of a part of a pointer or map
 abbrev pub write_cell : Cell → ℕ → AccessSize → Tagged → Option Cell
@@ -56,4 +59,10 @@ write_cell c j _ v = None
 -- value kept whole is lost
 abbrev pub cell_over : ℕ → Cell → ℕ → List ℕ → Cell
 cell_over i c p bs =
-    if touches p (length bs) i then bytes (λ j. if nat_le p (8 * i + j) && nat_lt (8 * i + j) (p + length bs) then slice_get bs (8 * i + j - p) else byte_at c j) else c
+    if touches p (length bs) i
+      then bytes
+        (λ j.
+          if nat_le p (8 * i + j) && nat_lt (8 * i + j) (p + length bs)
+          then slice_get bs (8 * i + j - p)
+          else byte_at c j)
+      else c

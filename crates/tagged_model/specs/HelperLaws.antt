@@ -22,17 +22,27 @@ use Rattle.tagged_model.specs.Helpers.{id_of, known_helpers, helper_of, MapReply
 
 -- ---- the number
 
-found_passes : {A : Type 0} (test : A → Bool) (xs : List A) (x : A) → find test xs ≡ Some x → test x ≡ true
+found_passes : {A : Type 0} (test : A → Bool) (xs : List A) (x : A)
+    → find test xs ≡ Some x
+    → test x ≡ true
 found_passes test [] x e = absurd (none-some x e)
 found_passes test (y ∷ ys) x e = by (found_passes test ys x) (test y) refl e
   where
-    by : (find test ys ≡ Some x → test x ≡ true) → (b : Bool) → test y ≡ b → cond b (Some y) (find test ys) ≡ Some x → test x ≡ true
+    by : (find test ys ≡ Some x → test x ≡ true)
+        → (b : Bool)
+        → test y ≡ b
+        → cond b (Some y) (find test ys) ≡ Some x
+        → test x ≡ true
     by rest true is e = ap test (sym (same_Some y x e)) ∙ is
     by rest false is e = rest e
 
 -- a helper is found only by its own number
-pub number_of_found : (id : ℤ) (helper : Helper) → helper_of id ≡ Some helper → id ≡ pos (id_of helper)
-number_of_found id helper e = (signed_Decides id (pos (id_of helper))).0 (found_passes (λ h. int_eq id (pos (id_of h))) known_helpers helper e)
+pub number_of_found : (id : ℤ) (helper : Helper)
+    → helper_of id ≡ Some helper
+    → id ≡ pos (id_of helper)
+number_of_found id helper e =
+    (signed_Decides id (pos (id_of helper))).0
+    (found_passes (λ h. int_eq id (pos (id_of h))) known_helpers helper e)
 
 -- ---- what a call leaves
 
@@ -40,8 +50,13 @@ number_of_found id helper e = (signed_Decides id (pos (id_of helper))).0 (found_
 -- whatever its result
 pub data MapAfterCall (t : RunMap) : RunMap → Type 0 where
   unchanged : MapAfterCall t t
-  written : (number : ℕ) (offset : ℤ) (bs value : List ℕ) → value_written (t.values number) offset bs ≡ Some value → MapAfterCall t (with_value t number value)
-  after_update : (key value : List ℕ) (flags : ℕ) → length key ≡ t.table.shape.key_size → length value ≡ t.table.shape.value_size → MapAfterCall t (updated t key value flags).map
+  written : (number : ℕ) (offset : ℤ) (bs value : List ℕ)
+      → value_written (t.values number) offset bs ≡ Some value
+      → MapAfterCall t (with_value t number value)
+  after_update : (key value : List ℕ) (flags : ℕ)
+      → length key ≡ t.table.shape.key_size
+      → length value ≡ t.table.shape.value_size
+      → MapAfterCall t (updated t key value flags).map
   after_delete : (key : List ℕ) → MapAfterCall t (removed t key).map
 
 -- a descriptor has a map after a call exactly if it had one before
@@ -71,40 +86,70 @@ state_same : (s : RunState) → IsAfterCall s s
 state_same s = record { words = refl; maps = λ m. entry_same (s.maps m) }
 
 -- one map changes
-entry_set : (s : RunState) (m : ℕ) (t u : RunMap) → s.maps m ≡ Some t → MapAfterCall t u → (k : ℕ) → EntryAfterCall (s.maps k) (set_at s.maps m (Some u) k)
+entry_set : (s : RunState) (m : ℕ) (t u : RunMap)
+    → s.maps m ≡ Some t
+    → MapAfterCall t u
+    → (k : ℕ)
+    → EntryAfterCall (s.maps k) (set_at s.maps m (Some u) k)
 entry_set s m t u there change k =
     cond_both (k == m) (Some u) (s.maps k) (EntryAfterCall (s.maps k))
-    (λ b. subst (λ (o : Option RunMap). EntryAfterCall o (Some u)) (sym (ap s.maps (eqb-true k m b) ∙ there)) change)
+    (λ b.
+      subst (λ (o : Option RunMap). EntryAfterCall o (Some u))
+      (sym (ap s.maps (eqb-true k m b) ∙ there)) change)
     (λ _. entry_same (s.maps k))
 
-map_changed : (s : RunState) (m : ℕ) (t u : RunMap) → s.maps m ≡ Some t → MapAfterCall t u → IsAfterCall s (with_map s m u)
+map_changed : (s : RunState) (m : ℕ) (t u : RunMap)
+    → s.maps m ≡ Some t
+    → MapAfterCall t u
+    → IsAfterCall s (with_map s m u)
 map_changed s m t u there change = record { words = refl; maps = entry_set s m t u there change }
 
 returned : (s t : RunState) (v : Tagged) → IsAfterCall s t → IsAfterCall s (returns t v)
 returned s t v h = record { words = h.words; maps = h.maps }
 
-replied : (s : RunState) (m : ℕ) (t : RunMap) (reply : MapReply) → s.maps m ≡ Some t → MapAfterCall t reply.map → IsAfterCall s (replies s m reply)
-replied s m t reply there change = record { words = refl; maps = entry_set s m t reply.map there change }
+replied : (s : RunState) (m : ℕ) (t : RunMap) (reply : MapReply)
+    → s.maps m ≡ Some t
+    → MapAfterCall t reply.map
+    → IsAfterCall s (replies s m reply)
+replied s m t reply there change = record {
+  words = refl;
+  maps = entry_set s m t reply.map there change
+}
 
-then_leaves : {A : Type 0} (s : RunState) (o : Option A) (f : A → Option RunState) → ((x : A) → o ≡ Some x → LeavesAfterCall s (f x)) → LeavesAfterCall s (and_then o f)
+then_leaves : {A : Type 0} (s : RunState) (o : Option A) (f : A → Option RunState)
+    → ((x : A) → o ≡ Some x → LeavesAfterCall s (f x))
+    → LeavesAfterCall s (and_then o f)
 then_leaves s None f h = tt
 then_leaves s (Some x) f h = h x refl
 
-return_leaves : (s : RunState) (o : Option RunState) (v : Tagged) → LeavesAfterCall s o → LeavesAfterCall s (and_then o (λ t. Some (returns t v)))
+return_leaves : (s : RunState) (o : Option RunState) (v : Tagged)
+    → LeavesAfterCall s o
+    → LeavesAfterCall s (and_then o (λ t. Some (returns t v)))
 return_leaves s None v h = tt
 return_leaves s (Some t) v h = returned s t v h
 
 -- ---- arguments
 
 -- a map is the one of its descriptor
-map_leaves : (s : RunState) (r : ℕ) (f : GivenMap → Option RunState) → ((m : ℕ) (t : RunMap) → s.maps m ≡ Some t → LeavesAfterCall s (f (record { descriptor = m; map = t }))) → LeavesAfterCall s (and_then (map_argument s r) f)
+map_leaves : (s : RunState) (r : ℕ) (f : GivenMap → Option RunState)
+    → ((m : ℕ) (t : RunMap)
+      → s.maps m ≡ Some t
+      → LeavesAfterCall s (f (record { descriptor = m; map = t })))
+    → LeavesAfterCall s (and_then (map_argument s r) f)
 map_leaves s r f h = by (argument s r map_given)
   where
-    at : (m : ℕ) (o : Option RunMap) → s.maps m ≡ o → LeavesAfterCall s (and_then (and_then o (λ t. Some (record { descriptor = m; map = t }))) f)
+    at : (m : ℕ) (o : Option RunMap)
+        → s.maps m ≡ o
+        → LeavesAfterCall s
+          (and_then (and_then o (λ t. Some (record { descriptor = m; map = t }))) f)
     at m None e = tt
     at m (Some t) e = h m t e
 
-    by : (o : Option ℕ) → LeavesAfterCall s (and_then (and_then o (λ m. and_then (s.maps m) (λ t. Some (record { descriptor = m; map = t })))) f)
+    by : (o : Option ℕ)
+        → LeavesAfterCall s
+          (and_then
+            (and_then o
+              (λ m. and_then (s.maps m) (λ t. Some (record { descriptor = m; map = t })))) f)
     by None = tt
     by (Some m) = at m (s.maps m) refl
 
@@ -117,26 +162,35 @@ unfolding gathered
 gathered_long byte p zero = refl
 gathered_long byte p (suc n) = by (byte p) (gathered byte (suc p) n) (gathered_long byte (suc p) n)
   where
-    by : (o : Option ℕ) (rest : Option (List ℕ)) → HasLength n rest → HasLength (suc n) (and_then o (λ b. and_then rest (λ bs. Some (b ∷ bs))))
+    by : (o : Option ℕ) (rest : Option (List ℕ))
+        → HasLength n rest
+        → HasLength (suc n) (and_then o (λ b. and_then rest (λ bs. Some (b ∷ bs))))
     by None rest h = tt
     by (Some b) None h = tt
     by (Some b) (Some bs) h = ap suc h
 
 value_long : (value : List ℕ) (y : ℤ) (n : ℕ) → HasLength n (value_bytes value y n)
-value_long value (pos y) n = cond_both (nat_le (y + n) (length value)) (Some (bytes_at value y n)) None (HasLength n) (λ fits. length-bytes_at value y n (leb-true (y + n) (length value) fits)) (λ _. tt)
+value_long value (pos y) n =
+    cond_both (nat_le (y + n) (length value)) (Some (bytes_at value y n)) None (HasLength n)
+    (λ fits. length-bytes_at value y n (leb-true (y + n) (length value) fits)) (λ _. tt)
 value_long value (negsuc y) n = tt
 
-object_long : (o : Option RunMap) (number : ℕ) (y : ℤ) (n : ℕ) → HasLength n (and_then o (λ t. value_bytes (t.values number) y n))
+object_long : (o : Option RunMap) (number : ℕ) (y : ℤ) (n : ℕ)
+    → HasLength n (and_then o (λ t. value_bytes (t.values number) y n))
 object_long None number y n = tt
 object_long (Some t) number y n = value_long (t.values number) y n
 
 input_long : (s : RunState) (p : Tagged) (n : ℕ) → HasLength n (input s p n)
-input_long s (Pointer object.Stack x) n = cond_both (is_in_stack x n) (gathered (stack_byte s) (byte_index x) n) None (HasLength n) (λ _. gathered_long (stack_byte s) (byte_index x) n) (λ _. tt)
+input_long s (Pointer object.Stack x) n =
+    cond_both (is_in_stack x n) (gathered (stack_byte s) (byte_index x) n) None (HasLength n)
+    (λ _. gathered_long (stack_byte s) (byte_index x) n) (λ _. tt)
 input_long s (Pointer (object.Value m number) x) n = object_long (s.maps m) number x n
 input_long s p n = tt
 
 -- a helper reads as many bytes as it requests
-bytes_leave : (s : RunState) (r n : ℕ) (f : List ℕ → Option RunState) → ((bs : List ℕ) → length bs ≡ n → LeavesAfterCall s (f bs)) → LeavesAfterCall s (and_then (argument s r (λ p. input s p n)) f)
+bytes_leave : (s : RunState) (r n : ℕ) (f : List ℕ → Option RunState)
+    → ((bs : List ℕ) → length bs ≡ n → LeavesAfterCall s (f bs))
+    → LeavesAfterCall s (and_then (argument s r (λ p. input s p n)) f)
 bytes_leave s r n f h = by (s.registers r)
   where
     read : (o : Option (List ℕ)) → HasLength n o → LeavesAfterCall s (and_then o f)
@@ -149,11 +203,17 @@ bytes_leave s r n f h = by (s.registers r)
 
 output_leaves : (s : RunState) (p : Tagged) (bs : List ℕ) → LeavesAfterCall s (output s p bs)
 output_leaves s (Pointer object.Stack x) bs =
-    cond_both (is_in_stack x (length bs)) (Some (with_cells s (λ i. cell_over i (s.cells i) (byte_index x) bs))) None (LeavesAfterCall s)
+    cond_both (is_in_stack x (length bs))
+      (Some (with_cells s (λ i. cell_over i (s.cells i) (byte_index x) bs))) None
+      (LeavesAfterCall s)
     (λ _. record { words = refl; maps = λ m. entry_same (s.maps m) })
     (λ _. tt)
 output_leaves s (Pointer (object.Value m number) x) bs =
-    then_leaves s (s.maps m) _ (λ t there. then_leaves s (value_written (t.values number) x bs) _ (λ value is. map_changed s m t (with_value t number value) there (written number x bs value is)))
+    then_leaves s (s.maps m) _
+      (λ t there.
+        then_leaves s (value_written (t.values number) x bs) _
+        (λ value is.
+          map_changed s m t (with_value t number value) there (written number x bs value is)))
 output_leaves s p bs = tt
 
 -- ---- the calls
@@ -161,13 +221,27 @@ output_leaves s p bs = tt
 -- a call of any helper leaves such a state
 pub call_leaves : (helper : Helper) (s : RunState) → LeavesAfterCall s (called helper s)
 call_leaves LookUp s =
-    map_leaves s 1 _ (λ m t _. bytes_leave s 2 t.table.shape.key_size _ (λ key _. returned s s (looked_up m (look_up t.table key)) (state_same s)))
+    map_leaves s 1 _
+      (λ m t _.
+        bytes_leave s 2 t.table.shape.key_size _
+        (λ key _. returned s s (looked_up m (look_up t.table key)) (state_same s)))
 call_leaves Update s =
-    map_leaves s 1 _ (λ m t there. bytes_leave s 2 t.table.shape.key_size _ (λ key key_size. bytes_leave s 3 t.table.shape.value_size _ (λ value value_size. then_leaves s (argument s 4 number_given) _
-    (λ flags _. replied s m t (updated t key value flags) there (after_update key value flags key_size value_size)))))
+    map_leaves s 1 _ (λ m t there.
+    bytes_leave s 2 t.table.shape.key_size _ (λ key key_size.
+    bytes_leave s 3 t.table.shape.value_size _ (λ value value_size.
+    then_leaves s (argument s 4 number_given) _
+    (λ flags _.
+      replied s m t (updated t key value flags) there
+      (after_update key value flags key_size value_size)))))
 call_leaves Delete s =
-    map_leaves s 1 _ (λ m t there. bytes_leave s 2 t.table.shape.key_size _ (λ key _. replied s m t (removed t key) there (after_delete key)))
+    map_leaves s 1 _
+      (λ m t there.
+        bytes_leave s 2 t.table.shape.key_size _
+        (λ key _. replied s m t (removed t key) there (after_delete key)))
 call_leaves LoadBytes s =
-    then_leaves s (argument s 1 context_given) _ (λ _ _. then_leaves s (argument s 2 number_given) _ (λ offset _. then_leaves s (argument s 4 length_given) _ (λ n _.
+    then_leaves s (argument s 1 context_given) _ (λ _ _.
+    then_leaves s (argument s 2 number_given) _ (λ offset _.
+    then_leaves s (argument s 4 length_given) _ (λ n _.
     let bs = packet_bytes s.packet offset n in
-    return_leaves s (argument s 3 (λ p. output s p bs)) (Scalar (packet_answer s.packet offset n)) (then_leaves s (s.registers 3) _ (λ p _. output_leaves s p bs)))))
+    return_leaves s (argument s 3 (λ p. output s p bs)) (Scalar (packet_answer s.packet offset n))
+      (then_leaves s (s.registers 3) _ (λ p _. output_leaves s p bs)))))

@@ -69,7 +69,11 @@ looked_up m (Some number) = Pointer (object.Value m number) (pos 0)
 
 -- the map with a new key and a new object
 abbrev pub with_object : RunMap → List ℕ → List ℕ → RunMap
-with_object t key value = record { table = with_new t.table key t.count; count = t.count + 1; values = set_at t.values t.count value }
+with_object t key value = record {
+  table = with_new t.table key t.count;
+  count = t.count + 1;
+  values = set_at t.values t.count value
+}
 
 -- the map without a key; the deleted object keeps its bytes
 abbrev pub without_key : RunMap → List ℕ → RunMap
@@ -95,10 +99,12 @@ removed t key = taken_out t key (removal t.table key)
 
 -- the offset is read as 32 bits and may not be negative
 abbrev pub is_in_packet : List ℕ → ℕ → ℕ → Bool
-is_in_packet packet offset n = nat_le (offset % 2 ^ 32) (2 ^ 31 - 1) && nat_le (offset % 2 ^ 32 + n) (length packet)
+is_in_packet packet offset n =
+    nat_le (offset % 2 ^ 32) (2 ^ 31 - 1) && nat_le (offset % 2 ^ 32 + n) (length packet)
 
 abbrev pub packet_bytes : List ℕ → ℕ → ℕ → List ℕ
-packet_bytes packet offset n = if is_in_packet packet offset n then bytes_at packet (offset % 2 ^ 32) n else replicate n 0
+packet_bytes packet offset n =
+    if is_in_packet packet offset n then bytes_at packet (offset % 2 ^ 32) n else replicate n 0
 
 abbrev pub packet_answer : List ℕ → ℕ → ℕ → ℕ
 packet_answer packet offset n = if is_in_packet packet offset n then 0 else negative outside
@@ -131,7 +137,9 @@ pub record GivenMap : Type 0 where
   pub map : RunMap
 
 abbrev pub map_argument : RunState → ℕ → Option GivenMap
-map_argument s r = and_then (argument s r map_given) (λ m. and_then (s.maps m) (λ t. Some (record { descriptor = m; map = t })))
+map_argument s r =
+    and_then (argument s r map_given)
+    (λ m. and_then (s.maps m) (λ t. Some (record { descriptor = m; map = t })))
 
 -- ---- the calls
 
@@ -148,14 +156,22 @@ replies s m reply = returns (with_map s m reply.map) (Scalar reply.answer)
 
 abbrev pub called : Helper → RunState → Option RunState
 called LookUp s =
-    and_then (map_argument s 1) (λ g. and_then (argument s 2 (λ p. input s p g.map.table.shape.key_size)) (λ key.
+    and_then (map_argument s 1) (λ g.
+    and_then (argument s 2 (λ p. input s p g.map.table.shape.key_size)) (λ key.
     Some (returns s (looked_up g.descriptor (look_up g.map.table key)))))
 called Update s =
-    and_then (map_argument s 1) (λ g. and_then (argument s 2 (λ p. input s p g.map.table.shape.key_size)) (λ key. and_then (argument s 3 (λ p. input s p g.map.table.shape.value_size)) (λ value. and_then (argument s 4 number_given) (λ flags.
+    and_then (map_argument s 1) (λ g.
+    and_then (argument s 2 (λ p. input s p g.map.table.shape.key_size)) (λ key.
+    and_then (argument s 3 (λ p. input s p g.map.table.shape.value_size)) (λ value.
+    and_then (argument s 4 number_given) (λ flags.
     Some (replies s g.descriptor (updated g.map key value flags))))))
 called Delete s =
-    and_then (map_argument s 1) (λ g. and_then (argument s 2 (λ p. input s p g.map.table.shape.key_size)) (λ key.
+    and_then (map_argument s 1) (λ g.
+    and_then (argument s 2 (λ p. input s p g.map.table.shape.key_size)) (λ key.
     Some (replies s g.descriptor (removed g.map key))))
 called LoadBytes s =
-    and_then (argument s 1 context_given) (λ c. and_then (argument s 2 number_given) (λ offset. and_then (argument s 4 length_given) (λ n. and_then (argument s 3 (λ p. output s p (packet_bytes s.packet offset n))) (λ t.
+    and_then (argument s 1 context_given) (λ c.
+    and_then (argument s 2 number_given) (λ offset.
+    and_then (argument s 4 length_given) (λ n.
+    and_then (argument s 3 (λ p. output s p (packet_bytes s.packet offset n))) (λ t.
     Some (returns t (Scalar (packet_answer s.packet offset n)))))))

@@ -34,7 +34,9 @@ area value max = max * ((value + 7) / 8 * 8)
 
 -- each field is within its limits, and no flag is set
 abbrev pub is_valid : MapKind → ℕ → ℕ → ℕ → ℕ → Bool
-is_valid kind key value max flags = has_key kind key && is_from_to 1 longest_value value && is_from_to 1 most_entries max && (flags == 0)
+is_valid kind key value max flags =
+    has_key kind key && is_from_to 1 longest_value value && is_from_to 1 most_entries max
+    && (flags == 0)
 
 abbrev pub fits : ℕ → ℕ → Bool
 fits value max = nat_le (area value max) largest_area
@@ -45,4 +47,6 @@ is_shape kind key value max = is_valid kind key value max 0 && fits value max
 -- the fault of the fields; None if a map may have them
 abbrev pub shape_fault : MapKind → ℕ → ℕ → ℕ → ℕ → Option ShapeFault
 shape_fault kind key value max flags =
-    if is_valid kind key value max flags then (if fits value max then None else Some TooBig) else Some Invalid
+    if is_valid kind key value max flags
+      then (if fits value max then None else Some TooBig)
+      else Some Invalid

@@ -31,10 +31,14 @@ KeysHaveObjects count (e ∷ es) = (e.1 < count) × KeysHaveObjects count es
 -- the size of a value
 pub record IsMapOf (shape : MapShape) (t : RunMap) : Type 0 where
   pub shaped : t.table.shape ≡ shape
-  pub indices : shape.kind ≡ Array → keys_of t.table.entries ≡ keys_of (indexed (λ i. i) 0 shape.max_entries)
+  pub indices : shape.kind ≡ Array
+      → keys_of t.table.entries ≡ keys_of (indexed (λ i. i) 0 shape.max_entries)
   pub owns : KeysHaveObjects t.count t.table.entries
   pub sized : (number : ℕ) → number < t.count → length (t.values number) ≡ shape.value_size
 
 -- for each descriptor with a shape there is a map of that shape
 abbrev pub HasMaps : (ℕ → Option MapShape) → RunState → Type 0
-HasMaps shapes s = (m : ℕ) (shape : MapShape) → shapes m ≡ Some shape → (t : RunMap) × (s.maps m ≡ Some t) × IsMapOf shape t
+HasMaps shapes s =
+    (m : ℕ) (shape : MapShape)
+    → shapes m ≡ Some shape
+    → (t : RunMap) × (s.maps m ≡ Some t) × IsMapOf shape t

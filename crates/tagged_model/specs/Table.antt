@@ -100,7 +100,8 @@ module _ {A : Type 0} where
   -- in an array, an absent key is an index out of range
   abbrev pub of_absent : MapKind → Bool → ℕ → Verdict A
   of_absent Array full flags = Refused TooBig
-  of_absent Hash full flags = if flags == exist then Refused NoEntry else (if full then Refused TooBig else New)
+  of_absent Hash full flags =
+      if flags == exist then Refused NoEntry else (if full then Refused TooBig else New)
 
   abbrev pub of_found : Table A → ℕ → Option A → Verdict A
   of_found t flags None = of_absent t.shape.kind (is_full t) flags
@@ -108,15 +109,24 @@ module _ {A : Type 0} where
 
   -- BPF_MAP_UPDATE_ELEM
   abbrev pub verdict : Table A → List ℕ → ℕ → Verdict A
-  verdict t key flags = if nat_le flags exist then of_found t flags (look_up t key) else Refused Invalid
+  verdict t key flags =
+      if nat_le flags exist then of_found t flags (look_up t key) else Refused Invalid
 
   -- the map with a new key, at the end, and a new object
   abbrev pub with_new : Table A → List ℕ → A → Table A
-  with_new t key a = record { shape = t.shape; entries = with_key key a t.entries; deleted = t.deleted }
+  with_new t key a = record {
+    shape = t.shape;
+    entries = with_key key a t.entries;
+    deleted = t.deleted
+  }
 
   -- the map with another object for a present key, which keeps its position
   abbrev pub with_object : Table A → List ℕ → A → Table A
-  with_object t key a = record { shape = t.shape; entries = set_value (is_key key) t.entries a; deleted = t.deleted }
+  with_object t key a = record {
+    shape = t.shape;
+    entries = set_value (is_key key) t.entries a;
+    deleted = t.deleted
+  }
 
   abbrev pub removal_of : MapKind → Option A → Result A MapFault
   removal_of Array o = Err Invalid
@@ -129,7 +139,11 @@ module _ {A : Type 0} where
 
   -- the map without the key; the object counts until the run ends
   abbrev pub with_deleted : Table A → List ℕ → Table A
-  with_deleted t key = record { shape = t.shape; entries = without key t.entries; deleted = t.deleted + 1 }
+  with_deleted t key = record {
+    shape = t.shape;
+    entries = without key t.entries;
+    deleted = t.deleted + 1
+  }
 
   -- BPF_MAP_GET_NEXT_KEY: None after the last key, and in a map without keys
   abbrev pub next_of : Table A → List ℕ → Option (List ℕ)
@@ -141,17 +155,23 @@ module _ {A : Type 0} where
 
   -- a new map
   abbrev pub new_table : (ℕ → A) → MapShape → Table A
-  new_table object shape = record { shape = shape; entries = new_entries object shape.kind shape.max_entries; deleted = 0 }
+  new_table object shape = record {
+    shape = shape;
+    entries = new_entries object shape.kind shape.max_entries;
+    deleted = 0
+  }
 
--- ---- the value that a program may load without a call (linux/bpf.h, BPF_PSEUDO_MAP_VALUE): that of an array of one element, at an
--- offset in it, as the kernel's array maps have it (map_direct_value_addr)
+-- ---- the value that a program may load without a call (linux/bpf.h, BPF_PSEUDO_MAP_VALUE): that
+-- of an array of one element, at an offset in it, as the kernel's array maps have it
+-- (map_direct_value_addr)
 
 abbrev pub is_array : MapKind → Bool
 is_array Array = true
 is_array Hash = false
 
 abbrev pub has_direct_value : MapShape → ℕ → Bool
-has_direct_value shape offset = is_array shape.kind && (shape.max_entries == 1) && nat_lt offset shape.value_size
+has_direct_value shape offset =
+    is_array shape.kind && (shape.max_entries == 1) && nat_lt offset shape.value_size
 
 -- its object, that of index 0
 abbrev pub direct_object : {A : Type 0} → Table A → ℕ → Option A
@@ -162,7 +182,11 @@ direct_object t offset = if has_direct_value t.shape offset then look_up t (inde
 module _ {A B : Type 0} (value : A → B) where
   -- the same keys in the same order, each with the value that its object represents
   abbrev pub with_values : Table A → Table B
-  with_values t = record { shape = t.shape; entries = map (λ e. (e.0, value e.1)) t.entries; deleted = t.deleted }
+  with_values t = record {
+    shape = t.shape;
+    entries = map (λ e. (e.0, value e.1)) t.entries;
+    deleted = t.deleted
+  }
 
   abbrev pub verdict_with : Verdict A → Verdict B
   verdict_with (Refused fault) = Refused fault

@@ -67,19 +67,24 @@ replies_of t (frame ∷ frames) (reply ∷ replies) =
 
 -- a tenant's frames in order, each with its reply in this relation, and the states before and after
 -- them
-abbrev pub RepliesInOrder : (List ℕ → List ℕ → Option TenantState → Option TenantState → Type 0) → Option TenantState → List (List ℕ) → List (List ℕ) → Option TenantState → Type 0
+abbrev pub RepliesInOrder : (List ℕ → List ℕ → Option TenantState → Option TenantState → Type 0)
+    → Option TenantState → List (List ℕ) → List (List ℕ) → Option TenantState → Type 0
 RepliesInOrder tells before [] [] after = after ≡ before
 RepliesInOrder tells before (frame ∷ frames) (reply ∷ replies) after =
-    (between : Option TenantState) × tells frame reply before between × RepliesInOrder tells between frames replies after
+    (between : Option TenantState)
+    × tells frame reply before between
+    × RepliesInOrder tells between frames replies after
 RepliesInOrder tells before [] (reply ∷ replies) after = ⊥
 RepliesInOrder tells before (frame ∷ frames) [] after = ⊥
 
 -- the replies are those of the tenant's machine, without refusals of memory and with some
-abbrev pub IsToldAlone : Option TenantState → List (List ℕ) → List (List ℕ) → Option TenantState → Type 0
+abbrev pub IsToldAlone : Option TenantState → List (List ℕ) → List (List ℕ) → Option TenantState
+    → Type 0
 IsToldAlone before frames replies after =
     RepliesInOrder (RepliesUnder false) before frames replies after
 
-abbrev pub AloneWithRefusals : Option TenantState → List (List ℕ) → List (List ℕ) → Option TenantState → Type 0
+abbrev pub AloneWithRefusals : Option TenantState → List (List ℕ) → List (List ℕ)
+    → Option TenantState → Type 0
 AloneWithRefusals before frames replies after = RepliesInOrder MayReply before frames replies after
 
 -- none of these replies is that of a command to which memory was refused

@@ -33,7 +33,9 @@ RunsInOrder fd before (input ∷ inputs) [] after = ⊥
 -- the results of the runs are written to the front of a room, whose rest is unchanged
 abbrev pub RunsBatch : ℕ → TenantState → List BatchInput → List ℕ → List ℕ → TenantState → Type 0
 RunsBatch fd before inputs room written after =
-    (results : List ℕ) × RunsInOrder fd before inputs results after × (written ≡ results ++ drop (length results) room)
+    (results : List ℕ)
+    × RunsInOrder fd before inputs results after
+    × (written ≡ results ++ drop (length results) room)
 
 -- ---- the refusals
 
@@ -66,20 +68,24 @@ packet_errno TooLong = TooBig
 -- packet that is outside or too long.
 abbrev pub packets_refusal : ℕ → ℕ → List ℕ → ℕ → Option Errno
 packets_refusal contexts many ends room =
-    if nat_lt room (length ends) then Some Invalid else option_map packet_errno (batch_fault contexts many ends)
+    if nat_lt room (length ends)
+      then Some Invalid
+      else option_map packet_errno (batch_fault contexts many ends)
 
 -- Why a batch is rejected, before the first packet: what is named is no program; there is room for
 -- fewer results than packets; there is neither one context nor one for each packet; or a packet is
 -- outside, or too long.
 abbrev pub batch_refusal : Option OpenObject → ℕ → ℕ → List ℕ → ℕ → Option Errno
-batch_refusal o contexts many ends room = else_refusal (object_refusal o) (packets_refusal contexts many ends room)
+batch_refusal o contexts many ends room =
+    else_refusal (object_refusal o) (packets_refusal contexts many ends room)
 
 -- ---- laws
 
 -- these frames are the test runs of a program on these inputs
 abbrev pub AreTestRuns : ℕ → List (List ℕ) → List BatchInput → Type 0
 AreTestRuns fd [] [] = Unit {0}
-AreTestRuns fd (frame ∷ frames) (input ∷ inputs) = (parsed frame ≡ Ok (prog_test_run fd input.words input.packet)) × AreTestRuns fd frames inputs
+AreTestRuns fd (frame ∷ frames) (input ∷ inputs) =
+    (parsed frame ≡ Ok (prog_test_run fd input.words input.packet)) × AreTestRuns fd frames inputs
 AreTestRuns fd [] (input ∷ inputs) = ⊥
 AreTestRuns fd (frame ∷ frames) [] = ⊥
 
@@ -87,13 +93,17 @@ AreTestRuns fd (frame ∷ frames) [] = ⊥
 abbrev pub result_replies : List (List ℕ) → List ℕ → List (List ℕ)
 result_replies [] results = []
 result_replies (frame ∷ frames) [] = []
-result_replies (frame ∷ frames) (result ∷ results) = reply_to frame (pos 0) (little_bytes 4 result) ∷ result_replies frames results
+result_replies (frame ∷ frames) (result ∷ results) =
+    reply_to frame (pos 0) (little_bytes 4 result) ∷ result_replies frames results
 
 -- the runs of a batch are the test-run frames of its packets, one after another
 abbrev pub BatchIsItsFrames : Type 0
 BatchIsItsFrames =
-    (fd : ℕ) (frames : List (List ℕ)) (inputs : List BatchInput) (results : List ℕ) (before after : TenantState) → AreTestRuns fd frames inputs
-    → RunsInOrder fd before inputs results after → AloneWithRefusals (Some before) frames (result_replies frames results) (Some after)
+    (fd : ℕ) (frames : List (List ℕ)) (inputs : List BatchInput) (results : List ℕ)
+      (before after : TenantState)
+    → AreTestRuns fd frames inputs
+    → RunsInOrder fd before inputs results after
+    → AloneWithRefusals (Some before) frames (result_replies frames results) (Some after)
 
 -- the test-run command of a packet has the error of a run
 abbrev pub RefusedAsItsFrame : Type 0
@@ -105,5 +115,6 @@ RefusedAsItsFrame =
 -- there are as many results as packets
 abbrev pub OneResultEach : Type 0
 OneResultEach =
-    (fd : ℕ) (inputs : List BatchInput) (results : List ℕ) (before after : TenantState) → RunsInOrder fd before inputs results after
+    (fd : ℕ) (inputs : List BatchInput) (results : List ℕ) (before after : TenantState)
+    → RunsInOrder fd before inputs results after
     → length results ≡ length inputs

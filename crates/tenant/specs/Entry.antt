@@ -10,7 +10,8 @@ NumberedEntry = (List ℕ × List ℕ) × ℕ
 
 -- the entries of the map of a handle in their order, with the values that lie in these bytes
 abbrev pub numbered_entries : List ℕ → LiveMaps → ℕ → List NumberedEntry
-numbered_entries part t k = map (λ (e : List ℕ × ℕ). ((e.0, value_in part t k e.1), e.1)) (keys_at t k).entries
+numbered_entries part t k =
+    map (λ (e : List ℕ × ℕ). ((e.0, value_in part t k e.1), e.1)) (keys_at t k).entries
 
 -- the bytes of an entry
 abbrev pub lent_entry : MapEntry → NumberedEntry

@@ -30,7 +30,11 @@ at_handles f = map f (range_with_len 0 most_maps)
 
 -- the state that a tenant represents, with the bytes of its part
 abbrev pub state_in : List ℕ → KeptTenant → TenantState
-state_in part k = record { objects = k.objects; maps = at_handles (map_at part k.live); refused = k.refused || k.live.refused }
+state_in part k = record {
+  objects = k.objects;
+  maps = at_handles (map_at part k.live);
+  refused = k.refused || k.live.refused
+}
 
 -- ---- the references to the map of a handle
 
@@ -81,4 +85,6 @@ pub record IsWellFormedTenant (k : KeptTenant) : Type 0 where
   pub maps : AreHeld k.live
   pub held : (handle : ℕ) → holds_at k.live handle ≡ holders handle k.objects
   pub single : (handle : ℕ) → descriptors handle k.objects ≤ 1
-  pub bound : (n : ℕ) (l : LoadedProgram) → object_at k n ≡ Some (object.Program l) → IsBound k.live l
+  pub bound : (n : ℕ) (l : LoadedProgram)
+      → object_at k n ≡ Some (object.Program l)
+      → IsBound k.live l

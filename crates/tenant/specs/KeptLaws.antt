@@ -22,18 +22,25 @@ at-within f i lt = get_or-map-range_with_len f 0 most_maps i i None lt (omega ar
 pub at-past : (f : ℕ → Option Map) (i : ℕ) → most_maps ≤ i → get_or (at_handles f) i None ≡ None
 at-past f i past = let long = length-at f in get_or_past (at_handles f) i None (omega arith)
 
-pub is_some-mapped : {A B : Type 0} (f : A → B) (o : Option A) → is_some (option_map f o) ≡ is_some o
+pub is_some-mapped : {A B : Type 0} (f : A → B) (o : Option A)
+    → is_some (option_map f o) ≡ is_some o
 is_some-mapped f None = refl
 is_some-mapped f (Some x) = refl
 
 -- whether a map is live does not depend on the bytes of its values
-pub some_at_each : (p q : List ℕ) (t : LiveMaps) (handle : ℕ) → is_some (get_or (at_handles (map_at p t)) handle None) ≡ is_some (get_or (at_handles (map_at q t)) handle None)
+pub some_at_each : (p q : List ℕ) (t : LiveMaps) (handle : ℕ)
+    → is_some (get_or (at_handles (map_at p t)) handle None)
+      ≡ is_some (get_or (at_handles (map_at q t)) handle None)
 some_at_each p q t handle = by (cases_lt handle most_maps)
   where
-    by : (handle < most_maps) ⊎ (most_maps ≤ handle) → is_some (get_or (at_handles (map_at p t)) handle None) ≡ is_some (get_or (at_handles (map_at q t)) handle None)
+    by : (handle < most_maps) ⊎ (most_maps ≤ handle)
+        → is_some (get_or (at_handles (map_at p t)) handle None)
+          ≡ is_some (get_or (at_handles (map_at q t)) handle None)
     by (inl lt) =
         ap is_some (at-within (map_at p t) handle lt)
         ∙ is_some-mapped (λ l. map_in p t handle) (live_at t handle)
         ∙ sym (is_some-mapped (λ l. map_in q t handle) (live_at t handle))
         ∙ sym (ap is_some (at-within (map_at q t) handle lt))
-    by (inr past) = ap is_some (at-past (map_at p t) handle past) ∙ sym (ap is_some (at-past (map_at q t) handle past))
+    by (inr past) =
+        ap is_some (at-past (map_at p t) handle past)
+        ∙ sym (ap is_some (at-past (map_at q t) handle past))

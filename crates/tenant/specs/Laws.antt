@@ -23,7 +23,9 @@ OneReply =
 -- if no memory is refused
 abbrev pub OneAlone : Type 0
 OneAlone =
-    (before a b : Option TenantState) (frames xs ys : List (List ℕ)) → IsToldAlone before frames xs a → IsToldAlone before frames ys b
+    (before a b : Option TenantState) (frames xs ys : List (List ℕ))
+    → IsToldAlone before frames xs a
+    → IsToldAlone before frames ys b
     → (xs ≡ ys) × (a ≡ b)
 
 -- if a tenant's flag is clear after a command, its result is that without refusals of memory
@@ -35,7 +37,8 @@ ClearFlagMeansNoRefusal =
 -- if a tenant's flag is clear at the end, its replies are those of its machine without refusals
 abbrev pub ClearFlagMeansAlone : Type 0
 ClearFlagMeansAlone =
-    (before : Option TenantState) (after : TenantState) (frames replies : List (List ℕ)) → AloneWithRefusals before frames replies (Some after)
+    (before : Option TenantState) (after : TenantState) (frames replies : List (List ℕ))
+    → AloneWithRefusals before frames replies (Some after)
     → after.refused ≡ false → IsToldAlone before frames replies (Some after)
 
 -- ---- the status of refused memory
@@ -79,5 +82,7 @@ UnrefusedRepliesMeanAlone =
 -- a reply with the status of a fault has no payload
 abbrev pub FaultsHaveNoPayload : Type 0
 FaultsHaveNoPayload =
-    (frame reply : List ℕ) (before after : Option TenantState) → MayReply frame reply before after → IsFault reply
+    (frame reply : List ℕ) (before after : Option TenantState)
+    → MayReply frame reply before after
+    → IsFault reply
     → reply ≡ reply_to frame (status_of BadAddress) []

@@ -53,7 +53,11 @@ refuses errno s = record { status = status_of errno; payload = []; after = s }
 
 -- a refusal of memory sets the flag, and changes nothing else
 abbrev pub refuses_for_memory : TenantState → Answer
-refuses_for_memory s = record { status = status_of NoMemory; payload = []; after = record s { refused = true } }
+refuses_for_memory s = record {
+  status = status_of NoMemory;
+  payload = [];
+  after = record s { refused = true }
+}
 
 abbrev pub gives : List ℕ → TenantState → Answer
 gives payload s = record { status = pos 0; payload = payload; after = s }
@@ -77,7 +81,15 @@ abbrev pub asked_shape : Option MapKind → ℕ → ℕ → ℕ → ℕ → Resu
 asked_shape None key value max flags = Err Invalid
 asked_shape (Some kind) key value max flags =
     if is_valid kind key value max flags
-    then shape_where (is_shape kind key value max) (λ listed. record { kind = kind; key_size = key; value_size = value; max_entries = max; listed = listed })
+    then shape_where (is_shape kind key value max)
+      (λ listed.
+        record {
+        kind = kind;
+        key_size = key;
+        value_size = value;
+        max_entries = max;
+        listed = listed
+      })
     else Err Invalid
 
 -- a new array contains zeros, and a new hash map no key
@@ -90,7 +102,11 @@ room_for s size = if nat_lt most_bytes (maps_area s.maps + size) then None else 
 
 abbrev pub created_at : Bool → TenantState → MapShape → ℕ → ℕ → Answer
 created_at true s shape fd handle = refuses_for_memory s
-created_at false s shape fd handle = opens fd (record s { objects = table.with_open s.objects fd (object.Map handle); maps = slice_set s.maps handle (Some (new_map shape)) })
+created_at false s shape fd handle =
+    opens fd
+    (record s
+      { objects = table.with_open s.objects fd (object.Map handle); maps = slice_set s.maps handle
+        (Some (new_map shape)) })
 
 abbrev pub created_as : Bool → TenantState → MapShape → ℕ → Option ℕ → Answer
 created_as refused s shape fd None = refuses NoSpace s
@@ -98,7 +114,8 @@ created_as refused s shape fd (Some handle) = created_at refused s shape fd hand
 
 abbrev pub created_under : Bool → TenantState → MapShape → Option ℕ → Answer
 created_under refused s shape None = refuses TooManyOpen s
-created_under refused s shape (Some fd) = created_as refused s shape fd (room_for s (shape_area shape))
+created_under refused s shape (Some fd) =
+    created_as refused s shape fd (room_for s (shape_area shape))
 
 abbrev pub created : Bool → TenantState → Result MapShape Errno → Answer
 created refused s (Err errno) = refuses errno s
@@ -125,7 +142,12 @@ gives_if_found s None = refuses NoEntry s
 gives_if_found s (Some value) = gives value s
 
 abbrev pub element_looked_up : TenantState → ℕ → List ℕ → Answer
-element_looked_up s fd key = on_map s fd (λ handle t. if length key == t.shape.key_size then gives_if_found s (look_up t key) else refuses Invalid s)
+element_looked_up s fd key =
+    on_map s fd
+    (λ handle t.
+      if length key == t.shape.key_size
+      then gives_if_found s (look_up t key)
+      else refuses Invalid s)
 
 -- MAP_UPDATE_ELEM: a present key keeps its position, and a new one goes to the end
 abbrev pub element_put : TenantState → ℕ → Map → List ℕ → List ℕ → call.Verdict (List ℕ) → Answer
@@ -144,15 +166,25 @@ element_updated s fd flags bytes =
 -- MAP_DELETE_ELEM: no run is in progress, so the deleted value is gone
 abbrev pub element_taken_out : TenantState → ℕ → Map → List ℕ → Result (List ℕ) MapFault → Answer
 element_taken_out s handle t key (Err fault) = refuses (map_errno fault) s
-element_taken_out s handle t key (Ok value) = gives [] (with_map_at s handle (after_run (with_deleted t key)))
+element_taken_out s handle t key (Ok value) =
+    gives [] (with_map_at s handle (after_run (with_deleted t key)))
 
 abbrev pub element_deleted : TenantState → ℕ → List ℕ → Answer
-element_deleted s fd key = on_map s fd (λ handle t. if length key == t.shape.key_size then element_taken_out s handle t key (removal t key) else refuses Invalid s)
+element_deleted s fd key =
+    on_map s fd
+    (λ handle t.
+      if length key == t.shape.key_size
+      then element_taken_out s handle t key (removal t key)
+      else refuses Invalid s)
 
 -- MAP_GET_NEXT_KEY: after an empty key, the first key
 abbrev pub given_next : TenantState → ℕ → List ℕ → Answer
 given_next s fd key =
-    on_map s fd (λ handle t. if length key == 0 || length key == t.shape.key_size then gives_if_found s (next_of t key) else refuses Invalid s)
+    on_map s fd
+      (λ handle t.
+        if length key == 0 || length key == t.shape.key_size
+        then gives_if_found s (next_of t key)
+        else refuses Invalid s)
 
 -- ---- PROG_LOAD
 
@@ -204,7 +236,11 @@ cause_errno (cause.Verdict why) = verdict_errno why
 
 -- a rejected load reports the slot, and the number of the cause
 abbrev pub refuses_load : Refusal → TenantState → Answer
-refuses_load refusal s = record { status = status_of (cause_errno refusal.cause); payload = little_bytes 4 refusal.slot ++ little_bytes 2 (cause_number refusal.cause); after = s }
+refuses_load refusal s = record {
+  status = status_of (cause_errno refusal.cause);
+  payload = little_bytes 4 refusal.slot ++ little_bytes 2 (cause_number refusal.cause);
+  after = s
+}
 
 -- an open object as the verifier sees it: a map of its shape, or a program
 abbrev pub object_target : TenantState → OpenObject → Option Target
@@ -218,7 +254,8 @@ entry_of fd (Some t) = record { fd = fd; target = t } ∷ []
 -- the open descriptors from fd on, with their objects
 unfoldable pub targets_from : TenantState → ℕ → List (Option OpenObject) → List Named
 targets_from s fd [] = []
-targets_from s fd (o ∷ os) = entry_of fd (and_then o (object_target s)) ++ targets_from s (fd + 1) os
+targets_from s fd (o ∷ os) =
+    entry_of fd (and_then o (object_target s)) ++ targets_from s (fd + 1) os
 
 abbrev pub targets : TenantState → List Named
 targets s = targets_from s table.first_descriptor s.objects
@@ -232,7 +269,8 @@ named_handle None = None
 -- the maps that the program loads, each by its descriptor, in the order of first use
 unfoldable pub handles_from : List (Option OpenObject) → List ℕ → List (ℕ × ℕ)
 handles_from objects [] = []
-handles_from objects (fd ∷ fds) = bound (named_handle (table.named objects fd)) fd (handles_from objects fds)
+handles_from objects (fd ∷ fds) =
+    bound (named_handle (table.named objects fd)) fd (handles_from objects fds)
   where
     bound : Option ℕ → ℕ → List (ℕ × ℕ) → List (ℕ × ℕ)
     bound None fd rest = rest
@@ -247,12 +285,17 @@ loaded_program s insns = record {
 
 abbrev pub answer_of_judgement : TenantState → ℕ → Result (List Insn) Refusal → Answer
 answer_of_judgement s fd (Err refusal) = refuses_load refusal s
-answer_of_judgement s fd (Ok insns) = opens fd (record s { objects = table.with_open s.objects fd (object.Program (loaded_program s insns)) })
+answer_of_judgement s fd (Ok insns) =
+    opens fd
+    (record s { objects = table.with_open s.objects fd (object.Program (loaded_program s insns)) })
 
 -- if memory is refused, this is the result, whatever the slots are
 abbrev pub LoadsAs : Bool → TenantState → ℕ → List ℕ → Answer → Type 0
 LoadsAs true s fd slots answer = answer ≡ refuses_for_memory s
-LoadsAs false s fd slots answer = (j : Result (List Insn) Refusal) × Judges (targets s) slots j × (answer ≡ answer_of_judgement s fd j)
+LoadsAs false s fd slots answer =
+    (j : Result (List Insn) Refusal)
+    × Judges (targets s) slots j
+    × (answer ≡ answer_of_judgement s fd j)
 
 abbrev pub LoadsUnder : Bool → TenantState → Option ℕ → List ℕ → Answer → Type 0
 LoadsUnder refused s None slots answer = answer ≡ refuses TooManyOpen s
@@ -260,7 +303,9 @@ LoadsUnder refused s (Some fd) slots answer = LoadsAs refused s fd slots answer
 
 -- only socket filters can be loaded (BPF_PROG_TYPE_SOCKET_FILTER)
 abbrev pub Loads : Bool → TenantState → ℕ → List ℕ → Answer → Type 0
-Loads refused s kind slots answer = MatchBool (kind == 1) (LoadsUnder refused s (table.lowest s.objects) slots answer) (answer ≡ refuses Invalid s)
+Loads refused s kind slots answer =
+    MatchBool (kind == 1) (LoadsUnder refused s (table.lowest s.objects) slots answer)
+    (answer ≡ refuses Invalid s)
 
 -- ---- PROG_TEST_RUN
 

@@ -64,7 +64,8 @@ is_named objects handle = list_any (λ o. option_map_or (names handle) o false) 
 -- the maps, under a handle and after it, that an open object names; the others are gone
 unfoldable pub named_from : List (Option OpenObject) → ℕ → List (Option Map) → List (Option Map)
 named_from objects handle [] = []
-named_from objects handle (m ∷ ms) = (if is_named objects handle then m else None) ∷ named_from objects (handle + 1) ms
+named_from objects handle (m ∷ ms) =
+    (if is_named objects handle then m else None) ∷ named_from objects (handle + 1) ms
 
 -- the state with these open objects; a map that none of them names is gone
 abbrev pub with_objects : TenantState → List (Option OpenObject) → TenantState

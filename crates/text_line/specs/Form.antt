@@ -65,30 +65,48 @@ destination target.Label label = word label ∷ []
 abbrev pub address : List ℕ → Address → TokenLayout → TokenLayout
 address size at rest =
     sign (codes "*") ∷ sign (codes "(") ∷ word size ∷ space ∷ sign (codes "*") ∷ sign (codes ")")
-    ∷ sign (codes "(") ∷ reg true at.base ∷ space ∷ sign (sign_name at.offset.negative) ∷ space ∷ Some (number at.offset.magnitude) ∷ sign (codes ")") ∷ rest
+    ∷ sign (codes "(") ∷ reg true at.base ∷ space ∷ sign (sign_name at.offset.negative) ∷ space
+    ∷ Some (number at.offset.magnitude) ∷ sign (codes ")") ∷ rest
 
 -- what follows the destination of an operation
 abbrev pub operation_layout : Bool → ℕ → Operation → TokenLayout
-operation_layout wide dst (operation.Binary op src) = sign (alu_symbol op) ∷ space ∷ operand_layout wide src []
-operation_layout wide dst (operation.SignExtend from src) = sign (codes "=") ∷ space ∷ sign (codes "(") ∷ word (narrow_name from) ∷ sign (codes ")") ∷ reg wide src ∷ []
-operation_layout wide dst operation.Neg = sign (codes "=") ∷ space ∷ sign (codes "-") ∷ reg wide dst ∷ []
-operation_layout wide dst (operation.End how bits) = sign (codes "=") ∷ space ∷ word (order_name how bits) ∷ space ∷ reg wide dst ∷ []
+operation_layout wide dst (operation.Binary op src) =
+    sign (alu_symbol op) ∷ space ∷ operand_layout wide src []
+operation_layout wide dst (operation.SignExtend from src) =
+    sign (codes "=") ∷ space ∷ sign (codes "(") ∷ word (narrow_name from) ∷ sign (codes ")")
+    ∷ reg wide src ∷ []
+operation_layout wide dst operation.Neg =
+    sign (codes "=") ∷ space ∷ sign (codes "-") ∷ reg wide dst ∷ []
+operation_layout wide dst (operation.End how bits) =
+    sign (codes "=") ∷ space ∷ word (order_name how bits) ∷ space ∷ reg wide dst ∷ []
 
 -- the value of a wide load
 abbrev pub value_layout : WideValue → TokenLayout → TokenLayout
 value_layout (value.Number n) rest = Some (number n) ∷ rest
 value_layout (value.MapFd fd) rest = word (codes "map_fd") ∷ space ∷ constant fd rest
-value_layout (value.MapValue fd off) rest = word (codes "map_value") ∷ space ∷ constant fd (space ∷ sign (codes "+") ∷ space ∷ Some (number off) ∷ rest)
+value_layout (value.MapValue fd off) rest =
+    word (codes "map_value") ∷ space
+    ∷ constant fd (space ∷ sign (codes "+") ∷ space ∷ Some (number off) ∷ rest)
 
 -- the table: a line for each form, with the label that its jump names, if it names one
 abbrev pub layout : Form → List ℕ → TokenLayout
 layout (form.Operation wide dst o) label = reg wide dst ∷ space ∷ operation_layout wide dst o
 layout (form.Jump long to) label = word (jump_name long) ∷ space ∷ destination to label
-layout (form.Branch wide cond dst src to) label = word (codes "if") ∷ space ∷ reg wide dst ∷ space ∷ sign (condition_symbol cond) ∷ space ∷ operand_layout wide src (space ∷ word (codes "goto") ∷ space ∷ destination to label)
-layout (form.Access (access.Load size signed dst) at) label = reg true dst ∷ space ∷ sign (codes "=") ∷ space ∷ address (size_name signed size) at []
-layout (form.Access (access.Store size src) at) label = address (size_name false size) at (space ∷ sign (codes "=") ∷ space ∷ operand_layout true src [])
-layout (form.Access (access.Atomic size op src) at) label = word (codes "lock") ∷ space ∷ address (size_name false (access_size size)) at (space ∷ sign (atomic_symbol op) ∷ space ∷ reg true src ∷ [])
-layout (form.WideLoad dst v) label = reg true dst ∷ space ∷ sign (codes "=") ∷ space ∷ value_layout v (space ∷ word (codes "ll") ∷ [])
+layout (form.Branch wide cond dst src to) label =
+    word (codes "if") ∷ space ∷ reg wide dst ∷ space ∷ sign (condition_symbol cond) ∷ space
+    ∷ operand_layout wide src (space ∷ word (codes "goto") ∷ space ∷ destination to label)
+layout (form.Access (access.Load size signed dst) at) label =
+    reg true dst ∷ space ∷ sign (codes "=") ∷ space ∷ address (size_name signed size) at []
+layout (form.Access (access.Store size src) at) label =
+    address (size_name false size) at
+    (space ∷ sign (codes "=") ∷ space ∷ operand_layout true src [])
+layout (form.Access (access.Atomic size op src) at) label =
+    word (codes "lock") ∷ space
+    ∷ address (size_name false (access_size size)) at
+      (space ∷ sign (atomic_symbol op) ∷ space ∷ reg true src ∷ [])
+layout (form.WideLoad dst v) label =
+    reg true dst ∷ space ∷ sign (codes "=") ∷ space
+    ∷ value_layout v (space ∷ word (codes "ll") ∷ [])
 layout (form.Call id) label = word (codes "call") ∷ space ∷ constant id []
 layout form.Exit label = word (codes "exit") ∷ []
 

@@ -72,11 +72,14 @@ normal_address at = record { base = at.base; offset = normal at.offset }
 
 -- a form with a minus only before negative numbers
 abbrev pub normal_form : Form → Form
-normal_form (form.Operation wide dst (operation.Binary op src)) = form.Operation wide dst (operation.Binary op (normal_source src))
-normal_form (form.Access (access.Store size src) at) = form.Access (access.Store size (normal_source src)) (normal_address at)
+normal_form (form.Operation wide dst (operation.Binary op src)) =
+    form.Operation wide dst (operation.Binary op (normal_source src))
+normal_form (form.Access (access.Store size src) at) =
+    form.Access (access.Store size (normal_source src)) (normal_address at)
 normal_form (form.Access a at) = form.Access a (normal_address at)
 normal_form (form.WideLoad dst (value.MapFd fd)) = form.WideLoad dst (value.MapFd (normal fd))
-normal_form (form.WideLoad dst (value.MapValue fd off)) = form.WideLoad dst (value.MapValue (normal fd) off)
+normal_form (form.WideLoad dst (value.MapValue fd off)) =
+    form.WideLoad dst (value.MapValue (normal fd) off)
 normal_form (form.Call id) = form.Call (normal id)
 normal_form f = f
 
@@ -88,7 +91,8 @@ placed distance target.Label = target.Number (number_of distance)
 -- the form with its label replaced, and with a minus only before negative numbers
 abbrev pub resolved : ℤ → Form → Form
 resolved distance (form.Jump long to) = form.Jump long (placed distance to)
-resolved distance (form.Branch wide cond dst src to) = form.Branch wide cond dst (normal_source src) (placed distance to)
+resolved distance (form.Branch wide cond dst src to) =
+    form.Branch wide cond dst (normal_source src) (placed distance to)
 resolved distance f = normal_form f
 
 -- the number of slots of a form's instruction

@@ -15,9 +15,12 @@ pub data Token : Type 0 where
 -- the symbols
 abbrev pub symbols : List (List ℕ)
 symbols =
-    codes "s>>=" ∷ codes "s/=" ∷ codes "s%=" ∷ codes "s>=" ∷ codes "s<=" ∷ codes "<<=" ∷ codes ">>=" ∷ codes "s>" ∷ codes "s<"
-    ∷ codes "+=" ∷ codes "-=" ∷ codes "*=" ∷ codes "/=" ∷ codes "|=" ∷ codes "&=" ∷ codes "%=" ∷ codes "^=" ∷ codes "==" ∷ codes ">=" ∷ codes "!=" ∷ codes "<="
-    ∷ codes "=" ∷ codes ">" ∷ codes "<" ∷ codes "&" ∷ codes "+" ∷ codes "-" ∷ codes "*" ∷ codes "(" ∷ codes ")" ∷ codes ":" ∷ []
+    codes "s>>=" ∷ codes "s/=" ∷ codes "s%=" ∷ codes "s>=" ∷ codes "s<=" ∷ codes "<<=" ∷ codes ">>="
+    ∷ codes "s>" ∷ codes "s<"
+    ∷ codes "+=" ∷ codes "-=" ∷ codes "*=" ∷ codes "/=" ∷ codes "|=" ∷ codes "&=" ∷ codes "%="
+    ∷ codes "^=" ∷ codes "==" ∷ codes ">=" ∷ codes "!=" ∷ codes "<="
+    ∷ codes "=" ∷ codes ">" ∷ codes "<" ∷ codes "&" ∷ codes "+" ∷ codes "-" ∷ codes "*" ∷ codes "("
+    ∷ codes ")" ∷ codes ":" ∷ []
 
 abbrev pub is_name_start : ℕ → Bool
 is_name_start b = is_ascii_alphabetic b || b == 95
@@ -40,11 +43,15 @@ abbrev pub are_digits : (ℕ → Bool) → List ℕ → Bool
 are_digits is_digit bytes = nat_lt 0 (length bytes) && list_all is_digit bytes
 
 abbrev pub IsDecimal : List ℕ → Option ℕ → Type 0
-IsDecimal bytes value = IsTrue (are_digits is_ascii_digit bytes) × (value ≡ value_of (digits_value 10 bytes))
+IsDecimal bytes value =
+    IsTrue (are_digits is_ascii_digit bytes) × (value ≡ value_of (digits_value 10 bytes))
 
 abbrev pub IsHexadecimal : List ℕ → Option ℕ → Type 0
 IsHexadecimal bytes value =
-    (digits : List ℕ) × (bytes ≡ codes "0x" ++ digits) × IsTrue (are_digits is_hex_digit digits) × (value ≡ value_of (digits_value 16 digits))
+    (digits : List ℕ)
+    × (bytes ≡ codes "0x" ++ digits)
+    × IsTrue (are_digits is_hex_digit digits)
+    × (value ≡ value_of (digits_value 16 digits))
 
 -- the bytes are this token
 abbrev pub IsToken : List ℕ → Token → Type 0
@@ -57,7 +64,10 @@ pub record BeginsWith (text : List ℕ) (token : Token) (rest : List ℕ) : Type
   pub bytes : List ℕ
   pub parts : text ≡ bytes ++ rest
   pub is_token : IsToken bytes token
-  pub longest : (other : Token) (front back : List ℕ) → text ≡ front ++ back → IsToken front other → length front ≤ length bytes
+  pub longest : (other : Token) (front back : List ℕ)
+      → text ≡ front ++ back
+      → IsToken front other
+      → length front ≤ length bytes
 
 -- the text is empty or a comment
 abbrev pub is_over : List ℕ → Bool

@@ -39,11 +39,13 @@ written (Neg wide dst) = form.Operation wide dst operation.Neg
 written (End how bits dst) = form.Operation true dst (operation.End how bits)
 written (Ja off) = form.Jump false (target.Number (number_of off))
 written (Jal off) = form.Jump true (target.Number (number_of off))
-written (Jump wide cond dst src off) = form.Branch wide cond dst (source_of src) (target.Number (number_of off))
+written (Jump wide cond dst src off) =
+    form.Branch wide cond dst (source_of src) (target.Number (number_of off))
 written (Call id) = form.Call (number_of id)
 written Exit = form.Exit
 written (Load l) = form.Access (access.Load l.size l.signed l.dst) (address_of l.src l.off)
-written (Store size dst src off) = form.Access (access.Store size (source_of src)) (address_of dst off)
+written (Store size dst src off) =
+    form.Access (access.Store size (source_of src)) (address_of dst off)
 written (Atomic size op dst src off) = form.Access (access.Atomic size op src) (address_of dst off)
 written (Const dst n) = form.WideLoad dst (value.Number (Some n))
 written (MapFd dst fd) = form.WideLoad dst (value.MapFd (number_of fd))

@@ -27,7 +27,8 @@ abbrev pub check_readable : Kind → Result Kind Reason
 check_readable Unreadable = Err UnreadableRegister
 check_readable k = Ok k
 
--- ---- the distance by which a number moves a pointer: its range, read as signed; None unless all of it has one sign
+-- ---- the distance by which a number moves a pointer: its range, read as signed; None unless all
+-- of it has one sign
 
 abbrev pub Distance : Type 0
 Distance = ℤ × ℤ
@@ -35,7 +36,9 @@ Distance = ℤ × ℤ
 abbrev pub distance : Range → Option Distance
 distance r =
     if nat_lt r.hi (2 ^ 63) then Some (pos r.lo, pos r.hi) else
-    (if nat_le (2 ^ 63) r.lo then Some (pos r.lo -ℤ pos (2 ^ 64), pos r.hi -ℤ pos (2 ^ 64)) else None)
+    (if nat_le (2 ^ 63) r.lo
+      then Some (pos r.lo -ℤ pos (2 ^ 64), pos r.hi -ℤ pos (2 ^ 64))
+      else None)
 
 -- ---- moved pointers: forwards by a sum, backwards by a difference
 
@@ -52,18 +55,22 @@ near None = Err OffsetTooLarge
 near (Some x) = Ok x
 
 abbrev pub stack_moved : Direction → ℤ → Range → Result Kind Reason
-stack_moved way x r = and_then_ok (near (and_then (distance r) (λ d. moved_offset way x d.0))) (λ y. Ok (Stack y))
+stack_moved way x r =
+    and_then_ok (near (and_then (distance r) (λ d. moved_offset way x d.0))) (λ y. Ok (Stack y))
 
 -- from the least offset to the greatest
 abbrev pub spanned : ℕ → Option ℤ → Option ℤ → Option ValuePointer
 spanned map low high = and_then low (λ lo. and_then high (λ hi. Some (value_span map lo hi)))
 
 abbrev pub value_by : Direction → ValuePointer → Distance → Option ValuePointer
-value_by Forwards p d = spanned p.map (moved_offset Forwards p.lo d.0) (moved_offset Forwards p.hi d.1)
-value_by Backwards p d = spanned p.map (moved_offset Backwards p.lo d.1) (moved_offset Backwards p.hi d.0)
+value_by Forwards p d =
+    spanned p.map (moved_offset Forwards p.lo d.0) (moved_offset Forwards p.hi d.1)
+value_by Backwards p d =
+    spanned p.map (moved_offset Backwards p.lo d.1) (moved_offset Backwards p.hi d.0)
 
 abbrev pub value_moved : Direction → ValuePointer → Range → Result Kind Reason
-value_moved way p r = and_then_ok (near (and_then (distance r) (value_by way p))) (λ q. Ok (Value q))
+value_moved way p r =
+    and_then_ok (near (and_then (distance r) (value_by way p))) (λ q. Ok (Value q))
 
 -- a stack pointer is moved by a constant, a pointer into a value by any number, no other pointer
 abbrev pub pointer_moved : Direction → Kind → Range → Result Kind Reason

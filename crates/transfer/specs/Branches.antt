@@ -59,7 +59,8 @@ null_edges false null value = record { falling = null; jumping = value }
 
 -- a look-up is settled on both edges
 abbrev pub settled_edges : Bool → ℕ → Facts → Edges
-settled_edges jumps site f = null_edges jumps (Some (facts_settled site true f)) (Some (facts_settled site false f))
+settled_edges jumps site f =
+    null_edges jumps (Some (facts_settled site true f)) (Some (facts_settled site false f))
 
 -- any other pointer is not null
 abbrev pub pointer_edges : Condition → Facts → Kind → Edges
@@ -71,4 +72,5 @@ pointer_edges cond f k = null_edges (not (holds_of_pointers cond)) None (Some f)
 abbrev pub branch_edges : Bool → Condition → Facts → ℕ → Operand → Kind → Kind → Result Edges Reason
 branch_edges wide cond f dst src (Scalar a) (Scalar b) = Ok (number_edges wide cond f dst src a b)
 branch_edges wide cond f dst src (Scalar a) k = Err PointerComparison
-branch_edges wide cond f dst src k l = if is_null_test wide cond src then Ok (pointer_edges cond f k) else Err PointerComparison
+branch_edges wide cond f dst src k l =
+    if is_null_test wide cond src then Ok (pointer_edges cond f k) else Err PointerComparison

@@ -31,7 +31,10 @@ map_kind shapes k = Err HelperArgument
 -- n bytes, `off` bytes from each offset of a pointer, lie in the value
 abbrev pub room_of : ValuePointer → ℤ → ℕ → Option MapShape → Result (Unit {0}) Reason
 room_of p off n None = Err OutsideValue
-room_of p off n (Some shape) = if int_le (pos 0) (p.lo +ℤ off) && int_le ((p.hi +ℤ off) +ℤ pos n) (pos shape.value_size) then Ok tt else Err OutsideValue
+room_of p off n (Some shape) =
+    if int_le (pos 0) (p.lo +ℤ off) && int_le ((p.hi +ℤ off) +ℤ pos n) (pos shape.value_size)
+    then Ok tt
+    else Err OutsideValue
 
 abbrev pub input_kind : Shapes → Facts → ℕ → Kind → Result (Unit {0}) Reason
 input_kind shapes f n (kind.Stack x) = stack_input f x n
@@ -42,7 +45,8 @@ input_kind shapes f n k = Err HelperArgument
 -- the facts after a write of r.lo to r.hi bytes
 abbrev pub output_facts : Shapes → Facts → Range → Kind → Result Facts Reason
 output_facts shapes f r (kind.Stack x) = stack_filled f x r.lo r.hi
-output_facts shapes f r (kind.Value p) = and_then_ok (room_of p (pos 0) r.hi (shapes p.map)) (λ _. Ok f)
+output_facts shapes f r (kind.Value p) =
+    and_then_ok (room_of p (pos 0) r.hi (shapes p.map)) (λ _. Ok f)
 output_facts shapes f r (kind.MaybeValue m site) = Err MaybeNull
 output_facts shapes f r k = Err HelperArgument
 
@@ -55,7 +59,8 @@ abbrev pub lengths_end : ℕ
 lengths_end = 2 ^ 29
 
 abbrev pub length_kind : Kind → Result Range Reason
-length_kind (kind.Scalar r) = if r.lo == 0 || nat_le lengths_end r.hi then Err LengthUnbounded else Ok r
+length_kind (kind.Scalar r) =
+    if r.lo == 0 || nat_le lengths_end r.hi then Err LengthUnbounded else Ok r
 length_kind k = Err HelperArgument
 
 abbrev pub context_kind : Kind → Result (Unit {0}) Reason
@@ -64,10 +69,17 @@ context_kind k = Err HelperArgument
 
 -- the kinds of the first registers from 1 on, if all may be read
 abbrev pub readable_two : Facts → (Kind → Kind → Result Facts Reason) → Result Facts Reason
-readable_two f go = and_then_ok (check_readable (kind_at f 1)) (λ a. and_then_ok (check_readable (kind_at f 2)) (λ b. go a b))
+readable_two f go =
+    and_then_ok (check_readable (kind_at f 1))
+    (λ a. and_then_ok (check_readable (kind_at f 2)) (λ b. go a b))
 
-abbrev pub readable_four : Facts → (Kind → Kind → Kind → Kind → Result Facts Reason) → Result Facts Reason
-readable_four f go = readable_two f (λ a b. and_then_ok (check_readable (kind_at f 3)) (λ c. and_then_ok (check_readable (kind_at f 4)) (λ d. go a b c d)))
+abbrev pub readable_four : Facts → (Kind → Kind → Kind → Kind → Result Facts Reason)
+    → Result Facts Reason
+readable_four f go =
+    readable_two f
+    (λ a b.
+      and_then_ok (check_readable (kind_at f 3))
+      (λ c. and_then_ok (check_readable (kind_at f 4)) (λ d. go a b c d)))
 
 abbrev pub any_number : Kind
 any_number = kind.Scalar (full 64)
@@ -75,14 +87,26 @@ any_number = kind.Scalar (full 64)
 -- the facts after a call at a slot
 abbrev pub call_facts : Shapes → ℕ → Helper → Facts → Result Facts Reason
 call_facts shapes at LookUp f =
-    readable_two f (λ a b. and_then_ok (map_kind shapes a) (λ m. and_then_ok (input_kind shapes f m.shape.key_size b) (λ _.
+    readable_two f (λ a b.
+    and_then_ok (map_kind shapes a) (λ m.
+    and_then_ok (input_kind shapes f m.shape.key_size b) (λ _.
     Ok (called_facts f (kind.MaybeValue m.descriptor at)))))
 call_facts shapes at Update f =
-    readable_four f (λ a b c d. and_then_ok (map_kind shapes a) (λ m. and_then_ok (input_kind shapes f m.shape.key_size b) (λ _. and_then_ok (input_kind shapes f m.shape.value_size c) (λ _. and_then_ok (number_kind d) (λ _.
+    readable_four f (λ a b c d.
+    and_then_ok (map_kind shapes a) (λ m.
+    and_then_ok (input_kind shapes f m.shape.key_size b) (λ _.
+    and_then_ok (input_kind shapes f m.shape.value_size c) (λ _.
+    and_then_ok (number_kind d) (λ _.
     Ok (called_facts f any_number))))))
 call_facts shapes at Delete f =
-    readable_two f (λ a b. and_then_ok (map_kind shapes a) (λ m. and_then_ok (input_kind shapes f m.shape.key_size b) (λ _.
+    readable_two f (λ a b.
+    and_then_ok (map_kind shapes a) (λ m.
+    and_then_ok (input_kind shapes f m.shape.key_size b) (λ _.
     Ok (called_facts f any_number))))
 call_facts shapes at LoadBytes f =
-    readable_four f (λ a b c d. and_then_ok (context_kind a) (λ _. and_then_ok (number_kind b) (λ _. and_then_ok (length_kind d) (λ r. and_then_ok (output_facts shapes f r c) (λ g.
+    readable_four f (λ a b c d.
+    and_then_ok (context_kind a) (λ _.
+    and_then_ok (number_kind b) (λ _.
+    and_then_ok (length_kind d) (λ r.
+    and_then_ok (output_facts shapes f r c) (λ g.
     Ok (called_facts g any_number))))))

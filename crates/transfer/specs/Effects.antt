@@ -67,7 +67,8 @@ context_read y size signed = Err ContextAccess
 abbrev pub load_kind : Shapes → Facts → AccessSize → Bool → ℤ → Kind → Result Kind Reason
 load_kind shapes f size signed off (kind.Stack x) = stack_read f (x +ℤ off) size signed
 load_kind shapes f size signed off kind.Ctx = context_read off size signed
-load_kind shapes f size signed off (kind.Value p) = and_then_ok (room_of p off (bytes_of size) (shapes p.map)) (λ _. Ok (loaded size signed))
+load_kind shapes f size signed off (kind.Value p) =
+    and_then_ok (room_of p off (bytes_of size) (shapes p.map)) (λ _. Ok (loaded size signed))
 load_kind shapes f size signed off (kind.MaybeValue m site) = Err MaybeNull
 load_kind shapes f size signed off k = Err NotPointer
 
@@ -78,35 +79,43 @@ stored_outside f v = if is_pointer v then Err PointerStored else Ok f
 abbrev pub store_facts : Shapes → Facts → AccessSize → ℤ → Kind → Kind → Result Facts Reason
 store_facts shapes f size off (kind.Stack x) v = stack_write f (x +ℤ off) size v
 store_facts shapes f size off kind.Ctx v = Err ContextAccess
-store_facts shapes f size off (kind.Value p) v = and_then_ok (room_of p off (bytes_of size) (shapes p.map)) (λ _. stored_outside f v)
+store_facts shapes f size off (kind.Value p) v =
+    and_then_ok (room_of p off (bytes_of size) (shapes p.map)) (λ _. stored_outside f v)
 store_facts shapes f size off (kind.MaybeValue m site) v = Err MaybeNull
 store_facts shapes f size off k v = Err NotPointer
 
--- ---- atomic operations: they load a number and store one at the same place, so no other fact changes
+-- ---- atomic operations: they load a number and store one at its address, so no other fact changes
 
 abbrev pub number_or : Reason → Kind → Result (Unit {0}) Reason
 number_or reason (kind.Scalar r) = Ok tt
 number_or reason k = Err reason
 
 abbrev pub stack_changed : Facts → ℤ → AccessSize → Result Facts Reason
-stack_changed f y size = and_then_ok (stack_read f y size false) (λ k. and_then_ok (number_or PartOfSpill k) (λ _. stack_write f y size any_number))
+stack_changed f y size =
+    and_then_ok (stack_read f y size false)
+    (λ k. and_then_ok (number_or PartOfSpill k) (λ _. stack_write f y size any_number))
 
 -- the offset of an access within a value is known, and a multiple of the size
 abbrev pub is_known_multiple : ValuePointer → ℤ → AccessSize → Bool
 is_known_multiple p off size = int_eq p.lo p.hi && is_multiple (p.lo +ℤ off) (bytes_of size)
 
-abbrev pub value_changed : Facts → ValuePointer → ℤ → AccessSize → Option MapShape → Result Facts Reason
-value_changed f p off size o = and_then_ok (room_of p off (bytes_of size) o) (λ _. if is_known_multiple p off size then Ok f else Err UnalignedAtomic)
+abbrev pub value_changed : Facts → ValuePointer → ℤ → AccessSize → Option MapShape
+    → Result Facts Reason
+value_changed f p off size o =
+    and_then_ok (room_of p off (bytes_of size) o)
+    (λ _. if is_known_multiple p off size then Ok f else Err UnalignedAtomic)
 
 abbrev pub changed_facts : Shapes → Facts → AccessSize → ℤ → Kind → Kind → Result Facts Reason
-changed_facts shapes f size off (kind.Stack x) v = and_then_ok (number_or PointerArithmetic v) (λ _. stack_changed f (x +ℤ off) size)
+changed_facts shapes f size off (kind.Stack x) v =
+    and_then_ok (number_or PointerArithmetic v) (λ _. stack_changed f (x +ℤ off) size)
 changed_facts shapes f size off kind.Ctx v = Err ContextAccess
-changed_facts shapes f size off (kind.Value p) v = and_then_ok (number_or PointerArithmetic v) (λ _. value_changed f p off size (shapes p.map))
+changed_facts shapes f size off (kind.Value p) v =
+    and_then_ok (number_or PointerArithmetic v) (λ _. value_changed f p off size (shapes p.map))
 changed_facts shapes f size off (kind.MaybeValue m site) v = Err MaybeNull
 changed_facts shapes f size off k v = Err NotPointer
 
--- ---- maps and calls: it is a fault of the program's shape if a descriptor names no map, or one without this direct value, or if
--- a helper is unknown
+-- ---- maps and calls: it is a fault of the program's shape if a descriptor names no map, or one
+-- without this direct value, or if a helper is unknown
 
 abbrev pub map_of : ℕ → Option MapShape → Result Kind Reason
 map_of m None = Err DescriptorNotMap
@@ -115,7 +124,10 @@ map_of m (Some shape) = Ok (kind.MapRef m)
 -- a pointer to a direct value of a map, at an offset in it
 unfoldable pub value_of : ℕ → ℕ → Option MapShape → Result Kind Reason
 value_of m offset None = Err DescriptorNotMap
-value_of m offset (Some shape) = if has_direct_value shape offset then Ok (kind.Value (value_span m (pos offset) (pos offset))) else Err NoDirectValue
+value_of m offset (Some shape) =
+    if has_direct_value shape offset
+    then Ok (kind.Value (value_span m (pos offset) (pos offset)))
+    else Err NoDirectValue
 
 abbrev pub known : Option Helper → Result Helper Reason
 known None = Err UnknownHelper
@@ -134,19 +146,29 @@ exit_edges f = and_then_ok (check_readable (kind_at f 0)) exits_with
 
 -- of two operands
 abbrev pub operator_edges : Bool → AluOp → ℕ → Operand → Facts → Result Edges Reason
-operator_edges wide op dst src f = and_then_ok (first_kind op (kind_at f dst)) (λ a. and_then_ok (check_readable (source_kind f wide src)) (λ b. assigns f dst (arithmetic_kind wide op a b)))
+operator_edges wide op dst src f =
+    and_then_ok (first_kind op (kind_at f dst))
+    (λ a.
+      and_then_ok (check_readable (source_kind f wide src))
+      (λ b. assigns f dst (arithmetic_kind wide op a b)))
 
 -- of one operand
 abbrev pub unary_edges : Bool → Operator → ℕ → ℕ → Facts → Result Edges Reason
-unary_edges wide op dst src f = and_then_ok (check_readable (kind_at f src)) (λ k. assigns f dst (of_scalar wide op k))
+unary_edges wide op dst src f =
+    and_then_ok (check_readable (kind_at f src)) (λ k. assigns f dst (of_scalar wide op k))
 
 -- ---- accesses and wide loads
 
 -- at an address of this kind
 abbrev pub access_edges : Shapes → Facts → Access → ℤ → Kind → Result Edges Reason
-access_edges shapes f (loads size signed dst) off k = assigns f dst (load_kind shapes f size signed off k)
-access_edges shapes f (stores size src) off k = and_then_ok (check_readable (source_kind f true src)) (λ v. and_then_ok (store_facts shapes f size off k v) falls)
-access_edges shapes f (changes size op src) off k = and_then_ok (check_readable (kind_at f src)) (λ v. and_then_ok (changed_facts shapes f (access_size size) off k v) falls)
+access_edges shapes f (loads size signed dst) off k =
+    assigns f dst (load_kind shapes f size signed off k)
+access_edges shapes f (stores size src) off k =
+    and_then_ok (check_readable (source_kind f true src))
+    (λ v. and_then_ok (store_facts shapes f size off k v) falls)
+access_edges shapes f (changes size op src) off k =
+    and_then_ok (check_readable (kind_at f src))
+    (λ v. and_then_ok (changed_facts shapes f (access_size size) off k v) falls)
 
 abbrev pub wide_kind : Shapes → WideValue → Result Kind Reason
 wide_kind shapes (immediate n) = Ok (kind.Scalar (constant n))
@@ -159,10 +181,16 @@ abbrev pub effect_of : Shapes → ℕ → View → Facts → Result Edges Reason
 effect_of shapes at (binary wide op dst src) f = operator_edges wide op dst src f
 effect_of shapes at (unary wide op dst src) f = unary_edges wide op dst src f
 effect_of shapes at (jump off) f = Ok (record { falling = None; jumping = Some f })
-effect_of shapes at (branch wide cond dst src off) f = and_then_ok (check_readable (kind_at f dst)) (λ a. and_then_ok (check_readable (source_kind f wide src)) (λ b. branch_edges wide cond f dst src a b))
-effect_of shapes at (access what base off) f = and_then_ok (check_readable (kind_at f base)) (access_edges shapes f what off)
+effect_of shapes at (branch wide cond dst src off) f =
+    and_then_ok (check_readable (kind_at f dst))
+    (λ a.
+      and_then_ok (check_readable (source_kind f wide src))
+      (λ b. branch_edges wide cond f dst src a b))
+effect_of shapes at (access what base off) f =
+    and_then_ok (check_readable (kind_at f base)) (access_edges shapes f what off)
 effect_of shapes at (wide_load dst value) f = assigns f dst (wide_kind shapes value)
-effect_of shapes at (call id) f = and_then_ok (known (helper_of id)) (λ h. and_then_ok (call_facts shapes at h f) falls)
+effect_of shapes at (call id) f =
+    and_then_ok (known (helper_of id)) (λ h. and_then_ok (call_facts shapes at h f) falls)
 effect_of shapes at exit f = exit_edges f
 
 -- of an instruction

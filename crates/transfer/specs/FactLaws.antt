@@ -20,5 +20,11 @@ slot_raised at n (Bytes mask) lt h = h
 slot_raised at n (Spill k) lt h = kind_raised at n k lt h
 
 -- facts that are well formed at a slot are well formed at each later one
-pub facts_of_later_slots : (at n : ℕ) (f : Facts) → at < n → AreWellFormedAt at f → AreWellFormedAt n f
-facts_of_later_slots at n f lt h = record { registers = λ r. kind_raised at n (kind_at f r) lt (h.registers r); slots = λ i. slot_raised at n (slot_at f i) lt (h.slots i) }
+pub facts_of_later_slots : (at n : ℕ) (f : Facts)
+    → at < n
+    → AreWellFormedAt at f
+    → AreWellFormedAt n f
+facts_of_later_slots at n f lt h = record {
+  registers = λ r. kind_raised at n (kind_at f r) lt (h.registers r);
+  slots = λ i. slot_raised at n (slot_at f i) lt (h.slots i)
+}

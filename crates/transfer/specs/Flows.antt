@@ -16,7 +16,10 @@ edges_of Writes f = record { falling = Some f; jumping = None }
 edges_of Jumps f = record { falling = None; jumping = Some f }
 edges_of Either f = record { falling = Some f; jumping = Some f }
 edges_of (Compares dst src falls jumps) f =
-    record { falling = option_map (with_pair f dst src) falls; jumping = option_map (with_pair f dst src) jumps }
+    record {
+      falling = option_map (with_pair f dst src) falls;
+      jumping = option_map (with_pair f dst src) jumps
+    }
 edges_of (Settles site jumps_on_null) f = settled_edges jumps_on_null site f
 
 -- the stack of facts g is that of facts f, except for the slots that the flow says may have been

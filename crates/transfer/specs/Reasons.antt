@@ -47,7 +47,8 @@ abbrev pub IsNoValue : Shapes → Reference → Type 0
 IsNoValue shapes names.Nothing = ⊥
 IsNoValue shapes (names.Helper id) = ⊥
 IsNoValue shapes (names.Map fd) = ⊥
-IsNoValue shapes (names.Value fd off) = (shape : MapShape) × (shapes fd ≡ Some shape) × (has_direct_value shape off ≡ false)
+IsNoValue shapes (names.Value fd off) =
+    (shape : MapShape) × (shapes fd ≡ Some shape) × (has_direct_value shape off ≡ false)
 
 -- the reason is one of these, and applies to the instruction, or it is from the kinds of the
 -- operands
@@ -62,4 +63,7 @@ IsReasonOf shapes i reason = IsReasonFor shapes (view i) reason
 
 -- an instruction is rejected only for such a reason
 abbrev pub TransferReasons : Type 0
-TransferReasons = (shapes : Shapes) (at : ℕ) (i : Insn) (f : Facts) (reason : Reason) → effect shapes at i f ≡ Err reason → IsReasonOf shapes i reason
+TransferReasons =
+    (shapes : Shapes) (at : ℕ) (i : Insn) (f : Facts) (reason : Reason)
+    → effect shapes at i f ≡ Err reason
+    → IsReasonOf shapes i reason

@@ -24,7 +24,8 @@ use Rattle.transfer.specs.Calls.{call_facts}
 use Rattle.transfer.specs.Effects.{effect}
 use Rattle.insn_set.specs.Flow.{falls_to, jumps_to}
 
--- ---- facts well formed at slot n: a range ends below 2 ^ 64, a mask has eight bits, and a look-up was at a slot below
+-- ---- facts well formed at slot n: a range ends below 2 ^ 64, a mask has eight bits, and a look-up
+-- was at a slot below
 
 abbrev pub IsKindAt : ℕ → Kind → Type 0
 IsKindAt n (Scalar r) = r.hi < 2 ^ 64
@@ -44,7 +45,10 @@ pub record AreWellFormedAt (n : ℕ) (f : Facts) : Type 0 where
 -- whether an instruction jumps in this state: a conditional jump does if its condition holds
 abbrev pub jumps_in : View → RunState → Bool
 jumps_in (jump off) s = true
-jumps_in (branch wide cond dst src off) s = unwrap_or (and_then (s.registers dst) (λ a. and_then (operand_value s wide src) (λ b. compared wide cond src a b))) false
+jumps_in (branch wide cond dst src off) s =
+    unwrap_or
+    (and_then (s.registers dst)
+      (λ a. and_then (operand_value s wide src) (λ b. compared wide cond src a b))) false
 jumps_in v s = false
 
 abbrev pub takes_jump : Insn → RunState → Bool
@@ -55,7 +59,8 @@ takes_jump i s = jumps_in (view i) s
 -- the edge exists and leads to the state's slot, and its facts describe the state, by some witness
 abbrev pub EdgeAdmits : Shapes → Option Facts → Option ℕ → RunState → Type 0
 EdgeAdmits shapes None slot t = ⊥
-EdgeAdmits shapes (Some f) slot t = (slot ≡ Some t.at) × (witness : Witness) × Describes witness f shapes t
+EdgeAdmits shapes (Some f) slot t =
+    (slot ≡ Some t.at) × (witness : Witness) × Describes witness f shapes t
 
 -- the edge that is taken admits the state: if the step jumps, the edge to `target`, else the edge
 -- to `next`
@@ -65,7 +70,8 @@ TakenEdgeAdmits false shapes next target edges t = EdgeAdmits shapes edges.falli
 
 -- the step is no fault, and the state after it is admitted on the edge that it takes
 abbrev pub CoversStep : Shapes → Insn → RunState → Edges → Step → Type 0
-CoversStep shapes i s edges (goes t) = TakenEdgeAdmits (takes_jump i s) shapes (falls_to i s.at) (jumps_to i s.at) edges t
+CoversStep shapes i s edges (goes t) =
+    TakenEdgeAdmits (takes_jump i s) shapes (falls_to i s.at) (jumps_to i s.at) edges t
 CoversStep shapes i s edges (ends n) = n < 2 ^ 32
 CoversStep shapes i s edges faults = ⊥
 
@@ -74,7 +80,12 @@ CoversStep shapes i s edges faults = ⊥
 -- next one
 abbrev pub TransferIsSound : Type 0
 TransferIsSound =
-    (witness : Witness) (shapes : Shapes) (i : Insn) (f : Facts) (s : RunState) (edges : Edges) → IsInsn i → IsSome (jumps_to i s.at) → AreWellFormedAt s.at f → Describes witness f shapes s → effect shapes s.at i f ≡ Ok edges
+    (witness : Witness) (shapes : Shapes) (i : Insn) (f : Facts) (s : RunState) (edges : Edges)
+    → IsInsn i
+    → IsSome (jumps_to i s.at)
+    → AreWellFormedAt s.at f
+    → Describes witness f shapes s
+    → effect shapes s.at i f ≡ Ok edges
     → CoversStep shapes i s edges (act i s)
 
 -- ---- the facts on the edges are well formed at each later slot
@@ -84,7 +95,13 @@ AreWellFormedOn n None = Unit {0}
 AreWellFormedOn n (Some f) = AreWellFormedAt n f
 
 abbrev pub TransferKeepsWellFormed : Type 0
-TransferKeepsWellFormed = (shapes : Shapes) (at n : ℕ) (i : Insn) (f : Facts) (edges : Edges) → IsInsn i → AreWellFormedAt at f → at < n → effect shapes at i f ≡ Ok edges → AreWellFormedOn n edges.falling × AreWellFormedOn n edges.jumping
+TransferKeepsWellFormed =
+    (shapes : Shapes) (at n : ℕ) (i : Insn) (f : Facts) (edges : Edges)
+    → IsInsn i
+    → AreWellFormedAt at f
+    → at < n
+    → effect shapes at i f ≡ Ok edges
+    → AreWellFormedOn n edges.falling × AreWellFormedOn n edges.jumping
 
 -- ---- calls
 
@@ -100,5 +117,8 @@ pub record CallIsAdmitted (g : Facts) (shapes : Shapes) (s u : RunState) : Type 
 -- describe the state after it
 abbrev pub CallsAreSound : Type 0
 CallsAreSound =
-    (witness : Witness) (shapes : Shapes) (h : Helper) (f g : Facts) (s : RunState) → AreBelow s.at f → Describes witness f shapes s → call_facts shapes s.at h f ≡ Ok g
+    (witness : Witness) (shapes : Shapes) (h : Helper) (f g : Facts) (s : RunState)
+    → AreBelow s.at f
+    → Describes witness f shapes s
+    → call_facts shapes s.at h f ≡ Ok g
     → (u : RunState) × (called h s ≡ Some u) × CallIsAdmitted g shapes s u

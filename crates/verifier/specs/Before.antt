@@ -27,16 +27,22 @@ only_if leads f = if leads then f else None
 -- an instruction that may not be run has no edges
 abbrev pub edges_into : Insn → ℕ → ℕ → Result Edges Reason → Option Facts
 edges_into insn n i (Err reason) = None
-edges_into insn n i (Ok edges) = joined (only_if (falls_into insn n i) edges.falling) (only_if (jumps_into insn n i) edges.jumping)
+edges_into insn n i (Ok edges) =
+    joined (only_if (falls_into insn n i) edges.falling)
+    (only_if (jumps_into insn n i) edges.jumping)
 
 -- the facts that slot n passes on to slot i, from those before it
 abbrev pub facts_sent : Shapes → List Insn → ℕ → ℕ → Option Facts → Option Facts
-facts_sent shapes code n i known = and_then known (λ f. and_then (begins_at code n) (λ insn. edges_into insn n i (effect shapes n insn f)))
+facts_sent shapes code n i known =
+    and_then known
+    (λ f. and_then (begins_at code n) (λ insn. edges_into insn n i (effect shapes n insn f)))
 
 -- the join of the facts that the slots below n pass on to slot i
 unfoldable pub facts_from_below : Shapes → List Insn → ℕ → ℕ → Option Facts
 facts_from_below shapes code i zero = if i == 0 then Some entry else None
-facts_from_below shapes code i (suc n) = joined (facts_from_below shapes code i n) (facts_sent shapes code n i (facts_from_below shapes code n n))
+facts_from_below shapes code i (suc n) =
+    joined (facts_from_below shapes code i n)
+    (facts_sent shapes code n i (facts_from_below shapes code n n))
 
 abbrev pub facts_before : Shapes → List Insn → ℕ → Option Facts
 facts_before shapes code i = facts_from_below shapes code i i

@@ -28,15 +28,23 @@ refusal_of_program fault = record { slot = fault.slot; cause = Verdict fault.rea
 
 -- the line of a refusal, without its line feed
 abbrev pub refusal_text : Refusal → List ℕ
-refusal_text refusal = codes "refused: slot " ++ (decimal refusal.slot ++ (codes " reason " ++ decimal (cause_number refusal.cause)))
+refusal_text refusal =
+    codes "refused: slot "
+    ++ (decimal refusal.slot ++ (codes " reason " ++ decimal (cause_number refusal.cause)))
 
 -- the slots are no program, or their program breaks a rule
 abbrev pub IsRefusedFor : List Named → List ℕ → ℕ → Cause → Type 0
-IsRefusedFor named slots slot (Slots kind) = IsProgramFault slots (record { slot = slot; kind = kind })
-IsRefusedFor named slots slot (Verdict reason) = (insns : List Insn) × IsProgram insns × (slots ≡ program_bytes insns) × IsRefused insns named slot reason
+IsRefusedFor named slots slot (Slots kind) =
+    IsProgramFault slots (record { slot = slot; kind = kind })
+IsRefusedFor named slots slot (Verdict reason) =
+    (insns : List Insn)
+    × IsProgram insns
+    × (slots ≡ program_bytes insns)
+    × IsRefused insns named slot reason
 
 -- the slots are this program's, which is accepted, or this is their refusal; there is at most one
 -- judgement
 abbrev pub Judges : List Named → List ℕ → Result (List Insn) Refusal → Type 0
-Judges named slots (Ok insns) = IsProgram insns × (slots ≡ program_bytes insns) × IsAccepted insns named
+Judges named slots (Ok insns) =
+    IsProgram insns × (slots ≡ program_bytes insns) × IsAccepted insns named
 Judges named slots (Err refusal) = IsRefusedFor named slots refusal.slot refusal.cause

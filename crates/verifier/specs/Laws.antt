@@ -16,25 +16,47 @@ use Rattle.verifier.specs.Verdict.{HasNoFault, IsAccepted, safety_fault}
 
 -- slots have one judgement
 abbrev pub OneJudgement : Type 0
-OneJudgement = (named : List Named) (slots : List ℕ) (j k : Result (List Insn) Refusal) → Judges named slots j → Judges named slots k → j ≡ k
+OneJudgement =
+    (named : List Named) (slots : List ℕ) (j k : Result (List Insn) Refusal)
+    → Judges named slots j
+    → Judges named slots k
+    → j ≡ k
 
 -- in a program without a fault of its shape, all that an instruction names exists: none is rejected
 -- for safety because it calls an unknown helper, loads something other than a map, or loads a
 -- direct value that the map does not have
 pub record SafetyFollowsShape : Type 0 where
-  pub helpers : (code : List Insn) (named : List Named) (slot : ℕ) → HasNoFault (structure_fault code named) → safety_fault (shapes_of code named) code slot ≢ Some UnknownHelper
-  pub maps : (code : List Insn) (named : List Named) (slot : ℕ) → HasNoFault (structure_fault code named) → safety_fault (shapes_of code named) code slot ≢ Some DescriptorNotMap
-  pub values : (code : List Insn) (named : List Named) (slot : ℕ) → HasNoFault (structure_fault code named) → safety_fault (shapes_of code named) code slot ≢ Some NoDirectValue
+  pub helpers : (code : List Insn) (named : List Named) (slot : ℕ)
+      → HasNoFault (structure_fault code named)
+      → safety_fault (shapes_of code named) code slot ≢ Some UnknownHelper
+  pub maps : (code : List Insn) (named : List Named) (slot : ℕ)
+      → HasNoFault (structure_fault code named)
+      → safety_fault (shapes_of code named) code slot ≢ Some DescriptorNotMap
+  pub values : (code : List Insn) (named : List Named) (slot : ℕ)
+      → HasNoFault (structure_fault code named)
+      → safety_fault (shapes_of code named) code slot ≢ Some NoDirectValue
 
 -- each map that an accepted program loads has a shape, both by all descriptors and by those that
 -- are kept
 pub record LoadedMapsHaveShapes : Type 0 where
-  pub named : (code : List Insn) (named : List Named) → IsAccepted code named → All (λ fd. IsSome (shapes_named named fd)) (maps_of code)
-  pub kept : (code : List Insn) (named : List Named) → IsAccepted code named → All (λ fd. IsSome (shapes_of code named fd)) (maps_of code)
+  pub named : (code : List Insn) (named : List Named)
+      → IsAccepted code named
+      → All (λ fd. IsSome (shapes_named named fd)) (maps_of code)
+  pub kept : (code : List Insn) (named : List Named)
+      → IsAccepted code named
+      → All (λ fd. IsSome (shapes_of code named fd)) (maps_of code)
 
 -- the maps of a program are those that its instructions load, each listed once; no other descriptor
 -- has a shape
 pub record MapsAreListed : Type 0 where
-  pub each : (code : List Insn) (n : ℕ) (i : Insn) (fd : ℕ) → begins_at code n ≡ Some i → descriptor i ≡ Some fd → (index : ℕ) × (slice_get (maps_of code) index ≡ Some fd)
-  pub once : (code : List Insn) (i j fd : ℕ) → slice_get (maps_of code) i ≡ Some fd → slice_get (maps_of code) j ≡ Some fd → i ≡ j
-  pub shaped : (code : List Insn) (named : List Named) (fd : ℕ) (shape : MapShape) → shapes_of code named fd ≡ Some shape → (index : ℕ) × (slice_get (maps_of code) index ≡ Some fd)
+  pub each : (code : List Insn) (n : ℕ) (i : Insn) (fd : ℕ)
+      → begins_at code n ≡ Some i
+      → descriptor i ≡ Some fd
+      → (index : ℕ) × (slice_get (maps_of code) index ≡ Some fd)
+  pub once : (code : List Insn) (i j fd : ℕ)
+      → slice_get (maps_of code) i ≡ Some fd
+      → slice_get (maps_of code) j ≡ Some fd
+      → i ≡ j
+  pub shaped : (code : List Insn) (named : List Named) (fd : ℕ) (shape : MapShape)
+      → shapes_of code named fd ≡ Some shape
+      → (index : ℕ) × (slice_get (maps_of code) index ≡ Some fd)

@@ -44,7 +44,8 @@ leads_into (Some insn) n i = falls_into insn n i || jumps_into insn n i
 -- i is slot 0, or an edge leads to it from a reachable slot below n
 unfoldable pub reached_from : List Insn → ℕ → ℕ → Bool
 reached_from code i zero = i == 0
-reached_from code i (suc n) = reached_from code i n || (reached_from code n n && leads_into (begins_at code n) n i)
+reached_from code i (suc n) =
+    reached_from code i n || (reached_from code n n && leads_into (begins_at code n) n i)
 
 abbrev pub is_reachable : List Insn → ℕ → Bool
 is_reachable code i = reached_from code i i
@@ -78,7 +79,8 @@ abbrev pub is_no_value : List Named → Reference → Bool
 is_no_value named names.Nothing = false
 is_no_value named (names.Helper id) = false
 is_no_value named (names.Map fd) = false
-is_no_value named (names.Value fd off) = not (option_map_or (λ shape. has_direct_value shape off) (shapes_named named fd) true)
+is_no_value named (names.Value fd off) =
+    not (option_map_or (λ shape. has_direct_value shape off) (shapes_named named fd) true)
 
 abbrev pub lacks_value : List Named → Insn → Bool
 lacks_value named i = is_no_value named (profile i).reference

@@ -17,10 +17,13 @@ no_reason : (reason : Reason) → Some reason ≡ None → ⊥
 no_reason reason e = cc
 
 -- if no reason is found, no condition holds
-passed : (line : Bool × Reason) (lines : List (Bool × Reason)) → first_reason (line ∷ lines) ≡ None → (line.0 ≡ false) × (first_reason lines ≡ None)
+passed : (line : Bool × Reason) (lines : List (Bool × Reason))
+    → first_reason (line ∷ lines) ≡ None
+    → (line.0 ≡ false) × (first_reason lines ≡ None)
 passed line lines none =
     elim (cases_Bool line.0) [
-      | inl holds ↦ absurd (no_reason line.1 (sym (cond-true line.0 (Some line.1) (first_reason lines) holds) ∙ none))
+      | inl holds ↦ absurd
+        (no_reason line.1 (sym (cond-true line.0 (Some line.1) (first_reason lines) holds) ∙ none))
       | inr fails ↦ (fails, sym (cond-false line.0 (Some line.1) (first_reason lines) fails) ∙ none)
     ]
 
@@ -37,7 +40,9 @@ pub record IsFine (code : List Insn) (named : List Named) (i : Insn) (at : ℕ) 
   pub value : lacks_value named i ≡ false
 
 -- an instruction without a reason has no fault
-pub unrefused_is_fine : (code : List Insn) (named : List Named) (i : Insn) (at : ℕ) → shape_reason code named i at ≡ None → IsFine code named i at
+pub unrefused_is_fine : (code : List Insn) (named : List Named) (i : Insn) (at : ℕ)
+    → shape_reason code named i at ≡ None
+    → IsFine code named i at
 unrefused_is_fine code named i at none =
     let ninth : Bool × Reason = (lacks_value named i, NoDirectValue) in
     let eighth : Bool × Reason = (is_not_map named (descriptor i), DescriptorNotMap) in
@@ -48,8 +53,11 @@ unrefused_is_fine code named i at none =
     let third : Bool × Reason = (falls i && nat_le (slot_count code) (falls_to i at), FallsOff) in
     let second : Bool × Reason = (jumps i && leads_backward (jumps_to i at) at, JumpBackward) in
     let first : Bool × Reason = (jumps i && leads_outside code (jumps_to i at), JumpOutside) in
-    let one = passed first (second ∷ third ∷ fourth ∷ fifth ∷ sixth ∷ seventh ∷ eighth ∷ ninth ∷ []) none in
-    let two = passed second (third ∷ fourth ∷ fifth ∷ sixth ∷ seventh ∷ eighth ∷ ninth ∷ []) one.1 in
+    let one =
+        passed first
+        (second ∷ third ∷ fourth ∷ fifth ∷ sixth ∷ seventh ∷ eighth ∷ ninth ∷ []) none in
+    let two =
+        passed second (third ∷ fourth ∷ fifth ∷ sixth ∷ seventh ∷ eighth ∷ ninth ∷ []) one.1 in
     let three = passed third (fourth ∷ fifth ∷ sixth ∷ seventh ∷ eighth ∷ ninth ∷ []) two.1 in
     let four = passed fourth (fifth ∷ sixth ∷ seventh ∷ eighth ∷ ninth ∷ []) three.1 in
     let five = passed fifth (sixth ∷ seventh ∷ eighth ∷ ninth ∷ []) four.1 in
@@ -69,6 +77,11 @@ unrefused_is_fine code named i at none =
     }
 
 -- if no slot has a fault of its shape, no instruction has one
-pub each_is_fine : (code : List Insn) (named : List Named) → HasNoFault (structure_fault code named) → (n : ℕ) (i : Insn) → begins_at code n ≡ Some i → IsFine code named i n
+pub each_is_fine : (code : List Insn) (named : List Named)
+    → HasNoFault (structure_fault code named)
+    → (n : ℕ) (i : Insn)
+    → begins_at code n ≡ Some i
+    → IsFine code named i n
 unfolding structure_fault
-each_is_fine code named none n i begins = unrefused_is_fine code named i n (sym (ap (shape_of code named n) begins) ∙ none n)
+each_is_fine code named none n i begins =
+    unrefused_is_fine code named i n (sym (ap (shape_of code named n) begins) ∙ none n)

@@ -31,8 +31,14 @@ use Rattle.verifier.specs.Verdict.{HasNoFault, IsAccepted}
 -- and the facts on the edge that the step takes admit it
 abbrev pub StepIsSound : Type 0
 StepIsSound =
-    (code : List Insn) (named : List Named) (witness : Witness) (s : RunState) (i : Insn) (f : Facts) (edges : Edges) → IsProgram code → HasNoFault (structure_fault code named) → begins_at code s.at ≡ Some i
-    → facts_before (shapes_of code named) code s.at ≡ Some f → Describes witness f (shapes_of code named) s → effect (shapes_of code named) s.at i f ≡ Ok edges
+    (code : List Insn) (named : List Named) (witness : Witness) (s : RunState) (i : Insn)
+      (f : Facts) (edges : Edges)
+    → IsProgram code
+    → HasNoFault (structure_fault code named)
+    → begins_at code s.at ≡ Some i
+    → facts_before (shapes_of code named) code s.at ≡ Some f
+    → Describes witness f (shapes_of code named) s
+    → effect (shapes_of code named) s.at i f ≡ Ok edges
     → CoversStep (shapes_of code named) i s edges (act i s)
 
 -- the facts before the state's slot describe it
@@ -52,7 +58,10 @@ NextIsAdmitted shapes code at faults = ⊥
 -- no step of an accepted program from an admitted state faults, and the state after it is admitted
 abbrev pub StepsGoOn : Type 0
 StepsGoOn =
-    (code : List Insn) (named : List Named) (s : RunState) → IsProgram code → IsAccepted code named → IsAdmitted (shapes_of code named) code s
+    (code : List Insn) (named : List Named) (s : RunState)
+    → IsProgram code
+    → IsAccepted code named
+    → IsAdmitted (shapes_of code named) code s
     → NextIsAdmitted (shapes_of code named) code s.at (step code s)
 
 -- ---- runs
@@ -60,12 +69,16 @@ StepsGoOn =
 -- a map of this shape: an array has all its indices, and each value has the size of the shape
 pub record IsTableOf (shape : MapShape) (t : Table (List ℕ)) : Type 0 where
   pub shaped : t.shape ≡ shape
-  pub indices : shape.kind ≡ Array → keys_of t.entries ≡ keys_of (indexed (λ i. i) 0 shape.max_entries)
+  pub indices : shape.kind ≡ Array
+      → keys_of t.entries ≡ keys_of (indexed (λ i. i) 0 shape.max_entries)
   pub sized : All (λ value. length value ≡ shape.value_size) (values_of t.entries)
 
 -- the inputs of a run: a map of each shape, the words of a context, and a packet of bytes
-pub record AreRunInputs (shapes : Shapes) (maps : MapsByDescriptor) (words packet : List ℕ) : Type 0 where
-  pub has : (m : ℕ) (shape : MapShape) → shapes m ≡ Some shape → (t : Table (List ℕ)) × (maps m ≡ Some t) × IsTableOf shape t
+pub record AreRunInputs (shapes : Shapes) (maps : MapsByDescriptor)
+    (words packet : List ℕ) : Type 0 where
+  pub has : (m : ℕ) (shape : MapShape)
+      → shapes m ≡ Some shape
+      → (t : Table (List ℕ)) × (maps m ≡ Some t) × IsTableOf shape t
   pub values : (m : ℕ) (t : Table (List ℕ)) → maps m ≡ Some t → All AreBytes (values_of t.entries)
   pub small : All (λ w. w < 2 ^ 32) words
   pub count : length words ≡ context_words
@@ -74,5 +87,8 @@ pub record AreRunInputs (shapes : Shapes) (maps : MapsByDescriptor) (words packe
 -- no run of an accepted program faults
 abbrev pub NeverFaults : Type 0
 NeverFaults =
-    (code : List Insn) (named : List Named) (maps : MapsByDescriptor) (words packet : List ℕ) → IsProgram code → IsAccepted code named → AreRunInputs (shapes_of code named) maps words packet
+    (code : List Insn) (named : List Named) (maps : MapsByDescriptor) (words packet : List ℕ)
+    → IsProgram code
+    → IsAccepted code named
+    → AreRunInputs (shapes_of code named) maps words packet
     → result_of code maps words packet ≢ Fault

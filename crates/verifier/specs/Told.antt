@@ -21,33 +21,47 @@ known_at slot known = option_to_list (option_map (λ f. (slot, f)) known)
 -- it
 unfoldable pub reached : Shapes → List Insn → ℕ → List (ℕ × Facts)
 reached shapes code zero = []
-reached shapes code (suc n) = reached shapes code n ++ known_at n (and_then (begins_at code n) (λ insn. facts_before shapes code n))
+reached shapes code (suc n) =
+    reached shapes code n
+    ++ known_at n (and_then (begins_at code n) (λ insn. facts_before shapes code n))
 
 -- what the watcher had received, if it is known, and more
 abbrev pub with_more : Option (List (ℕ × Facts)) → List (ℕ × Facts) → Option (List (ℕ × Facts))
 with_more told more = option_map (λ notes. notes ++ more) told
 
 -- the watcher has received the facts before the slots below n, and nothing else
-abbrev pub IsToldBelow : ℕ → Shapes → List Insn → Option (List (ℕ × Facts)) → Option (List (ℕ × Facts)) → Type 0
+abbrev pub IsToldBelow : ℕ → Shapes → List Insn → Option (List (ℕ × Facts))
+    → Option (List (ℕ × Facts)) → Type 0
 IsToldBelow n shapes code old new = new ≡ with_more old (reached shapes code n)
 
 -- for an accepted program, those of all slots
-abbrev pub IsToldWhole : List Insn → List Named → Option (List (ℕ × Facts)) → Option (List (ℕ × Facts)) → Type 0
+abbrev pub IsToldWhole : List Insn → List Named → Option (List (ℕ × Facts))
+    → Option (List (ℕ × Facts)) → Type 0
 IsToldWhole code named old new = IsToldBelow (slot_count code) (shapes_of code named) code old new
 
 -- out of memory, and the watcher has received those of the slots below some slot
-abbrev pub IsToldPart : List Insn → List Named → Option (List (ℕ × Facts)) → Option (List (ℕ × Facts)) → VerifyFault → Type 0
-IsToldPart code named old new fault = (fault ≡ memory_fault) × (n : ℕ) × IsToldBelow n (shapes_of code named) code old new
+abbrev pub IsToldPart : List Insn → List Named → Option (List (ℕ × Facts))
+    → Option (List (ℕ × Facts)) → VerifyFault → Type 0
+IsToldPart code named old new fault =
+    (fault ≡ memory_fault) × (n : ℕ) × IsToldBelow n (shapes_of code named) code old new
 
 -- a fault of the shape, and the watcher has received nothing
-abbrev pub IsToldOfShape : List Insn → List Named → Option (List (ℕ × Facts)) → Option (List (ℕ × Facts)) → VerifyFault → Type 0
-IsToldOfShape code named old new fault = IsFirstFault (structure_fault code named) fault.slot fault.reason × (new ≡ old)
+abbrev pub IsToldOfShape : List Insn → List Named → Option (List (ℕ × Facts))
+    → Option (List (ℕ × Facts)) → VerifyFault → Type 0
+IsToldOfShape code named old new fault =
+    IsFirstFault (structure_fault code named) fault.slot fault.reason × (new ≡ old)
 
 -- a fault of safety, and the watcher has received those of the slots up to the fault's
-abbrev pub IsToldOfSafety : List Insn → List Named → Option (List (ℕ × Facts)) → Option (List (ℕ × Facts)) → VerifyFault → Type 0
+abbrev pub IsToldOfSafety : List Insn → List Named → Option (List (ℕ × Facts))
+    → Option (List (ℕ × Facts)) → VerifyFault → Type 0
 IsToldOfSafety code named old new fault =
-    HasNoFault (structure_fault code named) × IsFirstFault (safety_fault (shapes_of code named) code) fault.slot fault.reason × IsToldBelow (fault.slot + 1) (shapes_of code named) code old new
+    HasNoFault (structure_fault code named)
+    × IsFirstFault (safety_fault (shapes_of code named) code) fault.slot fault.reason
+    × IsToldBelow (fault.slot + 1) (shapes_of code named) code old new
 
 -- for a program that is rejected
-abbrev pub IsToldRefused : List Insn → List Named → Option (List (ℕ × Facts)) → Option (List (ℕ × Facts)) → VerifyFault → Type 0
-IsToldRefused code named old new fault = IsToldPart code named old new fault ⊎ (IsToldOfShape code named old new fault ⊎ IsToldOfSafety code named old new fault)
+abbrev pub IsToldRefused : List Insn → List Named → Option (List (ℕ × Facts))
+    → Option (List (ℕ × Facts)) → VerifyFault → Type 0
+IsToldRefused code named old new fault =
+    IsToldPart code named old new fault
+    ⊎ (IsToldOfShape code named old new fault ⊎ IsToldOfSafety code named old new fault)

@@ -22,7 +22,9 @@ reason_of (Err reason) = Some reason
 
 -- the first condition that fails at a slot; None if no facts arrive there
 unfoldable pub safety_fault : Shapes → List Insn → ℕ → Option Reason
-safety_fault shapes code at = and_then (facts_before shapes code at) (λ f. and_then (begins_at code at) (λ i. reason_of (effect shapes at i f)))
+safety_fault shapes code at =
+    and_then (facts_before shapes code at)
+    (λ f. and_then (begins_at code at) (λ i. reason_of (effect shapes at i f)))
 
 -- this reason at this slot, and none at any slot below
 pub record IsFirstFault (fault_at : ℕ → Option Reason) (slot : ℕ) (reason : Reason) : Type 0 where
@@ -36,10 +38,13 @@ HasNoFault fault_at = (n : ℕ) → fault_at n ≡ None
 -- descriptors name
 abbrev pub IsRefused : List Insn → List Named → ℕ → Reason → Type 0
 IsRefused code named slot reason =
-    IsFirstFault (structure_fault code named) slot reason ⊎ (HasNoFault (structure_fault code named) × IsFirstFault (safety_fault (shapes_of code named) code) slot reason)
+    IsFirstFault (structure_fault code named) slot reason
+    ⊎ (HasNoFault (structure_fault code named)
+      × IsFirstFault (safety_fault (shapes_of code named) code) slot reason)
 
 abbrev pub IsAccepted : List Insn → List Named → Type 0
-IsAccepted code named = HasNoFault (structure_fault code named) × HasNoFault (safety_fault (shapes_of code named) code)
+IsAccepted code named =
+    HasNoFault (structure_fault code named) × HasNoFault (safety_fault (shapes_of code named) code)
 
 -- out of memory for the pass
 abbrev pub memory_fault : VerifyFault

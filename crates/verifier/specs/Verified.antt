@@ -20,7 +20,8 @@ shapes_in a = shapes_named a.entries
 
 -- a is this program, accepted with the objects that its descriptors named
 abbrev pub IsAcceptedAs : List Insn → List Named → Accepted → Type 0
-IsAcceptedAs code named a = (a.code ≡ code) × (a.entries ≡ entries_of (maps_of code) named) × IsAccepted code named
+IsAcceptedAs code named a =
+    (a.code ≡ code) × (a.entries ≡ entries_of (maps_of code) named) × IsAccepted code named
 
 -- it was accepted with these objects, whatever its descriptors name at present
 pub record IsVerified (a : Accepted) : Type 0 where
@@ -31,6 +32,9 @@ pub record IsVerified (a : Accepted) : Type 0 where
 -- each edge out of an instruction leads to another instruction at a later slot: to the one after
 -- it, unless it is an exit or always jumps, and to the target of its jump
 pub record GoesAhead (code : List Insn) : Type 0 where
-  pub behind : (at : ℕ) (i : Insn) → begins_at code at ≡ Some i → falls i ≡ true → IsSome (begins_at code (at + length (slots i)))
+  pub behind : (at : ℕ) (i : Insn)
+      → begins_at code at ≡ Some i
+      → falls i ≡ true
+      → IsSome (begins_at code (at + length (slots i)))
   pub target : (at : ℕ) (i : Insn) → begins_at code at ≡ Some i → jumps i ≡ true
       → (to : ℕ) × (jump_target i at ≡ Some to) × (at < to) × IsSome (begins_at code to)

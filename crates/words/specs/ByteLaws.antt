@@ -11,21 +11,34 @@ use Rattle.words.specs.Bytes.{number_of, low_bytes, bytes_at, written_at}
 -- ---- bytes of a list
 
 -- byte k of the n bytes at an offset is byte offset + k of the list
-pub byte_of : (bytes : List ℕ) (offset n k : ℕ) → k < n → get_or (bytes_at bytes offset n) k 0 ≡ get_or bytes (offset + k) 0
-byte_of bytes offset n k lt = get_or-take n (drop offset bytes) k 0 lt ∙ get_or-drop offset bytes k 0
+pub byte_of : (bytes : List ℕ) (offset n k : ℕ)
+    → k < n
+    → get_or (bytes_at bytes offset n) k 0 ≡ get_or bytes (offset + k) 0
+byte_of bytes offset n k lt =
+    get_or-take n (drop offset bytes) k 0 lt ∙ get_or-drop offset bytes k 0
 
 -- the n bytes at an offset of a list that is long enough are n
-pub length-bytes_at : (bytes : List ℕ) (offset n : ℕ) → offset + n ≤ length bytes → length (bytes_at bytes offset n) ≡ n
-length-bytes_at bytes offset n h = omega (arith, length-take n (drop offset bytes), length-drop offset bytes)
+pub length-bytes_at : (bytes : List ℕ) (offset n : ℕ)
+    → offset + n ≤ length bytes
+    → length (bytes_at bytes offset n) ≡ n
+length-bytes_at bytes offset n h =
+    omega (arith, length-take n (drop offset bytes), length-drop offset bytes)
 
 -- the n bytes at an offset are those of new, if each of them is
-pub bytes_are : (bytes new : List ℕ) (offset n : ℕ) → length new ≡ n → offset + n ≤ length bytes → ((k : ℕ) → k < n → get_or bytes (offset + k) 0 ≡ get_or new k 0) → bytes_at bytes offset n ≡ new
+pub bytes_are : (bytes new : List ℕ) (offset n : ℕ)
+    → length new ≡ n
+    → offset + n ≤ length bytes
+    → ((k : ℕ) → k < n → get_or bytes (offset + k) 0 ≡ get_or new k 0)
+    → bytes_at bytes offset n ≡ new
 bytes_are bytes new offset n count h same =
     let long = length-bytes_at bytes offset n h in
-    ext_get_or 0 (bytes_at bytes offset n) new (long ∙ sym count) (λ k lt. byte_of bytes offset n k (omega arith) ∙ same k (omega arith))
+    ext_get_or 0 (bytes_at bytes offset n) new (long ∙ sym count)
+      (λ k lt. byte_of bytes offset n k (omega arith) ∙ same k (omega arith))
 
 -- bytes at an offset within the bytes at an offset are bytes of the list
-pub bytes_within : (bytes : List ℕ) (offset size at n : ℕ) → at + n ≤ size → bytes_at (bytes_at bytes offset size) at n ≡ bytes_at bytes (offset + at) n
+pub bytes_within : (bytes : List ℕ) (offset size at n : ℕ)
+    → at + n ≤ size
+    → bytes_at (bytes_at bytes offset size) at n ≡ bytes_at bytes (offset + at) n
 bytes_within bytes offset size at n room =
     let split : size ≡ at + (size - at) = omega arith in
     ap (λ (k : ℕ). take n (drop at (take k (drop offset bytes)))) split
@@ -34,7 +47,8 @@ bytes_within bytes offset size at n room =
     ∙ ap (take n) (drop-drop at offset bytes)
 
 -- a slice range of a list is the bytes at its beginning
-pub range_is_bytes : (bytes : List ℕ) (offset n : ℕ) → slice_range bytes offset (offset + n) ≡ bytes_at bytes offset n
+pub range_is_bytes : (bytes : List ℕ) (offset n : ℕ)
+    → slice_range bytes offset (offset + n) ≡ bytes_at bytes offset n
 range_is_bytes bytes offset n =
     let same : offset + n - offset ≡ n = omega arith in
     ap (λ (k : ℕ). take k (drop offset bytes)) same
@@ -42,12 +56,20 @@ range_is_bytes bytes offset n =
 -- ---- a list in which bytes are written
 
 -- writing leaves the length of the list unchanged
-pub length-written_at : (bytes new : List ℕ) (offset : ℕ) → offset + length new ≤ length bytes → length (written_at bytes offset new) ≡ length bytes
+pub length-written_at : (bytes new : List ℕ) (offset : ℕ)
+    → offset + length new ≤ length bytes
+    → length (written_at bytes offset new) ≡ length bytes
 length-written_at bytes new offset h =
-    omega (arith, length-append (take offset bytes) (new ++ drop (offset + length new) bytes), length-append new (drop (offset + length new) bytes), length-take offset bytes, length-drop (offset + length new) bytes)
+    omega
+      (arith, length-append (take offset bytes) (new ++ drop (offset + length new) bytes),
+        length-append new (drop (offset + length new) bytes), length-take offset bytes,
+        length-drop (offset + length new) bytes)
 
 -- within the written bytes, a byte of the list is the byte written
-pub written_in : (bytes new : List ℕ) (offset k : ℕ) → offset ≤ length bytes → k < length new → get_or (written_at bytes offset new) (offset + k) 0 ≡ get_or new k 0
+pub written_in : (bytes new : List ℕ) (offset k : ℕ)
+    → offset ≤ length bytes
+    → k < length new
+    → get_or (written_at bytes offset new) (offset + k) 0 ≡ get_or new k 0
 written_in bytes new offset k h lt =
     let long = length-take-le offset bytes h in
     let at : offset + k ≡ length (take offset bytes) + k = omega arith in
@@ -56,121 +78,232 @@ written_in bytes new offset k h lt =
     ∙ get_or_append_left new (drop (offset + length new) bytes) 0 k lt
 
 -- elsewhere a byte of the list is unchanged
-pub written_out : (bytes new : List ℕ) (offset q : ℕ) → offset ≤ length bytes → (q < offset) ⊎ (offset + length new ≤ q) → get_or (written_at bytes offset new) q 0 ≡ get_or bytes q 0
+pub written_out : (bytes new : List ℕ) (offset q : ℕ)
+    → offset ≤ length bytes
+    → (q < offset) ⊎ (offset + length new ≤ q)
+    → get_or (written_at bytes offset new) q 0 ≡ get_or bytes q 0
 written_out bytes new offset q h (inl below) =
     let long = length-take-le offset bytes h in
-    get_or_append_left (take offset bytes) (new ++ drop (offset + length new) bytes) 0 q (omega arith) ∙ get_or-take offset bytes q 0 below
+    get_or_append_left (take offset bytes) (new ++ drop (offset + length new) bytes) 0 q
+        (omega arith)
+      ∙ get_or-take offset bytes q 0 below
 written_out bytes new offset q h (inr above) =
     let long = length-take-le offset bytes h in
     let at : offset + length new + (q - offset - length new) ≡ q = omega arith in
-    get_or-append_right (take offset bytes) (new ++ drop (offset + length new) bytes) offset q 0 long (omega arith)
-    ∙ get_or-append_right new (drop (offset + length new) bytes) (length new) (q - offset) 0 refl (omega arith)
+    get_or-append_right (take offset bytes)
+      (new ++ drop (offset + length new) bytes) offset q 0 long (omega arith)
+    ∙ get_or-append_right new (drop (offset + length new) bytes) (length new) (q - offset) 0 refl
+      (omega arith)
     ∙ get_or-drop (offset + length new) bytes (q - offset - length new) 0
     ∙ ap (λ (p : ℕ). get_or bytes p 0) at
 
 -- the bytes at the offset of a write are those written
-pub bytes_written : (bytes new : List ℕ) (offset : ℕ) → offset + length new ≤ length bytes → bytes_at (written_at bytes offset new) offset (length new) ≡ new
+pub bytes_written : (bytes new : List ℕ) (offset : ℕ)
+    → offset + length new ≤ length bytes
+    → bytes_at (written_at bytes offset new) offset (length new) ≡ new
 bytes_written bytes new offset h =
     let long : offset ≡ length (take offset bytes) = omega (arith, length-take offset bytes) in
     ap (λ (p : ℕ). take (length new) (drop p (written_at bytes offset new))) long
-    ∙ ap (take (length new)) (drop-append_seam (take offset bytes) (new ++ drop (offset + length new) bytes))
+    ∙ ap (take (length new))
+      (drop-append_seam (take offset bytes) (new ++ drop (offset + length new) bytes))
     ∙ take-append_seam new (drop (offset + length new) bytes)
 
-before : (bytes rest : List ℕ) (offset from n : ℕ) → from + n ≤ offset → offset ≤ length bytes → bytes_at (take offset bytes ++ rest) from n ≡ bytes_at bytes from n
+before : (bytes rest : List ℕ) (offset from n : ℕ)
+    → from + n ≤ offset
+    → offset ≤ length bytes
+    → bytes_at (take offset bytes ++ rest) from n ≡ bytes_at bytes from n
 before bytes rest offset from n h k =
     let long : length (take offset bytes) ≡ offset = omega (arith, length-take offset bytes) in
     let there : from ≤ length (take offset bytes) = omega arith in
-    let left : length (drop from (take offset bytes)) ≡ offset - from = omega (arith, length-drop from (take offset bytes)) in
+    let left : length (drop from (take offset bytes)) ≡ offset - from =
+        omega (arith, length-drop from (take offset bytes)) in
     let room : n ≤ length (drop from (take offset bytes)) = omega arith in
     let split : from + (offset - from) ≡ offset = omega arith in
-    let less : n ≤ length (take (offset - from) (drop from bytes)) = omega (arith, length-take (offset - from) (drop from bytes), length-drop from bytes) in
+    let less : n ≤ length (take (offset - from) (drop from bytes)) =
+        omega (arith, length-take (offset - from) (drop from bytes), length-drop from bytes) in
     ap (take n) (drop-append-le from (take offset bytes) rest there)
     ∙ take-append-le n (drop from (take offset bytes)) rest room
     ∙ ap (λ (p : ℕ). take n (drop from (take p bytes))) (sym split)
     ∙ ap (take n) (drop-take from (offset - from) bytes)
-    ∙ sym (take-append-le n (take (offset - from) (drop from bytes)) (drop (offset - from) (drop from bytes)) less)
+    ∙ sym
+      (take-append-le n (take (offset - from) (drop from bytes))
+        (drop (offset - from) (drop from bytes)) less)
     ∙ ap (take n) (take-append-drop (offset - from) (drop from bytes))
 
-behind : (bytes new : List ℕ) (offset from : ℕ) → offset + length new ≤ from → offset ≤ length bytes → drop from (written_at bytes offset new) ≡ drop from bytes
+behind : (bytes new : List ℕ) (offset from : ℕ)
+    → offset + length new ≤ from
+    → offset ≤ length bytes
+    → drop from (written_at bytes offset new) ≡ drop from bytes
 behind bytes new offset from h k =
     let long : length (take offset bytes) ≡ offset = omega (arith, length-take offset bytes) in
-    let far : from ≡ length (take offset bytes) + (length new + (from - (offset + length new))) = omega arith in
+    let far : from ≡ length (take offset bytes) + (length new + (from - (offset + length new))) =
+        omega arith in
     let back : offset + length new + (from - (offset + length new)) ≡ from = omega arith in
     ap (λ (n : ℕ). drop n (written_at bytes offset new)) far
-    ∙ drop-append-add (take offset bytes) (new ++ drop (offset + length new) bytes) (length new + (from - (offset + length new)))
+    ∙ drop-append-add (take offset bytes) (new ++ drop (offset + length new) bytes)
+      (length new + (from - (offset + length new)))
     ∙ drop-append-add new (drop (offset + length new) bytes) (from - (offset + length new))
     ∙ drop-drop (from - (offset + length new)) (offset + length new) bytes
     ∙ ap (λ (n : ℕ). drop n bytes) (omega arith)
 
 -- bytes apart from those written are unchanged
-pub bytes_stay : (bytes new : List ℕ) (offset from n : ℕ) → offset + length new ≤ length bytes → (from + n ≤ offset) ⊎ (offset + length new ≤ from) → bytes_at (written_at bytes offset new) from n ≡ bytes_at bytes from n
-bytes_stay bytes new offset from n k (inl h) = before bytes (new ++ drop (offset + length new) bytes) offset from n h (omega arith)
-bytes_stay bytes new offset from n k (inr h) = ap (take n) (behind bytes new offset from h (omega arith))
+pub bytes_stay : (bytes new : List ℕ) (offset from n : ℕ)
+    → offset + length new ≤ length bytes
+    → (from + n ≤ offset) ⊎ (offset + length new ≤ from)
+    → bytes_at (written_at bytes offset new) from n ≡ bytes_at bytes from n
+bytes_stay bytes new offset from n k (inl h) =
+    before bytes (new ++ drop (offset + length new) bytes) offset from n h (omega arith)
+bytes_stay bytes new offset from n k (inr h) =
+    ap (take n) (behind bytes new offset from h (omega arith))
 
 -- a write within a part of the list is a write in that part's bytes
-pub over_within : (bytes new : List ℕ) (offset size at : ℕ) → offset + size ≤ length bytes → at + length new ≤ size → bytes_at (written_at bytes (offset + at) new) offset size ≡ written_at (bytes_at bytes offset size) at new
+pub over_within : (bytes new : List ℕ) (offset size at : ℕ)
+    → offset + size ≤ length bytes
+    → at + length new ≤ size
+    → bytes_at (written_at bytes (offset + at) new) offset size
+      ≡ written_at (bytes_at bytes offset size) at new
 over_within bytes new offset size at fits room =
     let inner = bytes_at bytes offset size in
-    let long : length inner ≡ size = omega (arith, length-take size (drop offset bytes), length-drop offset bytes) in
+    let long : length inner ≡ size =
+        omega (arith, length-take size (drop offset bytes), length-drop offset bytes) in
     let after = length-written_at bytes new (offset + at) (omega arith) in
-    let count : length (written_at inner at new) ≡ size = length-written_at inner new at (omega arith) ∙ long in
-    bytes_are (written_at bytes (offset + at) new) (written_at inner at new) offset size count (omega arith)
+    let count : length (written_at inner at new) ≡ size =
+        length-written_at inner new at (omega arith) ∙ long in
+    bytes_are (written_at bytes (offset + at) new) (written_at inner at new) offset size count
+      (omega arith)
     (λ k lt. ⊎_elim
     (λ below. outside k lt long (inl (omega arith)) (inl below))
-    (λ from. ⊎_elim (λ within. inside k lt long from within) (λ above. outside k lt long (inr (omega arith)) (inr above)) (cases_lt k (at + length new)))
+    (λ from.
+      ⊎_elim (λ within. inside k lt long from within)
+      (λ above. outside k lt long (inr (omega arith)) (inr above)) (cases_lt k (at + length new)))
     (cases_lt k at))
   where
-    outside : (k : ℕ) → k < size → length (bytes_at bytes offset size) ≡ size → (offset + k < offset + at) ⊎ (offset + at + length new ≤ offset + k) → (k < at) ⊎ (at + length new ≤ k) → get_or (written_at bytes (offset + at) new) (offset + k) 0 ≡ get_or (written_at (bytes_at bytes offset size) at new) k 0
+    outside : (k : ℕ)
+        → k < size
+        → length (bytes_at bytes offset size) ≡ size
+        → (offset + k < offset + at) ⊎ (offset + at + length new ≤ offset + k)
+        → (k < at) ⊎ (at + length new ≤ k)
+        → get_or (written_at bytes (offset + at) new) (offset + k) 0
+          ≡ get_or (written_at (bytes_at bytes offset size) at new) k 0
     outside k lt long far near =
-        written_out bytes new (offset + at) (offset + k) (omega arith) far ∙ sym (written_out (bytes_at bytes offset size) new at k (omega arith) near ∙ byte_of bytes offset size k lt)
+        written_out bytes new (offset + at) (offset + k) (omega arith) far
+          ∙ sym
+            (written_out (bytes_at bytes offset size) new at k (omega arith) near
+              ∙ byte_of bytes offset size k lt)
 
-    inside : (k : ℕ) → k < size → length (bytes_at bytes offset size) ≡ size → at ≤ k → k < at + length new → get_or (written_at bytes (offset + at) new) (offset + k) 0 ≡ get_or (written_at (bytes_at bytes offset size) at new) k 0
+    inside : (k : ℕ)
+        → k < size
+        → length (bytes_at bytes offset size) ≡ size
+        → at ≤ k
+        → k < at + length new
+        → get_or (written_at bytes (offset + at) new) (offset + k) 0
+          ≡ get_or (written_at (bytes_at bytes offset size) at new) k 0
     inside k lt long from within =
         let there : offset + k ≡ offset + at + (k - at) = omega arith in
         let here : k ≡ at + (k - at) = omega arith in
-        ap (λ (q : ℕ). get_or (written_at bytes (offset + at) new) q 0) there ∙ written_in bytes new (offset + at) (k - at) (omega arith) (omega arith)
-        ∙ sym (ap (λ (q : ℕ). get_or (written_at (bytes_at bytes offset size) at new) q 0) here ∙ written_in (bytes_at bytes offset size) new at (k - at) (omega arith) (omega arith))
+        ap (λ (q : ℕ). get_or (written_at bytes (offset + at) new) q 0) there
+          ∙ written_in bytes new (offset + at) (k - at) (omega arith) (omega arith)
+        ∙ sym
+          (ap (λ (q : ℕ). get_or (written_at (bytes_at bytes offset size) at new) q 0) here
+            ∙ written_in (bytes_at bytes offset size) new at (k - at) (omega arith) (omega arith))
 
 -- a part's bytes, written over and then written back, are written into the whole list
-pub over_part : (bytes new : List ℕ) (start size at : ℕ) → start + size ≤ length bytes → at + length new ≤ size → written_at bytes start (written_at (bytes_at bytes start size) at new) ≡ written_at bytes (start + at) new
+pub over_part : (bytes new : List ℕ) (start size at : ℕ)
+    → start + size ≤ length bytes
+    → at + length new ≤ size
+    → written_at bytes start (written_at (bytes_at bytes start size) at new)
+      ≡ written_at bytes (start + at) new
 over_part bytes new start size at fits room =
     let part = bytes_at bytes start size in
-    let long : length part ≡ size = omega (arith, length-take size (drop start bytes), length-drop start bytes) in
-    let inner : length (written_at part at new) ≡ size = length-written_at part new at (omega arith) ∙ long in
-    let left : length (written_at bytes start (written_at part at new)) ≡ length bytes = length-written_at bytes (written_at part at new) start (omega arith) in
-    let right : length (written_at bytes (start + at) new) ≡ length bytes = length-written_at bytes new (start + at) (omega arith) in
-    ext_get_or 0 (written_at bytes start (written_at part at new)) (written_at bytes (start + at) new) (left ∙ sym right)
+    let long : length part ≡ size =
+        omega (arith, length-take size (drop start bytes), length-drop start bytes) in
+    let inner : length (written_at part at new) ≡ size =
+        length-written_at part new at (omega arith) ∙ long in
+    let left : length (written_at bytes start (written_at part at new)) ≡ length bytes =
+        length-written_at bytes (written_at part at new) start (omega arith) in
+    let right : length (written_at bytes (start + at) new) ≡ length bytes =
+        length-written_at bytes new (start + at) (omega arith) in
+    ext_get_or 0 (written_at bytes start (written_at part at new))
+      (written_at bytes (start + at) new) (left ∙ sym right)
     (λ q lt. ⊎_elim
     (λ below. outside q inner (inl below) (inl (omega arith)))
-    (λ from. ⊎_elim (λ within. inside q from within long inner) (λ above. outside q inner (inr (omega arith)) (inr (omega arith))) (cases_lt q (start + size)))
+    (λ from.
+      ⊎_elim (λ within. inside q from within long inner)
+      (λ above. outside q inner (inr (omega arith)) (inr (omega arith)))
+      (cases_lt q (start + size)))
     (cases_lt q start))
   where
-    outside : (q : ℕ) → length (written_at (bytes_at bytes start size) at new) ≡ size → (q < start) ⊎ (start + length (written_at (bytes_at bytes start size) at new) ≤ q) → (q < start + at) ⊎ (start + at + length new ≤ q)
-        → get_or (written_at bytes start (written_at (bytes_at bytes start size) at new)) q 0 ≡ get_or (written_at bytes (start + at) new) q 0
-    outside q inner far near = written_out bytes (written_at (bytes_at bytes start size) at new) start q (omega arith) far ∙ sym (written_out bytes new (start + at) q (omega arith) near)
+    outside : (q : ℕ)
+        → length (written_at (bytes_at bytes start size) at new) ≡ size
+        → (q < start) ⊎ (start + length (written_at (bytes_at bytes start size) at new) ≤ q)
+        → (q < start + at) ⊎ (start + at + length new ≤ q)
+        → get_or (written_at bytes start (written_at (bytes_at bytes start size) at new)) q 0
+          ≡ get_or (written_at bytes (start + at) new) q 0
+    outside q inner far near =
+        written_out bytes (written_at (bytes_at bytes start size) at new) start q (omega arith) far
+        ∙ sym (written_out bytes new (start + at) q (omega arith) near)
 
-    through : (q : ℕ) → start ≤ q → q < start + size → length (written_at (bytes_at bytes start size) at new) ≡ size → get_or (written_at bytes start (written_at (bytes_at bytes start size) at new)) q 0 ≡ get_or (written_at (bytes_at bytes start size) at new) (q - start) 0
+    through : (q : ℕ)
+        → start ≤ q
+        → q < start + size
+        → length (written_at (bytes_at bytes start size) at new) ≡ size
+        → get_or (written_at bytes start (written_at (bytes_at bytes start size) at new)) q 0
+          ≡ get_or (written_at (bytes_at bytes start size) at new) (q - start) 0
     through q from within inner =
         let there : q ≡ start + (q - start) = omega arith in
-        ap (λ (x : ℕ). get_or (written_at bytes start (written_at (bytes_at bytes start size) at new)) x 0) there ∙ written_in bytes (written_at (bytes_at bytes start size) at new) start (q - start) (omega arith) (omega arith)
+        ap
+            (λ (x : ℕ).
+              get_or
+              (written_at bytes start (written_at (bytes_at bytes start size) at new)) x 0) there
+          ∙ written_in bytes (written_at (bytes_at bytes start size) at new) start (q - start)
+            (omega arith) (omega arith)
 
-    kept : (q : ℕ) → start ≤ q → q < start + size → length (bytes_at bytes start size) ≡ size → (q - start < at) ⊎ (at + length new ≤ q - start) → (q < start + at) ⊎ (start + at + length new ≤ q) → get_or (written_at (bytes_at bytes start size) at new) (q - start) 0 ≡ get_or (written_at bytes (start + at) new) q 0
+    kept : (q : ℕ)
+        → start ≤ q
+        → q < start + size
+        → length (bytes_at bytes start size) ≡ size
+        → (q - start < at) ⊎ (at + length new ≤ q - start)
+        → (q < start + at) ⊎ (start + at + length new ≤ q)
+        → get_or (written_at (bytes_at bytes start size) at new) (q - start) 0
+          ≡ get_or (written_at bytes (start + at) new) q 0
     kept q from within long far near =
         let there : start + (q - start) ≡ q = omega arith in
-        written_out (bytes_at bytes start size) new at (q - start) (omega arith) far ∙ byte_of bytes start size (q - start) (omega arith) ∙ ap (λ (x : ℕ). get_or bytes x 0) there ∙ sym (written_out bytes new (start + at) q (omega arith) near)
+        written_out (bytes_at bytes start size) new at (q - start) (omega arith) far
+          ∙ byte_of bytes start size (q - start) (omega arith)
+          ∙ ap (λ (x : ℕ). get_or bytes x 0) there
+          ∙ sym (written_out bytes new (start + at) q (omega arith) near)
 
-    fresh : (q : ℕ) → start ≤ q → at ≤ q - start → q - start < at + length new → length (bytes_at bytes start size) ≡ size → get_or (written_at (bytes_at bytes start size) at new) (q - start) 0 ≡ get_or (written_at bytes (start + at) new) q 0
+    fresh : (q : ℕ)
+        → start ≤ q
+        → at ≤ q - start
+        → q - start < at + length new
+        → length (bytes_at bytes start size) ≡ size
+        → get_or (written_at (bytes_at bytes start size) at new) (q - start) 0
+          ≡ get_or (written_at bytes (start + at) new) q 0
     fresh q from low high long =
         let here : q - start ≡ at + (q - start - at) = omega arith in
         let there : start + at + (q - start - at) ≡ q = omega arith in
-        ap (λ (x : ℕ). get_or (written_at (bytes_at bytes start size) at new) x 0) here ∙ written_in (bytes_at bytes start size) new at (q - start - at) (omega arith) (omega arith)
-        ∙ sym (ap (λ (x : ℕ). get_or (written_at bytes (start + at) new) x 0) (sym there) ∙ written_in bytes new (start + at) (q - start - at) (omega arith) (omega arith))
+        ap (λ (x : ℕ). get_or (written_at (bytes_at bytes start size) at new) x 0) here
+          ∙ written_in (bytes_at bytes start size) new at (q - start - at) (omega arith)
+            (omega arith)
+        ∙ sym
+          (ap (λ (x : ℕ). get_or (written_at bytes (start + at) new) x 0) (sym there)
+            ∙ written_in bytes new (start + at) (q - start - at) (omega arith) (omega arith))
 
-    inside : (q : ℕ) → start ≤ q → q < start + size → length (bytes_at bytes start size) ≡ size → length (written_at (bytes_at bytes start size) at new) ≡ size → get_or (written_at bytes start (written_at (bytes_at bytes start size) at new)) q 0 ≡ get_or (written_at bytes (start + at) new) q 0
+    inside : (q : ℕ)
+        → start ≤ q
+        → q < start + size
+        → length (bytes_at bytes start size) ≡ size
+        → length (written_at (bytes_at bytes start size) at new) ≡ size
+        → get_or (written_at bytes start (written_at (bytes_at bytes start size) at new)) q 0
+          ≡ get_or (written_at bytes (start + at) new) q 0
     inside q from within long inner =
         through q from within inner
         ∙ ⊎_elim (λ below. kept q from within long (inl below) (inl (omega arith)))
-        (λ low. ⊎_elim (λ high. fresh q from low high long) (λ above. kept q from within long (inr above) (inr (omega arith))) (cases_lt (q - start) (at + length new)))
+        (λ low.
+          ⊎_elim (λ high. fresh q from low high long)
+          (λ above. kept q from within long (inr above) (inr (omega arith)))
+          (cases_lt (q - start) (at + length new)))
         (cases_lt (q - start) at)
 
 -- ---- the bytes of a number
@@ -189,20 +322,26 @@ number_of-low_bytes (suc n) x h =
     ap (λ (y : ℕ). x % 256 + 256 * y) (number_of-low_bytes n (x / 256) small) ∙ omega arith
 
 -- the number of n bytes is below 256 ^ n
-pub number_below : (bytes : List ℕ) → ((i : ℕ) → i < length bytes → get_or bytes i 0 < 256) → number_of bytes < 256 ^ length bytes
+pub number_below : (bytes : List ℕ)
+    → ((i : ℕ) → i < length bytes → get_or bytes i 0 < 256)
+    → number_of bytes < 256 ^ length bytes
 number_below [] small = omega arith
 number_below (b ∷ bytes) small =
-    below_more b (length bytes) (number_of bytes) (small 0 (omega arith)) (number_below bytes (λ i below. small (suc i) (omega arith)))
+    below_more b (length bytes) (number_of bytes) (small 0 (omega arith))
+      (number_below bytes (λ i below. small (suc i) (omega arith)))
   where
     below_more : (b n x : ℕ) → b < 256 → x < 256 ^ n → b + 256 * x < 256 ^ suc n
     below_more b n x h g = omega arith
 
 -- bytes are the low bytes of their number
-pub low_bytes_of_number : (bytes : List ℕ) → ((i : ℕ) → i < length bytes → get_or bytes i 0 < 256) → low_bytes (length bytes) (number_of bytes) ≡ bytes
+pub low_bytes_of_number : (bytes : List ℕ)
+    → ((i : ℕ) → i < length bytes → get_or bytes i 0 < 256)
+    → low_bytes (length bytes) (number_of bytes) ≡ bytes
 low_bytes_of_number [] small = refl
 low_bytes_of_number (b ∷ bytes) small =
     let first : b < 256 = small 0 (omega arith) in
-    let rest : low_bytes (length bytes) (number_of bytes) ≡ bytes = low_bytes_of_number bytes (λ i below. small (suc i) (omega arith)) in
+    let rest : low_bytes (length bytes) (number_of bytes) ≡ bytes =
+        low_bytes_of_number bytes (λ i below. small (suc i) (omega arith)) in
     let low : (b + 256 * number_of bytes) % 256 ≡ b = omega arith in
     let high : (b + 256 * number_of bytes) / 256 ≡ number_of bytes = omega arith in
     ap (λ (x : ℕ). x ∷ low_bytes (length bytes) ((b + 256 * number_of bytes) / 256)) low

@@ -12,7 +12,8 @@ signed_low n h = cond-true (nat_lt n (2 ^ 63)) (pos n) (pos n -ℤ pos (2 ^ 64))
 
 -- any other word is 2 ^ 64 less
 pub signed_high : (n : ℕ) → 2 ^ 63 ≤ n → signed 64 n ≡ pos n -ℤ pos (2 ^ 64)
-signed_high n h = cond-false (nat_lt n (2 ^ 63)) (pos n) (pos n -ℤ pos (2 ^ 64)) (le-ltb n (2 ^ 63) h)
+signed_high n h =
+    cond-false (nat_lt n (2 ^ 63)) (pos n) (pos n -ℤ pos (2 ^ 64)) (le-ltb n (2 ^ 63) h)
 
 -- the word of a signed number is below 2 ^ 64
 pub unsigned_small : (z : ℤ) → unsigned 64 z < 2 ^ 64

@@ -10,7 +10,9 @@ use Rattle.words.specs.Stack.{bytes_of, is_in_stack, byte_index}
 
 -- if n bytes at an offset lie in the stack, the offset's byte index is 512 above it, and the n
 -- bytes there end at 512 or below
-pub in_stack : (n : ℕ) (y : ℤ) → is_in_stack y n ≡ true → (pos (byte_index y) ≡ pos 512 +ℤ y) × (byte_index y + n ≤ 512)
+pub in_stack : (n : ℕ) (y : ℤ)
+    → is_in_stack y n ≡ true
+    → (pos (byte_index y) ≡ pos 512 +ℤ y) × (byte_index y + n ≤ 512)
 in_stack n (pos y) h =
     let a = and_parts (int_le (negsuc 511) (pos y)) (int_le (pos y +ℤ pos n) (pos 0)) h in
     let p = a.1 in

@@ -57,12 +57,14 @@ claim_word (Err fault) = negative (errno fault)
 -- the value is written to the claimed element
 abbrev pub with_claimed : CallSite → NamedPair → Result ℕ MapFault → Memory
 with_claimed site pair (Ok element) =
-    with_bytes site.memory (part_start site.memory site.tenant + offset_at site.maps pair.map element)
+    with_bytes site.memory
+      (part_start site.memory site.tenant + offset_at site.maps pair.map element)
     pair.value
 with_claimed site pair (Err fault) = site.memory
 
 -- an update of a map, with a key and a value
-pub record Updates (site : CallSite) (pair : NamedPair) (flags : ℕ) (answer : CallAnswer) : Type 0 where
+pub record Updates (site : CallSite) (pair : NamedPair) (flags : ℕ)
+    (answer : CallAnswer) : Type 0 where
   pub claim : Result ℕ MapFault
   pub claimed : Claims (verdict (table_of (keys_at site.maps pair.map)) pair.key flags) pair.key
       (keys_at site.maps pair.map) claim (keys_at answer.maps pair.map)

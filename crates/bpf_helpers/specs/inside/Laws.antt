@@ -27,15 +27,20 @@ abbrev pub StackBytesAreThere : Type 0
 StackBytesAreThere =
     (env : Environment) (l : Layout) (memory : List ℕ) (start : ℕ) (s : RunState)
     (y : ℤ) (n : ℕ) (bs : List ℕ)
-    → HasStack env l memory start s.cells → start + stack_size ≤ length memory → stack_bytes s y n ≡ Some bs
+    → HasStack env l memory start s.cells
+    → start + stack_size ≤ length memory
+    → stack_bytes s y n ≡ Some bs
     → bytes_at memory (start + byte_index y) n ≡ bs
 
 -- after bytes are written across slots, the memory represents the cells after it: a spilled pointer
 -- that they touch is lost, and all other slots are unchanged
 abbrev pub StackBytesAreWritten : Type 0
 StackBytesAreWritten =
-    (env : Environment) (l : Layout) (memory : List ℕ) (start : ℕ) (s t : RunState) (y : ℤ) (bs : List ℕ)
-    → HasStack env l memory start s.cells → start + stack_size ≤ length memory → stack_written s y bs ≡ Some t
+    (env : Environment) (l : Layout) (memory : List ℕ) (start : ℕ) (s t : RunState) (y : ℤ)
+      (bs : List ℕ)
+    → HasStack env l memory start s.cells
+    → start + stack_size ≤ length memory
+    → stack_written s y bs ≡ Some t
     → HasStack env l (written_at memory (start + byte_index y) bs) start t.cells
 
 -- ---- the bytes that a helper writes
@@ -99,7 +104,11 @@ UpdatesKeepSimulation =
     → s.maps asked.given.descriptor ≡ Some asked.given.map
     → length asked.value ≡ asked.given.map.table.shape.value_size
     → Updates (site_in env flat)
-    (record { map = slice_index env.bind i; key = asked.key; value = asked.value }) asked.flags answer
+    (record {
+      map = slice_index env.bind i;
+      key = asked.key;
+      value = asked.value
+    }) asked.flags answer
     → UpdateKeepsSimulation env l flat s asked answer
 
 -- after a deletion, words, bytes and live maps represent the state after the machine's
@@ -123,9 +132,11 @@ pub record LoadKeepsSimulation (env : Environment) (l : Layout) (flat : FlatStat
   pub written : RunState
   pub stands : Simulates env l (with_memory flat (with_bytes flat.memory
       (part_start flat.memory env.tenant + offset)
-      (packet_bytes s.packet (slice_index flat.registers 2) (slice_index flat.registers 4)))) written
+      (packet_bytes s.packet (slice_index flat.registers 2)
+        (slice_index flat.registers 4)))) written
   pub is : u ≡ returns written
-      (Scalar (packet_answer s.packet (slice_index flat.registers 2) (slice_index flat.registers 4)))
+      (Scalar
+        (packet_answer s.packet (slice_index flat.registers 2) (slice_index flat.registers 4)))
 
 -- the result of a call goes into register 0; registers 1 to 5 are unknown then
 abbrev pub ReturnsKeepSimulation : Type 0
@@ -150,7 +161,8 @@ MapsBegin =
     → l.counts m ≡ length (keys_at tenant k).entries
     → ((number : ℕ) → number < length (keys_at tenant k).entries
     → l.object_at m number ≡ base + (start + offset_at tenant k (nth_element tenant k number)))
-    → HasMap l (stored_maps start memory tenant) k m (first_map (with_values value (table_of (keys_at tenant k))))
+    → HasMap l (stored_maps start memory tenant) k m
+      (first_map (with_values value (table_of (keys_at tenant k))))
 
 -- the map has the same pairs as the machine's map after the run
 abbrev pub MapsEnd : Type 0
@@ -158,5 +170,7 @@ MapsEnd =
     (l : Layout) (start : ℕ) (memory : List ℕ) (old new : LiveMaps) (k m : ℕ) (t : RunMap)
     (value : ℕ → List ℕ)
     → HasMap l (stored_maps start memory old) k m t → keys_at new k ≡ after_run (keys_at old k)
-    → ((p : ℕ) → p < (shape_at old k).max_entries → value p ≡ element_bytes (stored_maps start memory old) k p)
+    → ((p : ℕ)
+      → p < (shape_at old k).max_entries
+      → value p ≡ element_bytes (stored_maps start memory old) k p)
     → with_values value (table_of (keys_at new k)) ≡ last_map t

@@ -33,7 +33,9 @@ definition_at lines k = record { line = k; slot = slots_on (take k lines) }
 
 -- the definition of each label of the first n lines is kept, and no other
 abbrev pub FindsLabels : List (Option Line) → Labels → ℕ → Type 0
-FindsLabels lines labels n = (name : List ℕ) → definition_of labels name ≡ option_map (definition_at lines) (label_line name (take n lines))
+FindsLabels lines labels n =
+    (name : List ℕ)
+    → definition_of labels name ≡ option_map (definition_at lines) (label_line name (take n lines))
 
 -- ---- a line's fault and instruction, given the definitions that are kept
 
@@ -54,26 +56,32 @@ abbrev pub code_fault : Form → Option Definition → ℕ → Option TextFaultK
 code_fault form definition before =
     if form_fits form then
     (if not (names_label form) || is_some definition then
-    (if passes before (form_slots form) then Some TooLong else None) else Some UnknownLabel) else Some Range
+    (if passes before (form_slots form) then Some TooLong else None) else
+    Some UnknownLabel) else
+    Some Range
 
 abbrev pub label_fault : Option Definition → ℕ → Option TextFaultKind
-label_fault definition line = if nat_lt (kept_line definition line) line then Some LabelTwice else None
+label_fault definition line =
+    if nat_lt (kept_line definition line) line then Some LabelTwice else None
 
 abbrev pub kept_fault : Labels → Definition → Option Line → Option TextFaultKind
 kept_fault labels here None = Some Syntax
 kept_fault labels here (Some blank) = None
 kept_fault labels here (Some (label name)) = label_fault (definition_of labels name) here.line
-kept_fault labels here (Some (code form name)) = code_fault form (definition_of labels name) here.slot
+kept_fault labels here (Some (code form name)) =
+    code_fault form (definition_of labels name) here.slot
 
 abbrev pub kept_form : Labels → ℕ → Option Line → List Form
 kept_form labels slot None = []
 kept_form labels slot (Some blank) = []
 kept_form labels slot (Some (label name)) = []
-kept_form labels slot (Some (code form name)) = resolved (kept_distance (definition_of labels name) slot) form ∷ []
+kept_form labels slot (Some (code form name)) =
+    resolved (kept_distance (definition_of labels name) slot) form ∷ []
 
 unfoldable pub kept_forms : Labels → ℕ → List (Option Line) → List Form
 kept_forms labels slot [] = []
-kept_forms labels slot (line ∷ lines) = kept_form labels slot line ++ kept_forms labels (slot + line_slots line) lines
+kept_forms labels slot (line ∷ lines) =
+    kept_form labels slot line ++ kept_forms labels (slot + line_slots line) lines
 
 -- a line that is read is well formed
 abbrev pub IsFormed : Option Line → Type 0

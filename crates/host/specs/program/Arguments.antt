@@ -43,10 +43,12 @@ abbrev pub asks_for_subcommand : Shape → Shape
 asks_for_subcommand s = record s { no_binary_name = true; subcommand_required = true }
 
 abbrev pub program_up_to_serve : App
-program_up_to_serve = with_subcommand (on_top asks_for_subcommand (new_app (codes "bpfhost"))) serve_command.top
+program_up_to_serve =
+    with_subcommand (on_top asks_for_subcommand (new_app (codes "bpfhost"))) serve_command.top
 
 abbrev pub program_up_to_dis : App
-program_up_to_dis = with_subcommand (with_subcommand program_up_to_serve asm_command.top) dis_command.top
+program_up_to_dis =
+    with_subcommand (with_subcommand program_up_to_serve asm_command.top) dis_command.top
 
 abbrev pub program : App
 program = with_subcommand program_up_to_dis verify_command.top
@@ -65,7 +67,9 @@ tenants_value rows = first_of (codes "tenants") rows
 
 -- a number of tenants in decimal digits, from 1 to the most that there may be
 abbrev pub tenant_number : Text → Option ℕ
-tenant_number digits = option_and_then (λ number. if is_from_to 1 most_tenants number then Some number else None) (decimal_number digits)
+tenant_number digits =
+    option_and_then (λ number. if is_from_to 1 most_tenants number then Some number else None)
+    (decimal_number digits)
 
 -- the arguments that are given for maps
 abbrev pub map_arguments : List Row → List Text
@@ -83,17 +87,20 @@ pub data Asked : Type 0 where
 -- the task of a subcommand, given its name and its arguments; None if these are wrong
 abbrev pub asked_with : Text → List Row → Option Asked
 asked_with name rows =
-    if bytes_eq name (codes "serve") then option_map Serves (option_and_then tenant_number (tenants_value rows)) else
+    if bytes_eq name (codes "serve") then option_map Serves
+      (option_and_then tenant_number (tenants_value rows)) else
     (if bytes_eq name (codes "asm") then Some (Rewrites Assemble) else
     (if bytes_eq name (codes "dis") then Some (Rewrites Disassemble) else
     (if bytes_eq name (codes "verify") then Some (Verifies (map_arguments rows)) else None)))
 
 abbrev pub asked_of : Option (Text × List Row) → Option Asked
-asked_of chosen = option_and_then (λ (subcommand : Text × List Row). asked_with subcommand.0 subcommand.1) chosen
+asked_of chosen =
+    option_and_then (λ (subcommand : Text × List Row). asked_with subcommand.0 subcommand.1) chosen
 
 -- the task that the arguments name; None if they are wrong, whatever the map arguments name
 abbrev pub asked_by_arguments : List Text → Option Asked
-asked_by_arguments arguments = if is_empty (refusal_kinds arguments) then asked_of (chosen_subcommand arguments) else None
+asked_by_arguments arguments =
+    if is_empty (refusal_kinds arguments) then asked_of (chosen_subcommand arguments) else None
 
 -- a map argument is wrong
 abbrev pub HasWrongMapArgument : List Text → Type 0
@@ -101,9 +108,16 @@ HasWrongMapArgument maps = (number : ℕ) × IsFirstWrongArgument maps number
 
 -- the arguments name no task, or a map argument is wrong
 abbrev pub AreWrongArguments : List Text → Type 0
-AreWrongArguments arguments = (asked_by_arguments arguments ≡ None) ⊎ ((maps : List Text) × (asked_by_arguments arguments ≡ Some (Verifies maps)) × HasWrongMapArgument maps)
+AreWrongArguments arguments =
+    (asked_by_arguments arguments ≡ None)
+    ⊎ ((maps : List Text)
+      × (asked_by_arguments arguments ≡ Some (Verifies maps))
+      × HasWrongMapArgument maps)
 
 -- if the task is to verify a program and the input's bytes are known, the input has a program that
 -- is accepted
 abbrev pub AcceptsAsked : List Text → Option (List ℕ) → Type 0
-AcceptsAsked arguments input = (maps : List Text) → asked_by_arguments arguments ≡ Some (Verifies maps) → AcceptsIfKnown maps input
+AcceptsAsked arguments input =
+    (maps : List Text)
+    → asked_by_arguments arguments ≡ Some (Verifies maps)
+    → AcceptsIfKnown maps input

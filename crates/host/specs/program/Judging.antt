@@ -11,8 +11,10 @@ use Rattle.host.specs.program.Texts.{IsSlotText}
 -- the verdict on the slots that the input has as hex lines, if these maps are open: their refusal,
 -- or None for an accepted program
 abbrev pub IsJudgement : List Named → List ℕ → Option Refusal → Type 0
-IsJudgement maps input None = (slots : List ℕ) × (insns : List Insn) × IsSlotText input slots × Judges maps slots (Ok insns)
-IsJudgement maps input (Some refusal) = (slots : List ℕ) × IsSlotText input slots × Judges maps slots (Err refusal)
+IsJudgement maps input None =
+    (slots : List ℕ) × (insns : List Insn) × IsSlotText input slots × Judges maps slots (Ok insns)
+IsJudgement maps input (Some refusal) =
+    (slots : List ℕ) × IsSlotText input slots × Judges maps slots (Err refusal)
 
 -- ---- a run whose input is known
 

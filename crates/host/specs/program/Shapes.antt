@@ -25,7 +25,8 @@ abbrev pub is_descriptor : ℕ → Bool
 is_descriptor fd = is_from_to fds.first_descriptor (fds.first_descriptor + fds.most - 1) fd
 
 abbrev pub descriptor_number : Text → Option ℕ
-descriptor_number text = option_and_then (λ fd. if is_descriptor fd then Some fd else None) (decimal_number text)
+descriptor_number text =
+    option_and_then (λ fd. if is_descriptor fd then Some fd else None) (decimal_number text)
 
 -- The fields of a shape in text. Which shapes there are is `MapShape`'s own invariant: each field
 -- in its limits, and no more bytes of values than a map may have.
@@ -43,7 +44,8 @@ pub record IsMapArgument (argument : Text) (map : Named) : Type 0 where
   pub value_size : Text
   pub max_entries : Text
   pub shape : MapShape
-  pub spelled : argument ≡ join_with_byte colon (fd ∷ kind ∷ key_size ∷ value_size ∷ max_entries ∷ [])
+  pub spelled : argument
+      ≡ join_with_byte colon (fd ∷ kind ∷ key_size ∷ value_size ∷ max_entries ∷ [])
   pub descriptor : descriptor_number fd ≡ Some map.fd
   pub target : map.target ≡ Map shape
   pub shaped : IsShapeOf shape kind key_size value_size max_entries

@@ -25,14 +25,25 @@ pub record ReadsOnly (old new : StreamState) (rest : List ℕ) : Type 0 where
 
 -- one frame was served and its reply flushed, or the input was at its end
 abbrev pub ServesFrameOrEnds : StreamState → StreamState → Bool → Type 0
-ServesFrameOrEnds old new true = ((frame : List ℕ) × (reply : List ℕ) × ServesOneFrame old new frame reply reply) × (new.flushed ≡ true) × NoCallFailed old new
+ServesFrameOrEnds old new true =
+    ((frame : List ℕ) × (reply : List ℕ) × ServesOneFrame old new frame reply reply)
+    × (new.flushed ≡ true)
+    × NoCallFailed old new
 ServesFrameOrEnds old new false = ReadsOnly old new [] × IsAtEnd new.input × NoCallFailed old new
 
 abbrev pub StopsInFrame : StreamState → StreamState → ServeFaultKind → Type 0
-StopsInFrame old new Read = ((rest : List ℕ) × IsPartial rest × ReadsOnly old new rest) × (old.read_failures < new.read_failures)
+StopsInFrame old new Read =
+    ((rest : List ℕ) × IsPartial rest × ReadsOnly old new rest)
+    × (old.read_failures < new.read_failures)
 StopsInFrame old new Write =
-    ((frame : List ℕ) × (reply : List ℕ) × (n : ℕ) × ServesOneFrame old new frame reply (take n reply)) × (old.write_failures < new.write_failures)
+    ((frame : List ℕ)
+      × (reply : List ℕ)
+      × (n : ℕ)
+      × ServesOneFrame old new frame reply (take n reply))
+    × (old.write_failures < new.write_failures)
 StopsInFrame old new Truncated =
-    ((rest : List ℕ) × IsPartial rest × (0 < length rest) × ReadsOnly old new rest) × IsAtEnd new.input × NoCallFailed old new
+    ((rest : List ℕ) × IsPartial rest × (0 < length rest) × ReadsOnly old new rest)
+    × IsAtEnd new.input
+    × NoCallFailed old new
 StopsInFrame old new TooManyFrames = ⊥
 StopsInFrame old new Memory = ⊥

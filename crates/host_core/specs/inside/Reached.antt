@@ -14,4 +14,7 @@ IsReached s births = (commands : List Command) × IsHistory new_tenant [] comman
 -- those of each tenant
 pub record AreReached (h : HostState) : Type 0 where
   pub many : length h.births ≡ length h.states
-  pub each : (t : ℕ) (s : TenantState) (births : List Birth) → slice_get h.states t ≡ Some s → slice_get h.births t ≡ Some births → IsReached s births
+  pub each : (t : ℕ) (s : TenantState) (births : List Birth)
+      → slice_get h.states t ≡ Some s
+      → slice_get h.births t ≡ Some births
+      → IsReached s births

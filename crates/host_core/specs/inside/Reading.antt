@@ -22,16 +22,27 @@ pub record ReadsPartial (kind : ServeFaultKind) (old new : Option (List ℕ)) : 
 -- why no more was read: a call failed, or the input is at its end and no call failed
 abbrev pub StopsReading : ServeFaultKind → Option (List ℕ) → ℕ → ℕ → Type 0
 StopsReading Read left failures_before failures_after = failures_before < failures_after
-StopsReading Truncated left failures_before failures_after = IsAtEnd left × (failures_after ≡ failures_before)
+StopsReading Truncated left failures_before failures_after =
+    IsAtEnd left × (failures_after ≡ failures_before)
 StopsReading Write left failures_before failures_after = ⊥
 StopsReading TooManyFrames left failures_before failures_after = ⊥
 StopsReading Memory left failures_before failures_after = ⊥
 
 -- the same, given the reader before and after
-abbrev pub StopsAt : {R : Type 0} → (R → Option (List ℕ)) → (R → ℕ) → ServeFaultKind → R → R → Type 0
-StopsAt remaining failures kind old new = StopsReading kind (remaining new) (failures old) (failures new)
+abbrev pub StopsAt : {R : Type 0}
+    → (R → Option (List ℕ))
+    → (R → ℕ)
+    → ServeFaultKind
+    → R
+    → R
+    → Type 0
+StopsAt remaining failures kind old new =
+    StopsReading kind (remaining new) (failures old) (failures new)
 
 -- the front is the frame, or both are longer than the longest frame and begin with the same head
 abbrev pub IsKeptFrontOf : List ℕ → List ℕ → Type 0
 IsKeptFrontOf front frame =
-    (front ≡ frame) ⊎ ((longest_frame < length front) × (longest_frame < length frame) × (take 4 front ≡ take 4 frame))
+    (front ≡ frame)
+    ⊎ ((longest_frame < length front)
+      × (longest_frame < length frame)
+      × (take 4 front ≡ take 4 frame))

@@ -39,6 +39,7 @@ AreWithin bound (x ∷ xs) = (x < bound) × AreWithin bound xs
 
 pub record IsRing (o : Inside) : Type 0 where
   pub long : vec_len o.links ≡ o.bound + 1
-  pub linked : IsPath (after_in o.links.items) (before_in o.links.items) o.bound (elements_in o) o.bound
+  pub linked : IsPath (after_in o.links.items) (before_in o.links.items) o.bound
+      (elements_in o) o.bound
   pub within : AreWithin o.bound (elements_in o)
   pub once : (p : ℕ) → occurrences p (elements_in o) ≤ 1

@@ -32,7 +32,8 @@ module _ {K : Type 0} where
   -- each element has an entry
   abbrev pub HaveEntries : List (K × ℕ) → List ℕ → List ℕ → Type 0
   HaveEntries es indices [] = Unit {0}
-  HaveEntries es indices (p ∷ ps) = ((k : K) × (entry_of es indices p ≡ Some (k, p))) × HaveEntries es indices ps
+  HaveEntries es indices (p ∷ ps) =
+      ((k : K) × (entry_of es indices p ≡ Some (k, p))) × HaveEntries es indices ps
 
   -- the elements of the order are those of the entries, and the index of each is known
   pub record IsIndexed (es : List (K × ℕ)) (indices : List ℕ) (order : Order) : Type 0 where
@@ -42,11 +43,18 @@ module _ {K : Type 0} where
     pub few : length order.elements ≤ order.bound
     pub within : AreWithin order.bound order.elements
     pub placed : HaveEntries es indices order.elements
-    pub listed : (i : ℕ) (e : K × ℕ) → slice_get es i ≡ Some e → (occurrences e.1 order.elements ≡ 1) × (slice_index_or indices e.1 0 ≡ i)
+    pub listed : (i : ℕ) (e : K × ℕ)
+        → slice_get es i ≡ Some e
+        → (occurrences e.1 order.elements ≡ 1) × (slice_index_or indices e.1 0 ≡ i)
 
 -- entries of equal keys have the same index
 abbrev pub AreApart : {K : Type 0} → (K → K → Bool) → List (K × ℕ) → Type 0
-AreApart {K} eq es = (i j : ℕ) (a b : K × ℕ) → slice_get es i ≡ Some a → slice_get es j ≡ Some b → eq a.0 b.0 ≡ true → i ≡ j
+AreApart {K} eq es =
+    (i j : ℕ) (a b : K × ℕ)
+    → slice_get es i ≡ Some a
+    → slice_get es j ≡ Some b
+    → eq a.0 b.0 ≡ true
+    → i ≡ j
 
 -- the table holds `bound` entries with no allocation
 abbrev pub HasRoom : {K S : Type 0} → ℕ → IndexMap K ℕ S → Type 0
@@ -54,7 +62,8 @@ HasRoom bound table = bound ≤ index_map_len table + spare table
 
 -- the table has room for the entries of all elements, and the rows, of which there are none, for
 -- half of them
-pub record IsWhole {K S : Type 0} (table : IndexMap K ℕ S) (indices : List ℕ) (order : Order) (rows capacity : ℕ) : Type 0 where
+pub record IsWhole {K S : Type 0} (table : IndexMap K ℕ S) (indices : List ℕ) (order : Order)
+    (rows capacity : ℕ) : Type 0 where
   pub indexed : IsIndexed table.entries indices order
   pub room : HasRoom order.bound table
   pub empty : rows ≡ 0

@@ -24,7 +24,8 @@ tail_length (close fd) = 0
 
 -- The reply to a command is the machine's, if memory is refused or not, and is not the reply to a
 -- run that faults. The state after it is the machine's, and the births are those after the command.
-pub record AnswersCommand (command : Command) (head : Head) (reply : List ℕ) (before after : TenantState) (births later : List Birth) : Type 0 where
+pub record AnswersCommand (command : Command) (head : Head) (reply : List ℕ)
+    (before after : TenantState) (births later : List Birth) : Type 0 where
   pub refused : Bool
   pub answer : Answer
   pub answers : Answers refused before command answer

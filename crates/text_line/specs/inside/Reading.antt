@@ -63,10 +63,14 @@ seen_destination o = option_map (λ p. (p.0, p.1.now)) o
 
 abbrev pub registers : List (List ℕ × (Bool × ℕ))
 registers =
-    (codes "r0", (true, 0)) ∷ (codes "r1", (true, 1)) ∷ (codes "r2", (true, 2)) ∷ (codes "r3", (true, 3)) ∷ (codes "r4", (true, 4)) ∷ (codes "r5", (true, 5))
-    ∷ (codes "r6", (true, 6)) ∷ (codes "r7", (true, 7)) ∷ (codes "r8", (true, 8)) ∷ (codes "r9", (true, 9)) ∷ (codes "r10", (true, 10))
-    ∷ (codes "w0", (false, 0)) ∷ (codes "w1", (false, 1)) ∷ (codes "w2", (false, 2)) ∷ (codes "w3", (false, 3)) ∷ (codes "w4", (false, 4)) ∷ (codes "w5", (false, 5))
-    ∷ (codes "w6", (false, 6)) ∷ (codes "w7", (false, 7)) ∷ (codes "w8", (false, 8)) ∷ (codes "w9", (false, 9)) ∷ (codes "w10", (false, 10)) ∷ []
+    (codes "r0", (true, 0)) ∷ (codes "r1", (true, 1)) ∷ (codes "r2", (true, 2))
+    ∷ (codes "r3", (true, 3)) ∷ (codes "r4", (true, 4)) ∷ (codes "r5", (true, 5))
+    ∷ (codes "r6", (true, 6)) ∷ (codes "r7", (true, 7)) ∷ (codes "r8", (true, 8))
+    ∷ (codes "r9", (true, 9)) ∷ (codes "r10", (true, 10))
+    ∷ (codes "w0", (false, 0)) ∷ (codes "w1", (false, 1)) ∷ (codes "w2", (false, 2))
+    ∷ (codes "w3", (false, 3)) ∷ (codes "w4", (false, 4)) ∷ (codes "w5", (false, 5))
+    ∷ (codes "w6", (false, 6)) ∷ (codes "w7", (false, 7)) ∷ (codes "w8", (false, 8))
+    ∷ (codes "w9", (false, 9)) ∷ (codes "w10", (false, 10)) ∷ []
 
 -- ---- one token
 
@@ -90,7 +94,8 @@ leading_number (symbol t ∷ ts) = None
 
 -- the tokens after this symbol, and after this name
 unfoldable pub after_symbol : List ℕ → List Token → Option (List Token)
-after_symbol expected ts = leading_symbol ts >>= λ s. if bytes_eq s.0 expected then Some s.1 else None
+after_symbol expected ts =
+    leading_symbol ts >>= λ s. if bytes_eq s.0 expected then Some s.1 else None
 
 unfoldable pub after_word : List ℕ → List Token → Option (List Token)
 after_word expected ts = leading_name ts >>= λ n. if bytes_eq n.0 expected then Some n.1 else None
@@ -107,13 +112,21 @@ abbrev pub number_from : Bool → Option (Option ℕ × List Token) → Option (
 number_from negative o = option_map (λ v. (record { negative = negative; magnitude = v.0 }, v.1)) o
 
 unfoldable pub leading_constant : List Token → Option (Number × List Token)
-leading_constant ts = match_option (after_symbol (codes "-") ts) (number_from false (leading_number ts)) (λ rest. number_from true (leading_number rest))
+leading_constant ts =
+    match_option (after_symbol (codes "-") ts) (number_from false (leading_number ts))
+    (λ rest. number_from true (leading_number rest))
 
 unfoldable pub leading_signed_number : List Token → Option (Number × List Token)
-leading_signed_number ts = match_option (after_symbol (codes "+") ts) (after_symbol (codes "-") ts >>= λ rest. number_from true (leading_number rest)) (λ rest. number_from false (leading_number rest))
+leading_signed_number ts =
+    match_option (after_symbol (codes "+") ts)
+    (after_symbol (codes "-") ts >>= λ rest. number_from true (leading_number rest))
+    (λ rest. number_from false (leading_number rest))
 
 unfoldable pub leading_operand : Bool → List Token → Option (SourceOperand × List Token)
-leading_operand wide ts = match_option (leading_register wide ts) (option_map (λ n. (source.Number n.0, n.1)) (leading_constant ts)) (λ r. Some (source.Reg r.0, r.1))
+leading_operand wide ts =
+    match_option (leading_register wide ts)
+    (option_map (λ n. (source.Number n.0, n.1)) (leading_constant ts))
+    (λ r. Some (source.Reg r.0, r.1))
 
 abbrev pub is_ended : List Token → Bool
 is_ended [] = true
@@ -123,7 +136,10 @@ abbrev pub at_end : {A : Type 0} → A → List Token → Option A
 at_end x ts = if is_ended ts then Some x else None
 
 unfoldable pub parsed_destination : List Token → Option (JumpTarget × List ℕ)
-parsed_destination ts = match_option (leading_signed_number ts) (leading_name ts >>= λ n. at_end (target.Label, n.0) n.1) (λ n. at_end (target.Number n.0, []) n.1)
+parsed_destination ts =
+    match_option (leading_signed_number ts)
+    (leading_name ts >>= λ n. at_end (target.Label, n.0) n.1)
+    (λ n. at_end (target.Number n.0, []) n.1)
 
 unfoldable pub leading_address : List Token → Option (((Bool × AccessSize) × Address) × List Token)
 leading_address ts = do
@@ -150,7 +166,8 @@ leading_map_value ts = do
 unfoldable pub leading_wide_value : List Token → Option (WideValue × List Token)
 leading_wide_value ts =
     match_option (after_word (codes "map_fd") ts)
-    (match_option (after_word (codes "map_value") ts) (leading_number ts >>= λ n. Some (value.Number n.0, n.1)) (λ rest. leading_map_value rest))
+    (match_option (after_word (codes "map_value") ts)
+      (leading_number ts >>= λ n. Some (value.Number n.0, n.1)) (λ rest. leading_map_value rest))
     (λ rest. leading_constant rest >>= λ n. Some (value.MapFd n.0, n.1))
 
 -- the size of an atomic operation whose memory operand has this size: neither signed nor below 4
@@ -164,7 +181,8 @@ atomic_size_of _ _ = None
 
 -- one operand, and nothing more
 unfoldable pub parsed_binary : Bool → AluOp → List Token → Option Operation
-parsed_binary wide op ts = leading_operand wide ts >>= λ src. at_end (operation.Binary op src.0) src.1
+parsed_binary wide op ts =
+    leading_operand wide ts >>= λ src. at_end (operation.Binary op src.0) src.1
 
 -- after `(`
 unfoldable pub parsed_sign_extension : Bool → List Token → Option Operation
@@ -177,7 +195,8 @@ parsed_sign_extension wide ts = do
 
 -- the destination again, and nothing more
 unfoldable pub parsed_in_place : Bool → ℕ → Operation → List Token → Option Operation
-parsed_in_place wide dst o ts = leading_register wide ts >>= λ r. if r.0 == dst then at_end o r.1 else None
+parsed_in_place wide dst o ts =
+    leading_register wide ts >>= λ r. if r.0 == dst then at_end o r.1 else None
 
 abbrev pub parsed_end : ℕ → List Token → Option Operation
 parsed_end dst ts = do
@@ -189,7 +208,8 @@ parsed_end dst ts = do
 unfoldable pub parsed_unary : Bool → ℕ → List Token → Option Operation
 parsed_unary wide dst ts =
     match_option (after_symbol (codes "(") ts)
-    (match_option (after_symbol (codes "-") ts) (if wide then parsed_end dst ts else None) (λ rest. parsed_in_place wide dst operation.Neg rest))
+    (match_option (after_symbol (codes "-") ts) (if wide then parsed_end dst ts else None)
+      (λ rest. parsed_in_place wide dst operation.Neg rest))
     (λ rest. parsed_sign_extension wide rest)
 
 abbrev pub is_move : AluOp → Bool
@@ -198,7 +218,9 @@ is_move _ = false
 
 -- after the operator
 unfoldable pub parsed_operation : Bool → AluOp → ℕ → List Token → Option Operation
-parsed_operation wide op dst ts = match_option (parsed_binary wide op ts) (if is_move op then parsed_unary wide dst ts else None) (λ o. Some o)
+parsed_operation wide op dst ts =
+    match_option (parsed_binary wide op ts) (if is_move op then parsed_unary wide dst ts else None)
+    (λ o. Some o)
 
 -- ---- forms
 
@@ -239,7 +261,9 @@ parsed_assigned ts = do
   r ← named registers n.0
   s ← leading_symbol n.1
   op ← alu_by_symbol s.0
-  match_option (parsed_operation r.0 op r.1 s.1) (if r.0 && is_move op then parsed_loaded r.1 s.1 else None) (λ o. Some (form.Operation r.0 r.1 o))
+  match_option (parsed_operation r.0 op r.1 s.1)
+    (if r.0 && is_move op then parsed_loaded r.1 s.1 else None)
+    (λ o. Some (form.Operation r.0 r.1 o))
 
 abbrev pub parsed_jump : Bool → List Token → Option (Form × List ℕ)
 parsed_jump long ts = option_map (λ to. (form.Jump long to.0, to.1)) (parsed_destination ts)
@@ -288,4 +312,6 @@ parsed_label ts = do
 unfoldable pub line_of : List Token → Option Line
 line_of ts =
     if is_ended ts then Some blank
-    else (match_option (parsed_label ts) (option_map (λ f. Code f.0 f.1) (parsed_form ts)) (λ n. Some (label n)))
+    else
+      (match_option (parsed_label ts) (option_map (λ f. Code f.0 f.1) (parsed_form ts))
+        (λ n. Some (label n)))

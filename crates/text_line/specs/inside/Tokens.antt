@@ -12,7 +12,8 @@ symbol_at text = find (λ s. starts_with nat_eq text s) symbols
 
 -- `0x` and a hexadecimal digit
 abbrev pub is_hexadecimal : List ℕ → Bool
-is_hexadecimal text = slice_index text 0 == 48 && slice_index text 1 == 120 && is_hex_digit (slice_index text 2)
+is_hexadecimal text =
+    slice_index text 0 == 48 && slice_index text 1 == 120 && is_hex_digit (slice_index text 2)
 
 -- the bytes at the front that pass a test
 abbrev pub run : (ℕ → Bool) → List ℕ → List ℕ
@@ -20,12 +21,24 @@ run test text = take (prefix_len test text) text
 
 -- a token and the bytes after it
 unfoldable pub name_at : List ℕ → Option (Token × List ℕ)
-name_at text = if is_name_start (slice_index text 0) then Some (name (run is_name_byte text), drop (prefix_len is_name_byte text) text) else None
+name_at text =
+    if is_name_start (slice_index text 0)
+    then Some (name (run is_name_byte text), drop (prefix_len is_name_byte text) text)
+    else None
 
 unfoldable pub number_at : List ℕ → Option (Token × List ℕ)
 number_at text =
-    if is_hexadecimal text then (let digits = drop 2 text in Some (number (value_of (digits_value 16 (run is_hex_digit digits))), drop (prefix_len is_hex_digit digits) digits))
-    else (if is_ascii_digit (slice_index text 0) then Some (number (value_of (digits_value 10 (run is_ascii_digit text))), drop (prefix_len is_ascii_digit text) text) else None)
+    if is_hexadecimal text then
+      (let digits = drop 2 text in
+        Some
+        (number (value_of (digits_value 16 (run is_hex_digit digits))),
+          drop (prefix_len is_hex_digit digits) digits))
+    else
+      (if is_ascii_digit (slice_index text 0)
+        then Some
+          (number (value_of (digits_value 10 (run is_ascii_digit text))),
+            drop (prefix_len is_ascii_digit text) text)
+        else None)
 
 abbrev pub or_else : {A : Type 0} → Option A → Option A → Option A
 or_else (Some x) y = Some x
@@ -33,4 +46,6 @@ or_else None y = y
 
 -- a symbol that begins with a letter is longer than the name that it begins
 unfoldable pub token_at : List ℕ → Option (Token × List ℕ)
-token_at text = or_else (option_map (λ s. (symbol s, drop (length s) text)) (symbol_at text)) (or_else (name_at text) (number_at text))
+token_at text =
+    or_else (option_map (λ s. (symbol s, drop (length s) text)) (symbol_at text))
+    (or_else (name_at text) (number_at text))

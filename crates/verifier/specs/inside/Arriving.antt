@@ -14,8 +14,10 @@ brought_to slot entries = facts_on (entry_of slot entries)
 
 -- the entry of slot i after a jump with these facts: they are joined into it if i is the target,
 -- else it is unchanged
-abbrev pub Brings : Option ℕ → Option Facts → List (Option NumberedFacts) → List (Option NumberedFacts) → ℕ → Type 0
-Brings target facts old new i = brought_to i new ≡ joined (brought_to i old) (only_if (is_slot target i) facts)
+abbrev pub Brings : Option ℕ → Option Facts → List (Option NumberedFacts)
+    → List (Option NumberedFacts) → ℕ → Type 0
+Brings target facts old new i =
+    brought_to i new ≡ joined (brought_to i old) (only_if (is_slot target i) facts)
 
 -- the facts that arrive at a slot at which an instruction begins: on the falling edge into it, and
 -- on jumps

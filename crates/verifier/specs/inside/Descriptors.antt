@@ -5,4 +5,5 @@ use Rattle.std.specs.List.{list_any}
 -- one more descriptor at the end, unless it is listed already
 abbrev pub with_descriptor : List ℕ → Option ℕ → List ℕ
 with_descriptor known None = known
-with_descriptor known (Some fd) = if list_any (λ other. other == fd) known then known else known ++ fd ∷ []
+with_descriptor known (Some fd) =
+    if list_any (λ other. other == fd) known then known else known ++ fd ∷ []

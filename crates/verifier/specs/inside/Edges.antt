@@ -36,4 +36,5 @@ MayRun shapes n insn known = reason_from shapes n insn known ≡ None
 
 -- it may not be run: the fault has its slot and the first condition that fails
 abbrev pub IsFaultFrom : Shapes → ℕ → Insn → Option Facts → VerifyFault → Type 0
-IsFaultFrom shapes n insn known fault = (fault.slot ≡ n) × (reason_from shapes n insn known ≡ Some fault.reason)
+IsFaultFrom shapes n insn known fault =
+    (fault.slot ≡ n) × (reason_from shapes n insn known ≡ Some fault.reason)

@@ -6,4 +6,7 @@ use Rattle.insn_set.specs.Flow.{jump_target}
 
 -- each jump leads to a slot of the program
 abbrev pub JumpsLand : List Insn → Type 0
-JumpsLand code = (n : ℕ) (i : Insn) → begins_at code n ≡ Some i → IfSome (jump_target i n) (λ to. to < slot_count code)
+JumpsLand code =
+    (n : ℕ) (i : Insn)
+    → begins_at code n ≡ Some i
+    → IfSome (jump_target i n) (λ to. to < slot_count code)

@@ -38,7 +38,11 @@ included_in x i = slice_index_or x.includes (part_of i) 0
 
 -- all parts have one number
 abbrev pub numbered_by : ℕ → Facts → NumberedFacts
-numbered_by n f = record { facts = f; numbers = replicate stack_parts n; includes = replicate stack_parts 0 }
+numbered_by n f = record {
+  facts = f;
+  numbers = replicate stack_parts n;
+  includes = replicate stack_parts 0
+}
 
 abbrev pub at_entry : NumberedFacts
 at_entry = numbered_by 1 entry
@@ -49,7 +53,11 @@ renumbered x fresh = numbered_by fresh x.facts
 -- the part of slot i has a new number
 abbrev pub part_renumbered : NumberedFacts → ℕ → ℕ → NumberedFacts
 part_renumbered x i fresh =
-    record { facts = x.facts; numbers = slice_set x.numbers (part_of i) fresh; includes = slice_set x.includes (part_of i) 0 }
+    record {
+      facts = x.facts;
+      numbers = slice_set x.numbers (part_of i) fresh;
+      includes = slice_set x.includes (part_of i) 0
+    }
 
 -- the join of slot s with slot t, of parts with the numbers n and k: unchanged if the part of s
 -- includes that of t; else a part that changes has the number `fresh`
@@ -61,13 +69,16 @@ IsJoinedSlot fresh s n m t k s' n' m' =
 -- z is the join of x and y in slot i
 abbrev pub IsJoinedAt : ℕ → NumberedFacts → NumberedFacts → NumberedFacts → ℕ → Type 0
 IsJoinedAt fresh x y z i =
-    IsJoinedSlot fresh (slot_at x.facts i) (number_of x i) (included_in x i) (slot_at y.facts i) (number_of y i)
+    IsJoinedSlot fresh (slot_at x.facts i) (number_of x i) (included_in x i) (slot_at y.facts i)
+      (number_of y i)
     (slot_at z.facts i) (number_of z i) (included_in z i)
 
 -- slot i of z is that of x, with the numbers of its part
 abbrev pub IsSameAt : NumberedFacts → NumberedFacts → ℕ → Type 0
 IsSameAt x z i =
-    (slot_at z.facts i ≡ slot_at x.facts i) × (number_of z i ≡ number_of x i) × (included_in z i ≡ included_in x i)
+    (slot_at z.facts i ≡ slot_at x.facts i)
+    × (number_of z i ≡ number_of x i)
+    × (included_in z i ≡ included_in x i)
 
 -- one part of the stack of y is joined into x
 pub record IsPartJoin (fresh part : ℕ) (x y z : NumberedFacts) : Type 0 where
@@ -78,7 +89,8 @@ pub record IsPartJoin (fresh part : ℕ) (x y z : NumberedFacts) : Type 0 where
 
 -- the join of x and y: of the registers, and of each part of the stack
 pub record IsJoin (fresh : ℕ) (x y z : NumberedFacts) : Type 0 where
-  pub registers : z.facts.registers ≡ tabulate 11 (λ r. kind_join (kind_at x.facts r) (kind_at y.facts r))
+  pub registers : z.facts.registers
+      ≡ tabulate 11 (λ r. kind_join (kind_at x.facts r) (kind_at y.facts r))
   pub long : length z.facts.slots ≡ stack_slots
   pub parts : length z.numbers ≡ stack_parts
   pub slots : (i : ℕ) → i < stack_slots → IsJoinedAt fresh x y z i
@@ -90,33 +102,44 @@ IsJoinedBy fresh (Some x) y None = ⊥
 IsJoinedBy fresh (Some x) y (Some z) = IsJoin fresh x y z
 
 -- the join of an entry, if there is one
-abbrev pub IsJoinedIf : ℕ → Option NumberedFacts → Option NumberedFacts → Option NumberedFacts → Type 0
+abbrev pub IsJoinedIf : ℕ → Option NumberedFacts → Option NumberedFacts → Option NumberedFacts
+    → Type 0
 IsJoinedIf fresh old None new = new ≡ old
 IsJoinedIf fresh old (Some y) new = IsJoinedBy fresh old y new
 
 -- the entry of a slot is joined into the facts there; those ahead are unchanged
-abbrev pub IsTaken : ℕ → ℕ → List (Option NumberedFacts) → List (Option NumberedFacts) → Option NumberedFacts → Option NumberedFacts → Type 0
+abbrev pub IsTaken : ℕ → ℕ → List (Option NumberedFacts) → List (Option NumberedFacts)
+    → Option NumberedFacts → Option NumberedFacts → Type 0
 IsTaken slot fresh entries_old entries_new old new =
-    IsJoinedIf fresh old (entry_of slot entries_old) new × ((i : ℕ) → slot < i → entry_of i entries_new ≡ entry_of i entries_old)
+    IsJoinedIf fresh old (entry_of slot entries_old) new
+    × ((i : ℕ) → slot < i → entry_of i entries_new ≡ entry_of i entries_old)
 
 -- facts are joined into the entry of a slot; the others are unchanged
-abbrev pub IsPut : ℕ → ℕ → NumberedFacts → List (Option NumberedFacts) → List (Option NumberedFacts) → Type 0
+abbrev pub IsPut : ℕ → ℕ → NumberedFacts → List (Option NumberedFacts) → List (Option NumberedFacts)
+    → Type 0
 IsPut slot fresh y old new =
-    IsJoinedBy fresh (entry_of slot old) y (entry_of slot new) × ((i : ℕ) → i ≢ slot → entry_of i new ≡ entry_of i old)
+    IsJoinedBy fresh (entry_of slot old) y (entry_of slot new)
+    × ((i : ℕ) → i ≢ slot → entry_of i new ≡ entry_of i old)
 
 -- facts are sent to a jump's target, if there is one
-abbrev pub IsSent : Option ℕ → ℕ → NumberedFacts → List (Option NumberedFacts) → List (Option NumberedFacts) → Type 0
+abbrev pub IsSent : Option ℕ → ℕ → NumberedFacts → List (Option NumberedFacts)
+    → List (Option NumberedFacts) → Type 0
 IsSent None fresh y old new = new ≡ old
 IsSent (Some slot) fresh y old new = IsPut slot fresh y old new
 
-abbrev pub IsSentIf : Option ℕ → ℕ → Option NumberedFacts → List (Option NumberedFacts) → List (Option NumberedFacts) → Type 0
+abbrev pub IsSentIf : Option ℕ → ℕ → Option NumberedFacts → List (Option NumberedFacts)
+    → List (Option NumberedFacts) → Type 0
 IsSentIf target fresh None old new = new ≡ old
 IsSentIf target fresh (Some y) old new = IsSent target fresh y old new
 
 -- ---- the facts on the edges of an instruction
 
 abbrev pub with_ranges : NumberedFacts → ℕ → Operand → RangePair → NumberedFacts
-with_ranges x dst src ranges = record { facts = with_pair x.facts dst src ranges; numbers = x.numbers; includes = x.includes }
+with_ranges x dst src ranges = record {
+  facts = with_pair x.facts dst src ranges;
+  numbers = x.numbers;
+  includes = x.includes
+}
 
 -- a look-up is settled, and all parts of the stack have a new number
 abbrev pub settled : ℕ → Bool → ℕ → NumberedFacts → NumberedFacts
@@ -138,7 +161,8 @@ on_falling_edge Writes fresh x = Some x
 on_falling_edge Jumps fresh x = None
 on_falling_edge Either fresh x = Some x
 on_falling_edge (Compares dst src falls jumps) fresh x = option_map (with_ranges x dst src) falls
-on_falling_edge (Settles site jumps_on_null) fresh x = Some (settled site (not jumps_on_null) fresh x)
+on_falling_edge (Settles site jumps_on_null) fresh x =
+    Some (settled site (not jumps_on_null) fresh x)
 
 abbrev pub on_jumping_edge : Flow → ℕ → NumberedFacts → Option NumberedFacts
 on_jumping_edge Ends fresh x = None
@@ -163,18 +187,32 @@ noted Writes fresh x = renumbered x fresh
 noted flow fresh x = x
 
 -- the instruction at slot n has this flow and leaves these facts, and they are sent along its edges
-pub record IsPast (shapes : Shapes) (n : ℕ) (insn : Insn) (old : NumberedFacts) (entries_old : List (Option NumberedFacts)) (new : Option NumberedFacts) (entries_new : List (Option NumberedFacts)) : Type 0 where
+pub record IsPast (shapes : Shapes) (n : ℕ) (insn : Insn) (old : NumberedFacts)
+    (entries_old : List (Option NumberedFacts)) (new : Option NumberedFacts)
+    (entries_new : List (Option NumberedFacts)) : Type 0 where
   pub flow : Flow
   pub facts : Facts
   pub edges : effect shapes n insn old.facts ≡ Ok (edges_of flow facts)
   pub stack : KeepsStack flow old.facts facts
-  pub falls : new ≡ on_falling_edge flow (8 * n + 5) (noted flow (8 * n + 3) (record { facts = facts; numbers = old.numbers; includes = old.includes }))
-  pub sent : IsSentIf (jump_target insn n) (8 * n + 6) (on_jumping_edge flow (8 * n + 4) (noted flow (8 * n + 3) (record { facts = facts; numbers = old.numbers; includes = old.includes }))) entries_old entries_new
+  pub falls : new
+      ≡ on_falling_edge flow (8 * n + 5)
+        (noted flow (8 * n + 3)
+          (record { facts = facts; numbers = old.numbers; includes = old.includes }))
+  pub sent : IsSentIf (jump_target insn n) (8 * n + 6)
+      (on_jumping_edge flow (8 * n + 4)
+        (noted flow (8 * n + 3)
+          (record {
+            facts = facts;
+            numbers = old.numbers;
+            includes = old.includes
+          }))) entries_old entries_new
 
 -- the same, if there are facts before it
-abbrev pub IsPastIf : Shapes → ℕ → Insn → Option NumberedFacts → List (Option NumberedFacts) → Option NumberedFacts → List (Option NumberedFacts) → Type 0
+abbrev pub IsPastIf : Shapes → ℕ → Insn → Option NumberedFacts → List (Option NumberedFacts)
+    → Option NumberedFacts → List (Option NumberedFacts) → Type 0
 IsPastIf shapes n insn None entries_old new entries_new = (new ≡ None) × (entries_new ≡ entries_old)
-IsPastIf shapes n insn (Some x) entries_old new entries_new = IsPast shapes n insn x entries_old new entries_new
+IsPastIf shapes n insn (Some x) entries_old new entries_new =
+    IsPast shapes n insn x entries_old new entries_new
 
 -- ---- the meaning of each number, for numbers below a bound
 
@@ -189,14 +227,17 @@ pub record IsNumberedSlot (held : ℕ → Slot) (bound : ℕ) (s : Slot) (n m : 
 -- the same for each slot; `stacks` gives the slot that a number means
 pub record IsNumbered (stacks : ℕ → ℕ → Slot) (bound : ℕ) (x : NumberedFacts) : Type 0 where
   pub parts : length x.numbers ≡ stack_parts
-  pub slots : (i : ℕ) → i < stack_slots → IsNumberedSlot (stacks i) bound (slot_at x.facts i) (number_of x i) (included_in x i)
+  pub slots : (i : ℕ)
+      → i < stack_slots
+      → IsNumberedSlot (stacks i) bound (slot_at x.facts i) (number_of x i) (included_in x i)
 
 abbrev pub IsNumberedIf : (ℕ → ℕ → Slot) → ℕ → Option NumberedFacts → Type 0
 IsNumberedIf stacks bound None = Unit {0}
 IsNumberedIf stacks bound (Some x) = IsNumbered stacks bound x
 
 -- the facts on the falling edge, and those of the entries from a slot on
-pub record AreNumbered (slot bound : ℕ) (falling : Option NumberedFacts) (entries : List (Option NumberedFacts)) : Type 0 where
+pub record AreNumbered (slot bound : ℕ) (falling : Option NumberedFacts)
+    (entries : List (Option NumberedFacts)) : Type 0 where
   pub stacks : ℕ → ℕ → Slot
   pub in_hand : IsNumberedIf stacks bound falling
   pub ahead : (i : ℕ) → slot ≤ i → IsNumberedIf stacks bound (entry_of i entries)
@@ -205,7 +246,8 @@ pub record AreNumbered (slot bound : ℕ) (falling : Option NumberedFacts) (entr
 
 -- the registers of x and y and the parts below this one are joined in z
 pub record IsJoinedBelow (fresh part : ℕ) (x y z : NumberedFacts) : Type 0 where
-  pub registers : z.facts.registers ≡ tabulate 11 (λ r. kind_join (kind_at x.facts r) (kind_at y.facts r))
+  pub registers : z.facts.registers
+      ≡ tabulate 11 (λ r. kind_join (kind_at x.facts r) (kind_at y.facts r))
   pub parts : length z.numbers ≡ stack_parts
   pub done : (i : ℕ) → i < stack_slots → part_of i < part → IsJoinedAt fresh x y z i
   pub rest : (i : ℕ) → i < stack_slots → part ≤ part_of i → IsSameAt x z i

@@ -14,7 +14,8 @@ stream_end (Err fault) = Err (stream_failure fault)
 
 -- A new host serves the stream from `before` on, at most `most_frames` frames; `after` is the state
 -- after it, as a function of the states of the tenants.
-abbrev pub ServesNewHost : Result (Unit {0}) Failure → StreamState → (List TenantState → StreamState) → Type 0
+abbrev pub ServesNewHost : Result (Unit {0}) Failure → StreamState
+    → (List TenantState → StreamState) → Type 0
 ServesNewHost result before after =
     (served : Result ℕ ServeFault) × (states : List TenantState)
     × ServesStream most_frames served before (after states) × (result ≡ stream_end served)

@@ -12,10 +12,12 @@ judgement_text None = codes "accepted"
 judgement_text (Some refusal) = refusal_text refusal
 
 abbrev pub IsJudgementLine : List Named → Option Refusal → List ℕ → List ℕ → Type 0
-IsJudgementLine maps refusal input output = IsJudgement maps input refusal × (output ≡ judgement_text refusal ++ 10 ∷ [])
+IsJudgementLine maps refusal input output =
+    IsJudgement maps input refusal × (output ≡ judgement_text refusal ++ 10 ∷ [])
 
 abbrev pub IsJudgedLine : List Named → List ℕ → List ℕ → Type 0
-IsJudgedLine maps input output = (refusal : Option Refusal) × IsJudgementLine maps refusal input output
+IsJudgedLine maps input output =
+    (refusal : Option Refusal) × IsJudgementLine maps refusal input output
 
 -- the exit status of a run that wrote it: 1 if the slots are rejected
 abbrev pub judgement_status : Option Refusal → ℕ

@@ -11,4 +11,5 @@ abbrev pub map_fields : Text → List Text
 map_fields text = slice_split (λ b. b == colon) text
 
 abbrev pub IsWrongMapArgument : List Text → Failure → Type 0
-IsWrongMapArgument arguments failure = (number : ℕ) × IsFirstWrongArgument arguments number × (failure ≡ MapArgument number)
+IsWrongMapArgument arguments failure =
+    (number : ℕ) × IsFirstWrongArgument arguments number × (failure ≡ MapArgument number)

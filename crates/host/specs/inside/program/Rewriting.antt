@@ -73,7 +73,14 @@ pub record Streams : Type 0 where
   pub write_failures : ℕ
 
 -- those of this reader and this writer
-abbrev pub streams : {R W : Type 0} → (R → Option (List ℕ)) → (R → ℕ) → (W → Option (List ℕ)) → (W → ℕ) → R → W → Streams
+abbrev pub streams : {R W : Type 0}
+    → (R → Option (List ℕ))
+    → (R → ℕ)
+    → (W → Option (List ℕ))
+    → (W → ℕ)
+    → R
+    → W
+    → Streams
 streams remaining read_failures contents write_failures reader writer = record {
   input = remaining reader;
   output = contents writer;
@@ -91,10 +98,13 @@ pub record ReadsWholeInput (before after : Option (List ℕ)) (input : List ℕ)
 -- failed; or memory ran out before anything was read
 abbrev pub HasNoInput : Failure → Option (List ℕ) → Option (List ℕ) → ℕ → ℕ → Type 0
 HasNoInput TooLong before after failures_before failures_after =
-    ((bytes : List ℕ) × (length bytes ≡ LONGEST_INPUT + 1) × Consumes before after bytes) × (failures_after ≡ failures_before)
+    ((bytes : List ℕ) × (length bytes ≡ LONGEST_INPUT + 1) × Consumes before after bytes)
+    × (failures_after ≡ failures_before)
 HasNoInput Read before after failures_before failures_after =
-    ((bytes : List ℕ) × (length bytes ≤ LONGEST_INPUT) × Consumes before after bytes) × (failures_before < failures_after)
-HasNoInput Memory before after failures_before failures_after = (after ≡ before) × (failures_after ≡ failures_before)
+    ((bytes : List ℕ) × (length bytes ≤ LONGEST_INPUT) × Consumes before after bytes)
+    × (failures_before < failures_after)
+HasNoInput Memory before after failures_before failures_after =
+    (after ≡ before) × (failures_after ≡ failures_before)
 HasNoInput WrongArguments before after failures_before failures_after = ⊥
 HasNoInput (MapArgument number) before after failures_before failures_after = ⊥
 HasNoInput (Truncated frames) before after failures_before failures_after = ⊥
@@ -121,7 +131,8 @@ pub record WritesWholeOutput (made : List ℕ → List ℕ → Type 0) (old new 
   pub sound : (new.read_failures ≡ old.read_failures) × (new.write_failures ≡ old.write_failures)
 
 -- the input was read and is rejected, or memory ran out
-pub record RefusesInput (refused : List ℕ → Failure → Type 0) (old new : Streams) (failure : Failure) : Type 0 where
+pub record RefusesInput (refused : List ℕ → Failure → Type 0) (old new : Streams)
+    (failure : Failure) : Type 0 where
   pub input : List ℕ
   pub whole : ReadsWholeInput old.input new.input input
   pub why : (failure ≡ Memory) ⊎ refused input failure
@@ -129,7 +140,8 @@ pub record RefusesInput (refused : List ℕ → Failure → Type 0) (old new : S
   pub sound : new.read_failures ≡ old.read_failures
 
 -- the input was read, a part of its output was written, and a call failed
-pub record CutsOutput (made : List ℕ → List ℕ → Type 0) (old new : Streams) (failure : Failure) : Type 0 where
+pub record CutsOutput (made : List ℕ → List ℕ → Type 0) (old new : Streams)
+    (failure : Failure) : Type 0 where
   pub input : List ℕ
   pub output : List ℕ
   pub count : ℕ
@@ -141,7 +153,9 @@ pub record CutsOutput (made : List ℕ → List ℕ → Type 0) (old new : Strea
   pub failed : old.write_failures < new.write_failures
   pub sound : new.read_failures ≡ old.read_failures
 
-abbrev pub StopsRewriting : (List ℕ → List ℕ → Type 0) → (List ℕ → Failure → Type 0) → Streams → Streams → Failure → Type 0
+abbrev pub StopsRewriting : (List ℕ → List ℕ → Type 0) → (List ℕ → Failure → Type 0) → Streams
+    → Streams → Failure → Type 0
 StopsRewriting made refused old new failure =
-    (HasNoInput failure old.input new.input old.read_failures new.read_failures × WritesNothing old new)
+    (HasNoInput failure old.input new.input old.read_failures new.read_failures
+      × WritesNothing old new)
     ⊎ (RefusesInput refused old new failure ⊎ CutsOutput made old new failure)

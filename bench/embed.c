@@ -277,6 +277,162 @@ static void compare(const struct kernel *it, bpfhost_bytes reply)
     must(memcmp(told, reply.at + 12, reply.length - 12) == 0, "the kernel answers otherwise than the library");
 }
 
+/* ---- a builder and bpfhost_ask, and one call */
+
+struct command {
+    const char *name;
+    int32_t (*by_frame)(struct command *it), (*by_call)(struct command *it); /* each returns the status */
+    int32_t wanted;
+    bpfhost *host;
+    int32_t (*way)(struct command *it);
+    uint8_t frame[2048], value[8], packet[1500];
+};
+
+enum { MAP = 3, PROG = 4, FREE = 5 };
+/* r0 = 1; exit */
+static const uint64_t two_slots[] = {0x00000001000000b7, 0x0000000000000095};
+
+static bpfhost_reply ask(struct command *it, size_t length)
+{
+    bpfhost_reply reply;
+    must(bpfhost_ask(it->host, it->frame, length, &reply) == BPFHOST_DONE, "no reply");
+    return reply;
+}
+
+static int32_t done(int code, const bpfhost_result *result)
+{
+    must(code == BPFHOST_DONE, "no result");
+    return result->status;
+}
+
+static int32_t look_up_by_frame(struct command *it)
+{
+    bpfhost_reply reply = ask(it, bpfhost_frame_map_lookup(it->frame, sizeof it->frame, 0, MAP, "key1", 4));
+    must(reply.payload_length <= sizeof it->value, "a value is too long");
+    memcpy(it->value, reply.payload, reply.payload_length);
+    return reply.status;
+}
+
+static int32_t look_up_by_call(struct command *it)
+{
+    bpfhost_result result;
+    return done(bpfhost_map_lookup(it->host, 0, MAP, "key1", 4, it->value, sizeof it->value, &result), &result);
+}
+
+static int32_t update_by_frame(struct command *it)
+{
+    return ask(it, bpfhost_frame_map_update(it->frame, sizeof it->frame, 0, MAP, BPFHOST_ANY, "key1", 4, it->value, 8)).status;
+}
+
+static int32_t update_by_call(struct command *it)
+{
+    bpfhost_result result;
+    return done(bpfhost_map_update(it->host, 0, MAP, "key1", 4, it->value, 8, BPFHOST_ANY, &result), &result);
+}
+
+static int32_t next_key_by_frame(struct command *it)
+{
+    bpfhost_reply reply = ask(it, bpfhost_frame_map_next_key(it->frame, sizeof it->frame, 0, MAP, NULL, 0));
+    must(reply.payload_length <= sizeof it->value, "a key is too long");
+    memcpy(it->value, reply.payload, reply.payload_length);
+    return reply.status;
+}
+
+static int32_t next_key_by_call(struct command *it)
+{
+    bpfhost_result result;
+    return done(bpfhost_map_get_next_key(it->host, 0, MAP, NULL, 0, it->value, 4, &result), &result);
+}
+
+static int32_t delete_by_frame(struct command *it)
+{
+    return ask(it, bpfhost_frame_map_delete(it->frame, sizeof it->frame, 0, MAP, "key2", 4)).status;
+}
+
+static int32_t delete_by_call(struct command *it)
+{
+    bpfhost_result result;
+    return done(bpfhost_map_delete(it->host, 0, MAP, "key2", 4, &result), &result);
+}
+
+static int32_t run_by_frame(struct command *it)
+{
+    return ask(it, bpfhost_frame_prog_test_run(it->frame, sizeof it->frame, 0, PROG, NULL, it->packet, sizeof it->packet)).status;
+}
+
+static int32_t run_by_call(struct command *it)
+{
+    bpfhost_result result;
+    return done(bpfhost_prog_test_run(it->host, 0, PROG, NULL, it->packet, sizeof it->packet, &result), &result);
+}
+
+static int32_t create_by_frame(struct command *it)
+{
+    ask(it, bpfhost_frame_map_create(it->frame, sizeof it->frame, 0, BPFHOST_HASH, 4, 8, 16, 0));
+    return ask(it, bpfhost_frame_close(it->frame, sizeof it->frame, 0, FREE)).status;
+}
+
+static int32_t create_by_call(struct command *it)
+{
+    const bpfhost_map_attr attr = {BPFHOST_HASH, 4, 8, 16, 0};
+    bpfhost_result result;
+    done(bpfhost_map_create(it->host, 0, &attr, &result), &result);
+    return done(bpfhost_close(it->host, 0, FREE, &result), &result);
+}
+
+static int32_t load_by_frame(struct command *it)
+{
+    ask(it, bpfhost_frame_prog_load(it->frame, sizeof it->frame, 0, BPFHOST_SOCKET_FILTER, two_slots, 2));
+    return ask(it, bpfhost_frame_close(it->frame, sizeof it->frame, 0, FREE)).status;
+}
+
+static int32_t load_by_call(struct command *it)
+{
+    bpfhost_result result;
+    done(bpfhost_prog_load(it->host, 0, BPFHOST_SOCKET_FILTER, two_slots, 2, &result), &result);
+    return done(bpfhost_close(it->host, 0, FREE, &result), &result);
+}
+
+static void repeat_command(void *way, long times)
+{
+    struct command *it = way;
+    while (times--)
+        must(it->way(it) == it->wanted, "another status");
+}
+
+static void measure_command(struct command *it)
+{
+    const bpfhost_map_attr attr = {BPFHOST_HASH, 4, 8, 16, 0};
+    bpfhost_result result;
+    double by_frame, by_one_call;
+    must(bpfhost_new(&it->host, 1, &(bpfhost_seed){{1, 2}}) == BPFHOST_DONE, "no host");
+    must(done(bpfhost_map_create(it->host, 0, &attr, &result), &result) == MAP, "no map");
+    must(done(bpfhost_prog_load(it->host, 0, BPFHOST_SOCKET_FILTER, two_slots, 2, &result), &result) == PROG, "no program");
+    must(done(bpfhost_map_update(it->host, 0, MAP, "key1", 4, "value001", 8, BPFHOST_ANY, &result), &result) == 0, "no entry");
+    it->way = it->by_frame;
+    by_frame = least(repeat_command, it);
+    it->way = it->by_call;
+    by_one_call = least(repeat_command, it);
+    printf("%-22s%8.0f%10.0f%9.2f\n", it->name, by_frame, by_one_call, by_one_call / by_frame);
+    bpfhost_free(it->host);
+}
+
+static void measure_commands(void)
+{
+    static struct command commands[] = {
+        {.name = "look-up", .by_frame = look_up_by_frame, .by_call = look_up_by_call},
+        {.name = "next key", .by_frame = next_key_by_frame, .by_call = next_key_by_call},
+        {.name = "update", .by_frame = update_by_frame, .by_call = update_by_call},
+        {.name = "delete, no such key", .by_frame = delete_by_frame, .by_call = delete_by_call, .wanted = -2},
+        {.name = "run, 1,500 bytes", .by_frame = run_by_frame, .by_call = run_by_call},
+        {.name = "create and close", .by_frame = create_by_frame, .by_call = create_by_call},
+        {.name = "load and close", .by_frame = load_by_frame, .by_call = load_by_call},
+    };
+    printf("ns a command by a frame of one's own, and by one call\n%-22s%8s%19s\n", "", "frame", "one call");
+    for (size_t i = 0; i < sizeof commands / sizeof *commands; i++)
+        measure_command(&commands[i]);
+}
+
 /* ---- what is printed */
 
 static void print_time(double time, double call)
@@ -328,5 +484,6 @@ int main(int argc, char **argv)
     printf("%-22s%8s%19s%19s%19s%19s\n", "", "call", "pipes, 1 frame", "pipes, 32 frames", "bpf(2)", "its run alone");
     for (int i = 2; i < argc; i++)
         measure(argv[1], argv[i]);
+    measure_commands();
     return 0;
 }

@@ -34,10 +34,10 @@ def written(top: Path, shared: Shared, places: list[Place] = PLACES) -> tuple[di
 
 
 def by_hand(header: str) -> list[str]:
-    """The numbers of the header outside the marks; tools/version writes those of the version."""
+    """The numbers of the header outside the marks; tools/version writes those of the version, and BPFHOST_ROOM is only the header's."""
     rest = re.sub(r"/\* (.*): written by tools/generate \*/\n(?:.*\n)*? */\* end of \1 \*/", "", header)
     names = [one or other for one, other in NUMBER.findall(rest)]
-    return [f"{HEADER} has {name} outside the marks" for name in names if not name.startswith("BPFHOST_VERSION_")]
+    return [f"{HEADER} has {name} outside the marks" for name in names if not name.startswith(("BPFHOST_VERSION_", "BPFHOST_ROOM"))]
 
 
 def main(words: list[str]) -> int:

@@ -445,6 +445,58 @@ void try_run_packets_sized(void)
     end(bpfhost_run_packets_sized(host, 1, 3, contexts, size, context_count, bytes, byte_count, ends, packets, results, status), true);
 }
 
+/* A value that is longer than its room is a code too, after the host was called: it is left out here. */
+void try_map_lookup(void)
+{
+    uint8_t here[72];
+    lie_in(here, sizeof here);
+    size_t key_size = any_length(), value_size = any_length();
+    bpfhost *host = HOST;
+    const void *key = BYTES(key_size, READ | NULL_IF_EMPTY);
+    void *value = BYTES(value_size, WRITTEN | NULL_IF_EMPTY);
+    bpfhost_result *out = ONE(out, WRITTEN);
+    int code = bpfhost_map_lookup(host, 1, 3, key, key_size, value, value_size, out);
+    __CPROVER_assume(!is_asked || code != BPFHOST_ERR_BUFFER_TOO_SMALL);
+    end(code, true);
+}
+
+void try_map_update(void)
+{
+    uint8_t here[72];
+    lie_in(here, sizeof here);
+    size_t key_size = any_length(), value_size = any_length();
+    bpfhost *host = HOST;
+    const void *key = BYTES(key_size, READ | NULL_IF_EMPTY);
+    const void *value = BYTES(value_size, READ | NULL_IF_EMPTY);
+    bpfhost_result *out = ONE(out, WRITTEN);
+    int code = bpfhost_map_update(host, 1, 3, key, key_size, value, value_size, 0, out);
+    __CPROVER_assume(!is_asked || code != BPFHOST_ERR_BUFFER_TOO_SMALL);
+    end(code, true);
+}
+
+void try_prog_test_run(void)
+{
+    uint8_t here[120];
+    lie_in(here, sizeof here);
+    size_t packet_length = any_length();
+    bpfhost *host = HOST;
+    const bpfhost_context *context = ONE(context, READ | MAY_BE_NULL);
+    const void *packet = BYTES(packet_length, READ | NULL_IF_EMPTY);
+    bpfhost_result *out = ONE(out, WRITTEN);
+    end(bpfhost_prog_test_run(host, 1, 4, context, packet, packet_length, out), true);
+}
+
+void try_close(void)
+{
+    uint8_t here[48];
+    lie_in(here, sizeof here);
+    bpfhost *host = HOST;
+    bpfhost_result *out = ONE(out, WRITTEN);
+    int code = bpfhost_close(host, 1, 4, out);
+    __CPROVER_assume(!is_asked || code != BPFHOST_ERR_BUFFER_TOO_SMALL);
+    end(code, true);
+}
+
 void try_save_part(void)
 {
     uint8_t here[32];

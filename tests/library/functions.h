@@ -6,7 +6,8 @@
  * bpfhost_code_text, bpfhost_reason_text, bpfhost_version, bpfhost_library_version, bpfhost_get16, bpfhost_get32, bpfhost_frame_of_tenant. Since they test nothing: bpfhost_put16, bpfhost_put32,
  * bpfhost_put_bytes. In objects.c: bpfhost_are_apart, bpfhost_free. In saves.c, since it calls bpfhost_save_part again and again:
  * bpfhost_save. In scattered.c, since their packets lie anywhere: bpfhost_gather, bpfhost_run_some, bpfhost_run_scattered, and
- * bpfhost_run_given, which tests nothing. */
+ * bpfhost_run_given, which tests nothing. By the commands that call them: bpfhost_result_code, bpfhost_object_code, bpfhost_set_result,
+ * bpfhost_carry_out, bpfhost_carry_out_on. */
 #ifndef FUNCTIONS_H
 #define FUNCTIONS_H
 
@@ -418,6 +419,119 @@ static bool holds_prog_test_run(const struct given *given, int code)
         && are_words_of((const uint8_t *)given->at[0] + 8, given->at[1]);
 }
 
+/* ---- commands, whose result is the last object */
+
+#define COMMAND_HOST ((bpfhost *)given->at[0])
+#define LENT_STATUS (-13)
+
+/* Whether the proved function was given a frame of this length, and the result is that of `lent_reply`. */
+static bool is_carried_out(const struct given *given, size_t frame_length, const bpfhost_result *out, int code)
+{
+    return asked.calls == 1 && code == asked.code && asked.at[0] == given->at[0] && asked.numbers[0] == frame_length
+        && (code != BPFHOST_DONE
+            || (is_marked(given->at[0], BPFHOST_HANDLE_SIZE) && out->status == LENT_STATUS && out->result == 0 && out->slot == 7
+                && out->reason == 20 && out->length == 0));
+}
+
+static int call_map_create(const struct given *given)
+{
+    return bpfhost_map_create(COMMAND_HOST, 1, (const bpfhost_map_attr *)given->at[1], (bpfhost_result *)given->at[2]);
+}
+
+static bool holds_create(const struct given *given, int code)
+{
+    return is_carried_out(given, 24, (const bpfhost_result *)given->at[2], code);
+}
+
+/* Attributes of an older version of the header, without flags. */
+#define SHORTER_ATTR offsetof(bpfhost_map_attr, flags)
+
+static int call_map_create_sized(const struct given *given)
+{
+    return bpfhost_map_create_sized(COMMAND_HOST, 1, given->at[1], SHORTER_ATTR, (bpfhost_result *)given->at[2]);
+}
+
+static int call_map_lookup(const struct given *given)
+{
+    return bpfhost_map_lookup(COMMAND_HOST, 1, 3, given->at[1], given->counts[0], given->at[2], given->counts[1],
+                              (bpfhost_result *)given->at[3]);
+}
+
+static int call_map_get_next_key(const struct given *given)
+{
+    return bpfhost_map_get_next_key(COMMAND_HOST, 1, 3, given->at[1], given->counts[0], given->at[2], given->counts[1],
+                                    (bpfhost_result *)given->at[3]);
+}
+
+static bool holds_copied(const struct given *given, int code)
+{
+    return is_carried_out(given, 8 + given->counts[0], (const bpfhost_result *)given->at[3], code);
+}
+
+static int call_map_update(const struct given *given)
+{
+    return bpfhost_map_update(COMMAND_HOST, 1, 3, given->at[1], given->counts[0], given->at[2], given->counts[1], BPFHOST_ANY,
+                              (bpfhost_result *)given->at[3]);
+}
+
+static bool holds_updated(const struct given *given, int code)
+{
+    return is_carried_out(given, 16 + given->counts[0] + given->counts[1], (const bpfhost_result *)given->at[3], code);
+}
+
+static int call_map_delete(const struct given *given)
+{
+    return bpfhost_map_delete(COMMAND_HOST, 1, 3, given->at[1], given->counts[0], (bpfhost_result *)given->at[2]);
+}
+
+static bool holds_deleted(const struct given *given, int code)
+{
+    return is_carried_out(given, 8 + given->counts[0], (const bpfhost_result *)given->at[2], code);
+}
+
+static int call_prog_load(const struct given *given)
+{
+    return bpfhost_prog_load(COMMAND_HOST, 1, BPFHOST_SOCKET_FILTER, given->at[1], given->counts[0], (bpfhost_result *)given->at[2]);
+}
+
+static bool holds_loaded(const struct given *given, int code)
+{
+    return is_carried_out(given, 8 + 8 * given->counts[0], (const bpfhost_result *)given->at[2], code);
+}
+
+static int call_prog_test_run(const struct given *given)
+{
+    return bpfhost_prog_test_run(COMMAND_HOST, 258, 4, (const bpfhost_context *)given->at[1], given->at[2], given->counts[0],
+                                 (bpfhost_result *)given->at[3]);
+}
+
+static int call_prog_test_run_sized(const struct given *given)
+{
+    return bpfhost_prog_test_run_sized(COMMAND_HOST, 258, 4, given->at[1], LONGER_CONTEXT, given->at[2], given->counts[0],
+                                       (bpfhost_result *)given->at[3]);
+}
+
+/* One packet is run by the proved function for many; the status is its mark, which is no success. */
+static bool holds_run_once(const struct given *given, int code)
+{
+    const bpfhost_result *out = (const bpfhost_result *)given->at[3];
+    return asked.calls == 1 && code == asked.code && asked.at[0] == given->at[0] && asked.numbers[0] == 258 && asked.numbers[1] == 4
+        && asked.numbers[2] == given->counts[0] && asked.numbers[3] == 1 && asked.numbers[4] == 1 && asked.numbers[5] == 1
+        && (given->at[1] == NULL || asked.at[1] == given->at[1]) && (given->counts[0] == 0 || asked.at[2] == given->at[2])
+        && (code != BPFHOST_DONE
+            || (is_marked(&out->status, sizeof out->status) && out->result == 0 && out->slot == 0 && out->reason == 0 && out->length == 0));
+}
+
+static int call_close(const struct given *given)
+{
+    return bpfhost_close(COMMAND_HOST, 1, 3, (bpfhost_result *)given->at[1]);
+}
+
+static bool holds_closed(const struct given *given, int code)
+{
+    return is_carried_out(given, 8, (const bpfhost_result *)given->at[1], code);
+}
+
 #define ONE(name, type, uses) {name, sizeof(type), 1, alignof(type), UNCOUNTED, uses, NULL}
 #define BYTES(name, units, count, uses) {name, 1, units, 1, count, uses, NULL}
 #define HOST {"host", BPFHOST_HANDLE_SIZE, 1, alignof(void *), UNCOUNTED, WRITTEN, NULL}
@@ -425,6 +539,9 @@ static bool holds_prog_test_run(const struct given *given, int code)
 #define CONTEXT ONE("context", bpfhost_context, READ | MAY_BE_NULL)
 #define ROOM(units) BYTES("room", units, 0, WRITTEN)
 #define KEY BYTES("key", 4, 1, READ | NULL_IF_EMPTY)
+
+#define COMMAND_KEY BYTES("key", 4, 0, READ | NULL_IF_EMPTY)
+#define RESULT ONE("result", bpfhost_result, WRITTEN)
 
 static const struct function random_seed = {
     "bpfhost_random_seed", call_random_seed, holds_random_seed, false, 0, 1, 0, {ONE("seed", bpfhost_seed, WRITTEN)}};
@@ -436,6 +553,24 @@ static const struct function functions[] = {
     {"bpfhost_handle_lent", call_handle_lent, holds_handle_lent, false, 0, 3, 1,
      {HOST, FRAME, ONE("reply", bpfhost_bytes, WRITTEN | EMPTIED)}},
     {"bpfhost_ask", call_ask, holds_ask, false, 0, 3, 1, {HOST, FRAME, ONE("reply", bpfhost_reply, WRITTEN)}},
+    {"bpfhost_map_create", call_map_create, holds_create, false, 0, 3, 0, {HOST, ONE("attr", bpfhost_map_attr, READ), RESULT}},
+    {"bpfhost_map_create_sized", call_map_create_sized, holds_create, false, 0, 3, 0,
+     {HOST, {"attr", SHORTER_ATTR, 1, 1, UNCOUNTED, READ, NULL}, RESULT}},
+    {"bpfhost_map_lookup", call_map_lookup, holds_copied, false, 0, 4, 2,
+     {HOST, COMMAND_KEY, BYTES("value", 8, 1, WRITTEN | NULL_IF_EMPTY), RESULT}},
+    {"bpfhost_map_get_next_key", call_map_get_next_key, holds_copied, false, 0, 4, 2,
+     {HOST, COMMAND_KEY, BYTES("next", 4, 1, WRITTEN | NULL_IF_EMPTY), RESULT}},
+    {"bpfhost_map_update", call_map_update, holds_updated, false, 0, 4, 2,
+     {HOST, COMMAND_KEY, BYTES("value", 8, 1, READ | NULL_IF_EMPTY), RESULT}},
+    {"bpfhost_map_delete", call_map_delete, holds_deleted, false, 0, 3, 1, {HOST, COMMAND_KEY, RESULT}},
+    {"bpfhost_prog_load", call_prog_load, holds_loaded, false, 0, 3, 1,
+     {HOST, {"slots", 8, 2, 1, 0, READ | NULL_IF_EMPTY, NULL}, RESULT}},
+    {"bpfhost_prog_test_run", call_prog_test_run, holds_run_once, false, 0, 4, 1,
+     {HOST, CONTEXT, BYTES("packet", 12, 0, READ | NULL_IF_EMPTY), RESULT}},
+    {"bpfhost_prog_test_run_sized", call_prog_test_run_sized, holds_run_once, false, 0, 4, 1,
+     {HOST, {"context", LONGER_CONTEXT, 1, alignof(uint32_t), UNCOUNTED, READ | MAY_BE_NULL, NULL},
+      BYTES("packet", 12, 0, READ | NULL_IF_EMPTY), RESULT}},
+    {"bpfhost_close", call_close, holds_closed, false, 0, 2, 0, {HOST, RESULT}},
     {"bpfhost_read_reply", call_read_reply, holds_read_reply, false, sizeof lent_reply, 2, 1,
      {{"bytes", 1, sizeof lent_reply, 1, 0, READ, lent_reply}, ONE("reply", bpfhost_reply, WRITTEN)}},
     {"bpfhost_ask_sized", call_ask_sized, holds_ask_sized, false, 0, 3, 1,

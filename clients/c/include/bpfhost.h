@@ -93,8 +93,8 @@ enum bpfhost_code {
     BPFHOST_ERR_NO_HOST = -1,          /* the handle is empty */
     BPFHOST_ERR_HAS_HOST = -2,         /* the handle has a host already */
     BPFHOST_ERR_TENANT_COUNT = -3,     /* a host has 1 to 64 tenants */
-    BPFHOST_ERR_NO_MEMORY = -4,        /* out of memory for the host */
-    BPFHOST_ERR_BUFFER_TOO_SMALL = -5, /* the buffer is smaller than the longest reply */
+    BPFHOST_ERR_NO_MEMORY = -4,        /* out of memory for the host or for the call */
+    BPFHOST_ERR_BUFFER_TOO_SMALL = -5, /* the buffer is smaller than the longest reply, or than a value or a key */
     BPFHOST_ERR_NO_PART = -6,          /* the tenant has no such part, or is not served */
     BPFHOST_ERR_TOO_BIG = -7,          /* a struct has a word that the library does not know, and that is not 0 */
     BPFHOST_ERR_SIZE = -8,             /* a struct has no size, or one of no whole words */
@@ -885,6 +885,237 @@ static inline int bpfhost_ask_sized(bpfhost *host, const void *frame, size_t fra
     return code == BPFHOST_DONE ? bpfhost_read_reply_sized(lent.at, lent.length, reply, size) : code;
 }
 
+/* ---- commands, each by one call: as the functions bpf_* of libbpf, without a frame and a buffer of the caller's. What is returned is the code of
+ * the call; the host's reply is in the result. A frame of up to BPFHOST_ROOM bytes is made on the stack, a longer one in memory of malloc. */
+
+#define BPFHOST_ROOM (16 + 512 + BPFHOST_LONGEST_PAYLOAD) /* an update with the longest key and the longest value; a load of 577 slots */
+
+/* The attributes of a map. A later version may have more words after these: bpfhost_map_create_sized takes the size. */
+typedef struct bpfhost_map_attr {
+    uint32_t type;       /* BPFHOST_HASH or BPFHOST_ARRAY */
+    uint32_t key_size;   /* in bytes */
+    uint32_t value_size; /* in bytes */
+    uint32_t entries;    /* at most */
+    uint32_t flags;      /* 0 */
+} bpfhost_map_attr;
+
+/* The host's reply to a command. It stays as it is in later versions. */
+typedef struct bpfhost_result {
+    int32_t status;  /* a new descriptor, 0, or a negative error number of bpf(2) */
+    uint32_t result; /* of a test run with status 0; else 0 */
+    uint32_t slot;   /* of a load that is refused with a slot and a reason; else 0 */
+    uint16_t reason;
+    size_t length;   /* how many bytes of a value or a key were written; else 0 */
+} bpfhost_result;
+
+/* What is wrong with the host and the result of a command, or DONE. */
+static inline int bpfhost_result_code(const bpfhost *host, const bpfhost_result *out)
+{
+    return bpfhost_pair_code(host, BPFHOST_HANDLE_SIZE, out, sizeof *out);
+}
+
+/* What is wrong with bytes that a command reads or writes, if its host and its result are right, or DONE. If there are none, their address may
+ * be null. */
+static inline int bpfhost_object_code(const bpfhost *host, const bpfhost_result *out, const void *at, size_t length)
+{
+    if (length == 0)
+        return BPFHOST_DONE;
+    if (at == NULL)
+        return BPFHOST_ERR_NULL;
+    if (length > PTRDIFF_MAX)
+        return BPFHOST_ERR_LENGTH;
+    return bpfhost_are_apart(host, BPFHOST_HANDLE_SIZE, at, length) && bpfhost_are_apart(out, sizeof *out, at, length)
+             ? BPFHOST_DONE
+             : BPFHOST_ERR_OVERLAP;
+}
+
+/* Writes the result of a command that is no test run, with `length` bytes of a payload for the caller. */
+static inline void bpfhost_set_result(bpfhost_result *out, int32_t status, size_t length)
+{
+    out->status = status;
+    out->result = 0;
+    out->slot = 0;
+    out->reason = 0;
+    out->length = length;
+}
+
+/* Handles a frame that was built here: the payload of a reply with status 0 goes to `to`. ERR_BUFFER_TOO_SMALL: it is longer, and nothing is
+ * written. A reply has 12 bytes at least. */
+static inline int bpfhost_carry_out(bpfhost *host, const uint8_t *frame, size_t frame_length, void *to, size_t to_length,
+                                    bpfhost_result *out)
+{
+    bpfhost_bytes lent = {bpfhost_bytes_at(NULL, 0), 0};
+    int32_t status;
+    size_t copied;
+    int code = (int)bpfhost_c_handle_lent(host, frame, frame_length, &lent);
+    if (code != BPFHOST_DONE)
+        return code;
+    status = (int32_t)bpfhost_get32(lent.at + 8);
+    copied = status == 0 ? lent.length - 12 : 0;
+    if (copied > to_length)
+        return BPFHOST_ERR_BUFFER_TOO_SMALL;
+    bpfhost_put_bytes((uint8_t *)to, lent.at + 12, copied);
+    bpfhost_set_result(out, status, copied);
+    if (status < 0 && lent.length == 18) { /* of a load */
+        out->slot = bpfhost_get32(lent.at + 12);
+        out->reason = bpfhost_get16(lent.at + 16);
+    }
+    return BPFHOST_DONE;
+}
+
+/* Carries out a command whose frame has a number and bytes. */
+static inline int bpfhost_carry_out_on(bpfhost *host, uint16_t tenant, enum bpfhost_command command, uint32_t number, const void *bytes,
+                                       size_t length, void *to, size_t to_length, bpfhost_result *out)
+{
+    uint8_t room[BPFHOST_ROOM], *frame = room;
+    int code = bpfhost_result_code(host, out);
+    if (code == BPFHOST_DONE)
+        code = bpfhost_object_code(host, out, bytes, length);
+    if (code == BPFHOST_DONE)
+        code = bpfhost_object_code(host, out, to, to_length);
+    if (code != BPFHOST_DONE)
+        return code;
+    if (!bpfhost_are_apart(bytes, length, to, to_length))
+        return BPFHOST_ERR_OVERLAP;
+    if (length > sizeof room - 8) {
+        frame = length > PTRDIFF_MAX - 8 ? NULL : (uint8_t *)malloc(8 + length);
+        if (frame == NULL)
+            return BPFHOST_ERR_NO_MEMORY;
+    }
+    bpfhost_put_bytes(bpfhost_put32(bpfhost_put16(bpfhost_put16(frame, tenant), (uint16_t)command), number), bytes, length);
+    code = bpfhost_carry_out(host, frame, 8 + length, to, to_length, out);
+    if (frame != room)
+        free(frame);
+    return code;
+}
+
+/* MAP_CREATE with attributes of `size` bytes, whole words: a word that the caller does not have counts as 0. The status is a new descriptor.
+ * ERR_SIZE, ERR_TOO_BIG for a word that this version does not know and that is not 0, ERR_NULL, ERR_LENGTH, ERR_OVERLAP: nothing is written, and
+ * no tenant's state has changed. */
+static inline int bpfhost_map_create_sized(bpfhost *host, uint16_t tenant, const void *attr, size_t size, bpfhost_result *out)
+{
+    const uint8_t *at = (const uint8_t *)attr;
+    uint8_t frame[24];
+    bpfhost_map_attr known = {0, 0, 0, 0, 0};
+    int code = bpfhost_result_code(host, out);
+    if (code == BPFHOST_DONE)
+        code = attr == NULL ? (int)BPFHOST_ERR_NULL : bpfhost_object_code(host, out, attr, size);
+    if (code == BPFHOST_DONE && (size == 0 || size % sizeof(uint32_t) != 0))
+        code = BPFHOST_ERR_SIZE;
+    for (size_t i = sizeof known; code == BPFHOST_DONE && i < size; i++)
+        if (at[i] != 0)
+            code = BPFHOST_ERR_TOO_BIG;
+    if (code != BPFHOST_DONE)
+        return code;
+    memcpy(&known, attr, size < sizeof known ? size : sizeof known);
+    bpfhost_frame_map_create(frame, sizeof frame, tenant, known.type, known.key_size, known.value_size, known.entries, known.flags);
+    return bpfhost_carry_out(host, frame, sizeof frame, frame, 0, out);
+}
+
+/* The same with attributes of this header. */
+static inline int bpfhost_map_create(bpfhost *host, uint16_t tenant, const bpfhost_map_attr *attr, bpfhost_result *out)
+{
+    return bpfhost_map_create_sized(host, tenant, attr, sizeof *attr, out);
+}
+
+/* MAP_LOOKUP_ELEM: `value` gets the value of a key. ERR_BUFFER_TOO_SMALL: the map's values are longer than `value_size`. ERR_NULL, ERR_LENGTH,
+ * ERR_OVERLAP, ERR_NO_MEMORY for a key of more bytes than any map has: as after it, nothing is written. No tenant's state changes. */
+static inline int bpfhost_map_lookup(bpfhost *host, uint16_t tenant, uint32_t fd, const void *key, size_t key_size, void *value,
+                                     size_t value_size, bpfhost_result *out)
+{
+    return bpfhost_carry_out_on(host, tenant, BPFHOST_MAP_LOOKUP, fd, key, key_size, value, value_size, out);
+}
+
+/* MAP_UPDATE_ELEM. `flags` is one of bpfhost_update_flags. ERR_NULL, ERR_LENGTH, ERR_OVERLAP, ERR_NO_MEMORY for a key or a value of more bytes
+ * than any map has: nothing is written, and no tenant's state has changed. */
+static inline int bpfhost_map_update(bpfhost *host, uint16_t tenant, uint32_t fd, const void *key, size_t key_size, const void *value,
+                                     size_t value_size, uint64_t flags, bpfhost_result *out)
+{
+    uint8_t room[BPFHOST_ROOM], *frame = room;
+    size_t length = 16 + key_size + value_size;
+    int code = bpfhost_result_code(host, out);
+    if (code == BPFHOST_DONE)
+        code = bpfhost_object_code(host, out, key, key_size);
+    if (code == BPFHOST_DONE)
+        code = bpfhost_object_code(host, out, value, value_size);
+    if (code != BPFHOST_DONE)
+        return code;
+    if (length > sizeof room) {
+        frame = length > PTRDIFF_MAX ? NULL : (uint8_t *)malloc(length);
+        if (frame == NULL)
+            return BPFHOST_ERR_NO_MEMORY;
+    }
+    bpfhost_frame_map_update(frame, length, tenant, fd, flags, key, key_size, value, value_size);
+    code = bpfhost_carry_out(host, frame, length, frame, 0, out);
+    if (frame != room)
+        free(frame);
+    return code;
+}
+
+/* MAP_DELETE_ELEM, with the codes of bpfhost_map_update. */
+static inline int bpfhost_map_delete(bpfhost *host, uint16_t tenant, uint32_t fd, const void *key, size_t key_size, bpfhost_result *out)
+{
+    return bpfhost_carry_out_on(host, tenant, BPFHOST_MAP_DELETE, fd, key, key_size, NULL, 0, out);
+}
+
+/* MAP_GET_NEXT_KEY: `next` gets the key after `key`, or the first one if `key_size` is 0. The codes are those of bpfhost_map_lookup, with keys in the
+ * place of values. */
+static inline int bpfhost_map_get_next_key(bpfhost *host, uint16_t tenant, uint32_t fd, const void *key, size_t key_size, void *next,
+                                           size_t next_size, bpfhost_result *out)
+{
+    return bpfhost_carry_out_on(host, tenant, BPFHOST_MAP_NEXT_KEY, fd, key, key_size, next, next_size, out);
+}
+
+/* PROG_LOAD of so many slots of 8 bytes. `type` is BPFHOST_SOCKET_FILTER. The status is a new descriptor, or the result has the slot and the
+ * reason. The codes are those of bpfhost_map_update. */
+static inline int bpfhost_prog_load(bpfhost *host, uint16_t tenant, uint32_t type, const void *slots, size_t slot_count,
+                                    bpfhost_result *out)
+{
+    if (slot_count > PTRDIFF_MAX / 8)
+        return BPFHOST_ERR_LENGTH;
+    return bpfhost_carry_out_on(host, tenant, BPFHOST_PROG_LOAD, type, slots, 8 * slot_count, NULL, 0, out);
+}
+
+/* PROG_TEST_RUN with a context of `context_size` bytes, as bpfhost_run_packets_sized has it; null is one with zeros. It is a batch of one packet, so
+ * nothing is copied. ERR_SIZE, ERR_TOO_BIG, ERR_NO_MEMORY for a context of another size than the library's, ERR_NULL, ERR_LENGTH, ERR_OVERLAP:
+ * nothing is written, and no tenant's state has changed. */
+static inline int bpfhost_prog_test_run_sized(bpfhost *host, uint16_t tenant, uint32_t fd, const void *context, size_t context_size,
+                                              const void *packet, size_t packet_length, bpfhost_result *out)
+{
+    const bpfhost_contexts one = {context, context_size, 1}, zeros = {bpfhost_context_at(NULL), sizeof(bpfhost_context), 1};
+    const bpfhost_contexts given = context == NULL ? zeros : one;
+    uint32_t result = 0;
+    int32_t status = 0;
+    int code = bpfhost_result_code(host, out);
+    if (code == BPFHOST_DONE)
+        code = bpfhost_contexts_code(given);
+    if (code == BPFHOST_DONE)
+        code = bpfhost_object_code(host, out, given.at, given.size);
+    if (code == BPFHOST_DONE)
+        code = bpfhost_object_code(host, out, packet, packet_length);
+    if (code == BPFHOST_DONE)
+        code = bpfhost_run_given(host, tenant, fd, given, bpfhost_bytes_at(packet, packet_length), packet_length, &packet_length, 1, &result,
+                                 &status);
+    if (code != BPFHOST_DONE)
+        return code;
+    bpfhost_set_result(out, status, 0);
+    out->result = status == 0 ? result : 0;
+    return BPFHOST_DONE;
+}
+
+/* The same with a context of this header. */
+static inline int bpfhost_prog_test_run(bpfhost *host, uint16_t tenant, uint32_t fd, const bpfhost_context *context, const void *packet,
+                                        size_t packet_length, bpfhost_result *out)
+{
+    return bpfhost_prog_test_run_sized(host, tenant, fd, context, sizeof *context, packet, packet_length, out);
+}
+
+/* CLOSE of a descriptor. ERR_NULL, ERR_OVERLAP: nothing is written, and no tenant's state has changed. */
+static inline int bpfhost_close(bpfhost *host, uint16_t tenant, uint32_t fd, bpfhost_result *out)
+{
+    return bpfhost_carry_out_on(host, tenant, BPFHOST_CLOSE, fd, NULL, 0, NULL, 0, out);
+}
+
 /* The length of the frame at the front of bytes, after its length field, if the frame is whole and this tenant's; else 0. */
 static inline size_t bpfhost_frame_of_tenant(const uint8_t *at, size_t left, uint16_t tenant)
 {
@@ -930,8 +1161,8 @@ static inline const char *bpfhost_code_text(int code)
     case BPFHOST_ERR_NO_HOST: return "the handle is empty";
     case BPFHOST_ERR_HAS_HOST: return "the handle has a host already";
     case BPFHOST_ERR_TENANT_COUNT: return "a host has 1 to 64 tenants";
-    case BPFHOST_ERR_NO_MEMORY: return "out of memory for the host";
-    case BPFHOST_ERR_BUFFER_TOO_SMALL: return "the buffer is smaller than the longest reply";
+    case BPFHOST_ERR_NO_MEMORY: return "out of memory for the host or for the call";
+    case BPFHOST_ERR_BUFFER_TOO_SMALL: return "the buffer is smaller than the longest reply, or than a value or a key";
     case BPFHOST_ERR_NO_PART: return "the tenant has no such part, or is not served";
     case BPFHOST_ERR_TOO_BIG: return "a struct has a word that the library does not know, and that is not 0";
     case BPFHOST_ERR_SIZE: return "a struct has no size, or one of no whole words";

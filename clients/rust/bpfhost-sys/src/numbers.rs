@@ -28,9 +28,9 @@ pub const ERR_NO_HOST: i32 = -1;
 pub const ERR_HAS_HOST: i32 = -2;
 /// A code: a host has 1 to 64 tenants.
 pub const ERR_TENANT_COUNT: i32 = -3;
-/// A code: out of memory for the host.
+/// A code: out of memory for the host or for the call.
 pub const ERR_NO_MEMORY: i32 = -4;
-/// A code: the buffer is smaller than the longest reply.
+/// A code: the buffer is smaller than the longest reply, or than a value or a key.
 pub const ERR_BUFFER_TOO_SMALL: i32 = -5;
 /// A code: the tenant has no such part, or is not served.
 pub const ERR_NO_PART: i32 = -6;

@@ -3,16 +3,20 @@
 //! A caller may be older or newer than the library: as with the attributes of bpf(2), a word that it does not have is zero, and one that the
 //! library does not know has to be zero.
 
-ghost use Rattle.std.specs.Prelude.{◌≡◌, ◌*◌, ◌/◌, ◌%◌, ◌≤◌, length, true, is_some, nat_eq, IfOk, IfSome};
+ghost use Rattle.std.specs.Prelude.{◌≡◌, ◌≢◌, ◌*◌, ◌/◌, ◌%◌, ◌≤◌, length, true, is_some, nat_eq, IfOk, IfErr, IfSome};
+ghost use Rattle.std.specs.Cow.{cow_slice_items};
 ghost use Rattle.words.specs.Context.{given_words};
-ghost use Rattle.bpfhost_c.specs.Contexts.{fitted, fitted_all, has_known_words, have_known_words};
+ghost use Rattle.bpfhost_c.specs.Contexts.{fitted, fitted_all, has_known_words, have_known_words, contexts_of, contexts_code};
+ghost use Rattle.bpfhost_c.specs.declared.codes.TheConstants.{DONE, ERR_NO_MEMORY};
 
+use crate::codes::{ERR_NO_MEMORY, ERR_SIZE, ERR_TOO_BIG};
 use host_core::GIVEN_WORDS;
 use std::alloc::{AllocError, Global};
+use std::borrow::CowSlice;
 
 /// Contexts of as many words as a run is given, as they are; `None` if the last one is cut off.
 #[tactic(auto, using(crate::proofs::Given::as_given, crate::proofs::Given::all_known))]
-pub(crate) fn as_given(words: &[u32]) -> Option<&[[u32; GIVEN_WORDS]]>
+fn as_given(words: &[u32]) -> Option<&[[u32; GIVEN_WORDS]]>
     ensures some { is_some result ≡ nat_eq (length words.now % given_words) 0 }
     ensures contexts { IfSome result (λ contexts. contexts.now
         ≡ fitted_all given_words (length words.now / given_words) words.now) }
@@ -37,7 +41,7 @@ fn fit(words: &[u32]) -> [u32; GIVEN_WORDS]
 
 /// The first `count` contexts, each of `size` words, as a run is given them. `AllocError`: out of memory.
 #[tactic(auto, using(crate::proofs::Loops::fitted_more, crate::proofs::Loops::room_step))]
-pub(crate) fn fit_all(
+fn fit_all(
     alloc: Global,
     words: &[u32],
     size: usize,
@@ -74,7 +78,7 @@ fn is_known(words: &[u32]) -> bool
 
 /// Whether each of the first `count` contexts, of `size` words, has zeros after the words that a run is given.
 #[tactic(auto, using(crate::proofs::Loops::known_step, crate::proofs::Loops::room_step))]
-pub(crate) fn are_known(words: &[u32], size: usize, count: usize) -> bool
+fn are_known(words: &[u32], size: usize, count: usize) -> bool
     requires { count * size ≤ length words.now }
     ensures { result ≡ have_known_words size count words.now }
 {
@@ -87,4 +91,58 @@ pub(crate) fn are_known(words: &[u32], size: usize, count: usize) -> bool
         rest = after;
     }
     true
+}
+
+/// Contexts of `size` words, one after another, as a run is given them, in memory of their own.
+///
+/// `Err`: the code of the call, `ERR_SIZE`, `ERR_TOO_BIG` or `ERR_NO_MEMORY`.
+fn copied_contexts(
+    alloc: Global,
+    words: &[u32],
+    size: usize,
+) -> Result<Vec<[u32; GIVEN_WORDS]>, i32>
+    ensures contexts { IfOk result (λ contexts. contexts.items ≡ contexts_of size words.now) }
+    ensures known { IfOk result (λ contexts. contexts_code size words.now ≡ DONE) }
+    ensures code { IfErr result (λ code. (code ≢ DONE)
+        × (code ≢ ERR_NO_MEMORY → code ≡ contexts_code size words.now)
+        × (code ≡ ERR_NO_MEMORY → contexts_code size words.now ≡ DONE)) }
+{
+    if size == 0 || words.len() % size != 0 {
+        return Err(ERR_SIZE);
+    }
+    let count = words.len() / size;
+    if !are_known(words, size, count) {
+        return Err(ERR_TOO_BIG);
+    }
+    match fit_all(alloc, words, size, count) {
+        Ok(contexts) => Ok(contexts),
+        Err(_) => Err(ERR_NO_MEMORY),
+    }
+}
+
+/// Contexts of `size` words, one after another, as a run is given them: the words themselves if each context has as many, else copies.
+///
+/// `Err`: the code of the call, `ERR_SIZE`, `ERR_TOO_BIG` or `ERR_NO_MEMORY`.
+pub(crate) fn given_contexts(
+    alloc: Global,
+    words: &[u32],
+    size: usize,
+) -> Result<CowSlice<'_, [u32; GIVEN_WORDS]>, i32>
+    ensures contexts { IfOk result (λ contexts. cow_slice_items contexts
+        ≡ contexts_of size words.now) }
+    ensures known { IfOk result (λ contexts. contexts_code size words.now ≡ DONE) }
+    ensures code { IfErr result (λ code. (code ≢ DONE)
+        × (code ≢ ERR_NO_MEMORY → code ≡ contexts_code size words.now)
+        × (code ≡ ERR_NO_MEMORY → contexts_code size words.now ≡ DONE)) }
+{
+    if size == GIVEN_WORDS {
+        return match as_given(words) {
+            Some(contexts) => Ok(CowSlice::Borrowed(contexts)),
+            None => Err(ERR_SIZE),
+        };
+    }
+    match copied_contexts(alloc, words, size) {
+        Ok(contexts) => Ok(CowSlice::Owned(contexts)),
+        Err(code) => Err(code),
+    }
 }

@@ -10,8 +10,8 @@ ghost use Rattle.bpfhost_c.specs.Contexts.{contexts_of, contexts_code};
 ghost use Rattle.bpfhost_c.specs.Packets.{RunsPackets};
 ghost use Rattle.bpfhost_c.specs.declared.codes.TheConstants.{DONE, ERR_NO_MEMORY};
 
-use crate::codes::{DONE, ERR_NO_MEMORY, ERR_SIZE, ERR_TOO_BIG};
-use crate::contexts::{are_known, as_given, fit_all};
+use crate::codes::DONE;
+use crate::contexts::given_contexts;
 use host_core::{GIVEN_WORDS, HashSeed, Host, LONGEST_REPLY, MOST_TENANTS, ReplyBuf};
 use std::alloc::{AllocError, Global};
 use std::mem::replace;
@@ -107,6 +107,7 @@ impl Session {
             Err(errno) => errno.status(),
         }
     }
+
     /// The same with contexts of `size` words, one after another in `words`; the status is written. Returns `DONE`; else `ERR_SIZE`,
     /// `ERR_TOO_BIG` or `ERR_NO_MEMORY`, and nothing is changed.
     pub(crate) fn run_sized(
@@ -129,24 +130,11 @@ impl Session {
         ensures results { result ≢ DONE → results.new ≡ results.old }
         ensures status { result ≢ DONE → status.new ≡ status.old }
     {
-        if size == GIVEN_WORDS {
-            let Some(contexts) = as_given(words) else {
-                return ERR_SIZE;
-            };
-            *status = self.run_packets(tenant, fd, contexts, bytes, ends, results);
-            return DONE;
-        }
-        if size == 0 || words.len() % size != 0 {
-            return ERR_SIZE;
-        }
-        let count = words.len() / size;
-        if !are_known(words, size, count) {
-            return ERR_TOO_BIG;
-        }
-        let Ok(contexts) = fit_all(self.alloc, words, size, count) else {
-            return ERR_NO_MEMORY;
+        let contexts = match given_contexts(self.alloc, words, size) {
+            Ok(contexts) => contexts,
+            Err(code) => return code,
         };
-        *status = self.run_packets(tenant, fd, &contexts, bytes, ends, results);
+        *status = self.run_packets(tenant, fd, contexts.as_slice(), bytes, ends, results);
         DONE
     }
 }

@@ -22,8 +22,8 @@ from pathlib import Path
 
 HERE = Path(__file__).resolve().parents[1]
 FILTERS, INCLUDE = HERE.parents[1] / "examples/filters", HERE.parents[1] / "clients/c/include"
-# How often a worker lowers all filters for one number, and each of the long programs.
-PASSES = 3
+# How often a worker lowers all filters for one number, and how often each of the long programs is lowered, of which the least counts.
+PASSES, LONG_PASSES = 3, 12
 
 
 def worker(bpfhost: str, objects: list[str]) -> None:
@@ -72,7 +72,7 @@ def straight(bpfhost: str, slots: int) -> float:
         return first[0] if form is program else None
 
     best = float("inf")
-    for _ in range(PASSES):
+    for _ in range(LONG_PASSES):
         begin = time.process_time()
         lower(found, program, ask)
         best = min(best, time.process_time() - begin)

@@ -163,6 +163,11 @@ class Page(LoweringTest):
         self.assertIn("refused: f.c:1: r0 = r5 (slot 0: an unreadable register is read, reason 20)", text)
         self.assertIn("give the variable a value on each path", text)
 
+    def test_a_program_without_a_form(self) -> None:
+        text = self.read(object_of(f="r6 = *(u32 *)(r1 + 0)\nr0 = 0\nagain:\nr0 += 3\nif r0 < r6 goto again\nexit")).text
+        for part in ("refused: ", "no bound of this loop", "r0 += 3", "f.c:4", "if 2"):
+            self.assertIn(part, text)
+
     def test_names_are_text(self) -> None:
         found = object_of(f="r0 = 1 // <b>&\nexit")
         named = ObjectFile("<i>.o", (ObjectProgram("<s>", "<f>", only(found).slots, (), ()),), (), None)

@@ -55,12 +55,12 @@ def _key(number: int, block: BasicBlock, lowered: Lowered) -> tuple[object, ...]
 
 
 def edges_of(blocks: Sequence[BasicBlock], boxes: Sequence[Box]) -> list[Edge]:
-    """The edges between boxes, each once."""
+    """The edges between boxes, each once; those between the copies in a box are left out."""
     place = {number: at for at, box in enumerate(boxes) for number in box.blocks}
     found: dict[Edge, None] = {}
     for number, block in enumerate(blocks):
         for target, is_taken in ((block.next, False), (block.taken, True)):
-            if target is not None and place[target] != place[number]:
+            if target is not None and (place[target] != place[number] or target == number):
                 found[Edge(place[number], place[target], is_taken)] = None
     return list(found)
 

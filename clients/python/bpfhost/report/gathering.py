@@ -11,7 +11,7 @@ from bpfhost.errors import BpfhostError, InputError, Refused
 from bpfhost.filtering import Filters, Loaded, Long, Outcome, Short, Timed, Treatment
 from bpfhost.host import Host
 from bpfhost.loading import LoadedProgram, facts_of, load_program, lowered_program, refused_at
-from bpfhost.lowering import Lowered, as_is
+from bpfhost.lowering import Lowered, LoweringError, as_is
 from bpfhost.objects import ObjectFile, ObjectMap, ObjectProgram
 from bpfhost.program import Program
 from bpfhost.report.blocks import BasicBlock, blocks_of
@@ -45,9 +45,14 @@ class Gathered:
 
 
 def gathered(bpfhost: Program, object_file: ObjectFile, program: ObjectProgram) -> Gathered:
-    """What there is to say of a program. Raises LoweringError if it has no form."""
-    lowered = lowered_program(bpfhost, object_file, program)
-    refused = str(refused_at(bpfhost, object_file, lowered, *lowered.refused)) if lowered.refused else None
+    """What there is to say of a program; one that has no form is shown as it was compiled."""
+    try:
+        lowered = lowered_program(bpfhost, object_file, program)
+        refused = str(refused_at(bpfhost, object_file, lowered, *lowered.refused)) if lowered.refused else None
+    except LoweringError as error:
+        if program.calls:
+            raise
+        lowered, refused = as_is(program), str(error)
     found = facts_of(bpfhost, object_file, lowered)
     texts = {slot: absolute(slot, text) for slot, (text, _) in found.items()}
     facts = {slot: notes for slot, (_, notes) in found.items() if notes}

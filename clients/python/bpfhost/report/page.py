@@ -89,7 +89,7 @@ _FACTS = (
     "What is known is next to the instruction before which it holds: each row has what is new there. "
     "After “to 9:” is what is new at slot 9 if the run jumps there."
 )
-_NO_FACTS = "What is known before each instruction comes from the program verifier_log, which is missing."
+_NO_FACTS = "What is known before each instruction is left out: the program verifier_log, if it is there, says it of programs without loops."
 
 
 def _line(found: Gathered, line: SourceLine | None, slots: Sequence[int], place: str) -> str:

@@ -7,18 +7,18 @@ is turned back: the customer gets a new seat on the old shard.
 
 from __future__ import annotations
 
-from collections.abc import Callable
+from collections.abc import Iterable
 from dataclasses import dataclass
 
+from bpfhost.parts import in_parts
 from bpfhost.shards import scripts
 from bpfhost.shards.aside import Aside
 from bpfhost.shards.client import AsyncClient
 from bpfhost.shards.connection import Redis
-from bpfhost.shards.directory import Directory, Seat
+from bpfhost.shards.directory import Seat
 from bpfhost.shards.errors import MoveError, NoReply, SetAside, SnapshotDamaged
 from bpfhost.shards.manifest import Manifest
 from bpfhost.shards.names import FAULT, ShardKeys, before, order
-from bpfhost.shards.system import Answer, Work
 
 SECONDS = 60.0
 _PAUSE, _SECONDS_TO_LOOK = 0.005, 1.0
@@ -199,7 +199,7 @@ class _Move:
         """Drops the state that the old shard has kept."""
         kept = await self._redis.hget(self._keys.left, self._seat.generation)
         if kept is not None:
-            await _drop_pieces(self._redis, self._keys, Manifest.read(kept))
+            await _drop(self._redis, self._keys, Manifest.read(kept).names())
         await self._redis.call("DEL", self._keys.sessions(self._seat.generation))
         await self._redis.call("HDEL", self._keys.left, self._seat.generation)
 
@@ -248,11 +248,6 @@ def arrival(generation: int) -> str:
     return f"arrival-{generation}"
 
 
-async def _drop_pieces(redis: Redis, keys: ShardKeys, manifest: Manifest) -> None:
-    await _drop(redis, keys, [name.encode() for name in manifest.names()])
-
-
-async def _drop(redis: Redis, keys: ShardKeys, names: list[bytes]) -> None:
-    for at in range(0, len(names), _AT_ONCE):
-        some = names[at : at + _AT_ONCE]
+async def _drop(redis: Redis, keys: ShardKeys, names: Iterable[str | bytes]) -> None:
+    for some in in_parts(names, lambda _: 1, _AT_ONCE):
         await redis.call("HDEL", keys.pieces, *some)

@@ -129,7 +129,7 @@ class Serving:
     def _play_each(self, calls: Sequence[Call | NoCall]) -> Iterator[tuple[Written, bool]]:
         """Examines each frame and each reply."""
         frames_of = [call.frames if isinstance(call, Call) else [] for call in calls]
-        replies = self.ask(with_tenant(frame, call.tenant) for call, frames in zip(calls, frames_of) for frame in frames)
+        replies = self.ask_bytes(with_tenant(frame, call.tenant) for call, frames in zip(calls, frames_of) for frame in frames)
         for call, frames in zip(calls, frames_of):
             if isinstance(call, NoCall):
                 yield _fault(call), False
@@ -161,10 +161,6 @@ class Serving:
 
     def ask_bytes(self, frames: Iterable[bytes]) -> Iterator[bytes]:
         """Sends frames to the host, and counts them."""
-        return self.ask(frames)
-
-    def ask(self, frames: Iterable[bytes]) -> Iterator[bytes]:
-        """The same."""
         self.is_new = False
         for reply in self._host.ask_bytes(frames):
             self.asked += 1
@@ -209,7 +205,7 @@ class Serving:
     def _replies_to(self, tenant: int, made: Sequence[bytes]) -> list[bytes]:
         """The replies to frames of a state."""
         if not isinstance(self._host, HostHere):
-            return list(self.ask(with_tenant(frame, tenant) for frame in made))
+            return list(self.ask_bytes(with_tenant(frame, tenant) for frame in made))
         self.is_new = False
         self.asked += len(made)
         self._alive()
@@ -219,7 +215,7 @@ class Serving:
         """Closes all descriptors of a tenant: it is then like a new one."""
         tenancy = self.tenancies[tenant]
         closes = [make.close(0, number) for number in list(tenancy.open)]
-        for frame, reply in zip(closes, self.ask(with_tenant(frame, tenant) for frame in closes)):
+        for frame, reply in zip(closes, self.ask_bytes(with_tenant(frame, tenant) for frame in closes)):
             if status_of(reply):
                 raise ShardError(f"the host answers {reply.hex()} to the end of tenant {tenant}")
             tenancy.note(frame, 0)

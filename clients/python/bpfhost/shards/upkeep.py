@@ -8,7 +8,7 @@ from bpfhost.shards.aside import ENTRY, LOST, RETRY, SKIP, Aside
 from bpfhost.shards.calls import size_of
 from bpfhost.shards.errors import OutOfMemory, Stopped
 from bpfhost.shards.log import Log
-from bpfhost.shards.names import FAULT, START
+from bpfhost.shards.names import FAULT, START, weight
 from bpfhost.shards.served import LONGEST_PAUSE, Served
 from bpfhost.shards.serving import Written
 from bpfhost.shards.states import States
@@ -63,7 +63,7 @@ class Upkeep:
         if word == SKIP:
             sentence = f"entry {aside.entry} was skipped by an operator: its frames were not done, and won't be"
             size = sum(size_of(fields) for _, fields in await shard.redis.xrange(log.frames, entry, entry, 1))
-            await shard.writing.write([Written(log.tenant, entry, FAULT, sentence.encode(), shard.writing.weight(size))])
+            await shard.writing.write([Written(log.tenant, entry, FAULT, sentence.encode(), weight(size))])
             log.place = entry
         else:
             self._suspects.try_again(log.tenant, entry)

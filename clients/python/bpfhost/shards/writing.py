@@ -6,7 +6,7 @@ import asyncio
 from collections.abc import Iterable, Mapping, Sequence
 
 from bpfhost.parts import in_parts
-from bpfhost.shards import names, scripts
+from bpfhost.shards import scripts
 from bpfhost.shards.calls import Arrives, Leaves
 from bpfhost.shards.connection import Redis, Script, told_by
 from bpfhost.shards.errors import Away, NoScript, ShardError, SnapshotDamaged
@@ -38,11 +38,6 @@ class Writing:
         return int(done)
 
     # Replies.
-
-    @staticmethod
-    def weight(size: int) -> int:
-        """The weight of a call of so many bytes while it waited."""
-        return names.weight(size)
 
     async def write(self, written: Sequence[Written]) -> None:
         """Writes replies of tenants, those of each in order."""

@@ -136,7 +136,7 @@ class Commands(ShardTest):
             (["client", "acme"], 1, "the bytes from 0 on are no whole frame"),
             (["client", "acme", *nowhere], 3, "it is not known whether a call of customer acme was taken: Redis can't be reached: .*"),
             (["show", "--redis", "nonsense"], 3, "nonsense is no URL of a Redis: .*"),
-            (["worker", "0", "--bpfhost", "/nothing"], 3, "/nothing does not start: No such file or directory"),
+            (["worker", "0", "--bpfhost", "/nothing", "--library", "none"], 3, "/nothing does not start: No such file or directory"),
             (["worker", "x"], 2, "argument SHARD: invalid shard from 0 to 2147483647 value: 'x'"),
             (["move", "a b"], 2, "argument NAME: invalid name of 1 to 255 .*"),
             (["worker", "0", "--lease", "0"], 2, "argument --lease: invalid number of seconds from 0.1 on value: '0'"),

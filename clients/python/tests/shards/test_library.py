@@ -26,7 +26,7 @@ from bpfhost.shards.errors import MemoryRefused
 from bpfhost.shards.library import SONAME, HostHere, find_library
 from bpfhost.shards.serving import Serving
 from bpfhost.shards.system import MACHINE
-from bpfhost.state import Steps, at_once, split
+from bpfhost.state import at_once, split
 from tests.common import PROGRAM, HostTest
 from tests.shards import test_snapshot, test_stalls
 from tests.shards.blocking_redis import shard_of

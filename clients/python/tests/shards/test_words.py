@@ -14,7 +14,7 @@ class Words(unittest.TestCase):
     def test_the_version(self) -> None:
         called = subprocess.run([sys.executable, "-m", "bpfhost.shards", "--version"], capture_output=True, text=True)
         self.assertEqual((called.returncode, called.stderr), (0, ""))
-        self.assertRegex(called.stdout, rf"^bpfhost, the client in Python, {bpfhost.__version__}\nbpfhost, the program: .+\n$")
+        self.assertRegex(called.stdout, rf"^bpfhost, the client in Python, {bpfhost.__version__}\nbpfhost, the program: .+\n(bpfhost, the library: .+\n)?$")
 
     def test_where_metrics_are_read(self) -> None:
         """Workers with one file of configuration have a port each."""

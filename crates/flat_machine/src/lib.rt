@@ -47,7 +47,7 @@
 //!   out of its place, and one thread serves all frames. It requests two ranges, one for the load and one for the store.
 //! - In a program that is built with its proofs, an `unreachable!()`, and so each unwrap, is still a comparison and a jump to a
 //!   trap, since the compiler does not see what was proved. So code that runs often has a `requires` and no arm for the rest, or
-//!   `unreachable_by_proof` in that arm: a load of a map returns a word and no `Option`. If an `Option` passes through several inline
+//!   reads an element of an array that has none in that arm: a load of a map returns a word and no `Option`. If an `Option` passes through several inline
 //!   functions, the compiler of the proved program also keeps its tag and tests it again at the end: with an `Option` a look-up in an
 //!   array took 48 machine instructions, and 30 in a build without proofs. So measure the proved program.
 //! - What an immediate or a register field names is compared by `<` or `>`, the most frequent value first: the atomic operation
@@ -76,7 +76,6 @@ mod map_words;
 mod ops;
 mod packets;
 mod running;
-mod unreachable;
 
 pub use batch::{context_words, run_packets};
 pub use map_words::TableRoom;

@@ -590,8 +590,8 @@ static inline int bpfhost_save_part(bpfhost *host, uint16_t tenant, size_t part,
 }
 
 /* Takes the frames of one part of a tenant: writes them to a file, say. They are lent: once it has used them, it may serve other tenants
- * of the host. A part may be empty, as the last one is if all descriptors are open: then `length` is 0, and `frames` is not null. `context` is
- * that of bpfhost_save. false stops the save. */
+ * of the host. A part may be empty, as the last one is if all descriptors are open: then `length` is 0, and `frames` is not null.
+ * `context` is that of bpfhost_save. false stops the save. */
 typedef bool bpfhost_sink(void *context, const uint8_t *frames, size_t length);
 
 /* Saves a tenant: gives its parts (bpfhost_save_part) to the sink, one after another. What the sink is given, in this order, restores the
@@ -885,8 +885,9 @@ static inline int bpfhost_ask_sized(bpfhost *host, const void *frame, size_t fra
     return code == BPFHOST_DONE ? bpfhost_read_reply_sized(lent.at, lent.length, reply, size) : code;
 }
 
-/* ---- commands, each by one call: as the functions bpf_* of libbpf, without a frame and a buffer of the caller's. What is returned is the code of
- * the call; the host's reply is in the result. A frame of up to BPFHOST_ROOM bytes is made on the stack, a longer one in memory of malloc. */
+/* ---- commands, each by one call: as the functions bpf_* of libbpf, without a frame and a buffer of the caller's. What is returned is the
+ * code of the call; the host's reply is in the result. A frame of up to BPFHOST_ROOM bytes is made on the stack, a longer one in memory of
+ * malloc. */
 
 #define BPFHOST_ROOM (16 + 512 + BPFHOST_LONGEST_PAYLOAD) /* an update with the longest key and the longest value; a load of 577 slots */
 
@@ -914,8 +915,8 @@ static inline int bpfhost_result_code(const bpfhost *host, const bpfhost_result 
     return bpfhost_pair_code(host, BPFHOST_HANDLE_SIZE, out, sizeof *out);
 }
 
-/* What is wrong with bytes that a command reads or writes, if its host and its result are right, or DONE. If there are none, their address may
- * be null. */
+/* What is wrong with bytes that a command reads or writes, if its host and its result are right, or DONE. If there are none, their address
+ * may be null. */
 static inline int bpfhost_object_code(const bpfhost *host, const bpfhost_result *out, const void *at, size_t length)
 {
     if (length == 0)
@@ -939,8 +940,8 @@ static inline void bpfhost_set_result(bpfhost_result *out, int32_t status, size_
     out->length = length;
 }
 
-/* Handles a frame that was built here: the payload of a reply with status 0 goes to `to`. ERR_BUFFER_TOO_SMALL: it is longer, and nothing is
- * written. A reply has 12 bytes at least. */
+/* Handles a frame that was built here: the payload of a reply with status 0 goes to `to`. ERR_BUFFER_TOO_SMALL: it is longer, and nothing
+ * is written. A reply has 12 bytes at least. */
 static inline int bpfhost_carry_out(bpfhost *host, const uint8_t *frame, size_t frame_length, void *to, size_t to_length,
                                     bpfhost_result *out)
 {
@@ -989,9 +990,9 @@ static inline int bpfhost_carry_out_on(bpfhost *host, uint16_t tenant, enum bpfh
     return code;
 }
 
-/* MAP_CREATE with attributes of `size` bytes, whole words: a word that the caller does not have counts as 0. The status is a new descriptor.
- * ERR_SIZE, ERR_TOO_BIG for a word that this version does not know and that is not 0, ERR_NULL, ERR_LENGTH, ERR_OVERLAP: nothing is written, and
- * no tenant's state has changed. */
+/* MAP_CREATE with attributes of `size` bytes, whole words: a word that the caller does not have counts as 0. The status is a new
+ * descriptor. ERR_SIZE, ERR_TOO_BIG for a word that this version does not know and that is not 0, ERR_NULL, ERR_LENGTH, ERR_OVERLAP:
+ * nothing is written, and no tenant's state has changed. */
 static inline int bpfhost_map_create_sized(bpfhost *host, uint16_t tenant, const void *attr, size_t size, bpfhost_result *out)
 {
     const uint8_t *at = (const uint8_t *)attr;
@@ -1018,16 +1019,17 @@ static inline int bpfhost_map_create(bpfhost *host, uint16_t tenant, const bpfho
     return bpfhost_map_create_sized(host, tenant, attr, sizeof *attr, out);
 }
 
-/* MAP_LOOKUP_ELEM: `value` gets the value of a key. ERR_BUFFER_TOO_SMALL: the map's values are longer than `value_size`. ERR_NULL, ERR_LENGTH,
- * ERR_OVERLAP, ERR_NO_MEMORY for a key of more bytes than any map has: as after it, nothing is written. No tenant's state changes. */
+/* MAP_LOOKUP_ELEM: `value` gets the value of a key. ERR_BUFFER_TOO_SMALL: the map's values are longer than `value_size`. ERR_NULL,
+ * ERR_LENGTH, ERR_OVERLAP, ERR_NO_MEMORY for a key of more bytes than any map has: as after it, nothing is written. No tenant's state
+ * changes. */
 static inline int bpfhost_map_lookup(bpfhost *host, uint16_t tenant, uint32_t fd, const void *key, size_t key_size, void *value,
                                      size_t value_size, bpfhost_result *out)
 {
     return bpfhost_carry_out_on(host, tenant, BPFHOST_MAP_LOOKUP, fd, key, key_size, value, value_size, out);
 }
 
-/* MAP_UPDATE_ELEM. `flags` is one of bpfhost_update_flags. ERR_NULL, ERR_LENGTH, ERR_OVERLAP, ERR_NO_MEMORY for a key or a value of more bytes
- * than any map has: nothing is written, and no tenant's state has changed. */
+/* MAP_UPDATE_ELEM. `flags` is one of bpfhost_update_flags. ERR_NULL, ERR_LENGTH, ERR_OVERLAP, ERR_NO_MEMORY for a key or a value of more
+ * bytes than any map has: nothing is written, and no tenant's state has changed. */
 static inline int bpfhost_map_update(bpfhost *host, uint16_t tenant, uint32_t fd, const void *key, size_t key_size, const void *value,
                                      size_t value_size, uint64_t flags, bpfhost_result *out)
 {
@@ -1058,16 +1060,16 @@ static inline int bpfhost_map_delete(bpfhost *host, uint16_t tenant, uint32_t fd
     return bpfhost_carry_out_on(host, tenant, BPFHOST_MAP_DELETE, fd, key, key_size, NULL, 0, out);
 }
 
-/* MAP_GET_NEXT_KEY: `next` gets the key after `key`, or the first one if `key_size` is 0. The codes are those of bpfhost_map_lookup, with keys in the
- * place of values. */
+/* MAP_GET_NEXT_KEY: `next` gets the key after `key`, or the first one if `key_size` is 0. The codes are those of bpfhost_map_lookup, with
+ * keys in the place of values. */
 static inline int bpfhost_map_get_next_key(bpfhost *host, uint16_t tenant, uint32_t fd, const void *key, size_t key_size, void *next,
                                            size_t next_size, bpfhost_result *out)
 {
     return bpfhost_carry_out_on(host, tenant, BPFHOST_MAP_NEXT_KEY, fd, key, key_size, next, next_size, out);
 }
 
-/* PROG_LOAD of so many slots of 8 bytes. `type` is BPFHOST_SOCKET_FILTER. The status is a new descriptor, or the result has the slot and the
- * reason. The codes are those of bpfhost_map_update. */
+/* PROG_LOAD of so many slots of 8 bytes. `type` is BPFHOST_SOCKET_FILTER. The status is a new descriptor, or the result has the slot and
+ * the reason. The codes are those of bpfhost_map_update. */
 static inline int bpfhost_prog_load(bpfhost *host, uint16_t tenant, uint32_t type, const void *slots, size_t slot_count,
                                     bpfhost_result *out)
 {
@@ -1076,9 +1078,9 @@ static inline int bpfhost_prog_load(bpfhost *host, uint16_t tenant, uint32_t typ
     return bpfhost_carry_out_on(host, tenant, BPFHOST_PROG_LOAD, type, slots, 8 * slot_count, NULL, 0, out);
 }
 
-/* PROG_TEST_RUN with a context of `context_size` bytes, as bpfhost_run_packets_sized has it; null is one with zeros. It is a batch of one packet, so
- * nothing is copied. ERR_SIZE, ERR_TOO_BIG, ERR_NO_MEMORY for a context of another size than the library's, ERR_NULL, ERR_LENGTH, ERR_OVERLAP:
- * nothing is written, and no tenant's state has changed. */
+/* PROG_TEST_RUN with a context of `context_size` bytes, as bpfhost_run_packets_sized has it; null is one with zeros. It is a batch of one
+ * packet, so nothing is copied. ERR_SIZE, ERR_TOO_BIG, ERR_NO_MEMORY for a context of another size than the library's, ERR_NULL,
+ * ERR_LENGTH, ERR_OVERLAP: nothing is written, and no tenant's state has changed. */
 static inline int bpfhost_prog_test_run_sized(bpfhost *host, uint16_t tenant, uint32_t fd, const void *context, size_t context_size,
                                               const void *packet, size_t packet_length, bpfhost_result *out)
 {

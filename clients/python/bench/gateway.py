@@ -136,7 +136,7 @@ def measure(folder: Path, program: str, many: int, seconds: float) -> None:
         customer, (gateway,) = made.customer, made.processes["gateway"]
         for size in _SIZES:
             speed, costs = measured(made, size)
-            print(f"{size} frames a post: {speed:,.0f} frames a second; us a frame: {_told(costs)}")
+            print(f"{size} frames a post: {speed:,.0f} frames a second; us a frame: {_shown(costs)}")
         print(f"alone: {waits(customer, seconds)}; the gateway has {memory(gateway):.0f} MB", flush=True)
         others = _context.Process(target=crowd, args=(made.port, made.authority, many), daemon=True)
         others.start()
@@ -162,7 +162,7 @@ def measured(made: Service, size: int) -> tuple[float, dict[str, float]]:
     return many / took, costs
 
 
-def _told(costs: dict[str, float]) -> str:
+def _shown(costs: dict[str, float]) -> str:
     return ", ".join(f"{kind} {cost:.1f}" for kind, cost in costs.items())
 
 

@@ -151,9 +151,9 @@ def _graph(found: Gathered) -> Iterator[str]:
 
 def _counted(blocks: int, counted: int) -> str:
     """What the page says of the numbers of packets in the boxes."""
-    told = " The bar of a box is the share of the packets that went through it." if counted else ""
+    share = " The bar of a box is the share of the packets that went through it." if counted else ""
     missing = blocks - counted
-    return f"{told} {_NOT_COUNTED.format(_many(missing, 'block'))}" if missing else told
+    return f"{share} {_NOT_COUNTED.format(_many(missing, 'block'))}" if missing else share
 
 
 _NOT_COUNTED = "There is no number of packets for {}: a copy of the program that counts has no room for the instructions."

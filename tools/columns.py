@@ -6,13 +6,9 @@ import re
 
 MOST = 100
 USE = re.compile(r"\s*(?:pub )?use ")
-# Crates whose definitions have longer lines still.
-WIDE = ("bpf_maps", "flat_machine", "insn_codec")
 
 
-def too_wide(crate: str, name: str, text: str) -> list[str]:
+def too_wide(name: str, text: str) -> list[str]:
     """The faults of a file of definitions: its lines that are too long."""
-    if crate in WIDE:
-        return []
     return [f"{name}:{number}: {len(line)} columns, and {MOST} are the most: a line for each premise, or a name for what repeats"
             for number, line in enumerate(text.splitlines(), 1) if len(line) > MOST and not USE.match(line)]

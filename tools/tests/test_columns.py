@@ -4,7 +4,7 @@ from __future__ import annotations
 
 import unittest
 
-from columns import MOST, WIDE, too_wide
+from columns import MOST, too_wide
 
 LONG = "a : " + "ℕ → " * 30 + "ℕ"
 
@@ -12,11 +12,7 @@ LONG = "a : " + "ℕ → " * 30 + "ℕ"
 class Columns(unittest.TestCase):
     def test_long_lines(self) -> None:
         text = "x" * MOST + "\n" + LONG + "\n  pub use " + LONG + "\nuse " + LONG + "\n-- " + LONG + "\n"
-        self.assertEqual([line.partition(" ")[0] for line in too_wide("words", "A.antt", text)], ["A.antt:2:", "A.antt:5:"])
-
-    def test_crates_with_longer_lines(self) -> None:
-        for crate in WIDE:
-            self.assertEqual(too_wide(crate, "A.antt", LONG), [])
+        self.assertEqual([line.partition(" ")[0] for line in too_wide("A.antt", text)], ["A.antt:2:", "A.antt:5:"])
 
 
 if __name__ == "__main__":

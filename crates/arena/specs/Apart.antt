@@ -75,7 +75,7 @@ pub record HasAccesses (m : Memory) (t : ℕ) : Type 0 where
       → IsWrittenAt m t at (low_bytes n value) (stored m n value (asked_in m t n at))
   pub copy : (to from n : ℕ) → to + n ≤ m.part → from + n ≤ m.part
       → IsWrittenAt m t to (bytes_at (part_bytes m t) from n)
-        (copied m n (asked_in m t n from) (asked_in m t n to))
+      (copied m n (asked_in m t n from) (asked_in m t n to))
 
 abbrev pub AccessesAreInParts : Type 0
 AccessesAreInParts = (m : Memory) (t : ℕ) → IsPart m t → HasAccesses m t

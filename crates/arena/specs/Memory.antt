@@ -42,7 +42,7 @@ abbrev pub with_bytes : Memory → ℕ → List ℕ → Memory
 with_bytes m offset new = record {
   bytes = written_at m.bytes offset new;
   parts = m.parts;
-  part = m.part
+  part = m.part;
 }
 
 abbrev pub stored : Memory → ℕ → ℕ → Option ℕ → Memory
@@ -71,5 +71,5 @@ abbrev pub with_part : Memory → ℕ → List ℕ → Memory
 with_part m t new = record {
   bytes = refilled m.bytes (written_at m.bytes (part_start m t) new);
   parts = m.parts;
-  part = m.part
+  part = m.part;
 }

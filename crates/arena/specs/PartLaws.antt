@@ -11,7 +11,7 @@ use Rattle.arena.specs.Apart.{IsPart}
 pub part_within : (m : Memory) (t : ℕ) → IsPart m t → part_start m t + m.part ≤ size_of m
 part_within m t is =
     let below : suc t * m.part ≤ m.parts * m.part =
-        mul-le (suc t) m.part m.parts m.part is.1 (omega arith) in
+    mul-le (suc t) m.part m.parts m.part is.1 (omega arith) in
     let next : suc t * m.part ≡ t * m.part + m.part = omega arith in
     let size = is.0 in
     omega arith
@@ -25,8 +25,8 @@ offset_is size n offset address e h =
     let from : base ≤ address = omega arith in
     let to : address + n ≤ base + size = omega arith in
     let t =
-        and_from (leb base address) (leb (address + n) (base + size)) (le-leb base address from)
-        (le-leb (address + n) (base + size) to) in
+    and_from (leb base address) (leb (address + n) (base + size)) (le-leb base address from)
+    (le-leb (address + n) (base + size) to) in
     let at : address - base ≡ offset = omega arith in
     cond-true (leb base address && leb (address + n) (base + size)) (Some (address - base)) None t
-      ∙ ap (λ (q : ℕ). Some q) at
+    ∙ ap (λ (q : ℕ). Some q) at

@@ -65,7 +65,7 @@ key_at site key k =
 abbrev pub pair_at : CallSite → ℕ → NamedKey → Option NamedPair
 pair_at site value named =
     option_map
-      (λ vs. let n : NamedPair = record { map = named.map; key = named.key; value = vs } in n)
+    (λ vs. let n : NamedPair = record { map = named.map; key = named.key; value = vs } in n)
     (value_input site named.map value)
 
 -- the map and key that the words of a look-up or a deletion name

@@ -13,7 +13,10 @@ element_count Hash n = 0
 
 -- the elements of a map of this shape
 abbrev pub elements_of : MapShape → Elements
-elements_of s = record { count = element_count s.kind s.max_entries; stride = (s.value_size + 7) / 8 * 8 }
+elements_of s = record {
+  count = element_count s.kind s.max_entries;
+  stride = (s.value_size + 7) / 8 * 8;
+}
 
 -- the elements of the map of handle k
 abbrev pub elements_at : LiveMaps → ℕ → Elements

@@ -1,4 +1,5 @@
--- The fields of a tenant's live maps: what contracts see of them, and their invariant. This project's own.
+-- The fields of a tenant's live maps: what contracts see of them, and their invariant. This
+-- project's own.
 use Rattle.std.specs.Prelude.{◌≡◌, ◌≢◌, ℕ, ◌+◌, ◌*◌, ◌/◌, ◌%◌, ◌≤◌, ◌⊎◌, List, map, Option, Some, None, is_some, option_map, length, count_by, slice_index_or}
 use Rattle.std.specs.Option.{option_and_then}
 use Rattle.bpf_maps.specs.declared.part.TheConstants.{STACK_AND_CONTEXT}
@@ -35,15 +36,25 @@ as_live_maps a = record { maps = live_maps_of (stored_in a); refused = a.refused
 pub record AreKeys (keys : List (Option ℕ)) (maps : Slab StoredMap) : Type 0 where
   pub long : length keys ≡ most_maps
   pub there : (k key : ℕ) → slice_index_or keys k None ≡ Some key → ContainsKey maps key
-  pub own : (k j key : ℕ) → slice_index_or keys k None ≡ Some key → slice_index_or keys j None ≡ Some key → k ≡ j
+  pub own : (k j key : ℕ)
+      → slice_index_or keys k None ≡ Some key
+      → slice_index_or keys j None ≡ Some key
+      → k ≡ j
   pub all : slab_len maps ≡ count_by is_some keys
 
 -- a map after an area of `size` bytes up to `end` is gone
 abbrev pub closed_up : ℕ → ℕ → StoredMap → StoredMap
-closed_up end size e = record { map = e.map; start = start_without end size e.start; stride = e.stride; elements = e.elements; holds = e.holds }
+closed_up end size e = record {
+  map = e.map;
+  start = start_without end size e.start;
+  stride = e.stride;
+  elements = e.elements;
+  holds = e.holds;
+}
 
--- a map's area lies in the `bytes` bytes after the stack and the context, its values begin at multiples of eight, its elements are
--- those of its shape, it has a reference, and no two of its keys have the same element
+-- a map's area lies in the `bytes` bytes after the stack and the context, its values begin at
+-- multiples of eight, its elements are those of its shape, it has a reference, and no two of its
+-- keys have the same element
 pub record IsInItsArea (bytes : ℕ) (e : StoredMap) : Type 0 where
   pub behind : STACK_AND_CONTEXT ≤ e.start
   pub within : e.start + area_of (live_of e) ≤ STACK_AND_CONTEXT + bytes
@@ -53,13 +64,19 @@ pub record IsInItsArea (bytes : ℕ) (e : StoredMap) : Type 0 where
   pub held : 1 ≤ e.holds
   pub sound : IsSound (keys_in e.map)
 
--- the keys are those of the slab, which has room for `most_maps` maps; the areas don't overlap, and lie after the stack and the context
--- in as many bytes as they take together, `bytes`
+-- the keys are those of the slab, which has room for `most_maps` maps; the areas don't overlap, and
+-- lie after the stack and the context in as many bytes as they take together, `bytes`
 pub record IsWellFormedMaps (a : Inside) : Type 0 where
   pub keys : AreKeys a.keys a.maps
   pub room : most_maps ≤ a.maps.capacity
-  pub placed : (k : ℕ) (e : StoredMap) → slice_index_or (stored_in a) k None ≡ Some e → IsInItsArea a.bytes e
-  pub apart : (k j : ℕ) (e f : StoredMap) → slice_index_or (stored_in a) k None ≡ Some e → slice_index_or (stored_in a) j None ≡ Some f → k ≢ j → StandsBefore (live_of e) (live_of f) ⊎ StandsBefore (live_of f) (live_of e)
+  pub placed : (k : ℕ) (e : StoredMap)
+      → slice_index_or (stored_in a) k None ≡ Some e
+      → IsInItsArea a.bytes e
+  pub apart : (k j : ℕ) (e f : StoredMap)
+      → slice_index_or (stored_in a) k None ≡ Some e
+      → slice_index_or (stored_in a) j None ≡ Some f
+      → k ≢ j
+      → StandsBefore (live_of e) (live_of f) ⊎ StandsBefore (live_of f) (live_of e)
   pub sum : a.bytes ≡ areas (as_live_maps a)
   pub few : a.bytes ≤ most_bytes
   pub aligned : a.bytes % 8 ≡ 0

@@ -1,5 +1,5 @@
--- The effects of writes and calls on live maps, as keys with the bytes of their values. The calls are those of bpf(2); the
--- addresses of values are this project's own.
+-- The effects of writes and calls on live maps, as keys with the bytes of their values. The calls
+-- are those of bpf(2); the addresses of values are this project's own.
 use Rattle.std.specs.Prelude.{◌≡◌, ◌≢◌, ℕ, ◌<◌, List, length, take, Some, IsSome, Ok}
 use Rattle.words.specs.Bytes.{written_at}
 use Rattle.tagged_model.specs.Table as map
@@ -22,37 +22,65 @@ pub record IsValueAt (part : List ℕ) (t : LiveMaps) (k p : ℕ) (bytes : List 
 abbrev pub with_value : List ℕ → LiveMaps → ℕ → ℕ → List ℕ → List ℕ
 with_value part t k p bytes = written_at part (offset_at t k p) bytes
 
--- these bytes are the value of the element, and that of the element's key; no other value of a live map changes, nor do the stack and
--- the context
+-- these bytes are the value of the element, and that of the element's key; no other value of a live
+-- map changes, nor do the stack and the context
 pub record ValueIsWritten (part : List ℕ) (t : LiveMaps) (k p : ℕ) (bytes : List ℕ) : Type 0 where
   pub here : value_in (with_value part t k p bytes) t k p ≡ bytes
-  pub elsewhere : (j q : ℕ) → IsSome (live_at t j) → q < (shape_at t j).max_entries → (j ≡ k → q ≢ p) → value_in (with_value part t k p bytes) t j q ≡ value_in part t j q
-  pub key : (key : List ℕ) → map.look_up (table_of (keys_at t k)) key ≡ Some p → map_in (with_value part t k p bytes) t k ≡ map.with_object (map_in part t k) key bytes
-  pub others : (other : ℕ) → other ≢ k → IsSome (live_at t other) → map_in (with_value part t k p bytes) t other ≡ map_in part t other
+  pub elsewhere : (j q : ℕ)
+      → IsSome (live_at t j)
+      → q < (shape_at t j).max_entries
+      → (j ≡ k → q ≢ p)
+      → value_in (with_value part t k p bytes) t j q ≡ value_in part t j q
+  pub key : (key : List ℕ)
+      → map.look_up (table_of (keys_at t k)) key ≡ Some p
+      → map_in (with_value part t k p bytes) t k ≡ map.with_object (map_in part t k) key bytes
+  pub others : (other : ℕ)
+      → other ≢ k
+      → IsSome (live_at t other)
+      → map_in (with_value part t k p bytes) t other ≡ map_in part t other
   pub front : take STACK_AND_CONTEXT (with_value part t k p bytes) ≡ take STACK_AND_CONTEXT part
   pub size : length (with_value part t k p bytes) ≡ PART
 
 abbrev pub ValuesAreWritten : Type 0
-ValuesAreWritten = (part : List ℕ) (t : LiveMaps) (k p : ℕ) (bytes : List ℕ) → IsValueAt part t k p bytes → ValueIsWritten part t k p bytes
+ValuesAreWritten =
+    (part : List ℕ) (t : LiveMaps) (k p : ℕ) (bytes : List ℕ)
+    → IsValueAt part t k p bytes
+    → ValueIsWritten part t k p bytes
 
 -- ---- a map changes, and its area does not
 
 -- the map after an update of a key to a value, with this verdict
-abbrev pub updated : map.Verdict (List ℕ) → map.Table (List ℕ) → List ℕ → List ℕ → map.Table (List ℕ)
+abbrev pub updated : map.Verdict (List ℕ)
+    → map.Table (List ℕ)
+    → List ℕ
+    → List ℕ
+    → map.Table (List ℕ)
 updated (map.Refused fault) t key value = t
 updated (map.Present old) t key value = map.with_object t key value
 updated map.New t key value = map.with_new t key value
 
 abbrev pub updated_in : List ℕ → LiveMaps → ℕ → List ℕ → List ℕ → ℕ → map.Table (List ℕ)
-updated_in part t k key value flags = updated (map.verdict (map_in part t k) key flags) (map_in part t k) key value
+updated_in part t k key value flags =
+    updated (map.verdict (map_in part t k) key flags) (map_in part t k) key value
 
--- the map of values changes as that of elements does; in an update, a claim is followed by the write of the value
+-- the map of values changes as that of elements does; in an update, a claim is followed by the
+-- write of the value
 pub record RefinesValues (part : List ℕ) (old new : LiveMaps) (k : ℕ) : Type 0 where
   pub same : keys_at new k ≡ keys_at old k → map_in part new k ≡ map_in part old k
-  pub delete : (key : List ℕ) (element : ℕ) → keys_at new k ≡ with_kept (keys_at old k) key element → map_in part new k ≡ map.with_deleted (map_in part old k) key
-  pub end : keys_at new k ≡ after_run (keys_at old k) → map_in part new k ≡ map.after_run (map_in part old k)
-  pub update : (flags p : ℕ) (key bytes : List ℕ) → IsValueAt part new k p bytes → Claims (map.verdict (table_of (keys_at old k)) key flags) key (keys_at old k) (Ok p) (keys_at new k)
+  pub delete : (key : List ℕ) (element : ℕ)
+      → keys_at new k ≡ with_kept (keys_at old k) key element
+      → map_in part new k ≡ map.with_deleted (map_in part old k) key
+  pub end : keys_at new k ≡ after_run (keys_at old k)
+      → map_in part new k ≡ map.after_run (map_in part old k)
+  pub update : (flags p : ℕ) (key bytes : List ℕ)
+      → IsValueAt part new k p bytes
+      → Claims (map.verdict (table_of (keys_at old k)) key flags) key (keys_at old k) (Ok p)
+      (keys_at new k)
       → map_in (with_value part new k p bytes) new k ≡ updated_in part old k key bytes flags
 
 abbrev pub LiveMapsRefineValues : Type 0
-LiveMapsRefineValues = (part : List ℕ) (old new : LiveMaps) (k : ℕ) → SameAreas old new → IsSome (live_at new k) → RefinesValues part old new k
+LiveMapsRefineValues =
+    (part : List ℕ) (old new : LiveMaps) (k : ℕ)
+    → SameAreas old new
+    → IsSome (live_at new k)
+    → RefinesValues part old new k

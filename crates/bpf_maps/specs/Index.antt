@@ -34,7 +34,9 @@ pub record IsWellFormedHash (a : Inside) : Type 0 where
   pub kind : a.shape.kind ≡ Hash
   pub takes : TakesKeys a.index a.shape.key_size
   pub bound : bound_of a.index ≡ a.shape.max_entries
-  pub once : (p : ℕ) → occurrences p (values_of (entries_of a.index)) + occurrences p a.spare.items ≡ (if nat_lt p a.shape.max_entries then 1 else 0)
+  pub once : (p : ℕ)
+      → occurrences p (values_of (entries_of a.index)) + occurrences p a.spare.items
+      ≡ (if nat_lt p a.shape.max_entries then 1 else 0)
   pub all : length (entries_of a.index) + length a.spare.items ≡ a.shape.max_entries
   pub kept : a.kept ≤ length a.spare.items
   pub room : a.shape.max_entries ≤ vec_capacity a.spare

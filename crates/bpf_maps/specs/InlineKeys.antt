@@ -7,7 +7,16 @@ abbrev pub padded : ℕ → List ℕ → List ℕ
 padded n bytes = bytes ++ replicate (n - length bytes) 0
 
 -- an array whose bytes after the first k are zeros is the first k, padded
-pub given_back : (n k : ℕ) (bytes : List ℕ) → k ≤ n → length bytes ≡ n → drop k bytes ≡ replicate (n - k) 0 → (padded n (take k bytes) ≡ bytes) × (length (take k bytes) ≡ k)
+pub given_back : (n k : ℕ) (bytes : List ℕ)
+    → k ≤ n
+    → length bytes ≡ n
+    → drop k bytes ≡ replicate (n - k) 0
+    → (padded n (take k bytes) ≡ bytes) × (length (take k bytes) ≡ k)
 given_back n k bytes within long zeros =
-    let count : length (take k bytes) ≡ k = length-take-le k bytes (subst (λ (m : ℕ). k ≤ m) (sym long) within) in
-    (ap (λ (m : ℕ). take k bytes ++ replicate (n - m) 0) count ∙ ap (λ (zs : List ℕ). take k bytes ++ zs) (sym zeros) ∙ take-append-drop k bytes, count)
+    let count : length (take k bytes) ≡ k =
+    length-take-le k bytes (subst (λ (m : ℕ). k ≤ m) (sym long) within) in (
+      ap (λ (m : ℕ). take k bytes ++ replicate (n - m) 0) count
+          ∙ ap (λ (zs : List ℕ). take k bytes ++ zs) (sym zeros)
+          ∙ take-append-drop k bytes,
+      count,
+    )

@@ -1,6 +1,6 @@
--- A map whose objects are elements, and the possible results and effects of its calls. The element of a key that a run deletes is kept
--- apart until the run ends. The calls are those of bpf(2); elements are this project's own.
--- The number of times that a list has an element is `occurrences`.
+-- A map whose objects are elements, and the possible results and effects of its calls. The element
+-- of a key that a run deletes is kept apart until the run ends. The calls are those of bpf(2);
+-- elements are this project's own. The number of times that a list has an element is `occurrences`.
 pub use Rattle.ordered_keys.specs.Orders.{occurrences}
 use Rattle.std.specs.Prelude.{◌≡◌, ℕ, ◌+◌, ◌<◌, ◌≤◌, nat_lt, if◌then◌else◌, List, [], ◌∷◌, ◌++◌, drop, length, Option, Some, None, Result, Ok, Err}
 use Rattle.std.specs.Map.{values_of}
@@ -22,7 +22,11 @@ table_of t = record { shape = t.shape; entries = t.entries; deleted = length t.k
 
 -- the table of a new map; the element of an array's index is the index
 abbrev pub new_keys : MapShape → KeyTable
-new_keys shape = record { shape = shape; entries = new_entries (λ i. i) shape.kind shape.max_entries; kept = [] }
+new_keys shape = record {
+  shape = shape;
+  entries = new_entries (λ i. i) shape.kind shape.max_entries;
+  kept = [];
+}
 
 -- ---- the invariant
 
@@ -31,10 +35,13 @@ abbrev pub IsSized : ℕ → List (List ℕ × ℕ) → Type 0
 IsSized n [] = Unit {0}
 IsSized n (e ∷ es) = (length e.0 ≡ n) × IsSized n es
 
--- each element less than `max_entries` is in use at most once, and no other element is; being kept apart is a use. Each key has the
--- map's key size, and an array is as when it was new: it has all its indices, each with itself for its element
+-- each element less than `max_entries` is in use at most once, and no other element is; being kept
+-- apart is a use. Each key has the map's key size, and an array is as when it was new: it has all
+-- its indices, each with itself for its element
 pub record IsSound (t : KeyTable) : Type 0 where
-  pub once : (p : ℕ) → occurrences p (values_of t.entries) + occurrences p t.kept ≤ (if nat_lt p t.shape.max_entries then 1 else 0)
+  pub once : (p : ℕ)
+      → occurrences p (values_of t.entries) + occurrences p t.kept
+      ≤ (if nat_lt p t.shape.max_entries then 1 else 0)
   pub few : length t.entries + length t.kept ≤ t.shape.max_entries
   pub sized : IsSized t.shape.key_size t.entries
   pub array : t.shape.kind ≡ Array → t ≡ new_keys t.shape
@@ -50,8 +57,8 @@ pub record IsFree (t : KeyTable) (p : ℕ) : Type 0 where
 abbrev pub with_entry : KeyTable → List ℕ → ℕ → KeyTable
 with_entry t key p = record { shape = t.shape; entries = with_key key p t.entries; kept = t.kept }
 
--- the possible results of a claim by the verdict on its update, each with the table after it; a new key gets any element that is not
--- in use: it cannot be refused
+-- the possible results of a claim by the verdict on its update, each with the table after it; a new
+-- key gets any element that is not in use: it cannot be refused
 abbrev pub Claims : Verdict ℕ → List ℕ → KeyTable → Result ℕ MapFault → KeyTable → Type 0
 Claims (Refused fault) key old answer new = (answer ≡ Err fault) × (new ≡ old)
 Claims (Present p) key old answer new = (answer ≡ Ok p) × (new ≡ old)
@@ -59,10 +66,19 @@ Claims New key old (Ok p) new = IsFree old p × (new ≡ with_entry old key p)
 Claims New key old (Err fault) new = ⊥
 
 abbrev pub with_kept : KeyTable → List ℕ → ℕ → KeyTable
-with_kept t key p = record { shape = t.shape; entries = without key t.entries; kept = t.kept ++ p ∷ [] }
+with_kept t key p = record {
+  shape = t.shape;
+  entries = without key t.entries;
+  kept = t.kept ++ p ∷ [];
+}
 
 -- the result of a deletion, and the table after it; the element of the key is kept apart
-abbrev pub Removes : Result ℕ MapFault → List ℕ → KeyTable → Result (Unit {0}) MapFault → KeyTable → Type 0
+abbrev pub Removes : Result ℕ MapFault
+    → List ℕ
+    → KeyTable
+    → Result (Unit {0}) MapFault
+    → KeyTable
+    → Type 0
 Removes (Err fault) key old answer new = (answer ≡ Err fault) × (new ≡ old)
 Removes (Ok p) key old answer new = (answer ≡ Ok tt) × (new ≡ with_kept old key p)
 

@@ -1,5 +1,5 @@
--- Laws of tables of keys and of live maps: they change as the definition of a map says, as a map of elements and as one of values.
--- This project's own.
+-- Laws of tables of keys and of live maps: they change as the definition of a map says, as a map of
+-- elements and as one of values. This project's own.
 use Rattle.std.specs.Prelude.{◌≡◌, ℕ, ◌+◌, ◌<◌, ◌≤◌, ◌==◌, if◌then◌else◌, List, Some, IsSome}
 use Rattle.std.specs.Map.{values_of}
 use Rattle.tagged_model.specs.declared.shape.MapShape.{MapShape}
@@ -13,15 +13,20 @@ use Rattle.bpf_maps.specs.Live.{LiveMaps, live_at, offset_at, SameAreas}
 
 pub record CallsAreThoseOfAMap : Type 0 where
   pub new : (shape : MapShape) → table_of (new_keys shape) ≡ map.new_table (λ i. i) shape
-  pub update : (t : KeyTable) (key : List ℕ) (element : ℕ) → table_of (with_entry t key element) ≡ map.with_new (table_of t) key element
-  pub delete : (t : KeyTable) (key : List ℕ) (element : ℕ) → table_of (with_kept t key element) ≡ map.with_deleted (table_of t) key
+  pub update : (t : KeyTable) (key : List ℕ) (element : ℕ)
+      → table_of (with_entry t key element) ≡ map.with_new (table_of t) key element
+  pub delete : (t : KeyTable) (key : List ℕ) (element : ℕ)
+      → table_of (with_kept t key element) ≡ map.with_deleted (table_of t) key
   pub end : (t : KeyTable) → table_of (after_run t) ≡ map.after_run (table_of t)
 
 -- a write of the value of an element gives the element's key another object in the map of values
 abbrev pub WritesRefineValues : Type 0 → Type 0
 WritesRefineValues B =
-    (value : ℕ → B) (t : KeyTable) (key : List ℕ) (element : ℕ) (bytes : B) → IsSound t → map.look_up (table_of t) key ≡ Some element
-    → map.with_values (λ p. if p == element then bytes else value p) (table_of t) ≡ map.with_object (map.with_values value (table_of t)) key bytes
+    (value : ℕ → B) (t : KeyTable) (key : List ℕ) (element : ℕ) (bytes : B)
+    → IsSound t
+    → map.look_up (table_of t) key ≡ Some element
+    → map.with_values (λ p. if p == element then bytes else value p) (table_of t)
+    ≡ map.with_object (map.with_values value (table_of t)) key bytes
 
 -- values that are equal at all elements in use give equal maps
 abbrev pub ValuesAgree : Type 0 → Type 0
@@ -31,19 +36,29 @@ ValuesAgree B =
 
 -- an element in use, or kept apart, is less than `max_entries`
 abbrev pub ElementsAreWithin : Type 0
-ElementsAreWithin = (t : KeyTable) (p : ℕ) → IsSound t → 1 ≤ occurrences p (values_of t.entries) + occurrences p t.kept → p < t.shape.max_entries
+ElementsAreWithin =
+    (t : KeyTable) (p : ℕ)
+    → IsSound t
+    → 1 ≤ occurrences p (values_of t.entries) + occurrences p t.kept
+    → p < t.shape.max_entries
 
 -- ---- a tenant's live maps
 
 -- if the areas are unchanged, each value keeps its offset in the part
 abbrev pub AreasKeepElements : Type 0
-AreasKeepElements = (old new : LiveMaps) (k p : ℕ) → SameAreas old new → IsSome (live_at new k) → offset_at new k p ≡ offset_at old k p
+AreasKeepElements =
+    (old new : LiveMaps) (k p : ℕ)
+    → SameAreas old new
+    → IsSome (live_at new k)
+    → offset_at new k p ≡ offset_at old k p
 
 -- a deletion frees no element: that of the key is kept apart
 abbrev pub DeletesKeepElements : Type 0
 DeletesKeepElements =
     (t : KeyTable) (key : List ℕ) (element p : ℕ) → map.look_up (table_of t) key ≡ Some element
-    → occurrences p (values_of (with_kept t key element).entries) + occurrences p (with_kept t key element).kept ≡ occurrences p (values_of t.entries) + occurrences p t.kept
+    → occurrences p (values_of (with_kept t key element).entries)
+    + occurrences p (with_kept t key element).kept
+    ≡ occurrences p (values_of t.entries) + occurrences p t.kept
 
 -- a key and a value of any shape are at most as long as a part
 abbrev pub SizesFitInParts : Type 0

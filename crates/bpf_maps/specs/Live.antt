@@ -1,4 +1,5 @@
--- A tenant's live maps, and the addresses of their values in the tenant's part. The limits and the layout are this project's own.
+-- A tenant's live maps, and the addresses of their values in the tenant's part. The limits and the
+-- layout are this project's own.
 use Rattle.std.specs.Prelude.{◌≡◌, ◌≢◌, ℕ, ◌+◌, ◌-◌, ◌*◌, ◌/◌, ◌%◌, ◌^◌, ◌<◌, ◌≤◌, ◌⊎◌, Bool, true, ◌||◌, nat_le, nat_lt, if◌then◌else◌, List, take, drop, Option, Some, None, IsSome, is_none, option_map, position, Result, Ok, Err, slice_index_or, refl}
 use Rattle.tagged_model.specs.declared.shape.MapKind.TheVariants.{Hash}
 use Rattle.tagged_model.specs.declared.shape.MapShape.{MapShape}
@@ -11,8 +12,8 @@ use Rattle.tagged_model.specs.Table.{Table, with_values}
 use Rattle.bpf_maps.specs.Sum.{total}
 use Rattle.bpf_maps.specs.KeyTable.{KeyTable, table_of, new_keys, IsSound}
 
--- a live map, the offset of its area in the part, the distance from the start of one value to that of the next, both in bytes, and
--- the number of references to it
+-- a live map, the offset of its area in the part, the distance from the start of one value to that
+-- of the next, both in bytes, and the number of references to it
 pub record LiveMap : Type 0 where
   pub keys : KeyTable
   pub start : ℕ
@@ -32,8 +33,16 @@ abbrev pub free_handle : LiveMaps → Option ℕ
 free_handle t = position is_none t.maps
 
 -- a placeholder for the map of a handle without one, for the functions below; it means nothing
+abbrev pub no_shape : MapShape
+no_shape = record { kind = Hash; key_size = 1; value_size = 1; max_entries = 1; listed = refl }
+
 abbrev pub no_live : LiveMap
-no_live = record { keys = new_keys (record { kind = Hash; key_size = 1; value_size = 1; max_entries = 1; listed = refl }); start = 0; stride = 0; holds = 0 }
+no_live = record {
+  keys = new_keys no_shape;
+  start = 0;
+  stride = 0;
+  holds = 0;
+}
 
 abbrev pub live_or : Option LiveMap → LiveMap
 live_or None = no_live
@@ -61,7 +70,8 @@ offset l p = l.start + p * l.stride
 abbrev pub offset_at : LiveMaps → ℕ → ℕ → ℕ
 offset_at t k p = offset (live_or (live_at t k)) p
 
--- the address of the value of an element, modulo 2 ^ 64, in a part that begins at address `part`; null if there is no element
+-- the address of the value of an element, modulo 2 ^ 64, in a part that begins at address `part`;
+-- null if there is no element
 abbrev pub value_address : ℕ → LiveMaps → ℕ → Option ℕ → ℕ
 value_address part t k None = 0
 value_address part t k (Some p) = (part + offset_at t k p) % 2 ^ 64
@@ -74,7 +84,8 @@ value_in part t k p = take (shape_at t k).value_size (drop (offset_at t k p) par
 abbrev pub map_in : List ℕ → LiveMaps → ℕ → Table (List ℕ)
 map_in part t k = with_values (value_in part t k) (table_of (keys_at t k))
 
--- `size` bytes at this offset lie in a part after the stack and the context, and the offset is a multiple of eight
+-- `size` bytes at this offset lie in a part after the stack and the context, and the offset is a
+-- multiple of eight
 pub record LiesInPart (at size : ℕ) : Type 0 where
   pub behind : STACK_AND_CONTEXT ≤ at
   pub within : at + size ≤ PART
@@ -82,21 +93,43 @@ pub record LiesInPart (at size : ℕ) : Type 0 where
 
 -- the values of all live maps lie in the part and don't overlap
 pub record IsLaid (t : LiveMaps) : Type 0 where
-  pub inside : (k p : ℕ) (l : LiveMap) → live_at t k ≡ Some l → p < l.keys.shape.max_entries → LiesInPart (offset l p) l.keys.shape.value_size
-  pub apart : (k p j q : ℕ) (l m : LiveMap) → live_at t k ≡ Some l → live_at t j ≡ Some m → p < l.keys.shape.max_entries → q < m.keys.shape.max_entries → (k ≡ j → p ≢ q)
-      → (offset l p + l.keys.shape.value_size ≤ offset m q) ⊎ (offset m q + m.keys.shape.value_size ≤ offset l p)
+  pub inside : (k p : ℕ) (l : LiveMap)
+      → live_at t k ≡ Some l
+      → p < l.keys.shape.max_entries
+      → LiesInPart (offset l p) l.keys.shape.value_size
+  pub apart : (k p j q : ℕ) (l m : LiveMap)
+      → live_at t k ≡ Some l
+      → live_at t j ≡ Some m
+      → p < l.keys.shape.max_entries
+      → q < m.keys.shape.max_entries
+      → (k ≡ j → p ≢ q)
+      → (offset l p + l.keys.shape.value_size ≤ offset m q)
+      ⊎ (offset m q + m.keys.shape.value_size ≤ offset l p)
 
 -- each live map was live before, with the same shape and the same area
 abbrev pub SameAreas : LiveMaps → LiveMaps → Type 0
-SameAreas old new = (k : ℕ) (l : LiveMap) → live_at new k ≡ Some l → (m : LiveMap) × (live_at old k ≡ Some m) × (l.keys.shape ≡ m.keys.shape) × (l.start ≡ m.start) × (l.stride ≡ m.stride)
+SameAreas old new =
+    (k : ℕ) (l : LiveMap)
+    → live_at new k ≡ Some l
+    → (m : LiveMap)
+    × (live_at old k ≡ Some m)
+    × (l.keys.shape ≡ m.keys.shape)
+    × (l.start ≡ m.start)
+    × (l.stride ≡ m.stride)
 
 -- a map that was and is live has the same values of all its elements
 abbrev pub SameValues : LiveMaps → List ℕ → LiveMaps → List ℕ → Type 0
-SameValues old bytes new later = (k p : ℕ) → IsSome (live_at old k) → IsSome (live_at new k) → p < (shape_at new k).max_entries → value_in later new k p ≡ value_in bytes old k p
+SameValues old bytes new later =
+    (k p : ℕ)
+    → IsSome (live_at old k)
+    → IsSome (live_at new k)
+    → p < (shape_at new k).max_entries
+    → value_in later new k p ≡ value_in bytes old k p
 
 -- if the map was live it still is, with the same keys and values
 abbrev pub KeepsMap : ℕ → LiveMaps → List ℕ → LiveMaps → List ℕ → Type 0
-KeepsMap k old bytes new later = IsSome (live_at old k) → IsSome (live_at new k) × (map_in later new k ≡ map_in bytes old k)
+KeepsMap k old bytes new later =
+    IsSome (live_at old k) → IsSome (live_at new k) × (map_in later new k ≡ map_in bytes old k)
 
 abbrev pub KeepsMaps : LiveMaps → List ℕ → LiveMaps → List ℕ → Type 0
 KeepsMaps old bytes new later = (k : ℕ) → KeepsMap k old bytes new later
@@ -128,25 +161,41 @@ start_at t k = (live_or (live_at t k)).start
 abbrev pub StandsBefore : LiveMap → LiveMap → Type 0
 StandsBefore l m = l.start + area_of l ≤ m.start
 
--- the areas of all live maps don't overlap, and lie after the stack and the context in as many bytes as they take together, so that
--- there is no gap; the distance from the start of one value to that of the next is the value's size, rounded up to a multiple of
--- eight
+-- the areas of all live maps don't overlap, and lie after the stack and the context in as many
+-- bytes as they take together, so that there is no gap; the distance from the start of one value to
+-- that of the next is the value's size, rounded up to a multiple of eight
 pub record IsPacked (t : LiveMaps) : Type 0 where
-  pub inside : (k : ℕ) (l : LiveMap) → live_at t k ≡ Some l → (STACK_AND_CONTEXT ≤ l.start) × (l.start + area_of l ≤ STACK_AND_CONTEXT + areas t)
-  pub apart : (k j : ℕ) (l m : LiveMap) → live_at t k ≡ Some l → live_at t j ≡ Some m → k ≢ j → StandsBefore l m ⊎ StandsBefore m l
-  pub stride : (k : ℕ) (l : LiveMap) → live_at t k ≡ Some l → l.stride ≡ (l.keys.shape.value_size + 7) / 8 * 8
+  pub inside : (k : ℕ) (l : LiveMap)
+      → live_at t k ≡ Some l
+      → (STACK_AND_CONTEXT ≤ l.start) × (l.start + area_of l ≤ STACK_AND_CONTEXT + areas t)
+  pub apart : (k j : ℕ) (l m : LiveMap)
+      → live_at t k ≡ Some l
+      → live_at t j ≡ Some m
+      → k ≢ j
+      → StandsBefore l m ⊎ StandsBefore m l
+  pub stride : (k : ℕ) (l : LiveMap)
+      → live_at t k ≡ Some l
+      → l.stride ≡ (l.keys.shape.value_size + 7) / 8 * 8
 
 -- the start of an area after another one, of `size` bytes up to `end`, is removed
 abbrev pub start_without : ℕ → ℕ → ℕ → ℕ
 start_without end size start = if nat_le end start then start - size else start
 
 abbrev pub map_without : LiveMap → LiveMap → LiveMap
-map_without gone l = record { keys = l.keys; start = start_without (gone.start + area_of gone) (area_of gone) l.start; stride = l.stride; holds = l.holds }
+map_without gone l = record {
+  keys = l.keys;
+  start = start_without (gone.start + area_of gone) (area_of gone) l.start;
+  stride = l.stride;
+  holds = l.holds;
+}
 
--- the area of the map of handle k is gone: each area after it begins lower by its size, and nothing else has changed of the other
--- maps; this says nothing of handle k in `new`, nor of `refused`
+-- the area of the map of handle k is gone: each area after it begins lower by its size, and nothing
+-- else has changed of the other maps; this says nothing of handle k in `new`, nor of `refused`
 abbrev pub ClosesUp : ℕ → LiveMaps → LiveMaps → Type 0
-ClosesUp k old new = (other : ℕ) → other ≢ k → live_at new other ≡ option_map (map_without (live_or (live_at old k))) (live_at old other)
+ClosesUp k old new =
+    (other : ℕ)
+    → other ≢ k
+    → live_at new other ≡ option_map (map_without (live_or (live_at old k))) (live_at old other)
 
 -- ---- the keys of one map change
 
@@ -168,9 +217,13 @@ pub record OnlyKeysChange (k : ℕ) (old new : LiveMaps) : Type 0 where
 
 -- the fault if no handle is free, or the values would take too many bytes; else None
 abbrev pub create_fault : LiveMaps → MapShape → Option MapFault
-create_fault t shape = if is_none (free_handle t) || nat_lt most_bytes (areas t + area_by shape) then Some NoSpace else None
+create_fault t shape =
+    if is_none (free_handle t) || nat_lt most_bytes (areas t + area_by shape)
+    then Some NoSpace
+    else None
 
--- a new map with one reference is live with handle k, the lowest that was free, and nothing else has changed
+-- a new map with one reference is live with handle k, the lowest that was free, and nothing else
+-- has changed
 pub record IsCreated (old : LiveMaps) (shape : MapShape) (k : ℕ) (new : LiveMaps) : Type 0 where
   pub lowest : free_handle old ≡ Some k
   pub was : live_at old k ≡ None
@@ -211,4 +264,5 @@ one_more l = record { keys = l.keys; start = l.start; stride = l.stride; holds =
 -- with one reference less; None if that was the last
 abbrev pub one_less : Option MapWithoutArea → Option MapWithoutArea
 one_less None = None
-one_less (Some h) = if nat_le h.holds 1 then None else Some (record { keys = h.keys; holds = h.holds - 1 })
+one_less (Some h) =
+    if nat_le h.holds 1 then None else Some (record { keys = h.keys; holds = h.holds - 1 })

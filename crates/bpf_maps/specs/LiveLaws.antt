@@ -1,5 +1,6 @@
--- Laws of live maps and of the changes by calls, proved here for the proofs of this crate and of the crates above. This project's
--- own. No contract cites them, so they are not part of what has to be trusted.
+-- Laws of live maps and of the changes by calls, proved here for the proofs of this crate and of
+-- the crates above. This project's own. No contract cites them, so they are not part of what has to
+-- be trusted.
 use Rattle.std.proofs.Common.{◌≡◌, ◌≢◌, ℕ, zero, suc, ◌+◌, ◌<◌, ◌≤◌, ◌⊎◌, inl, inr, false, cond, List, [], ◌∷◌, length, Option, Some, None, IsSome, is_some, refl, sym, subst, ap, ap₂, ◌∙◌, get_or, arith, true≢false}
 use Rattle.std.specs.Prelude.{is_none, position, nat_lt}
 use Rattle.std.specs.List.{position_or_len}
@@ -12,12 +13,17 @@ use Rattle.bpf_maps.specs.Sum.{weight, total}
 use Rattle.bpf_maps.specs.Live.{LiveMap, LiveMaps, live_at, live_or, shape_at, free_handle, offset, offset_at, LiesInPart, IsLaid, SameAreas, OnlyKeysChange}
 
 -- if the numbers at each index are equal, so are the sums
-pub total_same : {A : Type 0} (f : A → ℕ) (xs ys : List (Option A)) → ((j : ℕ) → weight f (get_or ys j None) ≡ weight f (get_or xs j None)) → total f ys ≡ total f xs
+pub total_same : {A : Type 0} (f : A → ℕ) (xs ys : List (Option A))
+    → ((j : ℕ) → weight f (get_or ys j None) ≡ weight f (get_or xs j None))
+    → total f ys ≡ total f xs
 unfolding total
 total_same f [] [] h = refl
-total_same f [] (y ∷ ys) h = let r = total_same f [] ys (λ j. h (suc j)) in let a = h 0 in omega arith
-total_same f (x ∷ xs) [] h = let r = total_same f xs [] (λ j. h (suc j)) in let a = h 0 in omega arith
-total_same f (x ∷ xs) (y ∷ ys) h = ap₂ (λ (m n : ℕ). m + n) (h 0) (total_same f xs ys (λ j. h (suc j)))
+total_same f [] (y ∷ ys) h =
+    let r = total_same f [] ys (λ j. h (suc j)) in let a = h 0 in omega arith
+total_same f (x ∷ xs) [] h =
+    let r = total_same f xs [] (λ j. h (suc j)) in let a = h 0 in omega arith
+total_same f (x ∷ xs) (y ∷ ys) h =
+    ap₂ (λ (m n : ℕ). m + n) (h 0) (total_same f xs ys (λ j. h (suc j)))
 
 -- a list with one element fewer: the one at k is absent, and the others are unchanged
 record IsWithout {A : Type 0} (k : ℕ) (xs : List (Option A)) : Type 0 where
@@ -25,31 +31,52 @@ record IsWithout {A : Type 0} (k : ℕ) (xs : List (Option A)) : Type 0 where
   fewer : total (λ x. 1) slots + 1 ≡ total (λ x. 1) xs
   others : (j : ℕ) → j ≢ k → get_or slots j None ≡ get_or xs j None
 
-without_slot : {A : Type 0} (k : ℕ) (xs : List (Option A)) → IsSome (get_or xs k None) → IsWithout k xs
+without_slot : {A : Type 0} (k : ℕ) (xs : List (Option A))
+    → IsSome (get_or xs k None)
+    → IsWithout k xs
 unfolding total
 without_slot k [] some = absurd (false≢true some)
 without_slot zero (None ∷ xs) some = absurd (false≢true some)
-without_slot zero (Some x ∷ xs) some = record { slots = None ∷ xs; fewer = omega arith; others = λ j. none_else j }
+without_slot zero (Some x ∷ xs) some = record {
+  slots = None ∷ xs;
+  fewer = omega arith;
+  others = λ j. none_else j;
+}
   where
     none_else : (j : ℕ) → j ≢ 0 → get_or (None ∷ xs) j None ≡ get_or (Some x ∷ xs) j None
     none_else zero h = absurd (h refl)
     none_else (suc j) h = refl
 without_slot (suc k) (x ∷ xs) some =
     let rest = without_slot k xs some in
-    record { slots = x ∷ rest.slots; fewer = let one = rest.fewer in omega arith; others = λ j. later rest j }
+    record {
+      slots = x ∷ rest.slots;
+      fewer = let one = rest.fewer in omega arith;
+      others = λ j. later rest j;
+    }
   where
-    later : (rest : IsWithout k xs) (j : ℕ) → j ≢ suc k → get_or (x ∷ rest.slots) j None ≡ get_or (x ∷ xs) j None
+    later : (rest : IsWithout k xs) (j : ℕ)
+        → j ≢ suc k
+        → get_or (x ∷ rest.slots) j None ≡ get_or (x ∷ xs) j None
     later rest zero h = refl
     later rest (suc j) h = rest.others j (λ e. h (omega arith))
 
 -- n different positions that have an element are at most as many as the elements
-few_slots : {A : Type 0} (n : ℕ) (at : ℕ → ℕ) (xs : List (Option A)) → ((i : ℕ) → i < n → IsSome (get_or xs (at i) None)) → ((i j : ℕ) → i < n → j < n → at i ≡ at j → i ≡ j) → n ≤ total (λ x. 1) xs
+few_slots : {A : Type 0} (n : ℕ) (at : ℕ → ℕ) (xs : List (Option A))
+    → ((i : ℕ) → i < n → IsSome (get_or xs (at i) None))
+    → ((i j : ℕ) → i < n → j < n → at i ≡ at j → i ≡ j)
+    → n ≤ total (λ x. 1) xs
 few_slots zero at xs used apart = omega arith
 few_slots (suc m) at xs used apart =
     let rest = without_slot (at m) xs (used m (omega arith)) in
     let fewer = rest.fewer in
     let most = few_slots m at rest.slots
-    (λ i lt. subst IsSome (sym (rest.others (at i) (λ e. absurd (let same : i ≡ m = apart i m (omega arith) (omega arith) e in omega arith)))) (used i (omega arith)))
+    (λ i lt.
+    subst IsSome
+    (sym
+    (rest.others (at i)
+    (λ e.
+    absurd (let same : i ≡ m = apart i m (omega arith) (omega arith) e in omega arith))))
+    (used i (omega arith)))
     (λ i j lt less e. apart i j (omega arith) (omega arith) e) in
     omega arith
 
@@ -60,10 +87,17 @@ slots_most (None ∷ xs) = let rest = slots_most xs in omega arith
 slots_most (Some x ∷ xs) = let rest = slots_most xs in omega arith
 
 -- n different handles of live maps are at most as many as there are
-pub few_handles : (n : ℕ) (handle : ℕ → ℕ) (tenant : LiveMaps) → ((i : ℕ) → i < n → IsSome (live_at tenant (handle i))) → ((i j : ℕ) → i < n → j < n → handle i ≡ handle j → i ≡ j) → n ≤ length tenant.maps
-few_handles n handle tenant live apart = let few = few_slots n handle tenant.maps live apart in let most = slots_most tenant.maps in omega arith
+pub few_handles : (n : ℕ) (handle : ℕ → ℕ) (tenant : LiveMaps)
+    → ((i : ℕ) → i < n → IsSome (live_at tenant (handle i)))
+    → ((i j : ℕ) → i < n → j < n → handle i ≡ handle j → i ≡ j)
+    → n ≤ length tenant.maps
+few_handles n handle tenant live apart =
+    let few = few_slots n handle tenant.maps live apart in
+    let most = slots_most tenant.maps in omega arith
 
-some_within : {A : Type 0} (k : ℕ) (xs : List (Option A)) → IsSome (get_or xs k None) → k < length xs
+some_within : {A : Type 0} (k : ℕ) (xs : List (Option A))
+    → IsSome (get_or xs k None)
+    → k < length xs
 some_within k [] some = absurd (false≢true some)
 some_within zero (x ∷ xs) some = omega arith
 some_within (suc k) (x ∷ xs) some = let rest = some_within k xs some in omega arith
@@ -74,47 +108,81 @@ live_within k tenant live = some_within k tenant.maps live
 
 -- ---- the lowest free handle
 
-same_front : {A B : Type 0} (xs : List (Option A)) (ys : List (Option B)) → length xs ≡ length ys → ((k : ℕ) → is_some (get_or xs k None) ≡ is_some (get_or ys k None)) → position_or_len is_none xs ≡ position_or_len is_none ys
+same_front : {A B : Type 0} (xs : List (Option A)) (ys : List (Option B))
+    → length xs ≡ length ys
+    → ((k : ℕ) → is_some (get_or xs k None) ≡ is_some (get_or ys k None))
+    → position_or_len is_none xs ≡ position_or_len is_none ys
 same_front [] [] long same = refl
 same_front [] (y ∷ ys) long same = absurd (omega arith)
 same_front (x ∷ xs) [] long same = absurd (omega arith)
 same_front (None ∷ xs) (None ∷ ys) long same = refl
 same_front (None ∷ xs) (Some y ∷ ys) long same = absurd (false≢true (same 0))
 same_front (Some x ∷ xs) (None ∷ ys) long same = absurd (true≢false (same 0))
-same_front (Some x ∷ xs) (Some y ∷ ys) long same = ap (λ (n : ℕ). 1 + n) (same_front xs ys (omega arith) (λ k. same (suc k)))
+same_front (Some x ∷ xs) (Some y ∷ ys) long same =
+    ap (λ (n : ℕ). 1 + n) (same_front xs ys (omega arith) (λ k. same (suc k)))
 
 -- it is the same in two lists of the same length with elements at the same indices
-pub same_lowest : {A B : Type 0} (xs : List (Option A)) (ys : List (Option B)) → length xs ≡ length ys → ((k : ℕ) → is_some (get_or xs k None) ≡ is_some (get_or ys k None)) → position is_none xs ≡ position is_none ys
-same_lowest xs ys long same = ap₂ (λ (n len : ℕ). cond (nat_lt n len) (Some n) None) (same_front xs ys long same) long
+pub same_lowest : {A B : Type 0} (xs : List (Option A)) (ys : List (Option B))
+    → length xs ≡ length ys
+    → ((k : ℕ) → is_some (get_or xs k None) ≡ is_some (get_or ys k None))
+    → position is_none xs ≡ position is_none ys
+same_lowest xs ys long same =
+    ap₂ (λ (n len : ℕ). cond (nat_lt n len) (Some n) None) (same_front xs ys long same) long
 
-pub same_free_handle : (old new : LiveMaps) → length new.maps ≡ length old.maps → ((k : ℕ) → is_some (live_at new k) ≡ is_some (live_at old k)) → free_handle new ≡ free_handle old
+pub same_free_handle : (old new : LiveMaps)
+    → length new.maps ≡ length old.maps
+    → ((k : ℕ) → is_some (live_at new k) ≡ is_some (live_at old k))
+    → free_handle new ≡ free_handle old
 same_free_handle old new long same = same_lowest new.maps old.maps long same
 
-front_most : {A : Type 0} (k : ℕ) (xs : List (Option A)) → k < length xs → get_or xs k None ≡ None → position_or_len is_none xs ≤ k
+front_most : {A : Type 0} (k : ℕ) (xs : List (Option A))
+    → k < length xs
+    → get_or xs k None ≡ None
+    → position_or_len is_none xs ≤ k
 front_most k [] within free = absurd (omega arith)
 front_most k (None ∷ xs) within free = omega arith
 front_most zero (Some x ∷ xs) within free = absurd (none-some x (sym free))
-front_most (suc k) (Some x ∷ xs) within free = let rest = front_most k xs (omega arith) free in omega arith
+front_most (suc k) (Some x ∷ xs) within free =
+    let rest = front_most k xs (omega arith) free in omega arith
 
 -- it is no higher than any free handle
-pub lowest_most : (lowest k : ℕ) (tenant : LiveMaps) → free_handle tenant ≡ Some lowest → live_at tenant k ≡ None → lowest ≤ k
+pub lowest_most : (lowest k : ℕ) (tenant : LiveMaps)
+    → free_handle tenant ≡ Some lowest
+    → live_at tenant k ≡ None
+    → lowest ≤ k
 lowest_most lowest k tenant is free = by_order (cases_lt k lowest)
   where
     by_order : (k < lowest) ⊎ (lowest ≤ k) → lowest ≤ k
-    by_order (inl lower) = absurd (true≢false (sym (ap is_none free) ∙ (position-Some is_none tenant.maps lowest None is).2 k lower))
+    by_order (inl lower) =
+        absurd
+        (true≢false
+        (sym (ap is_none free) ∙ (position-Some is_none tenant.maps lowest None is).2 k lower))
     by_order (inr high) = high
 
 -- there is one if a handle has no map
-pub some_handle_free : (k : ℕ) (tenant : LiveMaps) → k < length tenant.maps → live_at tenant k ≡ None → is_none (free_handle tenant) ≡ false
+pub some_handle_free : (k : ℕ) (tenant : LiveMaps)
+    → k < length tenant.maps
+    → live_at tenant k ≡ None
+    → is_none (free_handle tenant) ≡ false
 some_handle_free k tenant within free =
     let most = front_most k tenant.maps within free in
-    ap (λ b. is_none (cond b (Some (position_or_len is_none tenant.maps)) None)) (lt-ltb (position_or_len is_none tenant.maps) (length tenant.maps) (omega arith))
+    ap (λ b. is_none (cond b (Some (position_or_len is_none tenant.maps)) None))
+    (lt-ltb (position_or_len is_none tenant.maps) (length tenant.maps) (omega arith))
 
 -- the value of an element of a live map lies in the part
-pub laid_inside : (tenant : LiveMaps) → IsLaid tenant → (k p : ℕ) → IsSome (live_at tenant k) → p < (shape_at tenant k).max_entries → LiesInPart (offset_at tenant k p) (shape_at tenant k).value_size
+pub laid_inside : (tenant : LiveMaps)
+    → IsLaid tenant
+    → (k p : ℕ)
+    → IsSome (live_at tenant k)
+    → p < (shape_at tenant k).max_entries
+    → LiesInPart (offset_at tenant k p) (shape_at tenant k).value_size
 laid_inside tenant laid k p live lt = by (live_at tenant k) refl live lt
   where
-    by : (o : Option LiveMap) → live_at tenant k ≡ o → IsSome o → p < (live_or o).keys.shape.max_entries → LiesInPart (offset (live_or o) p) (live_or o).keys.shape.value_size
+    by : (o : Option LiveMap)
+        → live_at tenant k ≡ o
+        → IsSome o
+        → p < (live_or o).keys.shape.max_entries
+        → LiesInPart (offset (live_or o) p) (live_or o).keys.shape.value_size
     by None e some lt = absurd (false≢true some)
     by (Some l) e some lt = laid.inside k p l e lt
 
@@ -123,25 +191,38 @@ pub same_areas : (tenant : LiveMaps) → SameAreas tenant tenant
 same_areas tenant k l e = (l, e, refl, refl, refl)
 
 -- and a live map has the same elements
-pub same_elements : (old new : LiveMaps) (k : ℕ) → SameAreas old new → IsSome (live_at new k) → elements_at new k ≡ elements_at old k
+pub same_elements : (old new : LiveMaps) (k : ℕ)
+    → SameAreas old new
+    → IsSome (live_at new k)
+    → elements_at new k ≡ elements_at old k
 same_elements old new k areas live = by (live_at new k) refl live
   where
     shown : Option LiveMap → Elements
     shown o = elements_of (live_or o).keys.shape
 
-    by : (o : Option LiveMap) → live_at new k ≡ o → IsSome o → shown (live_at new k) ≡ shown (live_at old k)
+    by : (o : Option LiveMap)
+        → live_at new k ≡ o
+        → IsSome o
+        → shown (live_at new k) ≡ shown (live_at old k)
     by None e some = absurd (false≢true some)
-    by (Some l) e some = let was = areas k l e in ap shown e ∙ ap elements_of was.2 ∙ sym (ap shown was.1)
+    by (Some l) e some =
+        let was = areas k l e in ap shown e ∙ ap elements_of was.2 ∙ sym (ap shown was.1)
 
 -- and after two changes that each keep the areas
-pub areas_along : (old mid new : LiveMaps) → SameAreas old mid → SameAreas mid new → SameAreas old new
+pub areas_along : (old mid new : LiveMaps)
+    → SameAreas old mid
+    → SameAreas mid new
+    → SameAreas old new
 areas_along old mid new first then k l e =
     let m = then k l e in
     let o = first k m.0 m.1 in
     (o.0, o.1, m.2 ∙ o.2, m.3 ∙ o.3, m.4 ∙ o.4)
 
 -- two changes of one map's keys, one after the other, change only its keys
-pub keys_along : (key : ℕ) (old mid new : LiveMaps) → OnlyKeysChange key old mid → OnlyKeysChange key mid new → OnlyKeysChange key old new
+pub keys_along : (key : ℕ) (old mid new : LiveMaps)
+    → OnlyKeysChange key old mid
+    → OnlyKeysChange key mid new
+    → OnlyKeysChange key old new
 keys_along key old mid new first then = record {
   live = then.live;
   holds = then.holds ∙ first.holds;

@@ -1,4 +1,5 @@
--- Keys that are kept as numbers (RFC 9669, section 5, on a little-endian machine). This project's own.
+-- Keys that are kept as numbers (RFC 9669, section 5, on a little-endian machine). This project's
+-- own.
 use Rattle.std.specs.Prelude.{ℕ, ◌<◌, ◌≤◌, ◌^◌, List, [], ◌∷◌}
 use Rattle.words.specs.Bytes.{low_bytes}
 use Rattle.bpf_maps.specs.KeyLists.{SizedKeys, shown_by}
@@ -6,7 +7,11 @@ use Rattle.bpf_maps.specs.declared.word_index.WordIndex.TheInside.{Inside}
 
 -- a number represents its low bytes, as many as a key has
 abbrev pub words_shown : Inside → SizedKeys
-words_shown w = record { size = w.size; bound = w.map.bound; entries = shown_by (low_bytes w.size) w.map.entries }
+words_shown w = record {
+  size = w.size;
+  bound = w.map.bound;
+  entries = shown_by (low_bytes w.size) w.map.entries;
+}
 
 -- each key is a number less than `bound`
 abbrev pub AreBelow : ℕ → List (ℕ × ℕ) → Type 0

@@ -55,8 +55,8 @@ room_code before room = if nat_lt room longest_reply then ERR_BUFFER_TOO_SMALL e
 abbrev pub save_code : Option Session → ℕ → ℕ → ℤ
 save_code before tenant part =
     if is_none before
-      then ERR_NO_HOST
-      else (if is_none (saved_part (host_of before) tenant part) then ERR_NO_PART else DONE)
+    then ERR_NO_HOST
+    else (if is_none (saved_part (host_of before) tenant part) then ERR_NO_PART else DONE)
 
 -- the code of a call with contexts of `size` words, unless it is out of memory
 abbrev pub run_code : Option Session → ℕ → List ℕ → ℤ

@@ -10,10 +10,10 @@ pub record RunsPackets (tenant fd : ℕ) (contexts : List (List ℕ)) (bytes end
     (status : ℤ) (before after : List TenantState) : Type 0 where
   pub told : status
       ≡ batch_status
-        (refusal_for (slice_get before tenant) fd (length contexts) (length bytes) ends
-          (length room))
+      (refusal_for (slice_get before tenant) fd (length contexts) (length bytes) ends
+      (length room))
   pub runs : status ≡ pos 0
       → RunsFor fd (slice_get before tenant)
-        (inputs_of contexts (packets_in bytes ends)) room written (slice_get after tenant)
+      (inputs_of contexts (packets_in bytes ends)) room written (slice_get after tenant)
   pub refused : status ≢ pos 0 → (after ≡ before) × (written ≡ room)
   pub others : ChangesTenant tenant before after

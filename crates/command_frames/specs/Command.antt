@@ -70,24 +70,24 @@ at_least n body command = if nat_le n (length body) then Ok command else Err Bod
 abbrev pub command_in : ℕ → List ℕ → Result Command BadFrame
 command_in n body =
     if n == 0 then exactly create_body body
-      (map_create (word_behind 0 body) (word_behind 4 body) (word_behind 8 body)
-        (word_behind 12 body) (word_behind 16 body)) else
+    (map_create (word_behind 0 body) (word_behind 4 body) (word_behind 8 body)
+    (word_behind 12 body) (word_behind 16 body)) else
     (if n == 1 then
-      at_least word_length body (map_lookup (word_behind 0 body) (drop word_length body)) else
+    at_least word_length body (map_lookup (word_behind 0 body) (drop word_length body)) else
     (if n == 2 then
-      at_least before_key_and_value body
-        (map_update (word_behind 0 body) (long_behind word_length body)
-          (drop before_key_and_value body)) else
+    at_least before_key_and_value body
+    (map_update (word_behind 0 body) (long_behind word_length body)
+    (drop before_key_and_value body)) else
     (if n == 3 then
-      at_least word_length body (map_delete (word_behind 0 body) (drop word_length body)) else
+    at_least word_length body (map_delete (word_behind 0 body) (drop word_length body)) else
     (if n == 4 then
-      at_least word_length body (map_next_key (word_behind 0 body) (drop word_length body)) else
+    at_least word_length body (map_next_key (word_behind 0 body) (drop word_length body)) else
     (if n == 5 then
-      at_least word_length body (prog_load (word_behind 0 body) (drop word_length body)) else
+    at_least word_length body (prog_load (word_behind 0 body) (drop word_length body)) else
     (if n == 10 then
-      at_least before_packet body
-        (prog_test_run (word_behind 0 body) (words given_words (drop word_length body))
-          (drop before_packet body)) else
+    at_least before_packet body
+    (prog_test_run (word_behind 0 body) (words given_words (drop word_length body))
+    (drop before_packet body)) else
     (if n == 256 then exactly word_length body (close (word_behind 0 body)) else Err Unknown)))))))
 
 -- ---- the frame
@@ -96,5 +96,5 @@ command_in n body =
 abbrev pub parsed : List ℕ → Result Command BadFrame
 parsed frame =
     if nat_lt longest_frame (length frame)
-      then Err TooLong
-      else command_in (little_number 2 (drop 2 frame)) (drop head_length frame)
+    then Err TooLong
+    else command_in (little_number 2 (drop 2 frame)) (drop head_length frame)

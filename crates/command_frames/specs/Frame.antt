@@ -58,9 +58,9 @@ longest_reply = 4 + reply_head + longest_payload
 abbrev pub front_bytes : ℕ → ℕ → ℤ → ℕ → List ℕ
 front_bytes tenant command status size =
     little_bytes 4 size
-      ++
-        (little_bytes 2 tenant
-          ++ (little_bytes 2 command ++ little_bytes 4 (cast_unsigned w32 status)))
+    ++
+    (little_bytes 2 tenant
+    ++ (little_bytes 2 command ++ little_bytes 4 (cast_unsigned w32 status)))
 
 abbrev pub reply_bytes : ℕ → ℕ → ℤ → List ℕ → List ℕ
 reply_bytes tenant command status payload =

@@ -37,13 +37,13 @@ pub record ChangesTenant (tenant : ℕ) (before after : List TenantState) : Type
 abbrev pub BatchIsItsCalls : Type 0
 BatchIsItsCalls =
     (tenant fd : ℕ) (frames : List (List ℕ)) (inputs : List BatchInput) (results : List ℕ)
-      (before after : List TenantState) (s last : TenantState)
+    (before after : List TenantState) (s last : TenantState)
     → AllByRecursion (λ frame. owner frame ≡ tenant) frames → AreTestRuns fd frames inputs
     → slice_get before tenant ≡ Some s
     → RunsInOrder fd s inputs results last
     → slice_get after tenant ≡ Some last
     → ChangesTenant tenant before after
     → (turns : List Turn)
-      × (frames_in turns ≡ frames)
-      × (replies_in turns ≡ result_replies frames results)
-      × HandlesInOrder before turns after
+    × (frames_in turns ≡ frames)
+    × (replies_in turns ≡ result_replies frames results)
+    × HandlesInOrder before turns after

@@ -17,7 +17,7 @@ abbrev pub EachIsToldByItsMachine : List TenantState → List (List ℕ) → Lis
 EachIsToldByItsMachine before frames replies after =
     (t : ℕ)
     → AloneWithRefusals (slice_get before t) (frames_of t frames) (replies_of t frames replies)
-      (slice_get after t)
+    (slice_get after t)
 
 -- a tenant to which no memory was refused gets exactly the replies of its own machine, whatever was
 -- refused to others
@@ -34,7 +34,7 @@ abbrev pub CallsAreToldAlone : Type 0
 CallsAreToldAlone =
     (before after : List TenantState) (turns : List Turn) → HandlesInOrder before turns after
     → EachIsToldByItsMachine before (frames_in turns) (replies_in turns) after
-      × Noninterference before (frames_in turns) (replies_in turns) after
+    × Noninterference before (frames_in turns) (replies_in turns) after
     × NoneFaults (replies_in turns)
 
 -- After each number of turns, each tenant to which no memory was refused until then got exactly the
@@ -92,15 +92,15 @@ abbrev pub SameFramesSameOutput : Type 0
 SameFramesSameOutput =
     (old new old_too new_too : StreamState) (count count_too : ℕ) (rest rest_too : List ℕ)
     → (one : ServesAlone old new count rest)
-      (other : ServesAlone old_too new_too count_too rest_too)
+    (other : ServesAlone old_too new_too count_too rest_too)
     → one.frames ≡ other.frames
     → AllByRecursion
-        (λ frame.
-          BeginsAlike old.states new.states old_too.states new_too.states (owner frame)) one.frames
+    (λ frame.
+    BeginsAlike old.states new.states old_too.states new_too.states (owner frame)) one.frames
     → (one.replies ≡ other.replies)
-      × (out : List ℕ)
-      × Appends old.output new.output out
-      × Appends old_too.output new_too.output out
+    × (out : List ℕ)
+    × Appends old.output new.output out
+    × Appends old_too.output new_too.output out
 
 -- ---- how a stream ends
 
@@ -111,8 +111,8 @@ stream_result limit many rest =
     if nat_lt limit many then Err (record { kind = TooManyFrames; frames = limit }) else
     (if length rest == 0 then Ok many else
     (if many == limit
-      then Err (record { kind = TooManyFrames; frames = limit })
-      else Err (record { kind = Truncated; frames = many })))
+    then Err (record { kind = TooManyFrames; frames = limit })
+    else Err (record { kind = Truncated; frames = many })))
 
 -- No content of a frame ends a stream: if the bytes of the reader are known, no call of the reader
 -- or the writer fails, and there is memory for the buffers, the end of a call depends only on the
@@ -120,7 +120,7 @@ stream_result limit many rest =
 abbrev pub NoContentEndsAStream : Type 0
 NoContentEndsAStream =
     (limit : ℕ) (result : Result ℕ ServeFault) (old new : StreamState) (bytes : List ℕ)
-      (frames : List (List ℕ)) (rest : List ℕ)
+    (frames : List (List ℕ)) (rest : List ℕ)
     → ServesStream limit result old new
     → NoCallFailed old new
     → result ≢ Err (record { kind = Memory; frames = 0 })

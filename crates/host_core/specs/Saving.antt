@@ -20,9 +20,9 @@ pub record Records (frame reply : List ℕ) (before after : HostState) : Type 0 
       → slice_get before.states (owner frame) ≡ Some s
       → slice_get before.births (owner frame) ≡ Some births
       → (t : TenantState)
-        × (later : List Birth)
-        × (slice_get after.states (owner frame) ≡ Some t)
-        × (slice_get after.births (owner frame) ≡ Some later)
+      × (later : List Birth)
+      × (slice_get after.states (owner frame) ≡ Some t)
+      × (slice_get after.births (owner frame) ≡ Some later)
       × RecordsFrame frame reply s t births later
   pub others : (other : ℕ)
       → other ≢ owner frame
@@ -49,7 +49,7 @@ abbrev pub RunsPackets : HostState → HostState → Type 0
 RunsPackets before after =
     (tenant : ℕ) × (fd : ℕ) × (inputs : List BatchInput) × (room : List ℕ) × (written : List ℕ)
     × RunsFor fd (slice_get before.states tenant) inputs room written
-      (slice_get after.states tenant)
+    (slice_get after.states tenant)
     × ChangesTenant tenant before.states after.states × (after.births ≡ before.births)
 
 -- what a call does to a host: it handles a frame, runs a program on packets, or changes nothing

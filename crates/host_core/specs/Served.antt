@@ -105,7 +105,7 @@ abbrev pub CutsLastReply : StreamState → StreamState → ℕ → Type 0
 CutsLastReply old new count =
     (turns : List Turn) × (last : Turn) × (n : ℕ) × (length turns ≡ count)
     × Serves old new (turns ++ last ∷ []) []
-      (joined_replies (replies_in turns) ++ take n last.reply)
+    (joined_replies (replies_in turns) ++ take n last.reply)
 
 -- the end of a call that replies to `count` frames: the input is at its end
 abbrev pub ServesToEnd : StreamState → StreamState → ℕ → Type 0

@@ -1,5 +1,6 @@
--- The fault of bytes that begin with no instruction: the lowest kind that applies, defined by the grammar. RFC 9669 leaves it open
--- what a machine does with such bytes; the kinds and their order are this project's own.
+-- The fault of bytes that begin with no instruction: the lowest kind that applies, defined by the
+-- grammar. RFC 9669 leaves it open what a machine does with such bytes; the kinds and their order
+-- are this project's own.
 use Rattle.std.specs.Prelude.{◌≡◌, ℕ, ◌≤◌, ◌<◌, List, slice_index, length, take}
 use Rattle.insn_codec.specs.declared.fault.FaultKind.{FaultKind}
 use Rattle.insn_codec.specs.declared.fault.FaultKind.TheVariants.{Opcode, Reserved, Register, SecondSlot, Ragged, Empty, TooLong, Memory}
@@ -19,7 +20,8 @@ HasFirstSlot top bytes = (i : Insn) × IsInsnUpTo top i × (take 8 bytes ≡ slo
 abbrev pub HasInsn : List ℕ → Type 0
 HasInsn bytes = (i : Insn) × IsInsn i × Begins i bytes
 
--- the fault at the front; a register field has room for 0 to 15, section 3.1, of which 10 is the last register
+-- the fault at the front; a register field has room for 0 to 15, section 3.1, of which 10 is the
+-- last register
 abbrev pub HasFault : List ℕ → FaultKind → Type 0
 HasFault bytes Ragged = length bytes < 8
 HasFault bytes Opcode = (8 ≤ length bytes) × ¬ HasOpcode bytes

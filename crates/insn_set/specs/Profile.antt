@@ -24,7 +24,7 @@ row first second written successors reference slots =
       written = written;
       successors = successors;
       reference = reference;
-      slots = slots
+      slots = slots;
     }
 
 -- the register of an operand, if it is one

@@ -16,7 +16,7 @@ found_number test [] n v all e = absurd cc
 found_number test (row ∷ rows) n v all e =
     let (here, more) = and_parts (test row.0 row.1) (list_all (λ row. test row.0 row.1) rows) all in
     elim (eqb row.1 n) as
-      (λ b. eqb row.1 n ≡ b → cond b (Some row.0) (by_number rows n) ≡ Some v → test v n ≡ true) [
+    (λ b. eqb row.1 n ≡ b → cond b (Some row.0) (by_number rows n) ≡ Some v → test v n ≡ true) [
       | true ↦ λ same e. cc (here, eqb-true row.1 n same)
       | false ↦ λ _ e. found_number test rows n v more e
     ] refl e
@@ -32,7 +32,7 @@ is_eq : (x y : List ℕ) → bytes_eq x y ≡ true → x ≡ y
 is_eq x y e = (bytes_eq-Decides x y).0 e
 
 pub found_symbol : {A : Type 0} (test : A → List ℕ → Bool) (rows : List (Row A)) (s : List ℕ)
-      (v : A)
+    (v : A)
     → list_all (λ row. test row.0 row.2) rows ≡ true
     → by_symbol rows s ≡ Some v
     → test v s ≡ true
@@ -40,8 +40,8 @@ found_symbol test [] s v all e = absurd cc
 found_symbol test (row ∷ rows) s v all e =
     let (here, more) = and_parts (test row.0 row.2) (list_all (λ row. test row.0 row.2) rows) all in
     elim (bytes_eq s row.2) as
-      (λ b.
-        bytes_eq s row.2 ≡ b → cond b (Some row.0) (by_symbol rows s) ≡ Some v → test v s ≡ true) [
+    (λ b.
+    bytes_eq s row.2 ≡ b → cond b (Some row.0) (by_symbol rows s) ≡ Some v → test v s ≡ true) [
       | true ↦ λ same e. cc (here, is_eq s row.2 same)
       | false ↦ λ _ e. found_symbol test rows s v more e
     ] refl e
@@ -54,16 +54,16 @@ symbol_of symbol rows s v all e =
     is_eq (symbol v) s (found_symbol (λ v s. bytes_eq (symbol v) s) rows s v all e)
 
 pub found_named : {A : Type 0} (test : List ℕ → A → Bool) (table : List (List ℕ × A)) (n : List ℕ)
-      (v : A)
+    (v : A)
     → list_all (λ row. test row.0 row.1) table ≡ true
     → named table n ≡ Some v
     → test n v ≡ true
 found_named test [] n v all e = absurd cc
 found_named test (row ∷ table) n v all e =
     let (here, more) =
-        and_parts (test row.0 row.1) (list_all (λ row. test row.0 row.1) table) all in
+    and_parts (test row.0 row.1) (list_all (λ row. test row.0 row.1) table) all in
     elim (bytes_eq n row.0) as
-      (λ b. bytes_eq n row.0 ≡ b → cond b (Some row.1) (named table n) ≡ Some v → test n v ≡ true) [
+    (λ b. bytes_eq n row.0 ≡ b → cond b (Some row.1) (named table n) ≡ Some v → test n v ≡ true) [
       | true ↦ λ same e. cc (here, is_eq n row.0 same)
       | false ↦ λ _ e. found_named test table n v more e
     ] refl e

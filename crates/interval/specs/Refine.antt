@@ -39,8 +39,8 @@ where_different a b =
 abbrev pub where_above : Range → Range → Option RangePair
 where_above a b =
     if nat_le a.hi b.lo
-      then None
-      else Some (span (max a.lo (b.lo + 1)) a.hi, span b.lo (min b.hi (a.hi - 1)))
+    then None
+    else Some (span (max a.lo (b.lo + 1)) a.hi, span b.lo (min b.hi (a.hi - 1)))
 
 abbrev pub where_at_most : Range → Range → Option RangePair
 where_at_most a b =

@@ -16,8 +16,8 @@ abbrev pub sum_range : ℕ → Range → Range → Range
 sum_range n a b =
     if nat_lt (a.hi + b.hi) (2 ^ n) then span (a.lo + b.lo) (a.hi + b.hi) else
     (if nat_le (2 ^ n) (a.lo + b.lo)
-      then span (a.lo + b.lo - 2 ^ n) (a.hi + b.hi - 2 ^ n)
-      else full n)
+    then span (a.lo + b.lo - 2 ^ n) (a.hi + b.hi - 2 ^ n)
+    else full n)
 
 abbrev pub difference_range : ℕ → Range → Range → Range
 difference_range n a b =

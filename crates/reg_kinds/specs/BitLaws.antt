@@ -33,6 +33,6 @@ bits_in_small p n i =
     ⊎_elim
     (λ lt. let few : a + b ≤ 8 = omega arith in ones_small a b few)
     (λ le.
-      let none : a ≡ 0 = omega arith in
-      subst (λ k. (2 ^ k - 1) * 2 ^ b < 256) (sym none) (omega arith))
+    let none : a ≡ 0 = omega arith in
+    subst (λ k. (2 ^ k - 1) * 2 ^ b < 256) (sym none) (omega arith))
     (cases_lt b 8)

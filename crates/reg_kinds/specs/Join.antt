@@ -33,7 +33,7 @@ slot_join _ _ = Bytes 0
 abbrev pub facts_join : Facts → Facts → Facts
 facts_join a b =
     facts_of (λ r. kind_join (kind_at a r) (kind_at b r))
-      (λ i. slot_join (slot_at a i) (slot_at b i))
+    (λ i. slot_join (slot_at a i) (slot_at b i))
 
 -- the stack has eight parts, of eight slots each
 abbrev pub stack_parts : ℕ

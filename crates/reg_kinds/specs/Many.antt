@@ -35,9 +35,9 @@ abbrev pub stack_input : Facts → ℤ → ℕ → Result (Unit {0}) Reason
 stack_input f x n =
     if not (is_in_stack x n) then Err OutsideStack else
     (if any_below stack_slots
-        (λ i. is_touched_spill (slot_at f i) (touches (byte_index x) n i)) then Err PartOfSpill else
+    (λ i. is_touched_spill (slot_at f i) (touches (byte_index x) n i)) then Err PartOfSpill else
     (if any_below stack_slots
-        (λ i. lacks (slot_at f i) (bits_in (byte_index x) n i)) then Err UnwrittenStack else Ok tt))
+    (λ i. lacks (slot_at f i) (bits_in (byte_index x) n i)) then Err UnwrittenStack else Ok tt))
 
 -- after a write of lo to hi bytes the first lo count as written, and of a spill that may be touched
 -- no other byte does
@@ -45,9 +45,9 @@ abbrev pub filled : Facts → ℤ → ℕ → ℕ → Facts
 filled f x lo hi =
     with_slots f
     (λ i.
-      if touches (byte_index x) hi i
-      then bytes_over (slot_at f i) (bits_in (byte_index x) lo i)
-      else slot_at f i)
+    if touches (byte_index x) hi i
+    then bytes_over (slot_at f i) (bits_in (byte_index x) lo i)
+    else slot_at f i)
 
 abbrev pub stack_filled : Facts → ℤ → ℕ → ℕ → Result Facts Reason
 stack_filled f x lo hi = if is_in_stack x hi then Ok (filled f x lo hi) else Err OutsideStack

@@ -15,5 +15,5 @@ offsets_hull p q =
       map = p.map;
       lo = int_min p.lo q.lo;
       hi = int_max p.hi q.hi;
-      ordered = offsets_ordered p q
+      ordered = offsets_ordered p q;
     }

@@ -52,8 +52,8 @@ bytes_over (Spill k) bits = Bytes bits
 abbrev pub slot_written : Slot → ℕ → AccessSize → Kind → Result Slot Reason
 slot_written s bits size k =
     if is_pointer k
-      then (if is_double size then Ok (Spill k) else Err PartOfSpill)
-      else Ok (bytes_over s bits)
+    then (if is_double size then Ok (Spill k) else Err PartOfSpill)
+    else Ok (bytes_over s bits)
 
 -- the facts after a store
 abbrev pub facts_written : Facts → AccessSize → Kind → ℕ × ℕ → Result Facts Reason

@@ -47,13 +47,13 @@ set-at P xs i x d here past =
     ⊎_elim
     (λ lt. subst P (sym (get_or-set_same xs i x d lt)) here)
     (λ le.
-      subst P (sym (get_or_past (set xs i x) i d (let l = length-set xs i x in omega arith))) past)
+    subst P (sym (get_or_past (set xs i x) i d (let l = length-set xs i x in omega arith))) past)
     (cases_lt i (length xs))
 
 -- a relation between elements and a function's values, and between x and y, holds once x and y are
 -- written at i
 pub in_written : {X Y : Type 0} (P : X → Y → Type 0) (xs : List X) (g : ℕ → Y) (i : ℕ) (x d : X)
-      (y : Y)
+    (y : Y)
     → P x y
     → P d y
     → ((k : ℕ) → P (get_or xs k d) (g k))
@@ -62,8 +62,8 @@ pub in_written : {X Y : Type 0} (P : X → Y → Type 0) (xs : List X) (g : ℕ 
 in_written P xs g i x d y here past others k =
     cond_both (k == i) y (g k) (λ z. P (get_or (set xs i x) k d) z)
     (λ t.
-      subst (λ j. P (get_or (set xs i x) j d) y) (sym (eqb-true k i t))
-      (set-at (λ z. P z y) xs i x d here past))
+    subst (λ j. P (get_or (set xs i x) j d) y) (sym (eqb-true k i t))
+    (set-at (λ z. P z y) xs i x d here past))
     (λ t. subst (λ z. P z (g k)) (sym (get_or-set_other xs i k x d (eqb-false k i t))) (others k))
 
 -- what holds of the elements of a list, and of x, holds of the elements once x is written at i

@@ -19,7 +19,7 @@ abbrev pub body_of : Command → List ℕ
 body_of (map_create kind key value max flags) =
     little_bytes 4 kind
     ++
-      (little_bytes 4 key ++ (little_bytes 4 value ++ (little_bytes 4 max ++ little_bytes 4 flags)))
+    (little_bytes 4 key ++ (little_bytes 4 value ++ (little_bytes 4 max ++ little_bytes 4 flags)))
 body_of (map_lookup fd key) = little_bytes 4 fd ++ key
 body_of (map_update fd flags bytes) = little_bytes 4 fd ++ (little_bytes 8 flags ++ bytes)
 body_of (map_delete fd key) = little_bytes 4 fd ++ key

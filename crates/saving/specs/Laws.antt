@@ -44,7 +44,7 @@ pub record AlikeStatesReplyAlike : Type 0 where
       → AloneWithRefusals (Some s) frames replies after
       → (end : Option TenantState) × AloneWithRefusals (Some t) frames replies end
   pub same : (s t : TenantState) (frames replies others : List (List ℕ))
-        (after end : Option TenantState)
+      (after end : Option TenantState)
       → HoldsItsMaps s
       → HoldsItsMaps t
       → IsAlike s t
@@ -100,8 +100,8 @@ abbrev pub RestoredByFrames : Type 0
 RestoredByFrames =
     (tenant : ℕ) (s : TenantState) (births : List Birth) → IsRestorable s → AreBirths s births
     → (t : TenantState)
-      × (replies : List (List ℕ))
-      × IsToldAlone (Some new_tenant) (map (frame_of tenant) (restored s births)) replies (Some t)
+    × (replies : List (List ℕ))
+    × IsToldAlone (Some new_tenant) (map (frame_of tenant) (restored s births)) replies (Some t)
     × AreGood (map (frame_of tenant) (restored s births)) replies × IsAlike s t × HoldsItsMaps t
 
 -- a new tenant can be restored, and each command preserves this
@@ -129,12 +129,12 @@ IsRestoredBy s saved =
     × IsToldAlone (Some new_tenant) saved given (Some t)
     × AreGood saved given
     × ((frames replies : List (List ℕ)) (after : Option TenantState)
-      → IsToldAlone (Some s) frames replies after
-      → (end : Option TenantState) × IsToldAlone (Some t) frames replies end)
+    → IsToldAlone (Some s) frames replies after
+    → (end : Option TenantState) × IsToldAlone (Some t) frames replies end)
     × ((frames replies others : List (List ℕ)) (after end : Option TenantState)
-      → IsToldAlone (Some s) frames replies after
-      → IsToldAlone (Some t) frames others end
-      → others ≡ replies)
+    → IsToldAlone (Some s) frames replies after
+    → IsToldAlone (Some t) frames others end
+    → others ≡ replies)
 
 -- the state after any history is restored
 abbrev pub HistoriesAreRestored : Type 0

@@ -44,8 +44,8 @@ unfoldable pub shapes_from : TenantState → List (ℕ × ℕ) → ℕ → ℕ �
 shapes_from s maps fd zero = []
 shapes_from s maps fd (suc n) =
     entry_of fd
-        (option_map (λ t. target.Map t.shape) (and_then (lookup (λ m. m == fd) maps) (live s)))
-      ++ shapes_from s maps (fd + 1) n
+    (option_map (λ t. target.Map t.shape) (and_then (lookup (λ m. m == fd) maps) (live s)))
+    ++ shapes_from s maps (fd + 1) n
 
 -- a program was accepted with the shapes that its maps have, and has a handle for each map that it
 -- loads

@@ -8,7 +8,7 @@ use Rattle.seeded_hash.specs.declared.SeededHasher.{SeededHasher}
 abbrev pub seed_of : List ℕ → HashSeed
 seed_of bytes = record {
   state = from_le_bytes w64 (take 8 bytes);
-  factor = from_le_bytes w64 (drop 8 bytes)
+  factor = from_le_bytes w64 (drop 8 bytes);
 }
 
 -- the hasher of a seed
@@ -39,10 +39,10 @@ short_word bs =
     let n = length bs in
     if nat_le 4 n then bit_or (half_at bs 0) (shifted (half_at bs (n - 4)) 32)
     else
-      (if nat_lt 0 n
-        then bit_or (bit_or (slice_index bs 0) (shifted (slice_index bs (n / 2)) 8))
-          (shifted (slice_index bs (n - 1)) 16)
-        else 0)
+    (if nat_lt 0 n
+    then bit_or (bit_or (slice_index bs 0) (shifted (slice_index bs (n / 2)) 8))
+    (shifted (slice_index bs (n - 1)) 16)
+    else 0)
 
 -- the state after the words at i and at j
 abbrev pub mixed : ℕ → List ℕ → ℕ → ℕ → ℕ → ℕ
@@ -61,12 +61,12 @@ written h bs =
     let n = length bs in
     let state = (h.state + n) % 2 ^ 64 in
     let short =
-        folded_product (bit_xor (short_word bs) state)
-        (bit_xor (rotate_left w64 (short_word bs) 32) h.factor) in
+    folded_product (bit_xor (short_word bs) state)
+    (bit_xor (rotate_left w64 (short_word bs) 32) h.factor) in
     let long =
-        folded_product
-        (mixed h.factor bs (blocks_mixed h.factor bs state ((n - 1) / 16)) (n - 16)
-          (n - 8)) h.factor in
+    folded_product
+    (mixed h.factor bs (blocks_mixed h.factor bs state ((n - 1) / 16)) (n - 16)
+    (n - 8)) h.factor in
     record { state = if nat_le n 8 then short else long; factor = h.factor }
 
 -- the hash at the end

@@ -118,5 +118,5 @@ pub record AreBelow (n : ℕ) (f : Facts) : Type 0 where
 abbrev pub witness_at : Witness → RunState → ℕ → Tagged → Witness
 witness_at witness s site v = record {
   gave = set_at witness.gave site v;
-  objects = λ m. objects_of (s.maps m)
+  objects = λ m. objects_of (s.maps m);
 }

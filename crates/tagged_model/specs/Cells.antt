@@ -60,9 +60,9 @@ write_cell c j _ v = None
 abbrev pub cell_over : ℕ → Cell → ℕ → List ℕ → Cell
 cell_over i c p bs =
     if touches p (length bs) i
-      then bytes
-        (λ j.
-          if nat_le p (8 * i + j) && nat_lt (8 * i + j) (p + length bs)
-          then slice_get bs (8 * i + j - p)
-          else byte_at c j)
-      else c
+    then bytes
+    (λ j.
+    if nat_le p (8 * i + j) && nat_lt (8 * i + j) (p + length bs)
+    then slice_get bs (8 * i + j - p)
+    else byte_at c j)
+    else c

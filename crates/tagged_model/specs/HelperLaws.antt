@@ -94,8 +94,8 @@ entry_set : (s : RunState) (m : ℕ) (t u : RunMap)
 entry_set s m t u there change k =
     cond_both (k == m) (Some u) (s.maps k) (EntryAfterCall (s.maps k))
     (λ b.
-      subst (λ (o : Option RunMap). EntryAfterCall o (Some u))
-      (sym (ap s.maps (eqb-true k m b) ∙ there)) change)
+    subst (λ (o : Option RunMap). EntryAfterCall o (Some u))
+    (sym (ap s.maps (eqb-true k m b) ∙ there)) change)
     (λ _. entry_same (s.maps k))
 
 map_changed : (s : RunState) (m : ℕ) (t u : RunMap)
@@ -113,7 +113,7 @@ replied : (s : RunState) (m : ℕ) (t : RunMap) (reply : MapReply)
     → IsAfterCall s (replies s m reply)
 replied s m t reply there change = record {
   words = refl;
-  maps = entry_set s m t reply.map there change
+  maps = entry_set s m t reply.map there change;
 }
 
 then_leaves : {A : Type 0} (s : RunState) (o : Option A) (f : A → Option RunState)
@@ -133,23 +133,23 @@ return_leaves s (Some t) v h = returned s t v h
 -- a map is the one of its descriptor
 map_leaves : (s : RunState) (r : ℕ) (f : GivenMap → Option RunState)
     → ((m : ℕ) (t : RunMap)
-      → s.maps m ≡ Some t
-      → LeavesAfterCall s (f (record { descriptor = m; map = t })))
+    → s.maps m ≡ Some t
+    → LeavesAfterCall s (f (record { descriptor = m; map = t })))
     → LeavesAfterCall s (and_then (map_argument s r) f)
 map_leaves s r f h = by (argument s r map_given)
   where
     at : (m : ℕ) (o : Option RunMap)
         → s.maps m ≡ o
         → LeavesAfterCall s
-          (and_then (and_then o (λ t. Some (record { descriptor = m; map = t }))) f)
+        (and_then (and_then o (λ t. Some (record { descriptor = m; map = t }))) f)
     at m None e = tt
     at m (Some t) e = h m t e
 
     by : (o : Option ℕ)
         → LeavesAfterCall s
-          (and_then
-            (and_then o
-              (λ m. and_then (s.maps m) (λ t. Some (record { descriptor = m; map = t })))) f)
+        (and_then
+        (and_then o
+        (λ m. and_then (s.maps m) (λ t. Some (record { descriptor = m; map = t })))) f)
     by None = tt
     by (Some m) = at m (s.maps m) refl
 
@@ -204,16 +204,16 @@ bytes_leave s r n f h = by (s.registers r)
 output_leaves : (s : RunState) (p : Tagged) (bs : List ℕ) → LeavesAfterCall s (output s p bs)
 output_leaves s (Pointer object.Stack x) bs =
     cond_both (is_in_stack x (length bs))
-      (Some (with_cells s (λ i. cell_over i (s.cells i) (byte_index x) bs))) None
-      (LeavesAfterCall s)
+    (Some (with_cells s (λ i. cell_over i (s.cells i) (byte_index x) bs))) None
+    (LeavesAfterCall s)
     (λ _. record { words = refl; maps = λ m. entry_same (s.maps m) })
     (λ _. tt)
 output_leaves s (Pointer (object.Value m number) x) bs =
     then_leaves s (s.maps m) _
-      (λ t there.
-        then_leaves s (value_written (t.values number) x bs) _
-        (λ value is.
-          map_changed s m t (with_value t number value) there (written number x bs value is)))
+    (λ t there.
+    then_leaves s (value_written (t.values number) x bs) _
+    (λ value is.
+    map_changed s m t (with_value t number value) there (written number x bs value is)))
 output_leaves s p bs = tt
 
 -- ---- the calls
@@ -222,26 +222,26 @@ output_leaves s p bs = tt
 pub call_leaves : (helper : Helper) (s : RunState) → LeavesAfterCall s (called helper s)
 call_leaves LookUp s =
     map_leaves s 1 _
-      (λ m t _.
-        bytes_leave s 2 t.table.shape.key_size _
-        (λ key _. returned s s (looked_up m (look_up t.table key)) (state_same s)))
+    (λ m t _.
+    bytes_leave s 2 t.table.shape.key_size _
+    (λ key _. returned s s (looked_up m (look_up t.table key)) (state_same s)))
 call_leaves Update s =
     map_leaves s 1 _ (λ m t there.
     bytes_leave s 2 t.table.shape.key_size _ (λ key key_size.
     bytes_leave s 3 t.table.shape.value_size _ (λ value value_size.
     then_leaves s (argument s 4 number_given) _
     (λ flags _.
-      replied s m t (updated t key value flags) there
-      (after_update key value flags key_size value_size)))))
+    replied s m t (updated t key value flags) there
+    (after_update key value flags key_size value_size)))))
 call_leaves Delete s =
     map_leaves s 1 _
-      (λ m t there.
-        bytes_leave s 2 t.table.shape.key_size _
-        (λ key _. replied s m t (removed t key) there (after_delete key)))
+    (λ m t there.
+    bytes_leave s 2 t.table.shape.key_size _
+    (λ key _. replied s m t (removed t key) there (after_delete key)))
 call_leaves LoadBytes s =
     then_leaves s (argument s 1 context_given) _ (λ _ _.
     then_leaves s (argument s 2 number_given) _ (λ offset _.
     then_leaves s (argument s 4 length_given) _ (λ n _.
     let bs = packet_bytes s.packet offset n in
     return_leaves s (argument s 3 (λ p. output s p bs)) (Scalar (packet_answer s.packet offset n))
-      (then_leaves s (s.registers 3) _ (λ p _. output_leaves s p bs)))))
+    (then_leaves s (s.registers 3) _ (λ p _. output_leaves s p bs)))))

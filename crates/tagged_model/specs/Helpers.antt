@@ -72,7 +72,7 @@ abbrev pub with_object : RunMap → List ℕ → List ℕ → RunMap
 with_object t key value = record {
   table = with_new t.table key t.count;
   count = t.count + 1;
-  values = set_at t.values t.count value
+  values = set_at t.values t.count value;
 }
 
 -- the map without a key; the deleted object keeps its bytes

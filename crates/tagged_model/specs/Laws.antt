@@ -30,7 +30,7 @@ JoinAdmits =
 abbrev pub StackReadAdmits : Type 0
 StackReadAdmits =
     (witness : Witness) (f : Facts) (s : RunState) (offset : ℤ) (size : AccessSize) (signed : Bool)
-      (k : Kind)
+    (k : Kind)
     → IsInRange s
     → AdmitsBy witness f s
     → stack_read f offset size signed ≡ Ok k
@@ -40,7 +40,7 @@ StackReadAdmits =
 abbrev pub StackWriteAdmits : Type 0
 StackWriteAdmits =
     (witness : Witness) (f g : Facts) (s : RunState) (offset : ℤ) (size : AccessSize) (k : Kind)
-      (v : Tagged)
+    (v : Tagged)
     → IsInRange s
     → AdmitsBy witness f s
     → IsOfKind witness k v
@@ -90,7 +90,7 @@ ObjectReadAdmits =
 abbrev pub ObjectWriteAdmits : Type 0
 ObjectWriteAdmits =
     (witness : Witness) (f : Facts) (shapes : ℕ → Option MapShape) (s : RunState) (m number : ℕ)
-      (shape : MapShape) (y : ℤ) (bs : List ℕ)
+    (shape : MapShape) (y : ℤ) (bs : List ℕ)
     → IsInRange s
     → AdmitsBy witness f s
     → HasMaps shapes s
@@ -98,11 +98,11 @@ ObjectWriteAdmits =
     → AreBytes bs
     → pos 0 ≤ℤ y → (y +ℤ pos (length bs)) ≤ℤ pos shape.value_size
     → (u : RunState)
-      × (object_written s m number y bs ≡ Some u)
-      × AdmitsBy witness f u
-      × IsInRange u
-      × HasMaps shapes u
-      × (u.at ≡ s.at)
+    × (object_written s m number y bs ≡ Some u)
+    × AdmitsBy witness f u
+    × IsInRange u
+    × HasMaps shapes u
+    × (u.at ≡ s.at)
 
 -- the facts describe the state by the witness: they admit it, its numbers are in range, and it has
 -- a map of each shape
@@ -116,28 +116,28 @@ pub record Describes (witness : Witness) (f : Facts) (shapes : ℕ → Option Ma
 abbrev pub ValueLoadAdmits : Type 0
 ValueLoadAdmits =
     (witness : Witness) (s : RunState) (m number : ℕ) (shape : MapShape) (y : ℤ) (size : AccessSize)
-      (signed : Bool)
+    (signed : Bool)
     → IsInRange s
     → IsObject s m number shape
     → pos 0 ≤ℤ y
     → (y +ℤ pos (bytes_of size)) ≤ℤ pos shape.value_size
     → (v : Tagged)
-      × (number_from size signed (object_bytes s m number y (bytes_of size)) ≡ Some v)
-      × IsOfKind witness (loaded size signed) v
+    × (number_from size signed (object_bytes s m number y (bytes_of size)) ≡ Some v)
+    × IsOfKind witness (loaded size signed) v
 
 -- a store of a number within an object changes no fact
 abbrev pub ValueStoreAdmits : Type 0
 ValueStoreAdmits =
     (witness : Witness) (f : Facts) (shapes : ℕ → Option MapShape) (s : RunState) (m number : ℕ)
-      (shape : MapShape) (y : ℤ) (size : AccessSize) (n : ℕ)
+    (shape : MapShape) (y : ℤ) (size : AccessSize) (n : ℕ)
     → Describes witness f shapes s
     → IsObject s m number shape
     → pos 0 ≤ℤ y
     → (y +ℤ pos (bytes_of size)) ≤ℤ pos shape.value_size
     → (u : RunState)
-      × (object_stored s size m number y (Scalar n) ≡ Some u)
-      × Describes witness f shapes u
-      × (u.at ≡ s.at)
+    × (object_stored s size m number y (Scalar n) ≡ Some u)
+    × Describes witness f shapes u
+    × (u.at ≡ s.at)
 
 -- the map u keeps the shape of t, and all of its objects
 pub record KeepsShape (shape : MapShape) (t u : RunMap) : Type 0 where
@@ -171,7 +171,7 @@ pub record MapCallsKeep : Type 0 where
 abbrev pub MapChangeAdmits : Type 0
 MapChangeAdmits =
     (witness : Witness) (f : Facts) (shapes : ℕ → Option MapShape) (s : RunState) (m : ℕ)
-      (shape : MapShape) (t u : RunMap)
+    (shape : MapShape) (t u : RunMap)
     → Describes witness f shapes s
     → s.maps m ≡ Some t
     → shapes m ≡ Some shape
@@ -182,7 +182,7 @@ MapChangeAdmits =
 abbrev pub CallAdmits : Type 0
 CallAdmits =
     (witness : Witness) (f : Facts) (shapes : ℕ → Option MapShape) (s : RunState) (k : Kind)
-      (v : Tagged)
+    (v : Tagged)
     → Describes witness f shapes s
     → IsOfKind witness k v
     → Describes witness (called_facts f k) shapes (returns s v)
@@ -191,7 +191,7 @@ CallAdmits =
 abbrev pub SiteAdmits : Type 0
 SiteAdmits =
     (witness : Witness) (f : Facts) (shapes : ℕ → Option MapShape) (s : RunState) (site : ℕ)
-      (v : Tagged)
+    (v : Tagged)
     → AreBelow site f
     → Describes witness f shapes s
     → Describes (witness_at witness s site v) f shapes s

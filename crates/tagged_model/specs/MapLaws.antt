@@ -11,23 +11,23 @@ use Rattle.tagged_model.specs.Table as map
 pub record CallsRefineValues (A B : Type 0) : Type 0 where
   pub new : (value : A → B) (object : ℕ → A) (shape : MapShape)
       → map.with_values value (map.new_table object shape)
-        ≡ map.new_table (λ i. value (object i)) shape
+      ≡ map.new_table (λ i. value (object i)) shape
   pub found : (value : A → B) (t : map.Table A) (key : List ℕ)
       → map.look_up (map.with_values value t) key ≡ option_map value (map.look_up t key)
   pub verdict : (value : A → B) (t : map.Table A) (key : List ℕ) (flags : ℕ)
       → map.verdict (map.with_values value t) key flags
-        ≡ map.verdict_with value (map.verdict t key flags)
+      ≡ map.verdict_with value (map.verdict t key flags)
   pub removal : (value : A → B) (t : map.Table A) (key : List ℕ)
       → map.removal (map.with_values value t) key
-        ≡ result_map_both value (λ fault. fault) (map.removal t key)
+      ≡ result_map_both value (λ fault. fault) (map.removal t key)
   pub next : (value : A → B) (t : map.Table A) (key : List ℕ)
       → map.next_of (map.with_values value t) key ≡ map.next_of t key
   pub update : (value : A → B) (t : map.Table A) (key : List ℕ) (object : A)
       → map.with_values value (map.with_new t key object)
-        ≡ map.with_new (map.with_values value t) key (value object)
+      ≡ map.with_new (map.with_values value t) key (value object)
   pub delete : (value : A → B) (t : map.Table A) (key : List ℕ)
       → map.with_values value (map.with_deleted t key)
-        ≡ map.with_deleted (map.with_values value t) key
+      ≡ map.with_deleted (map.with_values value t) key
   pub end : (value : A → B) (t : map.Table A)
       → map.with_values value (map.after_run t) ≡ map.after_run (map.with_values value t)
 

@@ -48,5 +48,5 @@ is_shape kind key value max = is_valid kind key value max 0 && fits value max
 abbrev pub shape_fault : MapKind → ℕ → ℕ → ℕ → ℕ → Option ShapeFault
 shape_fault kind key value max flags =
     if is_valid kind key value max flags
-      then (if fits value max then None else Some TooBig)
-      else Some Invalid
+    then (if fits value max then None else Some TooBig)
+    else Some Invalid

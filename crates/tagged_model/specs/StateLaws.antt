@@ -81,21 +81,21 @@ owns_without n key (e ∷ es) h = by (is_key key e.0) (owns_without n key es h.1
 pub value_short : (shape : MapShape) → shape.value_size ≤ 4096
 value_short shape =
     let valid =
-        (and_parts (is_valid shape.kind shape.key_size shape.value_size shape.max_entries 0)
-        (fits shape.value_size shape.max_entries) shape.listed).0 in
+    (and_parts (is_valid shape.kind shape.key_size shape.value_size shape.max_entries 0)
+    (fits shape.value_size shape.max_entries) shape.listed).0 in
     let sizes =
-        and_parts
-        (has_key shape.kind shape.key_size && is_from_to 1 longest_value shape.value_size
-          && is_from_to 1 most_entries shape.max_entries)
-        (0 == 0) valid in
+    and_parts
+    (has_key shape.kind shape.key_size && is_from_to 1 longest_value shape.value_size
+    && is_from_to 1 most_entries shape.max_entries)
+    (0 == 0) valid in
     let sized =
-        and_parts (has_key shape.kind shape.key_size && is_from_to 1 longest_value shape.value_size)
-        (is_from_to 1 most_entries shape.max_entries) sizes.0 in
+    and_parts (has_key shape.kind shape.key_size && is_from_to 1 longest_value shape.value_size)
+    (is_from_to 1 most_entries shape.max_entries) sizes.0 in
     let value =
-        and_parts (has_key shape.kind shape.key_size)
-        (is_from_to 1 longest_value shape.value_size) sized.0 in
+    and_parts (has_key shape.kind shape.key_size)
+    (is_from_to 1 longest_value shape.value_size) sized.0 in
     leb-true shape.value_size longest_value
-      (and_parts (nat_le 1 shape.value_size) (nat_le shape.value_size longest_value) value.1).1
+    (and_parts (nat_le 1 shape.value_size) (nat_le shape.value_size longest_value) value.1).1
 
 -- its map has one entry, and its offset is below 4,096
 pub record IsDirect (shape : MapShape) (offset : ℕ) : Type 0 where
@@ -107,8 +107,8 @@ pub is_direct : (shape : MapShape) (offset : ℕ)
     → IsDirect shape offset
 is_direct shape offset e =
     let parts =
-        and_parts (is_array shape.kind && (shape.max_entries == 1))
-        (nat_lt offset shape.value_size) e in
+    and_parts (is_array shape.kind && (shape.max_entries == 1))
+    (nat_lt offset shape.value_size) e in
     let front = and_parts (is_array shape.kind) (shape.max_entries == 1) parts.0 in
     let inside = ltb-true offset shape.value_size parts.1 in
     let short = value_short shape in

@@ -117,7 +117,7 @@ module _ {A : Type 0} where
   with_new t key a = record {
     shape = t.shape;
     entries = with_key key a t.entries;
-    deleted = t.deleted
+    deleted = t.deleted;
   }
 
   -- the map with another object for a present key, which keeps its position
@@ -125,7 +125,7 @@ module _ {A : Type 0} where
   with_object t key a = record {
     shape = t.shape;
     entries = set_value (is_key key) t.entries a;
-    deleted = t.deleted
+    deleted = t.deleted;
   }
 
   abbrev pub removal_of : MapKind → Option A → Result A MapFault
@@ -142,7 +142,7 @@ module _ {A : Type 0} where
   with_deleted t key = record {
     shape = t.shape;
     entries = without key t.entries;
-    deleted = t.deleted + 1
+    deleted = t.deleted + 1;
   }
 
   -- BPF_MAP_GET_NEXT_KEY: None after the last key, and in a map without keys
@@ -158,7 +158,7 @@ module _ {A : Type 0} where
   new_table object shape = record {
     shape = shape;
     entries = new_entries object shape.kind shape.max_entries;
-    deleted = 0
+    deleted = 0;
   }
 
 -- ---- the value that a program may load without a call (linux/bpf.h, BPF_PSEUDO_MAP_VALUE): that
@@ -185,7 +185,7 @@ module _ {A B : Type 0} (value : A → B) where
   with_values t = record {
     shape = t.shape;
     entries = map (λ e. (e.0, value e.1)) t.entries;
-    deleted = t.deleted
+    deleted = t.deleted;
   }
 
   abbrev pub verdict_with : Verdict A → Verdict B

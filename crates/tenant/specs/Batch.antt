@@ -69,8 +69,8 @@ packet_errno TooLong = TooBig
 abbrev pub packets_refusal : ℕ → ℕ → List ℕ → ℕ → Option Errno
 packets_refusal contexts many ends room =
     if nat_lt room (length ends)
-      then Some Invalid
-      else option_map packet_errno (batch_fault contexts many ends)
+    then Some Invalid
+    else option_map packet_errno (batch_fault contexts many ends)
 
 -- Why a batch is rejected, before the first packet: what is named is no program; there is room for
 -- fewer results than packets; there is neither one context nor one for each packet; or a packet is
@@ -100,7 +100,7 @@ result_replies (frame ∷ frames) (result ∷ results) =
 abbrev pub BatchIsItsFrames : Type 0
 BatchIsItsFrames =
     (fd : ℕ) (frames : List (List ℕ)) (inputs : List BatchInput) (results : List ℕ)
-      (before after : TenantState)
+    (before after : TenantState)
     → AreTestRuns fd frames inputs
     → RunsInOrder fd before inputs results after
     → AloneWithRefusals (Some before) frames (result_replies frames results) (Some after)

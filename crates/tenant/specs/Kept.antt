@@ -33,7 +33,7 @@ abbrev pub state_in : List ℕ → KeptTenant → TenantState
 state_in part k = record {
   objects = k.objects;
   maps = at_handles (map_at part k.live);
-  refused = k.refused || k.live.refused
+  refused = k.refused || k.live.refused;
 }
 
 -- ---- the references to the map of a handle

@@ -30,12 +30,12 @@ is_some-mapped f (Some x) = refl
 -- whether a map is live does not depend on the bytes of its values
 pub some_at_each : (p q : List ℕ) (t : LiveMaps) (handle : ℕ)
     → is_some (get_or (at_handles (map_at p t)) handle None)
-      ≡ is_some (get_or (at_handles (map_at q t)) handle None)
+    ≡ is_some (get_or (at_handles (map_at q t)) handle None)
 some_at_each p q t handle = by (cases_lt handle most_maps)
   where
     by : (handle < most_maps) ⊎ (most_maps ≤ handle)
         → is_some (get_or (at_handles (map_at p t)) handle None)
-          ≡ is_some (get_or (at_handles (map_at q t)) handle None)
+        ≡ is_some (get_or (at_handles (map_at q t)) handle None)
     by (inl lt) =
         ap is_some (at-within (map_at p t) handle lt)
         ∙ is_some-mapped (λ l. map_in p t handle) (live_at t handle)

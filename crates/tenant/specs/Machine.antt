@@ -56,7 +56,7 @@ abbrev pub refuses_for_memory : TenantState → Answer
 refuses_for_memory s = record {
   status = status_of NoMemory;
   payload = [];
-  after = record s { refused = true }
+  after = record s { refused = true };
 }
 
 abbrev pub gives : List ℕ → TenantState → Answer
@@ -82,14 +82,14 @@ asked_shape None key value max flags = Err Invalid
 asked_shape (Some kind) key value max flags =
     if is_valid kind key value max flags
     then shape_where (is_shape kind key value max)
-      (λ listed.
-        record {
-        kind = kind;
-        key_size = key;
-        value_size = value;
-        max_entries = max;
-        listed = listed
-      })
+    (λ listed.
+    record {
+      kind = kind;
+      key_size = key;
+      value_size = value;
+      max_entries = max;
+      listed = listed;
+    })
     else Err Invalid
 
 -- a new array contains zeros, and a new hash map no key
@@ -104,9 +104,11 @@ abbrev pub created_at : Bool → TenantState → MapShape → ℕ → ℕ → An
 created_at true s shape fd handle = refuses_for_memory s
 created_at false s shape fd handle =
     opens fd
-    (record s
-      { objects = table.with_open s.objects fd (object.Map handle); maps = slice_set s.maps handle
-        (Some (new_map shape)) })
+    (record s {
+      objects = table.with_open s.objects fd (object.Map handle);
+      maps = slice_set s.maps handle
+          (Some (new_map shape));
+    })
 
 abbrev pub created_as : Bool → TenantState → MapShape → ℕ → Option ℕ → Answer
 created_as refused s shape fd None = refuses NoSpace s
@@ -145,9 +147,9 @@ abbrev pub element_looked_up : TenantState → ℕ → List ℕ → Answer
 element_looked_up s fd key =
     on_map s fd
     (λ handle t.
-      if length key == t.shape.key_size
-      then gives_if_found s (look_up t key)
-      else refuses Invalid s)
+    if length key == t.shape.key_size
+    then gives_if_found s (look_up t key)
+    else refuses Invalid s)
 
 -- MAP_UPDATE_ELEM: a present key keeps its position, and a new one goes to the end
 abbrev pub element_put : TenantState → ℕ → Map → List ℕ → List ℕ → call.Verdict (List ℕ) → Answer
@@ -173,18 +175,18 @@ abbrev pub element_deleted : TenantState → ℕ → List ℕ → Answer
 element_deleted s fd key =
     on_map s fd
     (λ handle t.
-      if length key == t.shape.key_size
-      then element_taken_out s handle t key (removal t key)
-      else refuses Invalid s)
+    if length key == t.shape.key_size
+    then element_taken_out s handle t key (removal t key)
+    else refuses Invalid s)
 
 -- MAP_GET_NEXT_KEY: after an empty key, the first key
 abbrev pub given_next : TenantState → ℕ → List ℕ → Answer
 given_next s fd key =
     on_map s fd
-      (λ handle t.
-        if length key == 0 || length key == t.shape.key_size
-        then gives_if_found s (next_of t key)
-        else refuses Invalid s)
+    (λ handle t.
+    if length key == 0 || length key == t.shape.key_size
+    then gives_if_found s (next_of t key)
+    else refuses Invalid s)
 
 -- ---- PROG_LOAD
 
@@ -239,7 +241,7 @@ abbrev pub refuses_load : Refusal → TenantState → Answer
 refuses_load refusal s = record {
   status = status_of (cause_errno refusal.cause);
   payload = little_bytes 4 refusal.slot ++ little_bytes 2 (cause_number refusal.cause);
-  after = s
+  after = s;
 }
 
 -- an open object as the verifier sees it: a map of its shape, or a program

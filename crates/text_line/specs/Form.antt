@@ -103,7 +103,7 @@ layout (form.Access (access.Store size src) at) label =
 layout (form.Access (access.Atomic size op src) at) label =
     word (codes "lock") ∷ space
     ∷ address (size_name false (access_size size)) at
-      (space ∷ sign (atomic_symbol op) ∷ space ∷ reg true src ∷ [])
+    (space ∷ sign (atomic_symbol op) ∷ space ∷ reg true src ∷ [])
 layout (form.WideLoad dst v) label =
     reg true dst ∷ space ∷ sign (codes "=") ∷ space
     ∷ value_layout v (space ∷ word (codes "ll") ∷ [])

@@ -37,8 +37,8 @@ abbrev pub distance : Range → Option Distance
 distance r =
     if nat_lt r.hi (2 ^ 63) then Some (pos r.lo, pos r.hi) else
     (if nat_le (2 ^ 63) r.lo
-      then Some (pos r.lo -ℤ pos (2 ^ 64), pos r.hi -ℤ pos (2 ^ 64))
-      else None)
+    then Some (pos r.lo -ℤ pos (2 ^ 64), pos r.hi -ℤ pos (2 ^ 64))
+    else None)
 
 -- ---- moved pointers: forwards by a sum, backwards by a difference
 

@@ -78,8 +78,8 @@ abbrev pub readable_four : Facts → (Kind → Kind → Kind → Kind → Result
 readable_four f go =
     readable_two f
     (λ a b.
-      and_then_ok (check_readable (kind_at f 3))
-      (λ c. and_then_ok (check_readable (kind_at f 4)) (λ d. go a b c d)))
+    and_then_ok (check_readable (kind_at f 3))
+    (λ c. and_then_ok (check_readable (kind_at f 4)) (λ d. go a b c d)))
 
 abbrev pub any_number : Kind
 any_number = kind.Scalar (full 64)

@@ -149,8 +149,8 @@ abbrev pub operator_edges : Bool → AluOp → ℕ → Operand → Facts → Res
 operator_edges wide op dst src f =
     and_then_ok (first_kind op (kind_at f dst))
     (λ a.
-      and_then_ok (check_readable (source_kind f wide src))
-      (λ b. assigns f dst (arithmetic_kind wide op a b)))
+    and_then_ok (check_readable (source_kind f wide src))
+    (λ b. assigns f dst (arithmetic_kind wide op a b)))
 
 -- of one operand
 abbrev pub unary_edges : Bool → Operator → ℕ → ℕ → Facts → Result Edges Reason
@@ -184,8 +184,8 @@ effect_of shapes at (jump off) f = Ok (record { falling = None; jumping = Some f
 effect_of shapes at (branch wide cond dst src off) f =
     and_then_ok (check_readable (kind_at f dst))
     (λ a.
-      and_then_ok (check_readable (source_kind f wide src))
-      (λ b. branch_edges wide cond f dst src a b))
+    and_then_ok (check_readable (source_kind f wide src))
+    (λ b. branch_edges wide cond f dst src a b))
 effect_of shapes at (access what base off) f =
     and_then_ok (check_readable (kind_at f base)) (access_edges shapes f what off)
 effect_of shapes at (wide_load dst value) f = assigns f dst (wide_kind shapes value)

@@ -26,5 +26,5 @@ pub facts_of_later_slots : (at n : ℕ) (f : Facts)
     → AreWellFormedAt n f
 facts_of_later_slots at n f lt h = record {
   registers = λ r. kind_raised at n (kind_at f r) lt (h.registers r);
-  slots = λ i. slot_raised at n (slot_at f i) lt (h.slots i)
+  slots = λ i. slot_raised at n (slot_at f i) lt (h.slots i);
 }

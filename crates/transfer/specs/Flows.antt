@@ -18,7 +18,7 @@ edges_of Either f = record { falling = Some f; jumping = Some f }
 edges_of (Compares dst src falls jumps) f =
     record {
       falling = option_map (with_pair f dst src) falls;
-      jumping = option_map (with_pair f dst src) jumps
+      jumping = option_map (with_pair f dst src) jumps;
     }
 edges_of (Settles site jumps_on_null) f = settled_edges jumps_on_null site f
 

@@ -48,7 +48,7 @@ jumps_in (jump off) s = true
 jumps_in (branch wide cond dst src off) s =
     unwrap_or
     (and_then (s.registers dst)
-      (λ a. and_then (operand_value s wide src) (λ b. compared wide cond src a b))) false
+    (λ a. and_then (operand_value s wide src) (λ b. compared wide cond src a b))) false
 jumps_in v s = false
 
 abbrev pub takes_jump : Insn → RunState → Bool

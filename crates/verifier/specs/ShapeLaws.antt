@@ -22,8 +22,8 @@ passed : (line : Bool × Reason) (lines : List (Bool × Reason))
     → (line.0 ≡ false) × (first_reason lines ≡ None)
 passed line lines none =
     elim (cases_Bool line.0) [
-      | inl holds ↦ absurd
-        (no_reason line.1 (sym (cond-true line.0 (Some line.1) (first_reason lines) holds) ∙ none))
+      | inl is ↦ absurd
+          (no_reason line.1 (sym (cond-true line.0 (Some line.1) (first_reason lines) is) ∙ none))
       | inr fails ↦ (fails, sym (cond-false line.0 (Some line.1) (first_reason lines) fails) ∙ none)
     ]
 
@@ -54,10 +54,10 @@ unrefused_is_fine code named i at none =
     let second : Bool × Reason = (jumps i && leads_backward (jumps_to i at) at, JumpBackward) in
     let first : Bool × Reason = (jumps i && leads_outside code (jumps_to i at), JumpOutside) in
     let one =
-        passed first
-        (second ∷ third ∷ fourth ∷ fifth ∷ sixth ∷ seventh ∷ eighth ∷ ninth ∷ []) none in
+    passed first
+    (second ∷ third ∷ fourth ∷ fifth ∷ sixth ∷ seventh ∷ eighth ∷ ninth ∷ []) none in
     let two =
-        passed second (third ∷ fourth ∷ fifth ∷ sixth ∷ seventh ∷ eighth ∷ ninth ∷ []) one.1 in
+    passed second (third ∷ fourth ∷ fifth ∷ sixth ∷ seventh ∷ eighth ∷ ninth ∷ []) one.1 in
     let three = passed third (fourth ∷ fifth ∷ sixth ∷ seventh ∷ eighth ∷ ninth ∷ []) two.1 in
     let four = passed fourth (fifth ∷ sixth ∷ seventh ∷ eighth ∷ ninth ∷ []) three.1 in
     let five = passed fifth (sixth ∷ seventh ∷ eighth ∷ ninth ∷ []) four.1 in

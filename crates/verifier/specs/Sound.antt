@@ -32,7 +32,7 @@ use Rattle.verifier.specs.Verdict.{HasNoFault, IsAccepted}
 abbrev pub StepIsSound : Type 0
 StepIsSound =
     (code : List Insn) (named : List Named) (witness : Witness) (s : RunState) (i : Insn)
-      (f : Facts) (edges : Edges)
+    (f : Facts) (edges : Edges)
     → IsProgram code
     → HasNoFault (structure_fault code named)
     → begins_at code s.at ≡ Some i

@@ -40,7 +40,7 @@ abbrev pub IsRefused : List Insn → List Named → ℕ → Reason → Type 0
 IsRefused code named slot reason =
     IsFirstFault (structure_fault code named) slot reason
     ⊎ (HasNoFault (structure_fault code named)
-      × IsFirstFault (safety_fault (shapes_of code named) code) slot reason)
+    × IsFirstFault (safety_fault (shapes_of code named) code) slot reason)
 
 abbrev pub IsAccepted : List Insn → List Named → Type 0
 IsAccepted code named =

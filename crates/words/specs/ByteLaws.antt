@@ -33,7 +33,7 @@ pub bytes_are : (bytes new : List ℕ) (offset n : ℕ)
 bytes_are bytes new offset n count h same =
     let long = length-bytes_at bytes offset n h in
     ext_get_or 0 (bytes_at bytes offset n) new (long ∙ sym count)
-      (λ k lt. byte_of bytes offset n k (omega arith) ∙ same k (omega arith))
+    (λ k lt. byte_of bytes offset n k (omega arith) ∙ same k (omega arith))
 
 -- bytes at an offset within the bytes at an offset are bytes of the list
 pub bytes_within : (bytes : List ℕ) (offset size at n : ℕ)
@@ -60,10 +60,13 @@ pub length-written_at : (bytes new : List ℕ) (offset : ℕ)
     → offset + length new ≤ length bytes
     → length (written_at bytes offset new) ≡ length bytes
 length-written_at bytes new offset h =
-    omega
-      (arith, length-append (take offset bytes) (new ++ drop (offset + length new) bytes),
-        length-append new (drop (offset + length new) bytes), length-take offset bytes,
-        length-drop (offset + length new) bytes)
+    omega (
+      arith,
+      length-append (take offset bytes) (new ++ drop (offset + length new) bytes),
+      length-append new (drop (offset + length new) bytes),
+      length-take offset bytes,
+      length-drop (offset + length new) bytes,
+    )
 
 -- within the written bytes, a byte of the list is the byte written
 pub written_in : (bytes new : List ℕ) (offset k : ℕ)
@@ -85,15 +88,15 @@ pub written_out : (bytes new : List ℕ) (offset q : ℕ)
 written_out bytes new offset q h (inl below) =
     let long = length-take-le offset bytes h in
     get_or_append_left (take offset bytes) (new ++ drop (offset + length new) bytes) 0 q
-        (omega arith)
-      ∙ get_or-take offset bytes q 0 below
+    (omega arith)
+    ∙ get_or-take offset bytes q 0 below
 written_out bytes new offset q h (inr above) =
     let long = length-take-le offset bytes h in
     let at : offset + length new + (q - offset - length new) ≡ q = omega arith in
     get_or-append_right (take offset bytes)
-      (new ++ drop (offset + length new) bytes) offset q 0 long (omega arith)
+    (new ++ drop (offset + length new) bytes) offset q 0 long (omega arith)
     ∙ get_or-append_right new (drop (offset + length new) bytes) (length new) (q - offset) 0 refl
-      (omega arith)
+    (omega arith)
     ∙ get_or-drop (offset + length new) bytes (q - offset - length new) 0
     ∙ ap (λ (p : ℕ). get_or bytes p 0) at
 
@@ -105,7 +108,7 @@ bytes_written bytes new offset h =
     let long : offset ≡ length (take offset bytes) = omega (arith, length-take offset bytes) in
     ap (λ (p : ℕ). take (length new) (drop p (written_at bytes offset new))) long
     ∙ ap (take (length new))
-      (drop-append_seam (take offset bytes) (new ++ drop (offset + length new) bytes))
+    (drop-append_seam (take offset bytes) (new ++ drop (offset + length new) bytes))
     ∙ take-append_seam new (drop (offset + length new) bytes)
 
 before : (bytes rest : List ℕ) (offset from n : ℕ)
@@ -116,18 +119,18 @@ before bytes rest offset from n h k =
     let long : length (take offset bytes) ≡ offset = omega (arith, length-take offset bytes) in
     let there : from ≤ length (take offset bytes) = omega arith in
     let left : length (drop from (take offset bytes)) ≡ offset - from =
-        omega (arith, length-drop from (take offset bytes)) in
+    omega (arith, length-drop from (take offset bytes)) in
     let room : n ≤ length (drop from (take offset bytes)) = omega arith in
     let split : from + (offset - from) ≡ offset = omega arith in
     let less : n ≤ length (take (offset - from) (drop from bytes)) =
-        omega (arith, length-take (offset - from) (drop from bytes), length-drop from bytes) in
+    omega (arith, length-take (offset - from) (drop from bytes), length-drop from bytes) in
     ap (take n) (drop-append-le from (take offset bytes) rest there)
     ∙ take-append-le n (drop from (take offset bytes)) rest room
     ∙ ap (λ (p : ℕ). take n (drop from (take p bytes))) (sym split)
     ∙ ap (take n) (drop-take from (offset - from) bytes)
     ∙ sym
-      (take-append-le n (take (offset - from) (drop from bytes))
-        (drop (offset - from) (drop from bytes)) less)
+    (take-append-le n (take (offset - from) (drop from bytes))
+    (drop (offset - from) (drop from bytes)) less)
     ∙ ap (take n) (take-append-drop (offset - from) (drop from bytes))
 
 behind : (bytes new : List ℕ) (offset from : ℕ)
@@ -137,11 +140,11 @@ behind : (bytes new : List ℕ) (offset from : ℕ)
 behind bytes new offset from h k =
     let long : length (take offset bytes) ≡ offset = omega (arith, length-take offset bytes) in
     let far : from ≡ length (take offset bytes) + (length new + (from - (offset + length new))) =
-        omega arith in
+    omega arith in
     let back : offset + length new + (from - (offset + length new)) ≡ from = omega arith in
     ap (λ (n : ℕ). drop n (written_at bytes offset new)) far
     ∙ drop-append-add (take offset bytes) (new ++ drop (offset + length new) bytes)
-      (length new + (from - (offset + length new)))
+    (length new + (from - (offset + length new)))
     ∙ drop-append-add new (drop (offset + length new) bytes) (from - (offset + length new))
     ∙ drop-drop (from - (offset + length new)) (offset + length new) bytes
     ∙ ap (λ (n : ℕ). drop n bytes) (omega arith)
@@ -161,21 +164,21 @@ pub over_within : (bytes new : List ℕ) (offset size at : ℕ)
     → offset + size ≤ length bytes
     → at + length new ≤ size
     → bytes_at (written_at bytes (offset + at) new) offset size
-      ≡ written_at (bytes_at bytes offset size) at new
+    ≡ written_at (bytes_at bytes offset size) at new
 over_within bytes new offset size at fits room =
     let inner = bytes_at bytes offset size in
     let long : length inner ≡ size =
-        omega (arith, length-take size (drop offset bytes), length-drop offset bytes) in
+    omega (arith, length-take size (drop offset bytes), length-drop offset bytes) in
     let after = length-written_at bytes new (offset + at) (omega arith) in
     let count : length (written_at inner at new) ≡ size =
-        length-written_at inner new at (omega arith) ∙ long in
+    length-written_at inner new at (omega arith) ∙ long in
     bytes_are (written_at bytes (offset + at) new) (written_at inner at new) offset size count
-      (omega arith)
+    (omega arith)
     (λ k lt. ⊎_elim
     (λ below. outside k lt long (inl (omega arith)) (inl below))
     (λ from.
-      ⊎_elim (λ within. inside k lt long from within)
-      (λ above. outside k lt long (inr (omega arith)) (inr above)) (cases_lt k (at + length new)))
+    ⊎_elim (λ within. inside k lt long from within)
+    (λ above. outside k lt long (inr (omega arith)) (inr above)) (cases_lt k (at + length new)))
     (cases_lt k at))
   where
     outside : (k : ℕ)
@@ -184,12 +187,12 @@ over_within bytes new offset size at fits room =
         → (offset + k < offset + at) ⊎ (offset + at + length new ≤ offset + k)
         → (k < at) ⊎ (at + length new ≤ k)
         → get_or (written_at bytes (offset + at) new) (offset + k) 0
-          ≡ get_or (written_at (bytes_at bytes offset size) at new) k 0
+        ≡ get_or (written_at (bytes_at bytes offset size) at new) k 0
     outside k lt long far near =
         written_out bytes new (offset + at) (offset + k) (omega arith) far
-          ∙ sym
-            (written_out (bytes_at bytes offset size) new at k (omega arith) near
-              ∙ byte_of bytes offset size k lt)
+        ∙ sym
+        (written_out (bytes_at bytes offset size) new at k (omega arith) near
+        ∙ byte_of bytes offset size k lt)
 
     inside : (k : ℕ)
         → k < size
@@ -197,40 +200,40 @@ over_within bytes new offset size at fits room =
         → at ≤ k
         → k < at + length new
         → get_or (written_at bytes (offset + at) new) (offset + k) 0
-          ≡ get_or (written_at (bytes_at bytes offset size) at new) k 0
+        ≡ get_or (written_at (bytes_at bytes offset size) at new) k 0
     inside k lt long from within =
         let there : offset + k ≡ offset + at + (k - at) = omega arith in
         let here : k ≡ at + (k - at) = omega arith in
         ap (λ (q : ℕ). get_or (written_at bytes (offset + at) new) q 0) there
-          ∙ written_in bytes new (offset + at) (k - at) (omega arith) (omega arith)
+        ∙ written_in bytes new (offset + at) (k - at) (omega arith) (omega arith)
         ∙ sym
-          (ap (λ (q : ℕ). get_or (written_at (bytes_at bytes offset size) at new) q 0) here
-            ∙ written_in (bytes_at bytes offset size) new at (k - at) (omega arith) (omega arith))
+        (ap (λ (q : ℕ). get_or (written_at (bytes_at bytes offset size) at new) q 0) here
+        ∙ written_in (bytes_at bytes offset size) new at (k - at) (omega arith) (omega arith))
 
 -- a part's bytes, written over and then written back, are written into the whole list
 pub over_part : (bytes new : List ℕ) (start size at : ℕ)
     → start + size ≤ length bytes
     → at + length new ≤ size
     → written_at bytes start (written_at (bytes_at bytes start size) at new)
-      ≡ written_at bytes (start + at) new
+    ≡ written_at bytes (start + at) new
 over_part bytes new start size at fits room =
     let part = bytes_at bytes start size in
     let long : length part ≡ size =
-        omega (arith, length-take size (drop start bytes), length-drop start bytes) in
+    omega (arith, length-take size (drop start bytes), length-drop start bytes) in
     let inner : length (written_at part at new) ≡ size =
-        length-written_at part new at (omega arith) ∙ long in
+    length-written_at part new at (omega arith) ∙ long in
     let left : length (written_at bytes start (written_at part at new)) ≡ length bytes =
-        length-written_at bytes (written_at part at new) start (omega arith) in
+    length-written_at bytes (written_at part at new) start (omega arith) in
     let right : length (written_at bytes (start + at) new) ≡ length bytes =
-        length-written_at bytes new (start + at) (omega arith) in
+    length-written_at bytes new (start + at) (omega arith) in
     ext_get_or 0 (written_at bytes start (written_at part at new))
-      (written_at bytes (start + at) new) (left ∙ sym right)
+    (written_at bytes (start + at) new) (left ∙ sym right)
     (λ q lt. ⊎_elim
     (λ below. outside q inner (inl below) (inl (omega arith)))
     (λ from.
-      ⊎_elim (λ within. inside q from within long inner)
-      (λ above. outside q inner (inr (omega arith)) (inr (omega arith)))
-      (cases_lt q (start + size)))
+    ⊎_elim (λ within. inside q from within long inner)
+    (λ above. outside q inner (inr (omega arith)) (inr (omega arith)))
+    (cases_lt q (start + size)))
     (cases_lt q start))
   where
     outside : (q : ℕ)
@@ -238,7 +241,7 @@ over_part bytes new start size at fits room =
         → (q < start) ⊎ (start + length (written_at (bytes_at bytes start size) at new) ≤ q)
         → (q < start + at) ⊎ (start + at + length new ≤ q)
         → get_or (written_at bytes start (written_at (bytes_at bytes start size) at new)) q 0
-          ≡ get_or (written_at bytes (start + at) new) q 0
+        ≡ get_or (written_at bytes (start + at) new) q 0
     outside q inner far near =
         written_out bytes (written_at (bytes_at bytes start size) at new) start q (omega arith) far
         ∙ sym (written_out bytes new (start + at) q (omega arith) near)
@@ -248,15 +251,15 @@ over_part bytes new start size at fits room =
         → q < start + size
         → length (written_at (bytes_at bytes start size) at new) ≡ size
         → get_or (written_at bytes start (written_at (bytes_at bytes start size) at new)) q 0
-          ≡ get_or (written_at (bytes_at bytes start size) at new) (q - start) 0
+        ≡ get_or (written_at (bytes_at bytes start size) at new) (q - start) 0
     through q from within inner =
         let there : q ≡ start + (q - start) = omega arith in
         ap
-            (λ (x : ℕ).
-              get_or
-              (written_at bytes start (written_at (bytes_at bytes start size) at new)) x 0) there
-          ∙ written_in bytes (written_at (bytes_at bytes start size) at new) start (q - start)
-            (omega arith) (omega arith)
+        (λ (x : ℕ).
+        get_or
+        (written_at bytes start (written_at (bytes_at bytes start size) at new)) x 0) there
+        ∙ written_in bytes (written_at (bytes_at bytes start size) at new) start (q - start)
+        (omega arith) (omega arith)
 
     kept : (q : ℕ)
         → start ≤ q
@@ -265,13 +268,13 @@ over_part bytes new start size at fits room =
         → (q - start < at) ⊎ (at + length new ≤ q - start)
         → (q < start + at) ⊎ (start + at + length new ≤ q)
         → get_or (written_at (bytes_at bytes start size) at new) (q - start) 0
-          ≡ get_or (written_at bytes (start + at) new) q 0
+        ≡ get_or (written_at bytes (start + at) new) q 0
     kept q from within long far near =
         let there : start + (q - start) ≡ q = omega arith in
         written_out (bytes_at bytes start size) new at (q - start) (omega arith) far
-          ∙ byte_of bytes start size (q - start) (omega arith)
-          ∙ ap (λ (x : ℕ). get_or bytes x 0) there
-          ∙ sym (written_out bytes new (start + at) q (omega arith) near)
+        ∙ byte_of bytes start size (q - start) (omega arith)
+        ∙ ap (λ (x : ℕ). get_or bytes x 0) there
+        ∙ sym (written_out bytes new (start + at) q (omega arith) near)
 
     fresh : (q : ℕ)
         → start ≤ q
@@ -279,16 +282,16 @@ over_part bytes new start size at fits room =
         → q - start < at + length new
         → length (bytes_at bytes start size) ≡ size
         → get_or (written_at (bytes_at bytes start size) at new) (q - start) 0
-          ≡ get_or (written_at bytes (start + at) new) q 0
+        ≡ get_or (written_at bytes (start + at) new) q 0
     fresh q from low high long =
         let here : q - start ≡ at + (q - start - at) = omega arith in
         let there : start + at + (q - start - at) ≡ q = omega arith in
         ap (λ (x : ℕ). get_or (written_at (bytes_at bytes start size) at new) x 0) here
-          ∙ written_in (bytes_at bytes start size) new at (q - start - at) (omega arith)
-            (omega arith)
+        ∙ written_in (bytes_at bytes start size) new at (q - start - at) (omega arith)
+        (omega arith)
         ∙ sym
-          (ap (λ (x : ℕ). get_or (written_at bytes (start + at) new) x 0) (sym there)
-            ∙ written_in bytes new (start + at) (q - start - at) (omega arith) (omega arith))
+        (ap (λ (x : ℕ). get_or (written_at bytes (start + at) new) x 0) (sym there)
+        ∙ written_in bytes new (start + at) (q - start - at) (omega arith) (omega arith))
 
     inside : (q : ℕ)
         → start ≤ q
@@ -296,14 +299,14 @@ over_part bytes new start size at fits room =
         → length (bytes_at bytes start size) ≡ size
         → length (written_at (bytes_at bytes start size) at new) ≡ size
         → get_or (written_at bytes start (written_at (bytes_at bytes start size) at new)) q 0
-          ≡ get_or (written_at bytes (start + at) new) q 0
+        ≡ get_or (written_at bytes (start + at) new) q 0
     inside q from within long inner =
         through q from within inner
         ∙ ⊎_elim (λ below. kept q from within long (inl below) (inl (omega arith)))
         (λ low.
-          ⊎_elim (λ high. fresh q from low high long)
-          (λ above. kept q from within long (inr above) (inr (omega arith)))
-          (cases_lt (q - start) (at + length new)))
+        ⊎_elim (λ high. fresh q from low high long)
+        (λ above. kept q from within long (inr above) (inr (omega arith)))
+        (cases_lt (q - start) (at + length new)))
         (cases_lt (q - start) at)
 
 -- ---- the bytes of a number
@@ -328,7 +331,7 @@ pub number_below : (bytes : List ℕ)
 number_below [] small = omega arith
 number_below (b ∷ bytes) small =
     below_more b (length bytes) (number_of bytes) (small 0 (omega arith))
-      (number_below bytes (λ i below. small (suc i) (omega arith)))
+    (number_below bytes (λ i below. small (suc i) (omega arith)))
   where
     below_more : (b n x : ℕ) → b < 256 → x < 256 ^ n → b + 256 * x < 256 ^ suc n
     below_more b n x h g = omega arith
@@ -341,7 +344,7 @@ low_bytes_of_number [] small = refl
 low_bytes_of_number (b ∷ bytes) small =
     let first : b < 256 = small 0 (omega arith) in
     let rest : low_bytes (length bytes) (number_of bytes) ≡ bytes =
-        low_bytes_of_number bytes (λ i below. small (suc i) (omega arith)) in
+    low_bytes_of_number bytes (λ i below. small (suc i) (omega arith)) in
     let low : (b + 256 * number_of bytes) % 256 ≡ b = omega arith in
     let high : (b + 256 * number_of bytes) / 256 ≡ number_of bytes = omega arith in
     ap (λ (x : ℕ). x ∷ low_bytes (length bytes) ((b + 256 * number_of bytes) / 256)) low

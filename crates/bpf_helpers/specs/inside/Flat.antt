@@ -58,7 +58,7 @@ claim_word (Err fault) = negative (errno fault)
 abbrev pub with_claimed : CallSite → NamedPair → Result ℕ MapFault → Memory
 with_claimed site pair (Ok element) =
     with_bytes site.memory
-      (part_start site.memory site.tenant + offset_at site.maps pair.map element)
+    (part_start site.memory site.tenant + offset_at site.maps pair.map element)
     pair.value
 with_claimed site pair (Err fault) = site.memory
 

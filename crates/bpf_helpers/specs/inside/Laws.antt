@@ -37,7 +37,7 @@ StackBytesAreThere =
 abbrev pub StackBytesAreWritten : Type 0
 StackBytesAreWritten =
     (env : Environment) (l : Layout) (memory : List ℕ) (start : ℕ) (s t : RunState) (y : ℤ)
-      (bs : List ℕ)
+    (bs : List ℕ)
     → HasStack env l memory start s.cells
     → start + stack_size ≤ length memory
     → stack_written s y bs ≡ Some t
@@ -107,7 +107,7 @@ UpdatesKeepSimulation =
     (record {
       map = slice_index env.bind i;
       key = asked.key;
-      value = asked.value
+      value = asked.value;
     }) asked.flags answer
     → UpdateKeepsSimulation env l flat s asked answer
 
@@ -133,10 +133,10 @@ pub record LoadKeepsSimulation (env : Environment) (l : Layout) (flat : FlatStat
   pub stands : Simulates env l (with_memory flat (with_bytes flat.memory
       (part_start flat.memory env.tenant + offset)
       (packet_bytes s.packet (slice_index flat.registers 2)
-        (slice_index flat.registers 4)))) written
+      (slice_index flat.registers 4)))) written
   pub is : u ≡ returns written
       (Scalar
-        (packet_answer s.packet (slice_index flat.registers 2) (slice_index flat.registers 4)))
+      (packet_answer s.packet (slice_index flat.registers 2) (slice_index flat.registers 4)))
 
 -- the result of a call goes into register 0; registers 1 to 5 are unknown then
 abbrev pub ReturnsKeepSimulation : Type 0
@@ -162,7 +162,7 @@ MapsBegin =
     → ((number : ℕ) → number < length (keys_at tenant k).entries
     → l.object_at m number ≡ base + (start + offset_at tenant k (nth_element tenant k number)))
     → HasMap l (stored_maps start memory tenant) k m
-      (first_map (with_values value (table_of (keys_at tenant k))))
+    (first_map (with_values value (table_of (keys_at tenant k))))
 
 -- the map has the same pairs as the machine's map after the run
 abbrev pub MapsEnd : Type 0
@@ -171,6 +171,6 @@ MapsEnd =
     (value : ℕ → List ℕ)
     → HasMap l (stored_maps start memory old) k m t → keys_at new k ≡ after_run (keys_at old k)
     → ((p : ℕ)
-      → p < (shape_at old k).max_entries
-      → value p ≡ element_bytes (stored_maps start memory old) k p)
+    → p < (shape_at old k).max_entries
+    → value p ≡ element_bytes (stored_maps start memory old) k p)
     → with_values value (table_of (keys_at new k)) ≡ last_map t

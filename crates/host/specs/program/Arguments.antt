@@ -88,7 +88,7 @@ pub data Asked : Type 0 where
 abbrev pub asked_with : Text → List Row → Option Asked
 asked_with name rows =
     if bytes_eq name (codes "serve") then option_map Serves
-      (option_and_then tenant_number (tenants_value rows)) else
+    (option_and_then tenant_number (tenants_value rows)) else
     (if bytes_eq name (codes "asm") then Some (Rewrites Assemble) else
     (if bytes_eq name (codes "dis") then Some (Rewrites Disassemble) else
     (if bytes_eq name (codes "verify") then Some (Verifies (map_arguments rows)) else None)))
@@ -111,8 +111,8 @@ abbrev pub AreWrongArguments : List Text → Type 0
 AreWrongArguments arguments =
     (asked_by_arguments arguments ≡ None)
     ⊎ ((maps : List Text)
-      × (asked_by_arguments arguments ≡ Some (Verifies maps))
-      × HasWrongMapArgument maps)
+    × (asked_by_arguments arguments ≡ Some (Verifies maps))
+    × HasWrongMapArgument maps)
 
 -- if the task is to verify a program and the input's bytes are known, the input has a program that
 -- is accepted

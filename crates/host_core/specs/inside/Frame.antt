@@ -37,9 +37,9 @@ StopsInFrame old new Read =
     × (old.read_failures < new.read_failures)
 StopsInFrame old new Write =
     ((frame : List ℕ)
-      × (reply : List ℕ)
-      × (n : ℕ)
-      × ServesOneFrame old new frame reply (take n reply))
+    × (reply : List ℕ)
+    × (n : ℕ)
+    × ServesOneFrame old new frame reply (take n reply))
     × (old.write_failures < new.write_failures)
 StopsInFrame old new Truncated =
     ((rest : List ℕ) × IsPartial rest × (0 < length rest) × ReadsOnly old new rest)

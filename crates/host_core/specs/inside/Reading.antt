@@ -44,5 +44,5 @@ abbrev pub IsKeptFrontOf : List ℕ → List ℕ → Type 0
 IsKeptFrontOf front frame =
     (front ≡ frame)
     ⊎ ((longest_frame < length front)
-      × (longest_frame < length frame)
-      × (take 4 front ≡ take 4 frame))
+    × (longest_frame < length frame)
+    × (take 4 front ≡ take 4 frame))

@@ -1,5 +1,6 @@
--- The fault at the front of bytes, in the order in which the code looks for it. That it is the fault of the grammar (`HasFault`) is
--- proved. The fields are those of RFC 9669, sections 3 to 5; the order is this project's own.
+-- The fault at the front of bytes, in the order in which the code looks for it. That it is the
+-- fault of the grammar (`HasFault`) is proved. The fields are those of RFC 9669, sections 3 to 5;
+-- the order is this project's own.
 use Rattle.std.specs.Prelude.{◌≡◌, ℕ, Bool, ◌&&◌, ◌||◌, not, List, length, drop, Option, Some, None, nat_lt, nat_le, ◌==◌, if◌then◌else◌}
 use Rattle.insn_set.specs.declared.slot.SlotFields.{SlotFields}
 use Rattle.insn_codec.specs.inside.OpcodeForm.{OpcodeForm}
@@ -13,18 +14,26 @@ use Rattle.insn_codec.specs.inside.Form.{form_at, listed}
 
 -- all fields are zero, except for a number that a load with this source field uses
 abbrev pub is_second : ℕ → SlotFields → Bool
-is_second src next = next.opcode == 0 && (next.dst == 0 && next.src == 0) && next.offset == 0 && (not (src == 1) || next.imm == 0)
+is_second src next =
+    next.opcode == 0 && (next.dst == 0 && next.src == 0) && next.offset == 0
+    && (not (src == 1) || next.imm == 0)
 
 abbrev pub second_fault : OpcodeForm → ℕ → List ℕ → Option FaultKind
-second_fault form.Wide src rest = if nat_lt (length rest) 8 then Some SecondSlot else (if is_second src (slot_of rest) then None else Some SecondSlot)
+second_fault form.Wide src rest =
+    if nat_lt (length rest) 8
+    then Some SecondSlot
+    else (if is_second src (slot_of rest) then None else Some SecondSlot)
 second_fault _ src rest = None
 
 -- ---- the first slot
 
--- the fault of a first slot of this form, with the bytes after it; None if an instruction begins there
+-- the fault of a first slot of this form, with the bytes after it; None if an instruction begins
+-- there
 unfoldable pub fault_in_form : OpcodeForm → SlotFields → List ℕ → Option FaultKind
 fault_in_form f s rest =
-    if listed f s then (if nat_le s.dst 10 && nat_le s.src 10 then second_fault f s.src rest else Some Register) else Some Reserved
+    if listed f s
+    then (if nat_le s.dst 10 && nat_le s.src 10 then second_fault f s.src rest else Some Register)
+    else Some Reserved
 
 -- a first slot of this form has the fault, whatever bytes follow it
 abbrev pub IsFaultOf : OpcodeForm → SlotFields → FaultKind → Type 0
@@ -40,4 +49,7 @@ IsFaultAt o s kind = (rest : List ℕ) → fault_by_form o s rest ≡ Some kind
 
 -- the fault at the front of the bytes; None if an instruction begins there
 unfoldable pub first_fault : List ℕ → Option FaultKind
-first_fault bytes = if nat_lt (length bytes) 8 then Some Ragged else fault_by_form (form_at (slot_of bytes).opcode) (slot_of bytes) (drop 8 bytes)
+first_fault bytes =
+    if nat_lt (length bytes) 8
+    then Some Ragged
+    else fault_by_form (form_at (slot_of bytes).opcode) (slot_of bytes) (drop 8 bytes)

@@ -18,7 +18,8 @@ use Rattle.insn_codec.specs.declared.opcode.SourceBit.TheVariants.{Imm, Reg}
 use Rattle.insn_codec.specs.inside.OpcodeForm.{OpcodeForm}
 use Rattle.insn_codec.specs.inside.OpcodeForm as form
 
--- the forms that an opcode has: of two operators with one opcode the unsigned one is named, and a double word has no sign extension
+-- the forms that an opcode has: of two operators with one opcode the unsigned one is named, and a
+-- double word has no sign extension
 abbrev pub is_form : OpcodeForm → Bool
 is_form (form.Alu wide op source) = alu_offset op == 0
 is_form (form.Load size signed) = not (signed && is_double size)
@@ -26,9 +27,13 @@ is_form _ = true
 
 -- section 5
 abbrev pub size_at : ℕ → AccessSize
-size_at code = if code == 0 then size.Word else (if code == 1 then size.Half else (if code == 2 then size.Byte else size.Double))
+size_at code =
+    if code == 0
+    then size.Word
+    else (if code == 1 then size.Half else (if code == 2 then size.Byte else size.Double))
 
--- sections 4.1 and 4.2: NEG has one opcode for each width, and a byte-order conversion one for each order
+-- sections 4.1 and 4.2: NEG has one opcode for each width, and a byte-order conversion one for each
+-- order
 abbrev pub neg_at : Bool → SourceBit → Option OpcodeForm
 neg_at wide Imm = Some (form.Neg wide)
 neg_at wide Reg = None
@@ -47,7 +52,8 @@ alu_at wide source code =
 
 -- section 4.3
 abbrev pub jump_by_condition : Bool → SourceBit → ℕ → Option OpcodeForm
-jump_by_condition wide source code = option_and_then (λ c. Some (form.Jump wide c source)) (condition_by_number code)
+jump_by_condition wide source code =
+    option_and_then (λ c. Some (form.Jump wide c source)) (condition_by_number code)
 
 abbrev pub jump_at : Bool → SourceBit → ℕ → Option OpcodeForm
 jump_at wide Reg code = jump_by_condition wide Reg code
@@ -63,7 +69,8 @@ load_at opcode = option_and_then (λ l. Some (form.Load l.1 l.0)) (load_by_opcod
 
 -- section 5.1
 abbrev pub store_at : ℕ → SourceBit → Option OpcodeForm
-store_at opcode source = if opcode / 32 == 3 then Some (form.Store (size_at (opcode / 8 % 4)) source) else None
+store_at opcode source =
+    if opcode / 32 == 3 then Some (form.Store (size_at (opcode / 8 % 4)) source) else None
 
 -- sections 5.1 and 5.3
 abbrev pub register_store_at : ℕ → Option OpcodeForm
@@ -96,7 +103,8 @@ one_operand Reg s = s.imm == 0
 abbrev pub offset_listed : Bool → AluOp → SourceBit → ℕ → Bool
 offset_listed wide Div source offset = nat_le offset 1
 offset_listed wide Mod source offset = nat_le offset 1
-offset_listed wide Mov Reg offset = offset == 0 || offset == 8 || offset == 16 || (wide && offset == 32)
+offset_listed wide Mov Reg offset =
+    offset == 0 || offset == 8 || offset == 16 || (wide && offset == 32)
 offset_listed wide op source offset = offset == 0
 
 -- each field has a value that the form allows; an unused field is zero (section 3.1)

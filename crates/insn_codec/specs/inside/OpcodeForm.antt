@@ -1,4 +1,5 @@
--- What an opcode determines of its instruction: RFC 9669, sections 4 and 5. That it is one list is this project's own.
+-- What an opcode determines of its instruction: RFC 9669, sections 4 and 5. That it is one list is
+-- this project's own.
 use Rattle.std.specs.Prelude.{Bool}
 use Rattle.words.specs.declared.operator.AluOp.{AluOp}
 use Rattle.words.specs.declared.operator.ByteOrder.{ByteOrder}
@@ -7,8 +8,9 @@ use Rattle.words.specs.declared.stack.AccessSize.{AccessSize}
 use Rattle.insn_set.specs.declared.atomic.AtomicSize.{AtomicSize}
 use Rattle.insn_codec.specs.declared.opcode.SourceBit.{SourceBit}
 
--- an operation on two operands, with its width, operator (of two with one opcode, the unsigned one) and second operand; on one; a byte-order
--- conversion; jumps; a call; the exit; a load, with its size and whether it extends the sign; a store; an atomic operation; a wide load
+-- an operation on two operands, with its width, operator (of two with one opcode, the unsigned one)
+-- and second operand; on one; a byte-order conversion; jumps; a call; the exit; a load, with its
+-- size and whether it extends the sign; a store; an atomic operation; a wide load
 pub data OpcodeForm : Type 0 where
   Alu : Bool → AluOp → SourceBit → OpcodeForm
   Neg : Bool → OpcodeForm

@@ -16,7 +16,8 @@ opcode_of (form.Neg wide) = opcode 8 0 (alu_class wide)
 opcode_of (form.End how) = end_opcode how
 opcode_of form.Ja = opcode 0 0 5
 opcode_of form.Jal = opcode 0 0 6
-opcode_of (form.Jump wide cond s) = opcode (condition_number cond) (source_number s) (jump_class wide)
+opcode_of (form.Jump wide cond s) =
+    opcode (condition_number cond) (source_number s) (jump_class wide)
 opcode_of form.Call = opcode 8 0 5
 opcode_of form.Exit = opcode 9 0 5
 opcode_of (form.Load size signed) = load_opcode signed size

@@ -14,6 +14,6 @@ pub record LeavesHeldMaps (old new : HeldMaps) : Type 0 where
   pub held : AreHeld new.live
   pub stays : (handle : ℕ) → IsSome (live_at new.live handle)
       → IsSome (live_at old.live handle)
-        × (map_in new.part new.live handle ≡ map_in old.part old.live handle)
+      × (map_in new.part new.live handle ≡ map_in old.part old.live handle)
   pub refused : new.live.refused ≡ old.live.refused
   pub whole : length new.part ≡ PART

@@ -167,7 +167,7 @@ unfoldable pub leading_wide_value : List Token → Option (WideValue × List Tok
 leading_wide_value ts =
     match_option (after_word (codes "map_fd") ts)
     (match_option (after_word (codes "map_value") ts)
-      (leading_number ts >>= λ n. Some (value.Number n.0, n.1)) (λ rest. leading_map_value rest))
+    (leading_number ts >>= λ n. Some (value.Number n.0, n.1)) (λ rest. leading_map_value rest))
     (λ rest. leading_constant rest >>= λ n. Some (value.MapFd n.0, n.1))
 
 -- the size of an atomic operation whose memory operand has this size: neither signed nor below 4
@@ -209,7 +209,7 @@ unfoldable pub parsed_unary : Bool → ℕ → List Token → Option Operation
 parsed_unary wide dst ts =
     match_option (after_symbol (codes "(") ts)
     (match_option (after_symbol (codes "-") ts) (if wide then parsed_end dst ts else None)
-      (λ rest. parsed_in_place wide dst operation.Neg rest))
+    (λ rest. parsed_in_place wide dst operation.Neg rest))
     (λ rest. parsed_sign_extension wide rest)
 
 abbrev pub is_move : AluOp → Bool
@@ -262,8 +262,8 @@ parsed_assigned ts = do
   s ← leading_symbol n.1
   op ← alu_by_symbol s.0
   match_option (parsed_operation r.0 op r.1 s.1)
-    (if r.0 && is_move op then parsed_loaded r.1 s.1 else None)
-    (λ o. Some (form.Operation r.0 r.1 o))
+      (if r.0 && is_move op then parsed_loaded r.1 s.1 else None)
+      (λ o. Some (form.Operation r.0 r.1 o))
 
 abbrev pub parsed_jump : Bool → List Token → Option (Form × List ℕ)
 parsed_jump long ts = option_map (λ to. (form.Jump long to.0, to.1)) (parsed_destination ts)
@@ -313,5 +313,5 @@ unfoldable pub line_of : List Token → Option Line
 line_of ts =
     if is_ended ts then Some blank
     else
-      (match_option (parsed_label ts) (option_map (λ f. Code f.0 f.1) (parsed_form ts))
-        (λ n. Some (label n)))
+    (match_option (parsed_label ts) (option_map (λ f. Code f.0 f.1) (parsed_form ts))
+    (λ n. Some (label n)))

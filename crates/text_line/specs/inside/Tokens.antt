@@ -29,16 +29,18 @@ name_at text =
 unfoldable pub number_at : List ℕ → Option (Token × List ℕ)
 number_at text =
     if is_hexadecimal text then
-      (let digits = drop 2 text in
-        Some
-        (number (value_of (digits_value 16 (run is_hex_digit digits))),
-          drop (prefix_len is_hex_digit digits) digits))
+    (let digits = drop 2 text in
+    Some (
+      number (value_of (digits_value 16 (run is_hex_digit digits))),
+      drop (prefix_len is_hex_digit digits) digits,
+    ))
     else
-      (if is_ascii_digit (slice_index text 0)
-        then Some
-          (number (value_of (digits_value 10 (run is_ascii_digit text))),
-            drop (prefix_len is_ascii_digit text) text)
-        else None)
+    (if is_ascii_digit (slice_index text 0)
+    then Some (
+      number (value_of (digits_value 10 (run is_ascii_digit text))),
+      drop (prefix_len is_ascii_digit text) text,
+    )
+    else None)
 
 abbrev pub or_else : {A : Type 0} → Option A → Option A → Option A
 or_else (Some x) y = Some x

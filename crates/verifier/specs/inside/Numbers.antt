@@ -41,7 +41,7 @@ abbrev pub numbered_by : ℕ → Facts → NumberedFacts
 numbered_by n f = record {
   facts = f;
   numbers = replicate stack_parts n;
-  includes = replicate stack_parts 0
+  includes = replicate stack_parts 0;
 }
 
 abbrev pub at_entry : NumberedFacts
@@ -56,7 +56,7 @@ part_renumbered x i fresh =
     record {
       facts = x.facts;
       numbers = slice_set x.numbers (part_of i) fresh;
-      includes = slice_set x.includes (part_of i) 0
+      includes = slice_set x.includes (part_of i) 0;
     }
 
 -- the join of slot s with slot t, of parts with the numbers n and k: unchanged if the part of s
@@ -70,7 +70,7 @@ IsJoinedSlot fresh s n m t k s' n' m' =
 abbrev pub IsJoinedAt : ℕ → NumberedFacts → NumberedFacts → NumberedFacts → ℕ → Type 0
 IsJoinedAt fresh x y z i =
     IsJoinedSlot fresh (slot_at x.facts i) (number_of x i) (included_in x i) (slot_at y.facts i)
-      (number_of y i)
+    (number_of y i)
     (slot_at z.facts i) (number_of z i) (included_in z i)
 
 -- slot i of z is that of x, with the numbers of its part
@@ -138,7 +138,7 @@ abbrev pub with_ranges : NumberedFacts → ℕ → Operand → RangePair → Num
 with_ranges x dst src ranges = record {
   facts = with_pair x.facts dst src ranges;
   numbers = x.numbers;
-  includes = x.includes
+  includes = x.includes;
 }
 
 -- a look-up is settled, and all parts of the stack have a new number
@@ -196,16 +196,16 @@ pub record IsPast (shapes : Shapes) (n : ℕ) (insn : Insn) (old : NumberedFacts
   pub stack : KeepsStack flow old.facts facts
   pub falls : new
       ≡ on_falling_edge flow (8 * n + 5)
-        (noted flow (8 * n + 3)
-          (record { facts = facts; numbers = old.numbers; includes = old.includes }))
+      (noted flow (8 * n + 3)
+      (record { facts = facts; numbers = old.numbers; includes = old.includes }))
   pub sent : IsSentIf (jump_target insn n) (8 * n + 6)
       (on_jumping_edge flow (8 * n + 4)
-        (noted flow (8 * n + 3)
-          (record {
-            facts = facts;
-            numbers = old.numbers;
-            includes = old.includes
-          }))) entries_old entries_new
+      (noted flow (8 * n + 3)
+      (record {
+        facts = facts;
+        numbers = old.numbers;
+        includes = old.includes;
+      }))) entries_old entries_new
 
 -- the same, if there are facts before it
 abbrev pub IsPastIf : Shapes → ℕ → Insn → Option NumberedFacts → List (Option NumberedFacts)

@@ -27,4 +27,4 @@ abbrev pub IsFirstTold : Shapes → List Insn → Option (List (ℕ × Facts)) �
 IsFirstTold shapes code old new fault =
     ((fault ≡ memory_fault) × (n : ℕ) × IsToldBelow n shapes code old new)
     ⊎ (IsFirstFault (safety_fault shapes code) fault.slot fault.reason
-      × IsToldBelow (fault.slot + 1) shapes code old new)
+    × IsToldBelow (fault.slot + 1) shapes code old new)

@@ -157,5 +157,5 @@ abbrev pub StopsRewriting : (List ℕ → List ℕ → Type 0) → (List ℕ →
     → Streams → Failure → Type 0
 StopsRewriting made refused old new failure =
     (HasNoInput failure old.input new.input old.read_failures new.read_failures
-      × WritesNothing old new)
+    × WritesNothing old new)
     ⊎ (RefusesInput refused old new failure ⊎ CutsOutput made old new failure)

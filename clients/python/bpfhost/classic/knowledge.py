@@ -2,6 +2,7 @@
 
 from __future__ import annotations
 
+from collections import Counter
 from collections.abc import Mapping
 from dataclasses import dataclass
 
@@ -15,7 +16,6 @@ from bpfhost.classic.steps import (
     Graph,
     LoadContext,
     LoadHeader,
-    LoadLength,
     LoadPacket,
     LoadScratch,
     Operate,
@@ -27,13 +27,16 @@ from bpfhost.classic.steps import (
     Step,
     Storage,
     StoreScratch,
-    TestLength,
+    TestCall,
     reads,
     written,
 )
 
 _WORD = 2**32 - 1
-_START = "start"
+# The greatest offset that the helper accepts.
+FARTHEST = 2**31 - 1
+# In place of a step that wrote a register: the start of the program; and the steps that use a number as an offset.
+_START, _OFFSET = "start", "offset"
 Known = Mapping[Storage, int]
 
 
@@ -68,7 +71,17 @@ def live(graph: Graph, order: list[Place]) -> Live:
 
 def uses_context(step: Step) -> bool:
     """Whether a step reads the context, or passes it to a call."""
-    return isinstance(step, LoadContext | LoadLength | LoadPacket | Fetch)
+    return isinstance(step, LoadContext | LoadPacket | Fetch)
+
+
+def predecessors(graph: Graph, order: list[Place]) -> Mapping[Place, int]:
+    """How many steps lead to each step, each once for each of its followers."""
+    return Counter(follower for place in order for follower in graph.followers[place])
+
+
+def has_33_bits(step: LoadPacket, known: Known) -> bool:
+    """Whether a load is behind X at a sum that may be larger than the 32 bits that the helper reads; it does not wrap then."""
+    return step.is_behind_x and not step.wraps and known[step.base] + step.offset > _WORD
 
 
 def after_calls(graph: Graph, order: list[Place]) -> set[Place]:
@@ -81,10 +94,13 @@ def after_calls(graph: Graph, order: list[Place]) -> set[Place]:
 
 
 def behind_calls_that_went_well(graph: Graph, order: list[Place]) -> set[Place]:
-    """The steps before which each path has a call, the last of which succeeded: so it has left 0 as its result."""
+    """The steps before which each path has a call, the last of which succeeded: so it has left 0 as its result.
+
+    They may include the path that zeros take after a call that is tested later, except what follows that test.
+    """
     found = set(order) - {graph.entry}
     for place in order:
-        is_call = isinstance(graph.steps[place], Fetch | LoadPacket)
+        is_call = isinstance(graph.steps[place], Fetch | LoadPacket | TestCall)
         for number, follower in enumerate(graph.followers[place]):
             if number > 0 if is_call else place not in found:
                 found.discard(follower)
@@ -158,19 +174,18 @@ def reach(graph: Graph, order: list[Place], known: Mapping[Place, Known]) -> int
         match graph.steps[place]:
             case LoadContext(word=word) if word == LENGTH:
                 return None
-            case TestLength(least=least):
-                farthest = max(farthest, least)
             case Fetch(headers=headers):
                 farthest = max(farthest, headers.end)
-            case LoadPacket(offset=offset, size=size, is_behind_x=is_behind_x):
-                farthest = max(farthest, offset + size + (known[place][Register.X] if is_behind_x else 0))
+            case LoadPacket(offset=offset, size=size, is_behind_x=is_behind_x, base=base):
+                farthest = max(farthest, offset + size + (known[place][base] if is_behind_x else 0))
     return farthest
 
 
 def in_packet_order(graph: Graph, order: list[Place], needed: Live) -> dict[Place, int]:
-    """Loads of the packet, and the tests of what they load, that can use the packet's byte order; each with the size.
+    """Loads of the packet, and the tests and masks of what they load, that can use the packet's byte order; each with the size.
 
-    Such a value is only tested for equality and for common bits, and only with numbers; each of its tests sees loads of only one size.
+    Such a value is only masked (AND) and tested for equality and for common bits, all with numbers; each of these steps sees loads of only
+    one size.
     """
     return _in_packet_order(graph, order, needed, Register.A) | _in_packet_order(graph, order, needed, Register.MOVED)
 
@@ -184,7 +199,7 @@ def _in_packet_order(graph: Graph, order: list[Place], needed: Live, register: R
         step, source = graph.steps[place], sources[place]
         is_needed = needed.needs(place, step)
         if is_needed and register in reads(step):
-            groups.join(place, source)
+            groups.join(_OFFSET if isinstance(step, LoadPacket) else place, source)
         behind = place if is_needed and written(step) is register else source
         for follower in graph.followers[place]:
             met = sources.setdefault(follower, behind)
@@ -215,15 +230,17 @@ class _Groups:
         sizes: dict[Place | str, set[int]] = {}
         members = [(each, self._leader(each)) for each in list(self._leaders)]
         for each, leader in members:
-            if not self._is_test_of_bytes(graph, each):
+            if not self._is_of_bytes(graph, each):
                 sizes.setdefault(leader, set()).add(self._loaded_size(graph, each))
         agreed = {leader: size for leader, (size, *others) in sizes.items() if size > 1 and not others}
         return {each: agreed[leader] for each, leader in members if leader in agreed and isinstance(each, Place)}
 
-    def _is_test_of_bytes(self, graph: Graph, each: Place | str) -> bool:
-        """Whether this test has the same result with the bytes of the register and of the number in another order."""
+    def _is_of_bytes(self, graph: Graph, each: Place | str) -> bool:
+        """Whether this is a test or a mask that has the same result with the bytes of the register and of the number in another order."""
         match graph.steps[each] if isinstance(each, Place) else None:
             case Branch(register=register, test=Test.EQ | Test.SET, operand=int()):
+                return register is self._register
+            case Operate(to=register, operator=Operator.AND, operand=int()):
                 return register is self._register
         return False
 

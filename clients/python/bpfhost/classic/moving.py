@@ -5,11 +5,10 @@ from __future__ import annotations
 from dataclasses import replace
 
 from bpfhost.classic.instructions import Test
+from bpfhost.classic.ipv4 import ETHERTYPE
 from bpfhost.classic.knowledge import live
-from bpfhost.classic.steps import Branch, Graph, LoadHeader, LoadPacket, Pass, Place, Register, Return, Step
+from bpfhost.classic.steps import Branch, Graph, LoadHeader, LoadPacket, Pass, Place, Register, Return, Step, View
 
-# The EtherType of IPv4 in the headers of Ethernet and similar links.
-_IPV4 = 0x0800
 # A test is moved after so many steps at most, and to so many places.
 _MOST_STEPS, _MOST_PLACES = 64, 3
 
@@ -51,6 +50,12 @@ class _Linked:
         self.steps[place] = step
         self.link(place, *followers)
 
+    def add(self, at: int, view: View, step: Step, *followers: Place) -> Place:
+        """Adds a step to the graph; returns its place."""
+        place = self.graph.add(at, view, step)
+        self.link(place, *followers)
+        return place
+
     def replace(self, place: Place, old: Place, new: Place) -> None:
         """Replaces a follower of a step by another one."""
         self.link(place, *(new if follower == old else follower for follower in self.followers[place]))
@@ -68,8 +73,8 @@ def _put_ipv4_first(linked: _Linked, place: Place) -> None:
     if place == linked.graph.entry or not isinstance(step, Branch):
         return
     yes, no = linked.followers[place]
-    is_other = step.test is Test.EQ and isinstance(step.operand, int) and step.operand != _IPV4
-    if is_other and linked.steps[no] == Branch(step.register, Test.EQ, _IPV4) and linked.before[no] == {place}:
+    is_other = step.test is Test.EQ and isinstance(step.operand, int) and step.operand != ETHERTYPE
+    if is_other and linked.steps[no] == Branch(step.register, Test.EQ, ETHERTYPE) and linked.before[no] == {place}:
         for before in list(linked.before[place]):
             linked.replace(before, place, no)
         ipv4, neither = linked.followers[no]
@@ -83,7 +88,6 @@ class _Mover:
     def __init__(self, linked: _Linked) -> None:
         self._linked = linked
         self._live = live(linked.graph, linked.graph.order())
-        self._copies = 0
 
     def move(self, load: Place) -> None:
         """Moves the test of bytes of the packet that are loaded here, if it is such a test and the move saves steps."""
@@ -103,10 +107,9 @@ class _Mover:
         linked.put(load, Pass(), on)
         linked.link(test)
         for target in targets:
-            self._copies += 1
-            new_load, new_test = (Place(each.at, target.view, -self._copies) for each in (load, test))
-            linked.put(new_test, replace(branch, register=Register.MOVED), *((target, end) if on == yes else (end, target)))
-            linked.put(new_load, replace(step, to=Register.MOVED), new_test)
+            moved = replace(branch, register=Register.MOVED)
+            new_test = linked.add(test.at, target.view, moved, *((target, end) if on == yes else (end, target)))
+            new_load = linked.add(load.at, target.view, replace(step, to=Register.MOVED), new_test)
             for place in passed:
                 linked.replace(place, target, new_load)
 
@@ -117,7 +120,7 @@ class _Mover:
             case Branch(test=Test.SET, operand=int()):
                 return self._linked.ends_with_0(followers[0])
             case Branch(test=Test.EQ, operand=operand):
-                return operand == _IPV4 and self._linked.ends_with_0(followers[1])
+                return operand == ETHERTYPE and self._linked.ends_with_0(followers[1])
         return False
 
     def _passed(self, test: Place, on: Place) -> list[Place]:

@@ -3,11 +3,12 @@
 from __future__ import annotations
 
 from collections.abc import Hashable
+from enum import Enum, auto
 
 from bpfhost.classic import slots_writer as op
-from bpfhost.classic.ancillary import LENGTH, ContextWord
+from bpfhost.classic.ancillary import ContextWord
 from bpfhost.classic.instructions import Operator
-from bpfhost.classic.knowledge import Known
+from bpfhost.classic.knowledge import FARTHEST, Known, has_33_bits
 from bpfhost.classic.slots_writer import SlotsWriter
 from bpfhost.classic.stack import BUFFER, Layout, pieces, scratch
 from bpfhost.classic.steps import (
@@ -15,7 +16,6 @@ from bpfhost.classic.steps import (
     Headers,
     LoadContext,
     LoadHeader,
-    LoadLength,
     LoadPacket,
     LoadScratch,
     Negate,
@@ -27,14 +27,27 @@ from bpfhost.classic.steps import (
     StoreScratch,
 )
 
-NUMBERS = {Register.A: 7, Register.X: 8, Register.LENGTH: 9, Register.MOVED: 4}
+NUMBERS = {Register.A: 7, Register.X: 8, Register.MOVED: 4}
 CONTEXT = 6
 _ALU, _BY_REGISTER = 0x04, 0x08
-_FARTHEST = 2**31 - 1
+
+
+class Context(Enum):
+    """Where a step finds the run's context: in the register in which it is passed, which a call changes, or saved in another one."""
+
+    PASSED = auto()
+    # It is passed to a call that a later step needs it after, so the call's arguments save it.
+    TO_SAVE = auto()
+    SAVED = auto()
+
+    @property
+    def register(self) -> int:
+        """The register that has it."""
+        return CONTEXT if self is Context.SAVED else op.R1
 
 
 class StepSlots:
-    """Writes the slots of steps. `context` is the register that has the context at a step."""
+    """Writes the slots of steps."""
 
     def __init__(self, writer: SlotsWriter, layout: Layout) -> None:
         self._writer = writer
@@ -44,7 +57,7 @@ class StepSlots:
         """Sets a register to a number."""
         self._writer.put(op.MOVE_K_W, to, number=number)
 
-    def step(self, step: Step, context: int, in_order: bool) -> None:
+    def step(self, step: Step, context: Context, in_order: bool) -> None:
         """Writes a step that can't fail; if `in_order`, a load of the packet keeps the packet's byte order."""
         put = self._writer.put
         match step:
@@ -53,9 +66,7 @@ class StepSlots:
             case Copy(to=to, source=source):
                 put(op.MOVE_X_W, NUMBERS[to], NUMBERS[source])
             case LoadContext(to=to, word=word):
-                self._load_word(NUMBERS[to], context, word)
-            case LoadLength():
-                self._load_word(NUMBERS[Register.LENGTH], context, LENGTH)
+                self._load_word(NUMBERS[to], context.register, word)
             case LoadScratch(to=to, word=each):
                 put(op.LOAD[4], NUMBERS[to], op.R10, offset=scratch(each))
             case StoreScratch(word=each, value=int() as number):
@@ -94,48 +105,78 @@ class StepSlots:
         """Writes the end; with `is_zero` the register of the result is 0 already, from a call."""
         if isinstance(step.value, Register):
             self._writer.put(op.MOVE_X_W, op.R0, NUMBERS[step.value])
-        elif step.value or not is_zero:
+        elif step.value or step.may_follow_failure or not is_zero:
             self.number(op.R0, step.value)
         self._writer.put(op.EXIT)
 
     # Calls of the helper that copies bytes of the packet.
+    #
+    # The order of the arguments is that of sequences of instructions that the host's interpreter executes at once (docs/GUIDE.md): a move of
+    # a register, the addition of a number to it and one more move; two moves of numbers and a call.
 
-    def fetch(self, headers: Headers, context: int) -> None:
-        """Copies headers to the stack."""
-        self.number(op.R2, headers.first)
-        self._call(context, self._layout.place(headers.first), headers.count)
+    def fetch(self, headers: Headers, context: Context, shorter: Hashable | None = None) -> None:
+        """Copies headers to the stack; if the packet may end before them, a jump to a label follows for that case."""
+        self._call_at(headers.first, context, self._layout.place(headers.first), headers.count)
+        self._test_call(shorter)
 
-    def load(self, step: LoadPacket, context: int, known: Known, shorter: Hashable | None) -> None:
+    def load(self, step: LoadPacket, context: Context, known: Known, shorter: Hashable | None = None) -> None:
         """Bytes of the packet come to the buffer; if the packet may end before them, a jump to a label follows for that case."""
-        if step.is_behind_x:
-            self._offset_behind_x(step, known, shorter)
+        if not step.is_behind_x:
+            self._call_at(step.offset, context, BUFFER, step.size)
+        elif not step.offset:
+            self._call_at_register(NUMBERS[step.base], context, step.size)
         else:
-            self.number(op.R2, step.offset)
-        self._call(context, BUFFER, step.size)
-        if shorter is not None:
-            self._writer.jump(shorter, op.JUMP_NOT_EQUAL_K, op.R0)
+            self._call_behind(step, context, known, shorter)
+        self._test_call(shorter)
 
     def take(self, step: LoadPacket, in_order: bool) -> None:
         """Loads the bytes of the buffer into a register."""
         self._load_stack(NUMBERS[step.to], BUFFER, step.size, in_order)
 
-    def _offset_behind_x(self, step: LoadPacket, known: Known, drop: Hashable | None) -> None:
-        """Puts X plus an offset into register 2: the helper reads 32 bits of it, so a larger sum is refused first."""
-        put = self._writer.put
-        put(op.MOVE_X_W, op.R2, NUMBERS[Register.X])
-        if not step.offset:
-            return
-        if step.wraps or known[Register.X] + step.offset < 2**32:
-            put(op.ADD_K_W, op.R2, number=step.offset)
-        elif drop is not None:
-            put(op.ADD_K, op.R2, number=step.offset)
-            self._writer.jump(drop, op.JUMP_ABOVE_K, op.R2, number=_FARTHEST)
+    def _call_at(self, offset: int, context: Context, place: int, size: int) -> None:
+        """Calls the helper with a known offset."""
+        self._address(place)
+        self._move_context(context)
+        self._writer.put(op.MOVE_K, op.R2, number=offset)
+        self._size_and_call(size)
 
-    def _call(self, context: int, place: int, size: int) -> None:
-        put = self._writer.put
-        if context != op.R1:
-            put(op.MOVE_X, op.R1, context)
-        put(op.MOVE_K, op.R3, number=place)
-        put(op.ADD_X, op.R3, op.R10)
-        self.number(op.R4, size)
-        put(op.CALL, number=op.LOAD_BYTES)
+    def _call_at_register(self, register: int, context: Context, size: int) -> None:
+        """Calls the helper with a register as the offset: it has 32 bits, so all 64 bits of it are the same number."""
+        self._address(BUFFER)
+        self._writer.put(op.MOVE_X, op.R2, register)
+        self._move_context(context)
+        self._size_and_call(size)
+
+    def _call_behind(self, step: LoadPacket, context: Context, known: Known, shorter: Hashable | None) -> None:
+        """Calls the helper with the sum of a register and an offset: it reads 32 bits of the sum, so a larger one is refused first, unless it wraps."""
+        self._writer.put(op.MOVE_X, op.R2, NUMBERS[step.base])
+        self._writer.put(op.ADD_K, op.R2, number=step.offset)
+        if shorter is not None and has_33_bits(step, known):
+            self._writer.jump(shorter, op.JUMP_ABOVE_K, op.R2, number=FARTHEST)
+        self._address(BUFFER)
+        self._move_context(context)
+        self._size_and_call(step.size)
+
+    def _address(self, place: int) -> None:
+        """Passes an address on the stack."""
+        self._writer.put(op.MOVE_X, op.R3, op.R10)
+        self._writer.put(op.ADD_K, op.R3, number=place)
+
+    def _move_context(self, context: Context) -> None:
+        """Passes the context, which the program begins with in the argument's register, or saves it there."""
+        if context is Context.SAVED:
+            self._writer.put(op.MOVE_X, op.R1, CONTEXT)
+        elif context is Context.TO_SAVE:
+            self._writer.put(op.MOVE_X, CONTEXT, op.R1)
+
+    def _size_and_call(self, size: int) -> None:
+        self._writer.put(op.MOVE_K, op.R4, number=size)
+        self._writer.put(op.CALL, number=op.LOAD_BYTES)
+
+    def _test_call(self, shorter: Hashable | None) -> None:
+        if shorter is not None:
+            self.jump_if_short(shorter)
+
+    def jump_if_short(self, shorter: Hashable) -> None:
+        """A jump to a label if the last call has not found its bytes in the packet."""
+        self._writer.jump(shorter, op.JUMP_NOT_EQUAL_K, op.R0)

@@ -12,12 +12,11 @@ from bpfhost.classic.instructions import Operator, Test
 
 
 class Register(Enum):
-    """The registers of a classic program, and two more for its translation."""
+    """The registers of a classic program, and one more for its translation."""
 
     A = "A"
     X = "X"
-    # The packet's length, and the value that a moved test reads.
-    LENGTH = "length"
+    # The value that a moved test reads.
     MOVED = "moved"
 
 
@@ -105,8 +104,9 @@ class LoadHeader:
 class LoadPacket:
     """The register becomes bytes of the packet, by a call; the second follower is for a packet that ends before them.
 
-    There is no second follower if the packet is known to have them. They are at an offset, or at the sum of X and the offset, which has
-    32 bits if it wraps, and otherwise as many as it needs.
+    There is no second follower if the packet is known to have them, or if this is tested later. The bytes are
+    at an offset, or behind X: at the sum of the offset and X, or another register, `base`. The sum has 32 bits if it wraps, and otherwise as
+    many as it needs.
     """
 
     to: Register
@@ -114,6 +114,7 @@ class LoadPacket:
     size: int
     is_behind_x: bool = False
     wraps: bool = False
+    base: Register = Register.X
 
 
 @dataclass(frozen=True)
@@ -140,29 +141,26 @@ class Branch:
 
 
 @dataclass(frozen=True)
-class LoadLength:
-    """Loads the packet's length into its register."""
-
-
-@dataclass(frozen=True)
-class TestLength:
-    """The first follower is for a packet that has at least so many bytes, and the second for a shorter one."""
-
-    least: int
-
-
-@dataclass(frozen=True)
 class Fetch:
-    """Copies headers to the stack, of a packet that is known to have them."""
+    """Copies headers to the stack, by a call; the second follower is for a packet that ends before them.
+
+    There is no second follower if the packet is known to have them, or if this is tested later.
+    """
 
     headers: Headers
 
 
 @dataclass(frozen=True)
+class TestCall:
+    """The first follower is for a last call that has found its bytes in the packet, and the second for one that has not."""
+
+
+@dataclass(frozen=True)
 class Return:
-    """The program's result."""
+    """The program's result; `may_follow_failure` if the last call may not have found its bytes."""
 
     value: Operand
+    may_follow_failure: bool = False
 
 
 Step = (
@@ -170,7 +168,6 @@ Step = (
     | SetNumber
     | Copy
     | LoadContext
-    | LoadLength
     | LoadScratch
     | StoreScratch
     | LoadHeader
@@ -178,8 +175,8 @@ Step = (
     | Operate
     | Negate
     | Branch
-    | TestLength
     | Fetch
+    | TestCall
     | Return
 )
 
@@ -202,11 +199,15 @@ class View(NamedTuple):
 
 
 class Place(NamedTuple):
-    """A step by its instruction, the view there, and its number among the steps of that instruction; copies have negative numbers."""
+    """A step by its instruction, the view there, and its number among the steps of that instruction.
+
+    A step that the translation adds later has no such number, but one among all added steps, `added`.
+    """
 
     at: int
     view: View
     part: int = 0
+    added: int = 0
 
 
 @dataclass
@@ -216,10 +217,22 @@ class Graph:
     entry: Place
     steps: dict[Place, Step] = field(default_factory=dict)
     followers: dict[Place, tuple[Place, ...]] = field(default_factory=dict)
+    added: int = 0
 
     def copy(self) -> Graph:
         """A copy of the graph with the same steps."""
-        return Graph(self.entry, dict(self.steps), dict(self.followers))
+        return Graph(self.entry, dict(self.steps), dict(self.followers), self.added)
+
+    def put(self, place: Place, step: Step, *followers: Place) -> None:
+        """Sets a step with its followers."""
+        self.steps[place], self.followers[place] = step, followers
+
+    def add(self, at: int, view: View, step: Step, *followers: Place) -> Place:
+        """Adds a step, which belongs to an instruction in a view; returns its place."""
+        self.added += 1
+        place = Place(at, view, added=self.added)
+        self.put(place, step, *followers)
+        return place
 
     def end(self, view: View) -> Place:
         """The end with the result 0 that a load out of the packet leads to."""
@@ -261,10 +274,8 @@ def reads(step: Step) -> tuple[Storage, ...]:
             return (word,)
         case StoreScratch(value=Register() as value):
             return (value,)
-        case LoadPacket(is_behind_x=True):
-            return (Register.X,)
-        case TestLength():
-            return (Register.LENGTH,)
+        case LoadPacket(is_behind_x=True, base=base):
+            return (base,)
         case Operate(to=to, operand=Register() as operand):
             return (to, operand)
         case Operate(to=to):
@@ -287,8 +298,6 @@ def written(step: Step) -> Storage | None:
             return word
         case Negate():
             return Register.A
-        case LoadLength():
-            return Register.LENGTH
-        case Pass() | Branch() | TestLength() | Fetch() | Return():
+        case Pass() | Branch() | Fetch() | TestCall() | Return():
             return None
     return step.to

@@ -5,13 +5,14 @@ clients/python/FILTERS.md has the table by code.
 
 from __future__ import annotations
 
-from collections.abc import Iterator, Sequence
+from collections.abc import Callable, Iterator, Sequence
 from dataclasses import dataclass
 
 from bpfhost.classic.checking import check
 from bpfhost.classic.errors import ClassicError
+from bpfhost.classic.failures import with_failures_tested_late
 from bpfhost.classic.instructions import Instruction
-from bpfhost.classic.lengths import with_few_tests
+from bpfhost.classic.lengths import with_short_packets_ended, without_known_lengths
 from bpfhost.classic.moving import with_tests_moved
 from bpfhost.classic.semantics import Meaning
 from bpfhost.classic.stack import MOST_HEADERS
@@ -23,6 +24,13 @@ from bpfhost.numbers import MOST_SLOTS, SLOT_SIZE
 # One call copies at most so many bytes to the stack; bytes farther on are copied by a separate call, for the packets that need them.
 _MOST_BY_CALL = 40
 _PLAIN = Plan()
+# What happens to a graph before its slots are written: each step has the same program in another form.
+_STEPS: tuple[Callable[[Graph], Graph], ...] = (
+    with_tests_moved,
+    with_short_packets_ended,
+    without_known_lengths,
+    with_failures_tested_late,
+)
 
 
 @dataclass(frozen=True)
@@ -57,7 +65,9 @@ def translate(instructions: Sequence[Instruction], meaning: Meaning = Meaning(),
         graph = unfolded(instructions, plan, meaning)
         if graph is None:
             continue
-        written = written_slots(with_few_tests(with_tests_moved(graph)))
+        for step in _STEPS:
+            graph = step(graph)
+        written = written_slots(graph)
         if written.slots is not None:
             return Translation(written.slots, written.lines, plan != _PLAIN, written.reach)
         count = written.count

@@ -19,6 +19,8 @@ from bpfhost.classic.instructions import (
     Operator,
     Test,
 )
+from bpfhost.classic.ipv4 import USUAL_BYTE, USUAL_LENGTH
+from bpfhost.classic.knowledge import FARTHEST
 from bpfhost.classic.semantics import Length, Meaning, Semantics
 from bpfhost.classic.steps import (
     Branch,
@@ -28,7 +30,6 @@ from bpfhost.classic.steps import (
     Headers,
     LoadContext,
     LoadHeader,
-    LoadLength,
     LoadPacket,
     LoadScratch,
     Negate,
@@ -41,15 +42,10 @@ from bpfhost.classic.steps import (
     SetNumber,
     Step,
     StoreScratch,
-    TestLength,
     View,
 )
 
 A, X = Register.A, Register.X
-# The first byte of an IPv4 header without options, and its length.
-USUAL_BYTE, USUAL_LENGTH = 0x45, 20
-# The greatest offset that the helper accepts.
-_FARTHEST = 2**31 - 1
 _SHIFTS = (Operator.LSH, Operator.RSH)
 _DIVISIONS = (Operator.DIV, Operator.MOD)
 # Nothing is on the stack, and nothing is copied to it: each load of the packet is a call.
@@ -84,15 +80,13 @@ class _Unfolding:
         self._instructions = instructions
         self._plan = plan
         self._meaning = meaning
-        first = Place(0, View(()), -1) if plan.headers else Place(0, _BY_CALLS)
+        first = Place(0, View(()) if plan.headers else _BY_CALLS)
         self._graph = Graph(first)
         self._place = first
         self._left: list[Place] = []
 
     def graph(self) -> Graph | None:
         """All steps that a path leads to, if they are not too many."""
-        if self._plan.headers:
-            self._end(LoadLength(), Place(0, View(())))
         self._left.append(self._graph.entry)
         while self._left:
             if len(self._graph.steps) > _MOST_STEPS:
@@ -221,8 +215,7 @@ class _Unfolding:
             self._graph.steps[shorter], self._graph.followers[shorter] = SetNumber(X, USUAL_LENGTH), (by_calls,)
             self._left.append(by_calls)
         fetched = tuple(each for each in self._plan.headers if each == headers or each in view.fetched)
-        self._add(TestLength(headers.end), shorter)
-        self._end(Fetch(headers), Place(self._place.at, view._replace(fetched=fetched)))
+        self._end(Fetch(headers), Place(self._place.at, view._replace(fetched=fetched)), shorter)
         return True
 
     def _offset(self, view: View, form: Form, k: int) -> int | None:
@@ -247,22 +240,12 @@ class _Unfolding:
 
     def _load(self, to: Register, offset: int, size: int, following: Place) -> None:
         """A load at a known offset: from the stack if the bytes are there."""
-        if offset > _FARTHEST:
+        if offset > FARTHEST:
             self._end(Pass(), self._drop())
         elif following.view.has(offset, size):
             self._end(LoadHeader(to, offset, size), following)
         else:
-            self._add_length_test(offset + size)
-            self._end(LoadPacket(to, offset, size), following, *self._drop_behind_call())
-
-    def _add_length_test(self, least: int) -> None:
-        """A packet that is too short for a load ends here, if the length is in a register."""
-        if self._plan.headers:
-            self._add(TestLength(least), self._drop())
-
-    def _drop_behind_call(self) -> tuple[Place, ...]:
-        """The follower of a load that finds the packet too short, if there is no test of the length before it."""
-        return () if self._plan.headers else (self._drop(),)
+            self._end(LoadPacket(to, offset, size), following, self._drop())
 
     def _load_ancillary(self, at: int, k: int, following: Place) -> None:
         word = context_word(k) if k >= ANCILLARY else None
@@ -279,7 +262,7 @@ class _Unfolding:
         is_kernel = self._meaning.semantics is Semantics.KERNEL
         if view.is_x_usual:
             self._load(A, self._offset_behind_x(k), size, following)
-        elif k > _FARTHEST and not is_kernel:
+        elif k > FARTHEST and not is_kernel:
             self._end(Pass(), self._drop())
         else:
             self._end(LoadPacket(A, k, size, is_behind_x=True, wraps=is_kernel), following, self._drop())
@@ -292,14 +275,13 @@ class _Unfolding:
         if has_usual and view.usual == k:
             self._end(Pass(), usual)
             return
-        if k > _FARTHEST:
+        if k > FARTHEST:
             self._end(Pass(), self._drop())
             return
         if view.has(k, 1):
             self._add(LoadHeader(X, k, 1))
         else:
-            self._add_length_test(k + 1)
-            self._add(LoadPacket(X, k, 1), *self._drop_behind_call())
+            self._add(LoadPacket(X, k, 1), self._drop())
         if has_usual:
             other = other._replace(view=_BY_CALLS)
             self._add_branch(Branch(X, Test.EQ, USUAL_BYTE), usual)

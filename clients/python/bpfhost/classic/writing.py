@@ -6,15 +6,16 @@ A is register 7, X register 8, the context register 6, and scratch memory is on 
 from __future__ import annotations
 
 from collections.abc import Mapping
-from dataclasses import dataclass
+from dataclasses import dataclass, replace
 
 from bpfhost.classic import slots_writer as op
 from bpfhost.classic.instructions import Test
-from bpfhost.classic.knowledge import after_calls, behind_calls_that_went_well, greatest, in_packet_order, live, reach, uses_context
+from bpfhost.classic.knowledge import after_calls, behind_calls_that_went_well, greatest, in_packet_order, live, reach
 from bpfhost.classic.slots_writer import SlotsWriter
 from bpfhost.classic.stack import Layout
-from bpfhost.classic.step_slots import CONTEXT, NUMBERS, StepSlots
-from bpfhost.classic.steps import Branch, Fetch, Graph, LoadHeader, LoadPacket, Place, Register, Return, TestLength
+from bpfhost.classic.step_slots import CONTEXT, NUMBERS, Context, StepSlots
+from bpfhost.classic.steps import CONTEXT as CONTEXT_VALUE
+from bpfhost.classic.steps import Branch, Fetch, Graph, LoadHeader, LoadPacket, Operate, Place, Register, Return, TestCall
 from bpfhost.numbers import MOST_SLOTS
 
 # Of 32-bit comparisons with a number: the opcode, and that of the opposite comparison, which a test of common bits (JSET) does not have.
@@ -55,6 +56,8 @@ class _Writing:
         self._sizes_in_order = in_packet_order(graph, order, self._live)
         self._order = [place for place in order if self._live.needs(place, graph.steps[place])]
         self._after_calls = after_calls(graph, order)
+        # Otherwise the calls save the context.
+        self._saves_first = any(self._meets_without_call(place) for place in order)
         self._with_zero = behind_calls_that_went_well(graph, order)
         steps = [graph.steps[place] for place in self._order]
         headers = [step.headers for step in steps if isinstance(step, Fetch)]
@@ -81,12 +84,26 @@ class _Writing:
             self._lines.append((len(self._writer), place.at))
 
     def _begin(self) -> None:
-        """The context is kept if a step after a call needs it, and a register that is read before it is written is 0."""
-        if any(uses_context(self._graph.steps[place]) and place in self._after_calls for place in self._order):
+        """A register that is read before it is written is 0."""
+        if self._saves_first:
             self._writer.put(op.MOVE_X, CONTEXT, op.R1)
         for register in (Register.A, Register.X):
             if register in self._live.before[self._graph.entry]:
                 self._steps.number(NUMBERS[register], 0)
+
+    def _context(self, place: Place) -> Context:
+        """Where a step finds the context. The first call on a path saves it, if a later step needs it."""
+        if place in self._after_calls:
+            return Context.SAVED
+        is_call = isinstance(self._graph.steps[place], Fetch | LoadPacket)
+        is_needed = CONTEXT_VALUE in self._live.after[place]
+        return Context.TO_SAVE if is_call and is_needed and not self._saves_first else Context.PASSED
+
+    def _meets_without_call(self, place: Place) -> bool:
+        """Whether this step goes on without a call to one that needs the context, and that other paths lead to with a call."""
+        if place in self._after_calls or isinstance(self._graph.steps[place], Fetch | LoadPacket):
+            return False
+        return any(each in self._after_calls and CONTEXT_VALUE in self._live.before[each] for each in self._graph.followers[place])
 
     def _with_slots(self, place: Place) -> Place:
         """The first step with slots from a step on, which may have none."""
@@ -98,26 +115,29 @@ class _Writing:
         """Writes a step with the jumps after it; returns the step that it goes on to without a jump."""
         step = self._graph.steps[place]
         followers = [self._with_slots(each) for each in self._graph.followers[place]]
-        context, in_order = CONTEXT if place in self._after_calls else op.R1, place in self._sizes_in_order
+        context, in_order = self._context(place), place in self._sizes_in_order
         match step:
             case Branch():
                 yes, no = followers
                 return self._branch(place, step, yes, no, following)
-            case TestLength(least=least):
-                return self._test_length(least, (followers[0], followers[1]), following)
             case Fetch(headers=headers):
-                self._steps.fetch(headers, context)
+                self._steps.fetch(headers, context, *followers[1:])
+            case TestCall():
+                self._steps.jump_if_short(followers[1])
             case Return():
                 self._steps.end(step, place in self._with_zero)
             case LoadPacket():
-                self._steps.load(step, context, self._greatest[place], followers[1] if len(followers) > 1 else None)
+                self._steps.load(step, context, self._greatest[place], *followers[1:])
                 if step.to in self._live.after[place]:
                     self._steps.take(step, in_order)
+            case Operate(operand=int() as number) if in_order:
+                mask = _in_order(number, self._sizes_in_order[place])
+                self._steps.step(replace(step, operand=mask), context, in_order)
             case _:
                 self._steps.step(step, context, in_order)
         if not followers:
             return None
-        return self._go_on(followers[0], following, isinstance(step, Fetch | LoadPacket) or place in self._with_zero)
+        return self._go_on(followers[0], following, isinstance(step, Fetch | LoadPacket | TestCall) or place in self._with_zero)
 
     def _go_on(self, follower: Place, following: Place | None, is_zero: bool) -> Place | None:
         """Goes on to a step: without a jump if it comes next; instead of a jump to a return, writes a copy of the return."""
@@ -131,21 +151,12 @@ class _Writing:
             self._writer.jump(follower)
         return None
 
-    def _test_length(self, least: int, followers: tuple[Place, Place], following: Place | None) -> Place | None:
-        """Writes a test of the packet's length with its jump; returns the step that it goes on to without one."""
-        (far, near), length = followers, NUMBERS[Register.LENGTH]
-        if near == following:
-            self._writer.jump(far, op.JUMP_NOT_BELOW_K_W, length, number=least)
-            return near
-        self._writer.jump(near, op.JUMP_BELOW_K_W, length, number=least)
-        return self._go_on(far, following, is_zero=False)
-
     def _branch(self, place: Place, step: Branch, yes: Place, no: Place, following: Place | None) -> Place | None:
         """Writes a test with its jump; returns the step that it goes on to without one."""
         size = self._sizes_in_order.get(place)
         opcode, opposite = _TESTS[step.test]
         register, operand = NUMBERS[step.register], step.operand
-        source, number = (NUMBERS[operand], 0) if isinstance(operand, Register) else (0, _in_order(step.test, operand, size))
+        source, number = (NUMBERS[operand], 0) if isinstance(operand, Register) else (0, _number_in_order(step.test, operand, size))
         by_register = _BY_REGISTER if isinstance(operand, Register) else 0
         if yes == following and opposite is not None and no != following:
             self._writer.jump(no, opposite | by_register, register, source, number=number)
@@ -154,12 +165,14 @@ class _Writing:
         return self._go_on(no, following, place in self._with_zero)
 
 
-def _in_order(test: Test, number: int, size: int | None) -> int:
+def _number_in_order(test: Test, number: int, size: int | None) -> int:
     """The number that a test compares with bytes in the packet's order, or the number itself if the bytes are swapped."""
-    if size is None:
+    # No bytes of this size are equal to a larger number, in either order.
+    if size is None or (test is Test.EQ and number >= 2 ** (8 * size)):
         return number
-    room = 2 ** (8 * size)
-    if test is Test.EQ and number >= room:
-        # No bytes of this size are equal to it, in either order.
-        return number
-    return int.from_bytes((number % room).to_bytes(size, "big"), "little")
+    return _in_order(number, size)
+
+
+def _in_order(number: int, size: int) -> int:
+    """The number whose lowest bytes are those of this one in the packet's order."""
+    return int.from_bytes((number % 2 ** (8 * size)).to_bytes(size, "big"), "little")

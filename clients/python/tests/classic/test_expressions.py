@@ -135,7 +135,7 @@ class Sizes(HostTest):
             "ip": [],
         }.items():
             slots = ClassicProgram.of_expression(expression).translated().slots
-            numbers = [int.from_bytes(slots[at + 4 : at + 8], "little") for at in range(0, len(slots), 8) if slots[at : at + 2] == b"\xb4\x04"]
+            numbers = [int.from_bytes(slots[at + 4 : at + 8], "little") for at in range(0, len(slots), 8) if slots[at : at + 2] == b"\xb7\x04"]
             self.assertEqual([number for number in numbers if number > 4], sizes, expression)
 
     def test_programs_that_are_made_to_take_long(self) -> None:

@@ -3,15 +3,13 @@
 from __future__ import annotations
 
 import random
-from collections.abc import Sequence
 from itertools import product
 
-from bpfhost import Host, Packets
+from bpfhost import Packets
 from bpfhost.classic import ClassicProgram, Instruction, Semantics
-from bpfhost.program import disassemble
 from tests.classic.common import MANY, BpfFilter, needs_libpcap, on_host
 from tests.classic.interpreter import run
-from tests.common import PROGRAM, HostTest
+from tests.classic.translated import TranslationTest
 
 # Loads with the tests of what they load: the codes and the numbers of both. Some are relative to X, which is 0 or the length of a header.
 _TESTS = [
@@ -51,19 +49,7 @@ def packet_of(draw: random.Random) -> bytes:
     return bytes(packet[: draw.choice((len(packet), draw.randint(0, 80)))])
 
 
-class Order(HostTest):
-    def setUp(self) -> None:
-        super().setUp()
-        host = Host(PROGRAM)
-        self.addCleanup(host.close)
-        self.tenant = host.tenant()
-
-    def same(self, program: ClassicProgram, packets: Sequence[bytes], semantics: Semantics = Semantics.LIBPCAP) -> list[int]:
-        """This host has the results of the interpreter."""
-        found = on_host(self.tenant, program.translated(semantics).slots, Packets.of(list(packets), 0))
-        self.assertEqual(found, [run(program.instructions, each, semantics=semantics) for each in packets], program.listing())
-        return found
-
+class Order(TranslationTest):
     def test_drawn_filters(self) -> None:
         draw, kept = random.Random("filters"), 0
         for _ in range(400 * MANY):
@@ -96,26 +82,16 @@ class Order(HostTest):
             found = on_host(self.tenant, program.translated(fast=False).slots, Packets.of(cut, 0))
             self.assertEqual(found, [run(program.instructions, each) for each in cut], program.listing())
 
-    def text(self, expression: str) -> str:
-        return disassemble(PROGRAM, ClassicProgram.of_expression(expression).translated().slots)
-
     @needs_libpcap
     def test_what_is_tested_first(self) -> None:
         """Of the bytes on the stack: IPv4 before IPv6, and addresses before the kind of packet, which few packets fail."""
         for expression, first in {
-            "tcp port 443": r"call 26\nr7 = \*\(u16 \*\)\(r10 - \d+\)\nif w7 == 8 goto \+\d+\nif w7 != 56710 goto ",
+            "tcp": r"call 26\nr7 = \*\(u16 \*\)\(r10 - \d+\)\nif w7 == 8 goto \+\d+\nif w7 == 56710 goto ",
             "host 10.0.0.1 and port 53": r"call 26\nr7 = \*\(u32 \*\)\(r10 - \d+\)\nif w7 == 16777226 goto ",
-            "ip6 and port 53": r"call 26\nr7 = \*\(u16 \*\)\(r10 - \d+\)\nif w7 != 56710 goto ",
+            "ip6 and port 53": r"call 26\nr7 = \*\(u16 \*\)\(r10 - \d+\)\nif w7 == 56710 goto ",
         }.items():
             text = self.text(expression)
             self.assertRegex(text[text.index("call 26") :], rf"\A{first}")
-
-    @needs_libpcap
-    def test_which_lengths_are_tested(self) -> None:
-        """First that of the headers, then that which a result needs: a TCP header may begin at the same byte as an address, if X is 0."""
-        for expression, lengths in {"tcp port 443": [38, 58, 24, 56, 56, 58], "host 10.0.0.1 and port 53": [38, 30, 34]}.items():
-            found = [int(line.split()[3]) for line in self.text(expression).splitlines() if line.startswith("if w9 < ")]
-            self.assertEqual(found, lengths, expression)
 
     @needs_libpcap
     def test_fragments(self) -> None:

@@ -13,6 +13,7 @@ from bpfhost.classic.errors import ClassicError
 from bpfhost.classic.failures import with_failures_tested_late
 from bpfhost.classic.instructions import Instruction
 from bpfhost.classic.lengths import with_short_packets_ended, without_known_lengths
+from bpfhost.classic.merging import with_kind_and_header_merged
 from bpfhost.classic.moving import with_tests_moved
 from bpfhost.classic.semantics import Meaning
 from bpfhost.classic.stack import MOST_HEADERS
@@ -27,6 +28,7 @@ _PLAIN = Plan()
 # What happens to a graph before its slots are written: each step has the same program in another form.
 _STEPS: tuple[Callable[[Graph], Graph], ...] = (
     with_tests_moved,
+    with_kind_and_header_merged,
     with_short_packets_ended,
     without_known_lengths,
     with_failures_tested_late,

@@ -105,6 +105,30 @@ class Context(TranslationTest):
 
 
 @needs_libpcap
+class Merging(StepsTest):
+    """The EtherType of IPv4 and the first byte of its header are tested by one load."""
+
+    def test_one_load(self) -> None:
+        """08 00 45 00 as a number in the order of this machine."""
+        for expression in ("tcp port 443", "udp port 53", "tcp dst port 80 or udp dst port 53", "not port 22"):
+            self.assertIn(f"if w4 == {0x450008} goto", self.text(expression))
+        # These have no test of the first byte, or addresses of four bytes that are aligned otherwise.
+        for expression in ("ip", "tcp", "host 10.0.0.1 and port 53"):
+            self.assertNotIn(f"{0x450008}", self.text(expression))
+
+    def test_other_bytes(self) -> None:
+        """Of packets with another EtherType, options, a type of service, each alone and together."""
+        packets = [
+            ipv4(kind=kind, first=first, service=service, fragment=fragment, protocol=protocol)
+            for kind in (0x0800, 0x86DD, 0x0845) for first in (0x45, 0x46, 0x4F, 0x65, 0) for service in (0, 0x10, 0xFF)
+            for fragment in (0, 0x2000, 1) for protocol in (6, 17)
+        ]  # fmt: skip
+        self.assertIn(True, self.kept("tcp port 443", packets))
+        self.assertIn(True, self.kept("not port 443", packets))
+        self.assertEqual(self.kept("tcp port 443", [ipv4(), ipv4(service=0x10), ipv4(first=0x46)]), [True, True, False])
+
+
+@needs_libpcap
 class Masks(StepsTest):
     """AND with a number in the packet's byte order."""
 

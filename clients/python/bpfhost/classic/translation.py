@@ -11,6 +11,7 @@ from dataclasses import dataclass
 from bpfhost.classic.checking import check
 from bpfhost.classic.errors import ClassicError
 from bpfhost.classic.failures import with_failures_tested_late
+from bpfhost.classic.folding import with_sums_folded
 from bpfhost.classic.instructions import Instruction
 from bpfhost.classic.lengths import with_short_packets_ended, without_known_lengths
 from bpfhost.classic.merging import with_kind_and_header_merged
@@ -29,6 +30,7 @@ _PLAIN = Plan()
 _STEPS: tuple[Callable[[Graph], Graph], ...] = (
     with_tests_moved,
     with_kind_and_header_merged,
+    with_sums_folded,
     with_short_packets_ended,
     without_known_lengths,
     with_failures_tested_late,

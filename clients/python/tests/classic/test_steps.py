@@ -5,7 +5,7 @@ from __future__ import annotations
 import random
 from collections.abc import Sequence
 
-from bpfhost.classic import ClassicProgram, Instruction
+from bpfhost.classic import ClassicProgram, Instruction, Semantics
 from tests.classic.common import MANY, BpfFilter, needs_libpcap
 from tests.classic.interpreter import run
 from tests.classic.traffic import ethernet
@@ -102,6 +102,33 @@ class Context(TranslationTest):
         """The arguments stand as the host's interpreter executes several of them at once."""
         program = ClassicProgram((Instruction(0x30, 0, 0, 5), Instruction(0x16, 0, 0, 0)))
         self.assertTrue(self.text(program).startswith("r3 = r10\nr3 += -8\nr2 = 5\nr4 = 1\ncall 26\n"))
+
+
+class Folding(TranslationTest):
+    """A sum for one load alone is part of that load."""
+
+    @staticmethod
+    def behind_sum(number: int, *others: Instruction) -> ClassicProgram:
+        """A byte at A + number + 2, where A is the first byte."""
+        sums = (Instruction(0x30, 0, 0, 0), Instruction(0x04, 0, 0, number), Instruction(0x07, 0, 0, 0))
+        return ClassicProgram((*sums, Instruction(0x50, 0, 0, 2), *others, Instruction(0x16, 0, 0, 0)))
+
+    def test_number_is_part_of_the_offset(self) -> None:
+        self.assertIn("r2 = r7\nr2 += 12\n", self.text(self.behind_sum(10)))
+        self.assertNotIn("r8", self.text(self.behind_sum(10)))
+        self.same(self.behind_sum(10), prefixes(bytes([3]) + bytes(range(100, 140))))
+
+    def test_x_is_read_later(self) -> None:
+        """Then it is copied."""
+        program = self.behind_sum(10, Instruction(0x0C, 0, 0, 0))
+        self.assertIn("w8 = w7", self.text(program))
+        self.same(program, prefixes(bytes([3]) + bytes(range(100, 140))))
+
+    def test_sums_that_wrap(self) -> None:
+        """The sum in A has 32 bits: it is no part of an offset if it may be larger."""
+        for number in (2**31 - 300, 2**31 - 257, 2**31 - 256, 2**32 - 3, 2**32 - 1):
+            for semantics in Semantics:
+                self.same(self.behind_sum(number), [bytes([first]) + bytes(range(1, 9)) for first in range(6)], semantics)
 
 
 @needs_libpcap

@@ -17,6 +17,7 @@ from bpfhost.classic.lengths import with_short_packets_ended, without_known_leng
 from bpfhost.classic.merging import with_kind_and_header_merged
 from bpfhost.classic.moving import with_tests_moved
 from bpfhost.classic.semantics import Meaning
+from bpfhost.classic.splitting import with_unaligned_tests_split
 from bpfhost.classic.stack import MOST_HEADERS
 from bpfhost.classic.steps import Graph, Headers, LoadHeader
 from bpfhost.classic.unfolding import Plan, unfolded
@@ -31,6 +32,7 @@ _STEPS: tuple[Callable[[Graph], Graph], ...] = (
     with_tests_moved,
     with_kind_and_header_merged,
     with_sums_folded,
+    with_unaligned_tests_split,
     with_short_packets_ended,
     without_known_lengths,
     with_failures_tested_late,

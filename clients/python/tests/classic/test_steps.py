@@ -156,6 +156,29 @@ class Merging(StepsTest):
 
 
 @needs_libpcap
+class Splitting(StepsTest):
+    """A number that is not aligned on the stack is compared in pieces, the last one first."""
+
+    def test_addresses_of_interfaces(self) -> None:
+        expression, packet = "ether dst 02:00:00:00:00:01", bytes.fromhex("020000000001") + bytes(54)
+        self.assertNotIn("w5", self.text("ether host 02:00:00:00:00:01"))
+        others = [bytes(packet[:at]) + bytes([packet[at] ^ 0x80]) + packet[at + 1 :] for at in range(6)]
+        self.assertEqual(self.kept(expression, [packet, *others]), [True] + [False] * 6)
+        self.kept("ether host 02:00:00:00:00:01", [*prefixes(packet)[:14], *others])
+
+    def test_numbers_at_each_offset(self) -> None:
+        """Numbers of two and four bytes at four offsets, next to aligned ones, which decide the layout."""
+        draw = random.Random("pieces")
+        packets = [draw.randbytes(40) for _ in range(30)]
+        for at in range(4):
+            for code, size in ((0x28, 2), (0x20, 4)):
+                number = int.from_bytes(packets[0][at + 8 : at + 8 + size], "big")
+                loads = [Instruction(0x20, 0, 0, 4), Instruction(0x15, 4, 0, 1), Instruction(0x20, 0, 0, 16), Instruction(0x15, 2, 0, 1)]
+                program = ClassicProgram((*loads, Instruction(code, 0, 0, at + 8), Instruction(0x15, 0, 1, number), KEEP, DROP))
+                self.assertEqual(self.same(program, packets)[0], 96)
+
+
+@needs_libpcap
 class Masks(StepsTest):
     """AND with a number in the packet's byte order."""
 

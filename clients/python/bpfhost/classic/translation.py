@@ -26,6 +26,8 @@ from bpfhost.numbers import MOST_SLOTS, SLOT_SIZE
 
 # One call copies at most so many bytes to the stack; bytes farther on are copied by a separate call, for the packets that need them.
 _MOST_BY_CALL = 40
+# The sizes of the pieces in which the host copies bytes (crates/bpf_helpers/src/copying.rt), and for more than 32 bytes the C library.
+_PIECES = (32, 16, 8, 4, 2, 1)
 _PLAIN = Plan()
 # What happens to a graph before its slots are written: each step has the same program in another form.
 _STEPS: tuple[Callable[[Graph], Graph], ...] = (
@@ -100,6 +102,25 @@ def _headers(graph: Graph) -> tuple[Headers, ...]:
         first = loads[0][0]
         close = [(offset, size) for offset, size in loads if offset + size <= first + _MOST_BY_CALL]
         if len(close) > 1:
-            found.append(Headers(first, max(offset + size for offset, size in close) - first))
+            found.append(Headers(first, _count(first, close)))
         loads = [each for each in loads if each not in close]
     return tuple(found)
+
+
+def _count(first: int, loads: Sequence[tuple[int, int]]) -> int:
+    """How many bytes from the first on one call copies for these loads: some more than they need, if one would else wait.
+
+    The host copies up to 32 bytes as two pieces of one size, the second of which ends with the last byte. A processor forwards what it has just
+    stored to a load quickly if one store has all bytes of the load, so no load should begin before the second piece and end in it.
+    """
+    least = max(offset + size for offset, size in loads) - first
+    for count in range(least, max(least, _MOST_BY_CALL) + 1):
+        border = first + count - _piece(count)
+        if not any(offset < border < offset + size for offset, size in loads):
+            return count
+    return least
+
+
+def _piece(count: int) -> int:
+    """The size of both pieces in which the host copies so many bytes."""
+    return next(size for size in _PIECES if size <= count)

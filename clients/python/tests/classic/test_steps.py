@@ -203,6 +203,21 @@ class Masks(StepsTest):
 
 
 @needs_libpcap
+class Counts(StepsTest):
+    """How many bytes come to the stack by the first call."""
+
+    def test_no_load_needs_both_stores(self) -> None:
+        """Nine bytes would be stored as bytes 0 to 7 and 1 to 8, and the EtherType is bytes 0 and 1; ten are 0 to 7 and 2 to 9."""
+        for expression, count in {"ip6 and tcp": 10, "tcp": 12, "tcp port 443": 26}.items():
+            self.assertIn(f"r2 = 12\nr4 = {count}\ncall 26", self.text(expression))
+
+    def test_packet_without_the_byte_that_is_not_needed(self) -> None:
+        """A packet of 21 bytes has all that loads need, and takes the path of short packets."""
+        packet = ipv4(kind=0x86DD)[:20] + b"\x06"
+        self.assertEqual(self.kept("ip6 and tcp", [packet[:20], packet, packet + b"\0"]), [False, True, True])
+
+
+@needs_libpcap
 class All(StepsTest):
     def test_parts_of_traffic(self) -> None:
         """Expressions for which steps meet, on packets that end anywhere."""

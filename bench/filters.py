@@ -7,6 +7,9 @@ usage: filters.py [--rounds N] [--only WORD] [--no-counts] FILTERS; FILTERS is t
 from __future__ import annotations
 
 import argparse
+import contextlib
+import ctypes
+import random
 import struct
 import subprocess
 import sys
@@ -16,29 +19,29 @@ from dataclasses import dataclass
 from pathlib import Path
 from statistics import median
 
+from means import mean_of
 from measure import Count, counter
 
 TOP = Path(__file__).resolve().parent.parent
 sys.path.insert(0, str(TOP / "clients/python"))
 
-from bpfhost.classic import ClassicProgram  # noqa: E402
+from bpfhost.classic import ClassicError, ClassicProgram, ExpressionError, libpcap  # noqa: E402
 from bpfhost.program import hex_lines  # noqa: E402
 
-EXPRESSIONS: Mapping[str, str] = {
-    "tcp port 443": "tcp port 443",
-    "host 10.0.0.1 and port 53": "host 10.0.0.1 and port 53",
-    "16 hosts": " or ".join(f"host 10.0.0.{host}" for host in range(1, 17)),
-    "GET of HTTP": "tcp[((tcp[12] & 0xf0) >> 2):4] = 0x47455420",
-}
+# The expressions that are compared, one a line; and others, of which some are drawn: those of the client's tests.
+EXPRESSIONS, OTHERS = TOP / "bench/expressions.txt", TOP / "clients/python/tests/classic/expressions.txt"
+DRAWN, SEED = 40, "expressions that are drawn"
+LONGEST_NAME = 34
 # Machine instructions are the difference of two counts.
 FEWER, MORE = 4, 12
 
 
 @dataclass(frozen=True)
 class Case:
-    """An expression on packets: the files of its slots, fast and plain, of its classic program, and of the packets."""
+    """An expression on packets: the files of its slots, fast and plain, of its classic program, and of the packets; and what it belongs to."""
 
     name: str
+    group: str
     fast: Path
     plain: Path
     classic: Path
@@ -74,19 +77,44 @@ class Way:
         return (counts[1] - counts[0]) / (MORE - FEWER) / case.count
 
 
+def lines_of(path: Path) -> list[str]:
+    return [line for line in path.read_text().splitlines() if line and not line.startswith("#")]
+
+
+def programs() -> Iterator[tuple[str, str, ClassicProgram]]:
+    """The expressions, and those that are drawn, each with its group and its program."""
+    chosen = lines_of(EXPRESSIONS)
+    for expression in chosen:
+        yield f"{len(chosen)} expressions", expression, ClassicProgram.of_expression(expression)
+    others = [each for each in lines_of(OTHERS) if each not in chosen]
+    left = DRAWN
+    for expression in random.Random(SEED).sample(others, len(others)):
+        # libpcap has no names of ports and protocols if the system has no list of them, and some programs are rejected.
+        with contextlib.suppress(ExpressionError, ClassicError):
+            program = ClassicProgram.of_expression(expression)
+            program.translated()
+            left -= 1
+            yield f"{DRAWN} others", expression, program
+        if not left:
+            return
+
+
 def made_cases(folder: Path, only: str) -> Iterator[Case]:
     """Each expression on each capture."""
     for capture_name, packets in captures(folder).items():
         file = folder / f"{capture_name}.packets"
         file.write_bytes(b"".join(struct.pack("=I", len(packet)) + packet for packet in packets))
-        for number, (name, expression) in enumerate(EXPRESSIONS.items()):
-            program = ClassicProgram.of_expression(expression)
+        for number, (group, expression, program) in enumerate(programs()):
             fast, plain, classic = (folder / f"{number}.{way}" for way in ("fast", "plain", "classic"))
             fast.write_text(hex_lines(program.translated().slots))
             plain.write_text(hex_lines(program.translated(fast=False).slots))
             classic.write_text(program.decimals())
-            if only in f"{name}, {capture_name}":
-                yield Case(f"{name}, {capture_name}", fast, plain, classic, file, len(packets))
+            if only in f"{expression}, {capture_name}":
+                yield Case(expression, f"{group}, {capture_name}", fast, plain, classic, file, len(packets))
+
+
+def shortened(name: str) -> str:
+    return name if len(name) <= LONGEST_NAME else f"{name[: LONGEST_NAME - 3]}..."
 
 
 def captures(folder: Path) -> dict[str, list[bytes]]:
@@ -111,18 +139,48 @@ def print_times(cases: list[Case], ways: list[Way], rounds: int) -> None:
     """For each case the medians of the times of each way over the rounds, and their ratios to libpcap's in the same round."""
     fast, plain, libpcap = ways
     print(f"ns a packet\n{'':<36}" + "".join(f"{way.name:>10}" for way in ways) + f"{'fast to libpcap':>18}{'plain to libpcap':>18}")
-    for case in cases:
+    ratios: dict[str, dict[str, float]] = {}
+    for case, is_first in with_firsts(cases):
+        if is_first:
+            print(case.group)
         found = [{way.name: way.time(case) for way in ways} for _ in range(rounds)]
         times = "".join(f"{median(each[way.name] for each in found):>10.1f}" for way in ways)
-        ratios = "".join(f"{median(each[way.name] / each[libpcap.name] for each in found):>18.2f}" for way in (fast, plain))
-        print(f"{case.name:<36}{times}{ratios}", flush=True)
+        both = [median(each[way.name] / each[libpcap.name] for each in found) for way in (fast, plain)]
+        ratios.setdefault(case.group, {})[case.name] = both[0]
+        print(f"{shortened(case.name):<36}{times}" + "".join(f"{each:>18.2f}" for each in both), flush=True)
+    print_means("times", ratios)
+
+
+def print_means(what: str, ratios: Mapping[str, Mapping[str, float]]) -> None:
+    """The geometric mean of each group."""
+    for group, found in ratios.items():
+        print(f"{what} of {group}, fast to libpcap: geometric mean {mean_of(found)}")
+
+
+def with_firsts(cases: list[Case]) -> Iterator[tuple[Case, bool]]:
+    """The cases, each with whether it is the first of its group."""
+    for before, case in zip([None, *cases], cases):
+        yield case, before is None or before.group != case.group
 
 
 def print_counts(cases: list[Case], ways: list[Way], tool: str, count: Count) -> None:
     """Machine instructions per packet."""
     print(f"machine instructions a packet, by {tool}\n{'':<36}" + "".join(f"{way.name:>10}" for way in ways))
-    for case in cases:
-        print(f"{case.name:<36}" + "".join(f"{way.instructions(case, count):>10.1f}" for way in ways), flush=True)
+    ratios: dict[str, dict[str, float]] = {}
+    for case, is_first in with_firsts(cases):
+        if is_first:
+            print(case.group)
+        found = {way.name: way.instructions(case, count) for way in ways}
+        ratios.setdefault(case.group, {})[case.name] = found["fast"] / found["libpcap"]
+        print(f"{shortened(case.name):<36}" + "".join(f"{each:>10.1f}" for each in found.values()), flush=True)
+    print_means("machine instructions", ratios)
+
+
+def libpcap_version() -> str:
+    """What libpcap says of itself."""
+    version = libpcap.library().pcap_lib_version
+    version.restype = ctypes.c_char_p
+    return bytes(version()).decode()
 
 
 def read_arguments() -> argparse.Namespace:
@@ -139,10 +197,11 @@ def main() -> None:
     program = arguments.filters
     ways = [Way("fast", program, "batch"), Way("plain", program, "batch"), Way("libpcap", program, "libpcap")]
     with tempfile.TemporaryDirectory() as folder:
+        print(libpcap_version())
         cases = list(made_cases(Path(folder), arguments.only))
         for case in cases:
             if len({way.says(case, 1) for way in ways}) > 1:
-                sys.exit(f"{case.name}: {', '.join(way.name for way in ways)} give different results")
+                sys.exit(f"{case.name}, {case.group}: {', '.join(way.name for way in ways)} give different results")
         print_times(cases, ways, arguments.rounds)
         tool, count = (None, None) if arguments.no_counts else counter()
         if tool and count:

@@ -1,6 +1,6 @@
 """Tests late whether a call has found the packet too short.
 
-Such a call leaves zeros where the bytes belong. So only the path that zeros take has the test, at its end, and packets that have other
+Such a call leaves zeros in place of the bytes. So only the path that zeros take has the test, at its end, and packets that have other
 bytes there go on without it. If both the path of zeros and that of a short packet end with 0, nothing is tested.
 """
 

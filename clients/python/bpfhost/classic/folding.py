@@ -1,4 +1,4 @@
-"""Makes a sum that is computed for one load a part of that load.
+"""Makes a sum that only one load needs a part of that load.
 
 A load at an offset that the packet decides is `tax` and `ld [x + k]`, often after an addition to A. The helper's argument is a sum anyway.
 """
@@ -15,7 +15,7 @@ _TAX = Copy(Register.X, Register.A)
 
 
 def with_sums_folded(graph: Graph) -> Graph:
-    """The same program; a load behind X reads the register that X was copied from, and adds the number that was added to it."""
+    """The same program; a load relative to X reads the register that X was copied from, and adds the number that was added to it."""
     folding = _Folding(graph)
     for place in folding.order:
         folding.fold(place)
@@ -33,7 +33,7 @@ class _Folding:
         self._sources = {follower: place for place in self.order for follower in graph.followers[place]}
 
     def fold(self, place: Place) -> None:
-        """Leaves out a copy to X, and an addition before it, if one load alone needs them."""
+        """Leaves out a copy to X, and an addition before it, if only one load needs them."""
         following = self._graph.followers[place]
         load = self._graph.steps[following[0]] if len(following) == 1 else None
         if self._graph.steps[place] != _TAX or not isinstance(load, LoadPacket) or not self._needs_only_sum(following[0], load):
@@ -46,7 +46,7 @@ class _Folding:
         self.found.steps[following[0]] = replace(load, base=Register.A, offset=load.offset + added)
 
     def _needs_only_sum(self, place: Place, load: LoadPacket) -> bool:
-        """Whether X is copied for this load alone, and A is not read after it unless the load writes it."""
+        """Whether X is copied for only this load, and A is not read after it unless the load writes it."""
         if not load.is_behind_x or load.to is not Register.A or self._before[place] > 1:
             return False
         first, *others = self._graph.followers[place]

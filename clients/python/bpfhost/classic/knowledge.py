@@ -80,7 +80,7 @@ def predecessors(graph: Graph, order: list[Place]) -> Mapping[Place, int]:
 
 
 def has_33_bits(step: LoadPacket, known: Known) -> bool:
-    """Whether a load is behind X at a sum that may be larger than the 32 bits that the helper reads; it does not wrap then."""
+    """Whether a load is relative to X, at a sum that may be larger than the 32 bits that the helper reads; it does not wrap then."""
     return step.is_behind_x and not step.wraps and known[step.base] + step.offset > _WORD
 
 

@@ -33,7 +33,7 @@ _ALU, _BY_REGISTER = 0x04, 0x08
 
 
 class Context(Enum):
-    """Where a step finds the run's context: in the register in which it is passed, which a call changes, or saved in another one."""
+    """The place of the run's context at a step: the register in which it is passed, which a call changes, or another one in which it is saved."""
 
     PASSED = auto()
     # It is passed to a call that a later step needs it after, so the call's arguments save it.

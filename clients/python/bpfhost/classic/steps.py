@@ -105,7 +105,7 @@ class LoadPacket:
     """The register becomes bytes of the packet, by a call; the second follower is for a packet that ends before them.
 
     There is no second follower if the packet is known to have them, or if this is tested later. The bytes are
-    at an offset, or behind X: at the sum of the offset and X, or another register, `base`. The sum has 32 bits if it wraps, and otherwise as
+    at an offset, or relative to X: at the sum of the offset and X, or another register, `base`. The sum has 32 bits if it wraps, and otherwise as
     many as it needs.
     """
 

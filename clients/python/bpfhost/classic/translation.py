@@ -102,23 +102,23 @@ def _headers(graph: Graph) -> tuple[Headers, ...]:
         first = loads[0][0]
         close = [(offset, size) for offset, size in loads if offset + size <= first + _MOST_BY_CALL]
         if len(close) > 1:
-            found.append(Headers(first, _count(first, close)))
+            found.append(_copied(close))
         loads = [each for each in loads if each not in close]
     return tuple(found)
 
 
-def _count(first: int, loads: Sequence[tuple[int, int]]) -> int:
-    """How many bytes from the first on one call copies for these loads: some more than they need, if one would else wait.
+def _copied(loads: Sequence[tuple[int, int]]) -> Headers:
+    """The bytes that one call copies for these loads: some before them too, if a load would else wait.
 
     The host copies up to 32 bytes as two pieces of one size, the second of which ends with the last byte. A processor forwards what it has just
     stored to a load quickly if one store has all bytes of the load, so no load should begin before the second piece and end in it.
     """
-    least = max(offset + size for offset, size in loads) - first
-    for count in range(least, max(least, _MOST_BY_CALL) + 1):
-        border = first + count - _piece(count)
+    first, end = min(offset for offset, _ in loads), max(offset + size for offset, size in loads)
+    for begin in range(first, max(end - _MOST_BY_CALL, 0) - 1, -1):
+        border = end - _piece(end - begin)
         if not any(offset < border < offset + size for offset, size in loads):
-            return count
-    return least
+            return Headers(begin, end - begin)
+    return Headers(first, end - first)
 
 
 def _piece(count: int) -> int:

@@ -92,7 +92,7 @@ class _Writing:
                 self._steps.number(NUMBERS[register], 0)
 
     def _context(self, place: Place) -> Context:
-        """Where a step finds the context. The first call on a path saves it, if a later step needs it."""
+        """The place of the context at a step. The first call on a path saves it, if a later step needs it."""
         if place in self._after_calls:
             return Context.SAVED
         is_call = isinstance(self._graph.steps[place], Fetch | LoadPacket)

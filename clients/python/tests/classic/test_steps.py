@@ -99,28 +99,28 @@ class Context(TranslationTest):
         self.same(program, [bytes(size) for size in (0, 249, 250, 251, 300)])
 
     def test_arguments_are_sequences(self) -> None:
-        """The arguments stand as the host's interpreter executes several of them at once."""
+        """The arguments are in the order in which the host's interpreter executes several of them at once."""
         program = ClassicProgram((Instruction(0x30, 0, 0, 5), Instruction(0x16, 0, 0, 0)))
         self.assertTrue(self.text(program).startswith("r3 = r10\nr3 += -8\nr2 = 5\nr4 = 1\ncall 26\n"))
 
 
 class Folding(TranslationTest):
-    """A sum for one load alone is part of that load."""
+    """A sum that only one load needs is part of that load."""
 
     @staticmethod
-    def behind_sum(number: int, *others: Instruction) -> ClassicProgram:
-        """A byte at A + number + 2, where A is the first byte."""
+    def after_sum(number: int, *others: Instruction) -> ClassicProgram:
+        """A byte at A + number + 2; A is the first byte."""
         sums = (Instruction(0x30, 0, 0, 0), Instruction(0x04, 0, 0, number), Instruction(0x07, 0, 0, 0))
         return ClassicProgram((*sums, Instruction(0x50, 0, 0, 2), *others, Instruction(0x16, 0, 0, 0)))
 
     def test_number_is_part_of_the_offset(self) -> None:
-        self.assertIn("r2 = r7\nr2 += 12\n", self.text(self.behind_sum(10)))
-        self.assertNotIn("r8", self.text(self.behind_sum(10)))
-        self.same(self.behind_sum(10), prefixes(bytes([3]) + bytes(range(100, 140))))
+        self.assertIn("r2 = r7\nr2 += 12\n", self.text(self.after_sum(10)))
+        self.assertNotIn("r8", self.text(self.after_sum(10)))
+        self.same(self.after_sum(10), prefixes(bytes([3]) + bytes(range(100, 140))))
 
     def test_x_is_read_later(self) -> None:
         """Then it is copied."""
-        program = self.behind_sum(10, Instruction(0x0C, 0, 0, 0))
+        program = self.after_sum(10, Instruction(0x0C, 0, 0, 0))
         self.assertIn("w8 = w7", self.text(program))
         self.same(program, prefixes(bytes([3]) + bytes(range(100, 140))))
 
@@ -128,7 +128,7 @@ class Folding(TranslationTest):
         """The sum in A has 32 bits: it is no part of an offset if it may be larger."""
         for number in (2**31 - 300, 2**31 - 257, 2**31 - 256, 2**32 - 3, 2**32 - 1):
             for semantics in Semantics:
-                self.same(self.behind_sum(number), [bytes([first]) + bytes(range(1, 9)) for first in range(6)], semantics)
+                self.same(self.after_sum(number), [bytes([first]) + bytes(range(1, 9)) for first in range(6)], semantics)
 
 
 @needs_libpcap
@@ -144,7 +144,7 @@ class Merging(StepsTest):
             self.assertNotIn(f"{0x450008}", self.text(expression))
 
     def test_other_bytes(self) -> None:
-        """Of packets with another EtherType, options, a type of service, each alone and together."""
+        """Of packets with another EtherType, options, a type of service, one of them and several."""
         packets = [
             ipv4(kind=kind, first=first, service=service, fragment=fragment, protocol=protocol)
             for kind in (0x0800, 0x86DD, 0x0845) for first in (0x45, 0x46, 0x4F, 0x65, 0) for service in (0, 0x10, 0xFF)
@@ -207,14 +207,13 @@ class Counts(StepsTest):
     """How many bytes come to the stack by the first call."""
 
     def test_no_load_needs_both_stores(self) -> None:
-        """Nine bytes would be stored as bytes 0 to 7 and 1 to 8, and the EtherType is bytes 0 and 1; ten are 0 to 7 and 2 to 9."""
-        for expression, count in {"ip6 and tcp": 10, "tcp": 12, "tcp port 443": 26}.items():
-            self.assertIn(f"r2 = 12\nr4 = {count}\ncall 26", self.text(expression))
+        """Bytes 12 to 20 would be stored as 12 to 19 and 13 to 20, and the EtherType is 12 and 13; bytes 5 to 20 are stored at once."""
+        for expression, numbers in {"ip6 and tcp": (5, 16), "tcp": (12, 12), "tcp port 443": (12, 26), "src net 10.0.0.0/24": (12, 20)}.items():
+            self.assertIn("r2 = {}\nr4 = {}\ncall 26".format(*numbers), self.text(expression))
 
-    def test_packet_without_the_byte_that_is_not_needed(self) -> None:
-        """A packet of 21 bytes has all that loads need, and takes the path of short packets."""
+    def test_bytes_before_change_no_result(self) -> None:
         packet = ipv4(kind=0x86DD)[:20] + b"\x06"
-        self.assertEqual(self.kept("ip6 and tcp", [packet[:20], packet, packet + b"\0"]), [False, True, True])
+        self.assertEqual([at for at, is_kept in enumerate(self.kept("ip6 and tcp", prefixes(packet + bytes(60)))) if is_kept], list(range(21, 82)))
 
 
 @needs_libpcap

@@ -1,4 +1,4 @@
-"""A test of translations on a host, beside an interpreter of the classic program."""
+"""A test of translations on a host, compared with an interpreter of the classic program."""
 
 from __future__ import annotations
 

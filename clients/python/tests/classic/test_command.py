@@ -285,7 +285,7 @@ class Texts(FilterTest):
         ended = self.command("check", "--filter", "tcp port 443", "--filter", "ip")
         lines = ended.stdout.decode().splitlines()
         self.assertRegex(lines[0], r"\Athe expression 'tcp port 443' is accepted: 20 instructions of classic BPF, \d+ slots\Z")
-        self.assertEqual(lines[1], "the expression 'ip' is accepted: 4 instructions of classic BPF, 13 slots, with a call for each load")
+        self.assertEqual(lines[1], "the expression 'ip' is accepted: 4 instructions of classic BPF, 11 slots, with a call for each load")
         self.assertEqual((len(lines), ended.stderr, ended.returncode), (2, b"", 0))
 
     def test_check_tells_each(self) -> None:
@@ -301,7 +301,7 @@ class Texts(FilterTest):
         slots = ClassicProgram.of_expression("tcp port 443").translated().slots
         self.assertEqual("".join(re.sub("(?m)^//.*\n", "", text)), disassemble(PROGRAM, slots))
         self.assertTrue(text.startswith("// the expression 'tcp port 443': 20 instructions of classic BPF, "), text)
-        self.assertIn("// (001) jeq      #0x86dd          jt 2 jf 8\nif w7 != 56710 goto ", text)
+        self.assertIn("// (001) jeq      #0x86dd          jt 2 jf 8\nif w7 == 56710 goto ", text)
 
     def test_forms(self) -> None:
         program = ClassicProgram.of_expression("udp", 101)

@@ -17,8 +17,8 @@ from bpfhost.classic.steps import Branch, Graph, LoadHeader, Operate, Pass, Plac
 # The sizes of the EtherType and of the first byte of IPv4, and of these with the type of service.
 _KIND_SIZE, _BYTE_SIZE, _MERGED_SIZE = 2, 1, 4
 _MERGED = ETHERTYPE << 16 | USUAL_BYTE << 8
-# At most so many steps between the two tests are copied.
-_MOST_BETWEEN = 16
+# The second test is looked for among so many steps, and at most so many between the two are copied.
+_MOST_REACHED, _MOST_BETWEEN = 64, 16
 
 
 def with_kind_and_header_merged(graph: Graph) -> Graph:
@@ -73,7 +73,8 @@ def _needs_other_alignment(graph: Graph, order: list[Place], offset: int) -> boo
 
 class _Merging:
     def __init__(self, graph: Graph, order: list[Place], tests: Mapping[Place, _FieldTest]) -> None:
-        self._graph, self._order, self._tests = graph, order, tests
+        self._graph, self._tests = graph, tests
+        self._numbers = {place: number for number, place in enumerate(order)}
         self._live = live(graph, order)
         self.found = graph.copy()
 
@@ -115,13 +116,14 @@ class _Merging:
 
     def _between(self, begin: Place, is_kind: bool) -> list[Place]:
         """The steps that lead from one to the test of a field, with that test, each before its followers; none if they are too many."""
-        reached = {begin}
-        for place in self._order:
-            can_be_copied = isinstance(self._graph.steps[place], LoadHeader | Branch | Pass | Operate)
-            if place in reached and can_be_copied and not self._is_second(place, is_kind):
+        reached, left = {begin}, [begin]
+        while left and len(reached) <= _MOST_REACHED:
+            place = left.pop()
+            if isinstance(self._graph.steps[place], LoadHeader | Branch | Pass | Operate) and not self._is_second(place, is_kind):
+                left += (each for each in self._graph.followers[place] if each not in reached)
                 reached.update(self._graph.followers[place])
         leads: list[Place] = []
-        for place in reversed(self._order):
-            if place in reached and (self._is_second(place, is_kind) or any(each in leads for each in self._graph.followers[place])):
+        for place in sorted(reached, key=self._numbers.__getitem__, reverse=True):
+            if self._is_second(place, is_kind) or any(each in leads for each in self._graph.followers[place]):
                 leads.append(place)
-        return leads[::-1] if len(leads) <= _MOST_BETWEEN else []
+        return leads[::-1] if not left and len(leads) <= _MOST_BETWEEN else []

@@ -36,7 +36,8 @@ def _split(found: Graph, place: Place, load: LoadHeader, parts: list[tuple[int, 
     (test,) = found.followers[place]
     branch = found.steps[test]
     assert isinstance(branch, Branch)
-    if not isinstance(branch.operand, int):
+    if not isinstance(branch.operand, int) or branch.operand >= 2 ** (8 * load.size):
+        # No bytes of this size are equal to a larger number.
         return
     number = branch.operand.to_bytes(load.size, "big")
     following, other = found.followers[test]

@@ -176,6 +176,8 @@ class Splitting(StepsTest):
                 loads = [Instruction(0x20, 0, 0, 4), Instruction(0x15, 4, 0, 1), Instruction(0x20, 0, 0, 16), Instruction(0x15, 2, 0, 1)]
                 program = ClassicProgram((*loads, Instruction(code, 0, 0, at + 8), Instruction(0x15, 0, 1, number), KEEP, DROP))
                 self.assertEqual(self.same(program, packets)[0], 96)
+                larger = Instruction(0x15, 0, 1, number ^ 2**31)
+                self.same(ClassicProgram((*program.instructions[:5], larger, KEEP, DROP)), packets)
 
 
 @needs_libpcap

@@ -5,7 +5,8 @@ usage: seed_bits.py BPFHOST LIBRARY
 `serve` takes the seed of its hash maps from the system, sixteen bytes; here choose_seeds.c returns them. `serve` adds keys to a hash map
 and looks up each of them, with one seed and with each seed that differs from it in one bit. No reply may change. But with another seed
 the keys are at other places in the table of the map, and other keys collide. So valgrind has to count other numbers of machine
-instructions, of loads, of stores or of misses in the small caches that it simulates; and the same numbers again with the same seed.
+instructions, of loads, of stores or of misses in the small caches that it simulates; and the same numbers again with the same seed, except
+for a few misses.
 """
 
 from __future__ import annotations
@@ -16,6 +17,7 @@ import shutil
 import subprocess
 import sys
 import tempfile
+from operator import le, sub
 from pathlib import Path
 
 sys.dont_write_bytecode = True
@@ -39,6 +41,8 @@ BASE = 0x243F6A8885A308D3_13198A2E03707344
 
 # Numbers of machine instructions, loads and stores, and for each of them the misses of both caches.
 Counts = tuple[int, ...]
+# The first three; and by how many the misses of one seed may differ.
+EXACT, MOST_APART = 3, 10
 
 
 class Differs(Exception):
@@ -73,12 +77,15 @@ def counted(bpfhost: str, library: str, folder: Path, seeds: list[int]) -> list[
     return [tuple(map(int, counts.split())) for counts in found[: len(seeds)]]
 
 
-def ignored_bits(counts: list[Counts]) -> list[int]:
-    """The bits that change no count. The counts are those of `BASE`, of a seed for each bit, and of `BASE` again."""
-    base, *changed, again = counts
-    if again != base:
-        raise Differs(f"with the same seed, valgrind counts {base}, then {again}")
-    return [bit for bit, found in enumerate(changed) if found == base]
+def ignored_bits(same: list[Counts], changed: list[Counts]) -> list[int]:
+    """The bits that change no count beyond those of `BASE`, of which there are several.
+
+    Instructions, loads and stores are the same each time. Misses also depend on what the process that forks the others has used before.
+    """
+    least, most = (tuple(map(function, zip(*same))) for function in (min, max))
+    if least[:EXACT] != most[:EXACT] or max(map(sub, most, least)) > MOST_APART:
+        raise Differs(f"with the same seed, valgrind counts {' and '.join(map(str, same))}")
+    return [bit for bit, found in enumerate(changed) if all(map(le, least, found)) and all(map(le, found, most))]
 
 
 def main() -> None:
@@ -86,11 +93,13 @@ def main() -> None:
     if not shutil.which("valgrind"):
         print("seed bits: skipped, as valgrind is missing")
         return
-    seeds = [BASE, *(BASE ^ 1 << bit for bit in range(BITS)), BASE]
+    half = BITS // 2
+    flipped = [BASE ^ 1 << bit for bit in range(BITS)]
     with tempfile.TemporaryDirectory() as folder:
         # the first run finds the caches in another state than the later ones, so it is not compared
-        _, *counts = counted(bpfhost, library, Path(folder), [BASE, *seeds])
-    ignored = ignored_bits(counts)
+        seeds = [BASE, BASE, *flipped[:half], BASE, *flipped[half:], BASE]
+        _, first, *counts = counted(bpfhost, library, Path(folder), seeds)
+    ignored = ignored_bits([first, counts[half], counts[-1]], counts[:half] + counts[half + 1 : -1])
     if ignored:
         raise Differs(f"{len(ignored)} of {BITS} bits change nothing: {', '.join(map(str, ignored))}")
     print(f"seed bits: each of {BITS} bits changes what valgrind counts, and none changes a reply")

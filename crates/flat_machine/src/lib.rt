@@ -57,12 +57,12 @@
 //!   again, eleven of 17 machine instructions. An arm sets the next slot before it works, or two of its paths share one
 //!   dispatch. Together this took the program "globals" of the bench from 14.9 to 13.7 machine instructions for each
 //!   instruction, "globals, atomic" from 18.1 to 15.4, and "parser" from 14.9 to 14.3.
-//! - Compared with plain C, the programs of the bench need 0 to 3.5 machine instructions more for each instruction, "parser" 2.4
+//! - Compared with plain C, the programs of the bench need 0 to 4.4 machine instructions more for each instruction, "parser" 2.4
 //!   (11.7 and 9.3), since registers and constant are decoded from the slot each time; the plain interpreter keeps decoded
-//!   entries of sixteen bytes. An instruction takes 0.89 to 1.07 times as long (bench/FIGURES.md). Decoded entries would be a
-//!   second form of each program, kept next to the slots and proved to be the same. A call costs at most 1.5 times that of
-//!   plain C: a load of bytes has the two tests of its offset and its length, the overlap test of a copy between slices, and a
-//!   call of `memmove`; a look-up in a hash map has the multiplications of the hasher.
+//!   entries of sixteen bytes. On average they take 1.01 times as long (bench/FIGURES.md). Decoded entries would be a second
+//!   form of each program, kept next to the slots and proved to be the same. A load of bytes or a look-up costs at most 1.5
+//!   times that of plain C: a load of bytes has the two tests of its offset and its length, the overlap test of a copy
+//!   between slices, and a call of `memmove`; a look-up in a hash map has the multiplications of the hasher.
 #![tactic(auto)]
 
 mod batch;

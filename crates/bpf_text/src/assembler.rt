@@ -73,8 +73,8 @@ fn note<'a>(
     definition: Definition,
 ) -> Result<(), AllocError>
     ensures { OnOk result ((q : List ℕ) → definition_of labels.new q
-        ≡ or_else (definition_of labels.old q) (if defines q (seen_option line.now) then Some definition
-        else None)) }
+        ≡ or_else (definition_of labels.old q)
+        (if defines q (seen_option line.now) then Some definition else None)) }
 {
     let Some(name) = defined(line) else {
         return Ok(());

@@ -79,8 +79,8 @@ impl SavableTenant {
         index: usize,
         part: &[u8],
     ) -> Result<Option<Vec<u8>>, AllocError>
-        ensures { length part.now ≡ PART → IfOk result (λ saved. option_map (λ frames. frames.items) saved
-            ≡ option_map (frames_of number)
+        ensures { length part.now ≡ PART → IfOk result (λ saved.
+            option_map (λ frames. frames.items) saved ≡ option_map (frames_of number)
             (slice_get (parts (tenant_state part.now self.now) self.now.births) index)) }
     {
         if part.len() != PART {

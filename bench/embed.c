@@ -1,5 +1,7 @@
 /* A command by a call of the library, by two pipes to `bpfhost serve`, and by bpf(2). README.md says what is printed.
- * usage: embed BPFHOST STREAM..; a stream's last frame is the command that is timed, those before it come once. */
+ * usage: embed BPFHOST STREAM..; a stream's last frame is the command that is timed, those before it come once.
+ *    or: embed --list; prints the names of the commands that have two ways, by a frame of one's own and by one call, and of other calls.
+ *    or: embed --repeat NAME frame|call TIMES; does such a command so many times, for a count of machine instructions. */
 #define _GNU_SOURCE
 #include <bpfhost.h>
 #include <errno.h>
@@ -400,15 +402,20 @@ static void repeat_command(void *way, long times)
         must(it->way(it) == it->wanted, "another status");
 }
 
-static void measure_command(struct command *it)
+static void open_for_commands(struct command *it)
 {
     const bpfhost_map_attr attr = {BPFHOST_HASH, 4, 8, 16, 0};
     bpfhost_result result;
-    double by_frame, by_one_call;
-    must(bpfhost_new(&it->host, 1, &(bpfhost_seed){{1, 2}}) == BPFHOST_DONE, "no host");
+    must(bpfhost_new(&it->host, 2, &(bpfhost_seed){{1, 2}}) == BPFHOST_DONE, "no host");
     must(done(bpfhost_map_create(it->host, 0, &attr, &result), &result) == MAP, "no map");
     must(done(bpfhost_prog_load(it->host, 0, BPFHOST_SOCKET_FILTER, two_slots, 2, &result), &result) == PROG, "no program");
     must(done(bpfhost_map_update(it->host, 0, MAP, "key1", 4, "value001", 8, BPFHOST_ANY, &result), &result) == 0, "no entry");
+}
+
+static void measure_command(struct command *it)
+{
+    double by_frame, by_one_call;
+    open_for_commands(it);
     it->way = it->by_frame;
     by_frame = least(repeat_command, it);
     it->way = it->by_call;
@@ -417,20 +424,160 @@ static void measure_command(struct command *it)
     bpfhost_free(it->host);
 }
 
+/* ---- calls that are no command */
+
+static int32_t new_and_free(struct command *it)
+{
+    bpfhost *host = NULL;
+    (void)it;
+    must(bpfhost_new(&host, 1, &(bpfhost_seed){{1, 2}}) == BPFHOST_DONE, "no host");
+    bpfhost_free(host);
+    return 0;
+}
+
+static int32_t lend_look_up(struct command *it)
+{
+    bpfhost_bytes lent;
+    size_t length = bpfhost_frame_map_lookup(it->frame, sizeof it->frame, 0, MAP, "key1", 4);
+    must(bpfhost_handle_lent(it->host, it->frame, length, &lent) == BPFHOST_DONE, "no reply");
+    return (int32_t)bpfhost_get32(lent.at + 8);
+}
+
+static int32_t copy_look_up(struct command *it)
+{
+    static uint8_t room[BPFHOST_LONGEST_REPLY];
+    size_t length = bpfhost_frame_map_lookup(it->frame, sizeof it->frame, 0, MAP, "key1", 4), written;
+    must(bpfhost_handle(it->host, it->frame, length, room, sizeof room, &written) == BPFHOST_DONE, "no reply");
+    return (int32_t)bpfhost_get32(room + 8);
+}
+
+enum { BATCH = 64, SHORT = 20 };
+
+static int32_t run_batch(struct command *it, size_t packets)
+{
+    size_t ends[BATCH];
+    uint32_t results[BATCH];
+    int32_t status;
+    for (size_t i = 0; i < packets; i++)
+        ends[i] = SHORT * (i + 1);
+    must(bpfhost_run_packets(it->host, 0, PROG, NULL, it->packet, sizeof it->packet, ends, packets, results, &status) == BPFHOST_DONE, "no run");
+    return status;
+}
+
+static int32_t run_one(struct command *it)
+{
+    return run_batch(it, 1);
+}
+
+static int32_t run_64(struct command *it)
+{
+    return run_batch(it, BATCH);
+}
+
+static int32_t run_64_scattered(struct command *it)
+{
+    static uint8_t buffer[BATCH * SHORT];
+    bpfhost_packet packets[BATCH];
+    uint32_t results[BATCH];
+    int32_t status;
+    for (size_t i = 0; i < BATCH; i++)
+        packets[i] = (bpfhost_packet){it->packet + SHORT * i, SHORT};
+    must(bpfhost_run_scattered(it->host, 0, PROG, NULL, 0, packets, BATCH, buffer, sizeof buffer, results, &status) == BPFHOST_DONE, "no run");
+    return status;
+}
+
+static int32_t ask_refused(struct command *it)
+{
+    bool refused;
+    must(bpfhost_memory_refused(it->host, 0, &refused) == BPFHOST_DONE, "no flag");
+    return refused;
+}
+
+static int32_t save_part(struct command *it)
+{
+    bpfhost_bytes part;
+    must(bpfhost_save_part(it->host, 0, 1, &part) == BPFHOST_DONE, "no part");
+    return 0;
+}
+
+struct saved {
+    uint8_t bytes[8192];
+    size_t length;
+};
+
+static bool keep(void *context, const uint8_t *frames, size_t length)
+{
+    struct saved *saved = context;
+    must(length <= sizeof saved->bytes - saved->length, "a save is too long");
+    memcpy(saved->bytes + saved->length, frames, length);
+    saved->length += length;
+    return true;
+}
+
+static int32_t save_all(struct command *it)
+{
+    struct saved saved = {.length = 0};
+    must(bpfhost_save(it->host, 0, keep, &saved) == BPFHOST_DONE, "no save");
+    return 0;
+}
+
+/* What is saved of tenant 0 becomes tenant 1, which is then closed. */
+static int32_t save_and_restore_as(struct command *it)
+{
+    struct saved saved = {.length = 0};
+    bpfhost_result result;
+    int32_t status;
+    must(bpfhost_save(it->host, 0, keep, &saved) == BPFHOST_DONE, "no save");
+    must(bpfhost_restore_as(it->host, 1, saved.bytes, saved.length, &status) == BPFHOST_DONE, "not restored");
+    return done(bpfhost_close_all(it->host, 1, &result), &result);
+}
+
+static int32_t close_nothing(struct command *it)
+{
+    bpfhost_result result;
+    return done(bpfhost_close_all(it->host, 1, &result), &result);
+}
+
+static struct command commands[] = {
+    {.name = "look-up", .by_frame = look_up_by_frame, .by_call = look_up_by_call},
+    {.name = "next key", .by_frame = next_key_by_frame, .by_call = next_key_by_call},
+    {.name = "update", .by_frame = update_by_frame, .by_call = update_by_call},
+    {.name = "delete, no such key", .by_frame = delete_by_frame, .by_call = delete_by_call, .wanted = -2},
+    {.name = "run, 1,500 bytes", .by_frame = run_by_frame, .by_call = run_by_call},
+    {.name = "create and close", .by_frame = create_by_frame, .by_call = create_by_call},
+    {.name = "load and close", .by_frame = load_by_frame, .by_call = load_by_call},
+    {.name = "new and free", .by_call = new_and_free},
+    {.name = "look-up, lent", .by_call = lend_look_up},
+    {.name = "look-up, copied", .by_call = copy_look_up},
+    {.name = "run_packets, 1", .by_call = run_one},
+    {.name = "run_packets, 64", .by_call = run_64},
+    {.name = "run_scattered, 64", .by_call = run_64_scattered},
+    {.name = "memory_refused", .by_call = ask_refused},
+    {.name = "save_part of a map", .by_call = save_part},
+    {.name = "save", .by_call = save_all},
+    {.name = "and restore_as", .by_call = save_and_restore_as},
+    {.name = "close_all of nothing", .by_call = close_nothing},
+};
+
+static void repeat_by_name(const char *name, const char *way, long times)
+{
+    for (size_t i = 0; i < sizeof commands / sizeof *commands; i++) {
+        struct command *it = &commands[i];
+        if (strcmp(it->name, name) != 0)
+            continue;
+        open_for_commands(it);
+        it->way = strcmp(way, "call") == 0 ? it->by_call : it->by_frame;
+        repeat_command(it, times);
+        bpfhost_free(it->host);
+    }
+}
+
 static void measure_commands(void)
 {
-    static struct command commands[] = {
-        {.name = "look-up", .by_frame = look_up_by_frame, .by_call = look_up_by_call},
-        {.name = "next key", .by_frame = next_key_by_frame, .by_call = next_key_by_call},
-        {.name = "update", .by_frame = update_by_frame, .by_call = update_by_call},
-        {.name = "delete, no such key", .by_frame = delete_by_frame, .by_call = delete_by_call, .wanted = -2},
-        {.name = "run, 1,500 bytes", .by_frame = run_by_frame, .by_call = run_by_call},
-        {.name = "create and close", .by_frame = create_by_frame, .by_call = create_by_call},
-        {.name = "load and close", .by_frame = load_by_frame, .by_call = load_by_call},
-    };
     printf("ns a command by a frame of one's own, and by one call\n%-22s%8s%19s\n", "", "frame", "one call");
     for (size_t i = 0; i < sizeof commands / sizeof *commands; i++)
-        measure_command(&commands[i]);
+        if (commands[i].by_frame != NULL)
+            measure_command(&commands[i]);
 }
 
 /* ---- what is printed */
@@ -478,6 +625,15 @@ static void measure(const char *program, const char *path)
 
 int main(int argc, char **argv)
 {
+    if (argc == 2 && strcmp(argv[1], "--list") == 0) {
+        for (size_t i = 0; i < sizeof commands / sizeof *commands; i++)
+            printf("%s\t%s\n", commands[i].name, commands[i].by_frame != NULL ? "frame" : "");
+        return 0;
+    }
+    if (argc == 5 && strcmp(argv[1], "--repeat") == 0) {
+        repeat_by_name(argv[2], argv[3], atol(argv[4]));
+        return 0;
+    }
     must(argc > 2, "usage: embed BPFHOST STREAM..");
     setvbuf(stdout, NULL, _IOLBF, 0);
     printf("ns a command, and how many times the call's\n");

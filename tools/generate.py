@@ -34,10 +34,12 @@ def written(top: Path, shared: Shared, places: list[Place] = PLACES) -> tuple[di
 
 
 def by_hand(header: str) -> list[str]:
-    """The numbers of the header outside the marks; tools/version writes those of the version, and BPFHOST_ROOM is only the header's."""
+    """The numbers of the header outside the marks. tools/version writes those of the version; BPFHOST_ROOM, the states of a host in debug builds
+    and the styles of a log are only the header's."""
     rest = re.sub(r"/\* (.*): written by tools/generate \*/\n(?:.*\n)*? */\* end of \1 \*/", "", header)
     names = [one or other for one, other in NUMBER.findall(rest)]
-    return [f"{HEADER} has {name} outside the marks" for name in names if not name.startswith(("BPFHOST_VERSION_", "BPFHOST_ROOM"))]
+    own = ("BPFHOST_VERSION_", "BPFHOST_ROOM", "BPFHOST_MADE", "BPFHOST_FREED", "BPFHOST_LOG_")
+    return [f"{HEADER} has {name} outside the marks" for name in names if not name.startswith(own)]
 
 
 def main(words: list[str]) -> int:

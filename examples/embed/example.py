@@ -1,7 +1,7 @@
 #!/usr/bin/env python3
 """The example of example.c by only ctypes: the shared library exports each function of bpfhost.h, so nothing is compiled.
 
-usage: example.py [LIBRARY]; without it, an installed libbpfhost.so.0.2
+usage: example.py [LIBRARY]; without it, an installed libbpfhost.so.0.3
 """
 
 from __future__ import annotations
@@ -111,7 +111,7 @@ class Host:
 
 
 def main() -> None:
-    host = Host(sys.argv[1] if len(sys.argv) > 1 else "libbpfhost.so.0.2")
+    host = Host(sys.argv[1] if len(sys.argv) > 1 else "libbpfhost.so.0.3")
     print("An honest tenant makes a map for one count and loads its filter:")
     print(f"  the map: descriptor {host.ask('map_create', HONEST, ARRAY, 4, 8, 1, 0).status}")
     host.load("the filter", HONEST, FILTER_SLOTS)

@@ -1,9 +1,11 @@
-/* Packets of a capture, or of an interface, go through the filters of several tenants: each batch by one call for each tenant.
- * usage: packet_path [--each] [--rate] [--by-frames] CAPTURE FILTER..
- *        packet_path [--each] [--rate] [--by-frames] --interface NAME SECONDS FILTER..
+/* Packets of a capture, or of an interface, go through the filters of several tenants: each batch by one call for each tenant, and by more
+ * in turn for a tenant whose filter may take long.
+ * usage: packet_path [--each] [--rate] [--by-frames] [--bound N] CAPTURE FILTER..
+ *        packet_path [--each] [--rate] [--by-frames] [--bound N] --interface NAME SECONDS FILTER..
  * FILTER is PROGRAM[,MAP]..: a file with a slot on each line, as `bpfhost asm` writes it, and for each map array:K:V:N or hash:K:V:N, the
  * bytes of a key and of a value, and the entries. The maps have the descriptors 3, 4, ... A filter returns how many bytes of a packet
- * to keep; 0 drops it. --each prints each result, --rate counts per second, --by-frames runs each packet by a frame of its own.
+ * to keep; 0 drops it. --each prints each result, --rate counts per second, --by-frames runs each packet by a frame of its own. --bound is
+ * the most instructions of a call, 100,000 if it is not given, and 0 for no bound; one packet is run in any case.
  * The status is 1 if a file, the interface or a filter is rejected, or if the capture is cut off, which is printed after the counts. */
 #include "packets.h"
 
@@ -17,11 +19,13 @@ enum { SLOT_DIGITS = 16 };
 struct tenant {
     const char *name;
     uint32_t program;
+    size_t done; /* how many packets of the batch were run */
     uint64_t packets, bytes, packets_told;
 };
 
 struct options {
     bool each, rate, by_frames;
+    uint64_t bound;
 };
 
 static bpfhost *host;
@@ -110,26 +114,41 @@ static struct tenant load(uint16_t number, char *filter)
 
 /* ---- the packet path */
 
-/* All packets of the batch by one call: in place, if they lie one after another, and else by a buffer. */
-static void run_batch(uint16_t number, const struct tenant *it)
+/* The ends of the packets of the batch from one on, counted from its first byte. */
+static const size_t *ends_from(size_t first, size_t begin)
+{
+    static size_t ends[BATCH];
+    if (first == 0)
+        return batch.ends;
+    for (size_t i = first; i < batch.count; i++)
+        ends[i - first] = batch.ends[i] - begin;
+    return ends;
+}
+
+/* The next packets of the batch by one call, as many as a bound allows: in place, if they lie one after another, and else by a buffer. How
+ * many were run. */
+static size_t run_batch(uint16_t number, const struct tenant *it, uint64_t bound)
 {
     static uint8_t buffer[BATCH * 1514];
+    const size_t done = it->done, left = batch.count - done, begin = done == 0 || batch.context_count != 0 ? 0 : batch.ends[done - 1];
     int32_t status = 0;
+    size_t ran = 0;
     int code;
     if (batch.context_count == 0)
-        code = bpfhost_run_packets(host, number, it->program, NULL, batch.bytes, sizeof batch.bytes, batch.ends, batch.count, answers,
-                                   &status);
+        code = bpfhost_run_bounded(host, number, it->program, NULL, batch.bytes + begin, sizeof batch.bytes - begin,
+                                   ends_from(done, begin), left, bound, answers + done, &status, &ran);
     else
-        code = bpfhost_run_scattered(host, number, it->program, batch.contexts, batch.context_count, batch.packets, batch.count, buffer,
-                                     sizeof buffer, answers, &status);
+        code = bpfhost_run_bounded_scattered(host, number, it->program, batch.contexts + done, batch.context_count - done,
+                                             batch.packets + done, left, buffer, sizeof buffer, bound, answers + done, &status, &ran);
     if (code != BPFHOST_DONE)
         fail("%s: not run: %s", it->name, bpfhost_code_text(code));
     if (status != 0)
         fail("%s: not run: status %d", it->name, (int)status);
+    return ran;
 }
 
-/* The same by a frame for each packet. */
-static void run_frames(uint16_t number, const struct tenant *it)
+/* All packets of the batch by a frame for each. */
+static size_t run_frames(uint16_t number, const struct tenant *it)
 {
     static uint8_t frame[BPFHOST_TEST_RUN_HEAD + BPFHOST_LONGEST_PACKET];
     for (size_t i = 0; i < batch.count; i++) {
@@ -141,17 +160,37 @@ static void run_frames(uint16_t number, const struct tenant *it)
             fail("%s: not run: status %d", it->name, (int)reply.status);
         answers[i] = reply.result;
     }
+    return batch.count;
 }
 
-/* Counts what a filter kept of the batch, whose first packet has this number. */
-static void count_kept(struct tenant *it, uint64_t first, bool each)
+/* Counts what a filter kept of so many packets more of the batch, whose first packet has this number. */
+static void count_kept(struct tenant *it, uint64_t first, size_t ran, bool each)
 {
-    for (size_t i = 0; i < batch.count; i++) {
+    for (size_t i = it->done; i < it->done + ran; i++) {
         size_t length = batch.packets[i].length, answer = answers[i];
         it->packets += answer != 0;
         it->bytes += answer < length ? answer : length;
         if (each)
             printf("packet %" PRIu64 ", %s: %zu\n", first + i, it->name, answer);
+    }
+}
+
+/* Runs the filters on the packets of the batch that each has not had yet: all filters in turn, until all have had all. */
+static void filter_batch(struct tenant *tenants, size_t count, uint64_t first, struct options options)
+{
+    for (size_t i = 0; i < count; i++)
+        tenants[i].done = 0;
+    for (size_t left = count; left != 0;) {
+        left = 0;
+        for (size_t i = 0; i < count; i++) {
+            struct tenant *it = &tenants[i];
+            if (it->done == batch.count)
+                continue;
+            size_t ran = options.by_frames ? run_frames((uint16_t)i, it) : run_batch((uint16_t)i, it, options.bound);
+            count_kept(it, first, ran, options.each);
+            it->done += ran;
+            left += it->done != batch.count;
+        }
     }
 }
 
@@ -171,10 +210,7 @@ static uint64_t filter_all(struct source *source, struct tenant *tenants, size_t
     uint64_t packets = 0;
     double told = now(), time;
     while (next_batch(source, &batch)) {
-        for (size_t i = 0; i < count; i++) {
-            (options.by_frames ? run_frames : run_batch)((uint16_t)i, &tenants[i]);
-            count_kept(&tenants[i], packets + 1, options.each);
-        }
+        filter_batch(tenants, count, packets + 1, options);
         packets += batch.count;
         time = now();
         if (options.rate && time - told >= 1) {
@@ -193,7 +229,8 @@ static uint64_t filter_all(struct source *source, struct tenant *tenants, size_t
 /* Reads options from the words from `*at` on, and leaves `*at` at the first word that is none. */
 static struct options read_options(char **words, int *at)
 {
-    struct options it = {false, false, false};
+    struct options it = {false, false, false, 100000};
+    char *end;
     for (; words[*at] != NULL; ++*at) {
         if (strcmp(words[*at], "--each") == 0)
             it.each = true;
@@ -201,7 +238,11 @@ static struct options read_options(char **words, int *at)
             it.rate = true;
         else if (strcmp(words[*at], "--by-frames") == 0)
             it.by_frames = true;
-        else
+        else if (strcmp(words[*at], "--bound") == 0 && words[*at + 1] != NULL) {
+            it.bound = strtoull(words[++*at], &end, 10);
+            if (*words[*at] < '0' || *words[*at] > '9' || *end != '\0')
+                fail("%s: not a number of instructions", words[*at]);
+        } else
             break;
     }
     return it;
@@ -230,7 +271,7 @@ int main(int word_count, char **words)
     struct options options = read_options(words, &at);
     bool is_live = at < word_count && strcmp(words[at], "--interface") == 0;
     if (word_count - at < (is_live ? 4 : 2))
-        fail("usage: packet_path [--each] [--rate] [--by-frames] CAPTURE|--interface NAME SECONDS PROGRAM[,MAP].. ..");
+        fail("usage: packet_path [--each] [--rate] [--by-frames] [--bound N] CAPTURE|--interface NAME SECONDS PROGRAM[,MAP].. ..");
     struct source source = read_source(words, &at);
     size_t count = (size_t)(word_count - at);
     bpfhost_seed seed;

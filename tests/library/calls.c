@@ -25,8 +25,9 @@ static void checks_new(void)
 /* What the proved functions say of a handle that has a host already, or none: a bpfhost of bpfhost_new has one. */
 static void checks_handles(void)
 {
-    void *handle = NULL, *first;
-    bpfhost *host = (bpfhost *)(void *)&handle;
+    bpfhost_memory memory = {NULL, NULL, {NULL, 0}, 0, 0};
+    bpfhost *host = (bpfhost *)(void *)&memory;
+    void *first;
     bpfhost_bytes lent = {room, 7};
     bpfhost_reply reply;
     size_t written = 7;
@@ -39,18 +40,18 @@ static void checks_handles(void)
     CHECK(bpfhost_ask(host, close_nothing, 8, &reply) == BPFHOST_ERR_NO_HOST && reply.command == 0x5a5a);
     CHECK(bpfhost_memory_refused(host, 0, &refused) == BPFHOST_ERR_NO_HOST && refused);
     bpfhost_c_free(host);
-    CHECK(handle == NULL);
-    CHECK(bpfhost_c_new(host, 2, 1, 2) == BPFHOST_DONE && handle != NULL);
+    CHECK(memory.handle == NULL);
+    CHECK(bpfhost_c_new(host, 2, 1, 2) == BPFHOST_DONE && memory.handle != NULL);
     open_counter(host, 1);
     CHECK(count_once(host, 1) == 1);
     /* A second one leaves the first. */
-    first = handle;
-    CHECK(bpfhost_c_new(host, 3, 1, 2) == BPFHOST_ERR_HAS_HOST && handle == first);
-    CHECK(bpfhost_c_new(host, 0, 1, 2) == BPFHOST_ERR_TENANT_COUNT && handle == first);
+    first = memory.handle;
+    CHECK(bpfhost_c_new(host, 3, 1, 2) == BPFHOST_ERR_HAS_HOST && memory.handle == first);
+    CHECK(bpfhost_c_new(host, 0, 1, 2) == BPFHOST_ERR_TENANT_COUNT && memory.handle == first);
     CHECK(count_once(host, 1) == 2);
     bpfhost_c_free(host);
     bpfhost_c_free(host);
-    CHECK(handle == NULL);
+    CHECK(memory.handle == NULL);
 }
 
 static void checks_nulls_and_lengths(bpfhost *host)
@@ -306,6 +307,138 @@ static void checks_packets(void)
     bpfhost_free(host);
 }
 
+/* Eight packets of one byte each, and for each of them a context. */
+enum { MANY = 8 };
+static const uint8_t many_bytes[MANY];
+static size_t many_ends[MANY];
+static bpfhost_context many_contexts[MANY];
+static uint32_t many_results[MANY];
+
+/* A batch of the eight with this bound, by each of the three functions; each time so many are run, and the results after theirs are kept. */
+static void runs_bounded(bpfhost *host, uint32_t fd, uint64_t bound, size_t wanted)
+{
+    for (int way = 0; way < 3; way++) {
+        uint64_t before = count_once(host, 1);
+        int32_t status = 1;
+        size_t ran = 99;
+        int code;
+        memset(many_results, 0x5a, sizeof many_results);
+        if (way == 0)
+            code = bpfhost_run_bounded(host, 1, fd, NULL, many_bytes, MANY, many_ends, MANY, bound, many_results, &status, &ran);
+        else if (way == 1)
+            code = bpfhost_run_bounded_with(host, 1, fd, many_contexts, MANY, many_bytes, MANY, many_ends, MANY, bound, many_results,
+                                            &status, &ran);
+        else
+            code = bpfhost_run_bounded_sized(host, 1, fd, many_contexts, 8, MANY, many_bytes, MANY, many_ends, MANY, bound, many_results,
+                                             &status, &ran);
+        CHECK(code == BPFHOST_DONE && status == 0 && ran == wanted);
+        for (size_t i = 0; i < MANY; i++)
+            CHECK(many_results[i] == (i < wanted ? (uint32_t)(before + 1 + i) : 0x5a5a5a5a));
+        CHECK(count_once(host, 1) == before + wanted + 1);
+    }
+}
+
+/* A batch of the eight with this bound is refused with this status, and none is run. */
+static void refuses_bounded(bpfhost *host, uint16_t tenant, uint32_t fd, uint64_t bound, int32_t wanted)
+{
+    int32_t status = 1;
+    size_t ran = 99;
+    memset(many_results, 0x5a, sizeof many_results);
+    CHECK(bpfhost_run_bounded(host, tenant, fd, NULL, many_bytes, MANY, many_ends, MANY, bound, many_results, &status, &ran) == BPFHOST_DONE);
+    CHECK(status == wanted && ran == 0);
+    for (size_t i = 0; i < MANY; i++)
+        CHECK(many_results[i] == 0x5a5a5a5a);
+}
+
+/* The longest path of the counter has six instructions up to its branch, and four from there on. */
+static void checks_bounds(bpfhost *host)
+{
+    const uint64_t cost = 10;
+    uint32_t results[MANY];
+    int32_t status = 1;
+    size_t ran = 99;
+    for (size_t i = 0; i < MANY; i++)
+        many_ends[i] = i + 1;
+    open_counter(host, 1);
+    for (uint64_t packets = 1; packets <= MANY + 1; packets++) {
+        size_t all = packets < MANY ? (size_t)packets : MANY;
+        runs_bounded(host, 4, packets * cost, all);
+        runs_bounded(host, 4, packets * cost + cost - 1, all);
+        runs_bounded(host, 4, packets * cost - 1, packets == 1 ? 1 : packets <= MANY ? all - 1 : MANY);
+    }
+    runs_bounded(host, 4, 0, MANY);
+    runs_bounded(host, 4, 1, 1);
+    runs_bounded(host, 4, UINT64_MAX, MANY);
+    CHECK(bpfhost_run_bounded(host, 1, 4, NULL, NULL, 0, NULL, 0, 1, NULL, &status, &ran) == BPFHOST_DONE && status == 0 && ran == 0);
+    /* What is refused is refused with any bound; a packet after those that are run is not looked at. */
+    refuses_bounded(host, 2, 4, cost, -1);
+    refuses_bounded(host, 1, 5, cost, -9);
+    refuses_bounded(host, 1, 3, cost, -22);
+    many_ends[3] = MANY + 1;
+    runs_bounded(host, 4, 3 * cost, 3);
+    refuses_bounded(host, 1, 4, 4 * cost, -22);
+    refuses_bounded(host, 1, 4, 0, -22);
+    many_ends[3] = 4;
+    CHECK(bpfhost_run_bounded_with(host, 1, 4, many_contexts, 2, many_bytes, MANY, many_ends, MANY, cost, results, &status, &ran)
+          == BPFHOST_DONE);
+    CHECK(status == -22 && ran == 0);
+    /* The number of packets is an object too. */
+    status = 1, ran = 99;
+    CHECK(bpfhost_run_bounded(host, 1, 4, NULL, many_bytes, MANY, many_ends, MANY, 1, results, &status, NULL) == BPFHOST_ERR_NULL);
+    CHECK(bpfhost_run_bounded(NULL, 1, 4, NULL, many_bytes, MANY, many_ends, MANY, 1, results, &status, &ran) == BPFHOST_ERR_NULL);
+    CHECK(bpfhost_run_bounded(host, 1, 4, NULL, many_bytes, MANY, many_ends, SIZE_MAX, 1, results, &status, &ran) == BPFHOST_ERR_LENGTH);
+    CHECK(bpfhost_run_bounded(host, 1, 4, NULL, many_bytes, MANY, many_ends, MANY, 1, results, &status, many_ends) == BPFHOST_ERR_OVERLAP);
+    CHECK(bpfhost_run_bounded(host, 1, 4, NULL, &ran, 8, many_ends, MANY, 1, results, &status, &ran) == BPFHOST_ERR_OVERLAP);
+    CHECK(bpfhost_run_bounded(host, 1, 4, NULL, many_bytes, MANY, many_ends, MANY, 1, results, &status, (size_t *)(void *)host)
+          == BPFHOST_ERR_OVERLAP);
+    CHECK(bpfhost_run_bounded(host, 1, 4, NULL, many_bytes, MANY, many_ends, MANY, 1, results, (int32_t *)(void *)&ran, &ran)
+          == BPFHOST_ERR_OVERLAP);
+    CHECK(status == 1 && ran == 99);
+}
+
+/* What is lent is no frame and no packet of its host, also after other calls; copies are, and what another host has lent. */
+static void checks_lent(bpfhost *host)
+{
+    uint8_t frame[64], copy[2 * sizeof close_nothing];
+    const uint8_t *payload;
+    bpfhost *other = NULL;
+    bpfhost_bytes lent, part;
+    bpfhost_reply reply;
+    bpfhost_result result;
+    bpfhost_packet packet;
+    size_t length, written = 7;
+    int32_t status = 1;
+    uint32_t out = 7;
+    open_counter(host, 1);
+    length = bpfhost_frame_map_lookup(frame, sizeof frame, 1, 3, "\0\0\0", 4);
+    CHECK(bpfhost_handle_lent(host, frame, length, &lent) == BPFHOST_DONE && lent.length == 20);
+    payload = lent.at + 12;
+    CHECK(bpfhost_handle(host, payload, 8, room, sizeof room, &written) == BPFHOST_ERR_LENT && written == 7);
+    CHECK(bpfhost_handle_lent(host, payload, 8, &lent) == BPFHOST_ERR_LENT && lent.at != NULL && lent.length == 0);
+    CHECK(bpfhost_ask(host, payload, 8, &reply) == BPFHOST_ERR_LENT);
+    CHECK(bpfhost_ask_sized(host, payload, 8, &reply, sizeof reply) == BPFHOST_ERR_LENT);
+    CHECK(bpfhost_restore(host, 1, payload, 8, &status) == BPFHOST_ERR_LENT);
+    CHECK(bpfhost_run_packets(host, 1, 4, NULL, payload, 8, three_ends + 2, 1, &out, &status) == BPFHOST_ERR_LENT);
+    CHECK(bpfhost_prog_test_run(host, 1, 4, NULL, payload, 8, &result) == BPFHOST_ERR_LENT);
+    packet.at = payload;
+    packet.length = 8;
+    CHECK(bpfhost_run_scattered(host, 1, 4, NULL, 0, &packet, 1, NULL, 0, &out, &status) == BPFHOST_ERR_LENT);
+    CHECK(status == 1 && out == 7);
+    /* A key or a value may be lent: it is copied before the call. */
+    CHECK(bpfhost_map_update(host, 1, 3, "\0\0\0", 4, payload, 8, BPFHOST_ANY, &result) == BPFHOST_DONE && result.status == 0);
+    memcpy(copy, close_nothing, 8);
+    CHECK(bpfhost_handle(host, copy, 8, room, sizeof room, &written) == BPFHOST_DONE && written == 12);
+    CHECK(bpfhost_handle(host, payload, 8, room, sizeof room, &written) == BPFHOST_ERR_LENT);
+    CHECK(bpfhost_new(&other, 1, &test_seed) == BPFHOST_DONE);
+    CHECK(bpfhost_ask(other, payload, 8, &reply) == BPFHOST_DONE);
+    bpfhost_free(other);
+    CHECK(bpfhost_save_part(host, 1, 0, &part) == BPFHOST_DONE && part.length != 0);
+    CHECK(bpfhost_restore(host, 1, part.at, part.length, &status) == BPFHOST_ERR_LENT && status == 1);
+    CHECK(bpfhost_ask(host, part.at + part.length - 1, 1, &reply) == BPFHOST_ERR_LENT);
+    CHECK(bpfhost_save_part(host, 1, 99, &part) == BPFHOST_ERR_NO_PART);
+    CHECK(count_once(host, 1) == 1);
+}
+
 int main(void)
 {
     bpfhost *host = NULL;
@@ -318,6 +451,12 @@ int main(void)
     checks_frames(host);
     checks_longest_program(host);
     checks_packets();
+    bpfhost_free(host);
+    CHECK(bpfhost_new(&host, 2, &test_seed) == BPFHOST_DONE);
+    checks_bounds(host);
+    bpfhost_free(host);
+    CHECK(bpfhost_new(&host, 2, &test_seed) == BPFHOST_DONE);
+    checks_lent(host);
     bpfhost_free(host);
     puts("calls: each code, and each frame by its bytes");
     return 0;

@@ -21,7 +21,7 @@ static void *given(size_t number, size_t size);
 #include <bpfhost.h>
 #undef calloc
 
-#define MOST_OBJECTS 6
+#define MOST_OBJECTS 7
 
 /* Any value: cbmc knows functions without a body by this name. */
 size_t nondet_size_t(void);
@@ -38,7 +38,7 @@ static struct {
     bool is_written;
 } objects[MOST_OBJECTS];
 static size_t count;
-static bool is_any_null, is_any_too_long, is_any_size_wrong, is_memory_refused, is_asked;
+static bool is_any_null, is_any_too_long, is_any_size_wrong, is_memory_refused, is_asked, is_made;
 static uint32_t abi_of_library = BPFHOST_ABI;
 static uint8_t *arena;
 static size_t arena_size, watched; /* any byte of the arena */
@@ -86,7 +86,19 @@ static void *object(size_t length, size_t alignment, int uses)
 
 #define ONE(pointer, uses) object(sizeof *(pointer), __alignof__(*(pointer)), uses)
 #define BYTES(length, uses) object(length, 1, uses)
-#define HOST object(BPFHOST_HANDLE_SIZE, __alignof__(void *), WRITTEN)
+
+/* A host that has lent nothing. */
+static bpfhost *any_host(void)
+{
+    bpfhost_memory *memory = (bpfhost_memory *)object(sizeof *memory, __alignof__(bpfhost_memory), WRITTEN);
+    if (memory != NULL)
+        __CPROVER_assume(memory->replies == NULL && memory->part.at == NULL && memory->part.length == 0);
+    return (bpfhost *)(void *)memory;
+}
+
+#define HOST any_host()
+/* What the memory of a host has after its handle. */
+#define KEPT (sizeof(bpfhost_memory) - BPFHOST_HANDLE_SIZE)
 
 /* Whether one object has a byte of another. */
 static bool is_shared(size_t which)
@@ -210,8 +222,11 @@ static int32_t ask(const struct piece *pieces, size_t pieces_count)
 int32_t bpfhost_c_new(bpfhost *handle, size_t tenants, uint64_t first, uint64_t second)
 {
     const struct piece pieces[] = {{handle, BPFHOST_HANDLE_SIZE, true}};
+    int32_t code;
     (void)tenants, (void)first, (void)second;
-    return ask(pieces, 1);
+    code = ask(pieces, 1);
+    is_made = code == BPFHOST_DONE;
+    return code;
 }
 
 int32_t bpfhost_c_handle(bpfhost *handle, const uint8_t *frame, size_t frame_length, uint8_t *room, size_t room_length,
@@ -233,7 +248,13 @@ int32_t bpfhost_c_handle_lent(bpfhost *handle, const uint8_t *frame, size_t fram
     const struct piece pieces[] = {{handle, BPFHOST_HANDLE_SIZE, true}, {frame, frame_length, false}, {reply, sizeof *reply, true}};
     size_t length = nondet_uint8_t();
     struct lent any;
-    int32_t code = ask(pieces, 3);
+    int32_t code;
+    if (is_made) {
+        __CPROVER_assert(frame_length == 0, "a new host is given a frame without bytes");
+        reply->at = lent.bytes;
+        return BPFHOST_DONE;
+    }
+    code = ask(pieces, 3);
     __CPROVER_assert(before.at != NULL && before.length == 0, "a reply has no bytes before it is lent");
     __CPROVER_assume(length >= 12 && length <= sizeof any);
     if (code == BPFHOST_DONE) {
@@ -255,18 +276,26 @@ uint32_t bpfhost_c_abi(void)
     return abi_of_library;
 }
 
-int32_t bpfhost_c_run_packets(bpfhost *handle, uint16_t tenant, uint32_t fd, const uint32_t *contexts, size_t word_count,
-                              size_t context_words, const uint8_t *bytes, size_t byte_count, const size_t *ends, size_t packets,
-                              uint32_t *results, size_t room, int32_t *status)
+int32_t bpfhost_c_run_packets(bpfhost *handle, uint16_t tenant, uint32_t fd, uint64_t bound, const uint32_t *contexts,
+                              size_t word_count, size_t context_words, const uint8_t *bytes, size_t byte_count, const size_t *ends,
+                              size_t packets, uint32_t *results, size_t room, int32_t *status, size_t *ran)
 {
     const struct piece pieces[] = {{handle, BPFHOST_HANDLE_SIZE, true},     {contexts, word_count * sizeof *contexts, false},
                                    {bytes, byte_count, false},              {ends, packets * sizeof *ends, false},
-                                   {results, room * sizeof *results, true}, {status, sizeof *status, true}};
-    (void)tenant, (void)fd;
+                                   {results, room * sizeof *results, true}, {status, sizeof *status, true},
+                                   {ran, sizeof *ran, true}};
+    (void)tenant, (void)fd, (void)bound;
     __CPROVER_assert(room == packets && packets <= PTRDIFF_MAX / sizeof *ends, "there are as many results as packets");
     __CPROVER_assert(word_count <= PTRDIFF_MAX / sizeof *contexts, "there are no more contexts than an object has");
     __CPROVER_assert(context_words != 0 && word_count % context_words == 0, "contexts are whole");
-    return ask(pieces, 6);
+    return ask(pieces, 7);
+}
+
+int32_t bpfhost_c_program_cost(bpfhost *handle, uint16_t tenant, uint32_t fd, bpfhost_cost *cost)
+{
+    const struct piece pieces[] = {{handle, BPFHOST_HANDLE_SIZE, true}, {cost, sizeof *cost, true}};
+    (void)tenant, (void)fd;
+    return ask(pieces, 2);
 }
 
 int32_t bpfhost_c_save(bpfhost *handle, uint16_t tenant, size_t part, bpfhost_bytes *frames)
@@ -310,7 +339,7 @@ void try_new(void)
 
 void try_handle(void)
 {
-    uint8_t here[24];
+    uint8_t here[24 + KEPT];
     lie_in(here, sizeof here);
     size_t frame_length = any_length(), room_length = any_length();
     bpfhost *host = HOST;
@@ -323,7 +352,7 @@ void try_handle(void)
 /* A refused call empties a reply that overlaps nothing, unless the frame is too long. */
 void try_handle_lent(void)
 {
-    uint8_t here[32];
+    uint8_t here[32 + KEPT];
     lie_in(here, sizeof here);
     size_t frame_length = any_length();
     bpfhost *host = HOST;
@@ -340,7 +369,7 @@ void try_handle_lent(void)
 
 void try_ask(void)
 {
-    uint8_t here[56];
+    uint8_t here[56 + KEPT];
     lie_in(here, sizeof here);
     size_t frame_length = any_length();
     bpfhost *host = HOST;
@@ -351,7 +380,7 @@ void try_ask(void)
 
 void try_ask_sized(void)
 {
-    uint8_t here[56];
+    uint8_t here[56 + KEPT];
     lie_in(here, sizeof here);
     size_t frame_length = any_length(), size = any_length();
     bpfhost *host = HOST;
@@ -394,7 +423,7 @@ void try_context_words(void)
 
 void try_run_packets(void)
 {
-    uint8_t here[68];
+    uint8_t here[68 + KEPT];
     lie_in(here, sizeof here);
     size_t byte_count = any_length(), ends_size = any_length(), packets = any_units(ends_size, sizeof(size_t));
     size_t results_size = ends_size > PTRDIFF_MAX ? ends_size : packets * sizeof(uint32_t);
@@ -409,7 +438,7 @@ void try_run_packets(void)
 
 void try_run_packets_with(void)
 {
-    uint8_t here[116];
+    uint8_t here[116 + KEPT];
     lie_in(here, sizeof here);
     size_t byte_count = any_length(), ends_size = any_length(), packets = any_units(ends_size, sizeof(size_t));
     size_t results_size = ends_size > PTRDIFF_MAX ? ends_size : packets * sizeof(uint32_t);
@@ -426,7 +455,7 @@ void try_run_packets_with(void)
 /* Contexts of up to 12 words, or of no whole words; if there are none, their size counts for nothing. */
 void try_run_packets_sized(void)
 {
-    uint8_t here[84];
+    uint8_t here[84 + KEPT];
     lie_in(here, sizeof here);
     size_t byte_count = any_length(), ends_size = any_length(), packets = any_units(ends_size, sizeof(size_t));
     size_t results_size = ends_size > PTRDIFF_MAX ? ends_size : packets * sizeof(uint32_t);
@@ -445,10 +474,44 @@ void try_run_packets_sized(void)
     end(bpfhost_run_packets_sized(host, 1, 3, contexts, size, context_count, bytes, byte_count, ends, packets, results, status), true);
 }
 
+/* With a bound, and the number of packets that were run. */
+void try_run_bounded(void)
+{
+    uint8_t here[76 + KEPT];
+    lie_in(here, sizeof here);
+    size_t byte_count = any_length(), ends_size = any_length(), packets = any_units(ends_size, sizeof(size_t));
+    size_t results_size = ends_size > PTRDIFF_MAX ? ends_size : packets * sizeof(uint32_t);
+    bpfhost *host = HOST;
+    const bpfhost_context *context = ONE(context, READ | MAY_BE_NULL);
+    const void *bytes = BYTES(byte_count, READ | NULL_IF_EMPTY);
+    const size_t *ends = object(ends_size, sizeof *ends, READ | NULL_IF_EMPTY);
+    uint32_t *results = object(results_size, sizeof *results, WRITTEN | NULL_IF_EMPTY);
+    int32_t *status = ONE(status, WRITTEN);
+    size_t *ran = ONE(ran, WRITTEN);
+    end(bpfhost_run_bounded(host, 1, 3, context, bytes, byte_count, ends, packets, 100, results, status, ran), true);
+}
+
+void try_run_bounded_with(void)
+{
+    uint8_t here[124 + KEPT];
+    lie_in(here, sizeof here);
+    size_t byte_count = any_length(), ends_size = any_length(), packets = any_units(ends_size, sizeof(size_t));
+    size_t results_size = ends_size > PTRDIFF_MAX ? ends_size : packets * sizeof(uint32_t);
+    size_t contexts_size = any_length(), context_count = any_units(contexts_size, sizeof(bpfhost_context));
+    bpfhost *host = HOST;
+    const bpfhost_context *contexts = object(contexts_size, __alignof__(bpfhost_context), READ | NULL_IF_EMPTY);
+    const void *bytes = BYTES(byte_count, READ | NULL_IF_EMPTY);
+    const size_t *ends = object(ends_size, sizeof *ends, READ | NULL_IF_EMPTY);
+    uint32_t *results = object(results_size, sizeof *results, WRITTEN | NULL_IF_EMPTY);
+    int32_t *status = ONE(status, WRITTEN);
+    size_t *ran = ONE(ran, WRITTEN);
+    end(bpfhost_run_bounded_with(host, 1, 3, contexts, context_count, bytes, byte_count, ends, packets, 100, results, status, ran), true);
+}
+
 /* A value that is longer than its room is a code too, after the host was called: it is left out here. */
 void try_map_lookup(void)
 {
-    uint8_t here[72];
+    uint8_t here[72 + KEPT];
     lie_in(here, sizeof here);
     size_t key_size = any_length(), value_size = any_length();
     bpfhost *host = HOST;
@@ -462,7 +525,7 @@ void try_map_lookup(void)
 
 void try_map_update(void)
 {
-    uint8_t here[72];
+    uint8_t here[72 + KEPT];
     lie_in(here, sizeof here);
     size_t key_size = any_length(), value_size = any_length();
     bpfhost *host = HOST;
@@ -476,7 +539,7 @@ void try_map_update(void)
 
 void try_prog_test_run(void)
 {
-    uint8_t here[120];
+    uint8_t here[120 + KEPT];
     lie_in(here, sizeof here);
     size_t packet_length = any_length();
     bpfhost *host = HOST;
@@ -488,7 +551,7 @@ void try_prog_test_run(void)
 
 void try_close(void)
 {
-    uint8_t here[48];
+    uint8_t here[48 + KEPT];
     lie_in(here, sizeof here);
     bpfhost *host = HOST;
     bpfhost_result *out = ONE(out, WRITTEN);
@@ -499,7 +562,7 @@ void try_close(void)
 
 void try_save_part(void)
 {
-    uint8_t here[32];
+    uint8_t here[32 + KEPT];
     lie_in(here, sizeof here);
     bpfhost *host = HOST;
     bpfhost_bytes *frames = ONE(frames, WRITTEN);
@@ -508,7 +571,7 @@ void try_save_part(void)
 
 void try_memory_refused(void)
 {
-    uint8_t here[16];
+    uint8_t here[16 + KEPT];
     lie_in(here, sizeof here);
     bpfhost *host = HOST;
     bool *refused = ONE(refused, WRITTEN);
@@ -519,7 +582,7 @@ void try_free(void)
 {
     uint8_t here[1];
     lie_in(here, sizeof here);
-    bpfhost *host = nondet_bool() ? NULL : (bpfhost *)calloc(1, BPFHOST_HANDLE_SIZE);
+    bpfhost *host = nondet_bool() ? NULL : (bpfhost *)calloc(1, sizeof(bpfhost_memory));
     const bool is_null = host == NULL;
     bpfhost_free(host);
     end(BPFHOST_DONE, !is_null);

@@ -153,7 +153,8 @@ static bool is_untouched(const bpfhost_result *out)
 
 static void check_mistakes(void)
 {
-    const size_t too_long = (size_t)PTRDIFF_MAX + 1;
+    const size_t too_long = (size_t)PTRDIFF_MAX + 1, long_enough = PTRDIFF_MAX - ((size_t)1 << 48);
+    const void *far_away = (void *)((uintptr_t)1 << 48); /* no object lies there */
     bpfhost_result out = {77, 77, 77, 77, 77};
     uint8_t buffer[16] = "........";
     IS_REFUSED(BPFHOST_ERR_NULL, bpfhost_map_lookup(NULL, 0, 3, "key1", 4, buffer, 8, &out));
@@ -165,6 +166,7 @@ static void check_mistakes(void)
     IS_REFUSED(BPFHOST_ERR_BUFFER_TOO_SMALL, bpfhost_map_get_next_key(host, 0, 3, NULL, 0, buffer, 3, &out));
     IS_REFUSED(BPFHOST_ERR_LENGTH, bpfhost_map_lookup(host, 0, 3, "key1", too_long, buffer, 8, &out));
     IS_REFUSED(BPFHOST_ERR_LENGTH, bpfhost_map_update(host, 0, 3, "key1", 4, "value001", SIZE_MAX, 0, &out));
+    IS_REFUSED(BPFHOST_ERR_NO_MEMORY, bpfhost_map_update(host, 0, 3, far_away, long_enough, far_away, long_enough, 0, &out));
     IS_REFUSED(BPFHOST_ERR_LENGTH, bpfhost_prog_load(host, 0, BPFHOST_SOCKET_FILTER, returns_length, SIZE_MAX / 4, &out));
     IS_REFUSED(BPFHOST_ERR_OVERLAP, bpfhost_map_lookup(host, 0, 3, buffer, 4, buffer + 2, 8, &out));
     IS_REFUSED(BPFHOST_ERR_OVERLAP, bpfhost_map_lookup(host, 0, 3, &out, 4, buffer, 8, &out));

@@ -329,13 +329,144 @@ static void try_are_apart(uintptr_t around)
 /* It passes the host to the proved function, and then frees the memory of its handle. Null is ignored. */
 static void try_free(void)
 {
-    bpfhost *host = (bpfhost *)calloc(1, BPFHOST_HANDLE_SIZE);
+    bpfhost *host = (bpfhost *)calloc(1, sizeof(bpfhost_memory));
     const uintptr_t at = (uintptr_t)host;
     asked.calls = 0;
     bpfhost_free(NULL);
     CHECK(asked.calls == 0);
     bpfhost_free(host);
     CHECK(asked.calls == 1 && (uintptr_t)asked.at[0] == at);
+}
+
+static void try_prepared_free(void)
+{
+    bpfhost_prepared *prepared = (bpfhost_prepared *)calloc(1, sizeof(bpfhost_memory));
+    const uintptr_t at = (uintptr_t)prepared;
+    asked.calls = 0;
+    bpfhost_prepared_free(NULL);
+    CHECK(asked.calls == 0);
+    bpfhost_prepared_free(prepared);
+    CHECK(asked.calls == 1 && (uintptr_t)asked.at[0] == at);
+}
+
+/* A host that has lent a reply and a part, and bytes around both. */
+static uint8_t around_reply[3 * BPFHOST_LONGEST_REPLY], around_part[64];
+static bpfhost_memory lender;
+#define LENDER ((bpfhost *)(void *)&lender)
+
+static int lent_to_handle(const uint8_t *at, size_t length)
+{
+    static uint8_t room[BPFHOST_LONGEST_REPLY];
+    size_t written;
+    return bpfhost_handle(LENDER, at, length, room, sizeof room, &written);
+}
+
+static int lent_to_handle_lent(const uint8_t *at, size_t length)
+{
+    bpfhost_bytes reply = {NULL, 7};
+    int code = bpfhost_handle_lent(LENDER, at, length, &reply);
+    CHECK(code == BPFHOST_DONE || (reply.at != NULL && reply.length == 0));
+    return code;
+}
+
+static int lent_to_ask(const uint8_t *at, size_t length)
+{
+    bpfhost_reply reply;
+    return bpfhost_ask(LENDER, at, length, &reply);
+}
+
+static int lent_to_ask_sized(const uint8_t *at, size_t length)
+{
+    bpfhost_reply reply;
+    return bpfhost_ask_sized(LENDER, at, length, &reply, sizeof reply);
+}
+
+/* The bytes are no frames, which is the other code here. */
+static int lent_to_restore(const uint8_t *at, size_t length)
+{
+    int32_t status;
+    int code = bpfhost_restore(LENDER, 258, at, length, &status);
+    asked.calls += code == BPFHOST_ERR_BAD_FRAMES;
+    return code == BPFHOST_ERR_BAD_FRAMES ? BPFHOST_DONE : code;
+}
+
+static int lent_to_run_packets(const uint8_t *at, size_t length)
+{
+    uint32_t result;
+    int32_t status;
+    return bpfhost_run_packets(LENDER, 1, 4, NULL, at, length, &length, 1, &result, &status);
+}
+
+static int lent_to_run_bounded(const uint8_t *at, size_t length)
+{
+    uint32_t result;
+    int32_t status;
+    size_t ran;
+    return bpfhost_run_bounded(LENDER, 1, 4, NULL, at, length, &length, 1, 1, &result, &status, &ran);
+}
+
+/* The packet is the second of three; the others lie on both sides of all that is lent. */
+static int lent_to_run_scattered(const uint8_t *at, size_t length)
+{
+    static uint8_t first[1], last[1];
+    const bpfhost_packet packets[3] = {{first, sizeof first}, {at, length}, {last, sizeof last}};
+    uint32_t results[3];
+    int32_t status;
+    int code = bpfhost_run_scattered(LENDER, 1, 4, NULL, 0, packets, 3, NULL, 0, results, &status);
+    asked.calls = asked.calls != 0;
+    return code;
+}
+
+/* The same with a bound that allows two packets of the stub's program: the third is not run. */
+static int lent_to_run_bounded_scattered(const uint8_t *at, size_t length)
+{
+    static uint8_t first[1], last[1];
+    const bpfhost_packet packets[3] = {{first, sizeof first}, {at, length}, {last, sizeof last}};
+    uint32_t results[3];
+    int32_t status;
+    size_t ran;
+    int code = bpfhost_run_bounded_scattered(LENDER, 1, 4, NULL, 0, packets, 3, NULL, 0, 29, results, &status, &ran);
+    asked.calls = asked.calls != 0;
+    return code;
+}
+
+static int lent_to_prog_test_run(const uint8_t *at, size_t length)
+{
+    bpfhost_result result;
+    return bpfhost_prog_test_run(LENDER, 1, 4, NULL, at, length, &result);
+}
+
+/* Frames and packets at each distance from what is lent: ERR_LENT, and no call, if they have a byte of it, and only then. */
+static void try_lent_bytes(int (*call)(const uint8_t *at, size_t length), const uint8_t *lent, size_t lent_length)
+{
+    for (size_t length = 1; length <= 12; length++) {
+        for (size_t at = 0; at <= lent_length + 2 * 12; at++) {
+            const struct piece bytes = {lent - 12 + at, length, false}, piece = {lent, lent_length, false};
+            bool is_lent = share_a_byte(bytes, piece);
+            asked.calls = 0;
+            memset(&lender, 0, sizeof lender);
+            lender.replies = around_reply + BPFHOST_LONGEST_REPLY;
+            lender.part.at = around_part + 24;
+            lender.part.length = 16;
+            CHECK(call(lent - 12 + at, length) == (is_lent ? BPFHOST_ERR_LENT : BPFHOST_DONE));
+            CHECK(asked.calls == !is_lent);
+            layouts++;
+            refusals += is_lent;
+        }
+    }
+}
+
+static void try_lent(void)
+{
+    int (*const calls[])(const uint8_t *, size_t) = {lent_to_handle,        lent_to_handle_lent,           lent_to_ask,
+                                                     lent_to_ask_sized,     lent_to_restore,               lent_to_run_packets,
+                                                     lent_to_run_bounded,   lent_to_run_scattered,         lent_to_run_bounded_scattered,
+                                                     lent_to_prog_test_run};
+    asked.code = BPFHOST_DONE;
+    for (size_t i = 0; i < sizeof calls / sizeof calls[0]; i++) {
+        try_lent_bytes(calls[i], around_reply + BPFHOST_LONGEST_REPLY, BPFHOST_LONGEST_REPLY);
+        try_lent_bytes(calls[i], around_part + 24, 16);
+    }
 }
 
 int main(void)
@@ -346,6 +477,8 @@ int main(void)
     try_are_apart(UINTPTR_MAX / 3);
     try_are_apart(UINTPTR_MAX - 3);
     try_free();
+    try_prepared_free();
+    try_lent();
     for (size_t i = 0; i < sizeof functions / sizeof functions[0]; i++)
         try_function(&functions[i]);
     if (bpfhost_random_seed(&seed))

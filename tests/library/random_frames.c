@@ -82,6 +82,8 @@ int main(int argc, char **argv)
         CHECK(bpfhost_handle(copies, frame, length, room + AROUND, BPFHOST_LONGEST_REPLY, &written) == BPFHOST_DONE);
         CHECK(bpfhost_handle_lent(lends, frame, length, &lent) == BPFHOST_DONE);
         CHECK(written == lent.length && memcmp(room + AROUND, lent.at, written) == 0);
+        /* All are in the one buffer that bpfhost_new has seen. */
+        CHECK(lent.at == bpfhost_memory_of(lends)->replies);
         CHECK(bpfhost_read_reply(lent.at, lent.length, &reply) == BPFHOST_DONE);
         CHECK(reply.tenant == (length < 4 ? 65535 : bpfhost_get16(frame)));
         CHECK(reply.command == (length < 4 ? 65535 : bpfhost_get16(frame + 2)));

@@ -1,5 +1,5 @@
-/* Tenants with random histories are saved and restored on another host, part by part or from a buffer, while other tenants are served. Then
- * both hosts are given the same random frames, and have to give the same replies. usage: saves [HISTORIES] [SEED] */
+/* Tenants with random histories are saved and restored on another host, under the same or another number, part by part or from a buffer, while
+ * other tenants are served. Then both hosts are given the same random frames, and have to give the same replies. usage: saves [HISTORIES] [SEED] */
 #include "common.h"
 #include <string.h>
 
@@ -180,15 +180,19 @@ static void live(bpfhost *host, uint16_t tenant)
 /* Where a sink restores a tenant; or, with no host, a buffer that it appends to. `served` is the host that is saved. */
 struct target {
     bpfhost *host, *served;
-    uint16_t tenant;
+    uint16_t tenant, other; /* the number here and there */
     uint8_t *bytes;
     size_t length, parts, stops_after;
 };
 
-static void restores(bpfhost *host, uint16_t tenant, const uint8_t *frames, size_t length)
+static void restores(bpfhost *host, uint16_t tenant, uint16_t other, const uint8_t *frames, size_t length)
 {
     int32_t status = -1;
-    CHECK(bpfhost_restore(host, tenant, frames, length, &status) == BPFHOST_DONE && status >= 0);
+    if (tenant == other && below(2) == 0)
+        CHECK(bpfhost_restore(host, tenant, frames, length, &status) == BPFHOST_DONE);
+    else
+        CHECK(bpfhost_restore_as(host, other, frames, length, &status) == BPFHOST_DONE);
+    CHECK(status >= 0);
 }
 
 /* Takes a part, and then serves another tenant of the host that is saved. */
@@ -197,7 +201,7 @@ static bool takes(void *context, const uint8_t *frames, size_t length)
     struct target *target = (struct target *)context;
     CHECK(frames != NULL && length <= BPFHOST_LONGEST_PART);
     if (target->host != NULL)
-        restores(target->host, target->tenant, frames, length);
+        restores(target->host, target->tenant, target->other, frames, length);
     else {
         target->bytes = (uint8_t *)realloc(target->bytes, target->length + length);
         CHECK(target->bytes != NULL);
@@ -210,39 +214,67 @@ static bool takes(void *context, const uint8_t *frames, size_t length)
 }
 
 /* Saves a tenant of one host, and restores it on the other: part by part, or from one buffer. Returns the bytes. */
-static size_t moves(bpfhost *from, bpfhost *to, uint16_t tenant)
+static size_t moves(bpfhost *from, bpfhost *to, uint16_t tenant, uint16_t other)
 {
-    struct target target = {below(2) == 0 ? to : NULL, from, tenant, NULL, 0, 0, 0};
+    struct target target = {below(2) == 0 ? to : NULL, from, tenant, other, NULL, 0, 0, 0};
     bpfhost_bytes none;
     CHECK(bpfhost_save(from, tenant, takes, &target) == BPFHOST_DONE);
     CHECK(target.parts >= 2 && target.parts <= 2 + MOST + 16);
     CHECK(bpfhost_save_part(from, tenant, target.parts, &none) == BPFHOST_ERR_NO_PART);
     if (target.host == NULL)
-        restores(to, tenant, target.bytes, target.length);
+        restores(to, tenant, other, target.bytes, target.length);
     free(target.bytes);
     return target.length;
 }
 
-/* Two hosts are given the same random frames of a tenant, and have to give the same replies. */
-static void reply_alike(bpfhost *first, bpfhost *second, uint16_t tenant, uint32_t frames)
+/* Two hosts are given the same random frames, each of a tenant of its own, and have to give the same replies but for the tenant. */
+static void reply_alike(bpfhost *first, bpfhost *second, uint16_t tenant, uint16_t other, uint32_t frames)
 {
     for (uint32_t i = 0; i < frames; i++) {
         size_t length = some_frame(tenant, 3), one = 0, two = 0;
         bpfhost_reply reply;
         CHECK(bpfhost_handle(first, frame, length, first_room, sizeof first_room, &one) == BPFHOST_DONE);
+        bpfhost_put16(frame, other);
         CHECK(bpfhost_handle(second, frame, length, second_room, sizeof second_room, &two) == BPFHOST_DONE);
+        CHECK(bpfhost_get16(second_room + 4) == other);
+        bpfhost_put16(second_room + 4, tenant);
         CHECK(one == two && memcmp(first_room, second_room, one) == 0);
         CHECK(bpfhost_read_reply(first_room, one, &reply) == BPFHOST_DONE);
         note(length, reply.status);
     }
 }
 
+/* Frames of the first two parts of tenant 1 are given to tenant 2 of a host: if something is wrong with one of them, none is handled. */
+static void checks_renumbering(bpfhost *host, uint8_t *saved, size_t length)
+{
+    static uint8_t long_frame[4 + BPFHOST_LONGEST_FRAME + 9];
+    int32_t status = 5;
+    size_t last = 0;
+    CHECK(bpfhost_restore_as(host, 2, saved, length - 1, &status) == BPFHOST_ERR_BAD_FRAMES && status == 5);
+    CHECK(bpfhost_restore_as(host, 2, saved, 7, &status) == BPFHOST_ERR_BAD_FRAMES && status == 5);
+    while (last + 4 + bpfhost_get32(saved + last) < length)
+        last += 4 + bpfhost_get32(saved + last);
+    bpfhost_put16(saved + last + 4, 0); /* the last frame is another tenant's */
+    CHECK(bpfhost_restore_as(host, 2, saved, length, &status) == BPFHOST_ERR_BAD_FRAMES && status == 5);
+    bpfhost_put16(saved + last + 4, 1);
+    CHECK(ask(host, frame, bpfhost_frame_close(frame, sizeof frame, 2, FIRST)).status == -9);
+    CHECK(bpfhost_restore_as(host, TENANTS, saved, length, &status) == BPFHOST_ERR_REFUSED && status == -1);
+    CHECK(bpfhost_restore_as(host, 2, saved, length, &status) == BPFHOST_DONE && status >= 0);
+    CHECK(bpfhost_restore_as(host, 2, saved, length, &status) == BPFHOST_ERR_REFUSED && status == -24);
+    CHECK(bpfhost_restore_as(host, 2, NULL, 0, &status) == BPFHOST_DONE && status == 0);
+    CHECK(bpfhost_restore_as(host, 2, NULL, 1, &status) == BPFHOST_ERR_NULL);
+    /* A frame that is longer than any may be is refused as one, and is not copied as a whole. */
+    bpfhost_put32(long_frame, sizeof long_frame - 4);
+    CHECK(bpfhost_restore_as(host, 2, long_frame, sizeof long_frame, &status) == BPFHOST_ERR_REFUSED && status == -7);
+}
+
 /* The codes of a save and of a restore: what stops them, and what has changed then. */
 static void checks_codes(void)
 {
-    struct target target = {NULL, NULL, 1, NULL, 0, 0, 2};
+    struct target target = {NULL, NULL, 1, 1, NULL, 0, 0, 2};
     bpfhost *first = NULL, *second = NULL;
     bpfhost_bytes lent = {frame, 7};
+    bpfhost_result result;
     int32_t status = 5;
     size_t length;
     CHECK(bpfhost_new(&first, TENANTS, &test_seed) == BPFHOST_DONE && bpfhost_new(&second, TENANTS, &test_seed) == BPFHOST_DONE);
@@ -262,10 +294,13 @@ static void checks_codes(void)
     CHECK(bpfhost_restore(second, 1, target.bytes, 29, &status) == BPFHOST_ERR_BAD_FRAMES && status == FIRST);
     /* One program is open now: the tenant is new no more, and is new again when that is closed. */
     CHECK(bpfhost_restore(second, 1, target.bytes, target.length, &status) == BPFHOST_ERR_REFUSED && status == -24);
-    for (uint32_t fd = FIRST; fd < FIRST + MOST; fd++)
-        CHECK(ask(second, frame, bpfhost_frame_close(frame, sizeof frame, 1, fd)).status == 0);
+    CHECK(bpfhost_close_all(second, 1, &result) == BPFHOST_DONE && result.status == 0 && result.result == MOST);
+    CHECK(bpfhost_close_all(second, 1, &result) == BPFHOST_DONE && result.status == 0 && result.result == 0);
+    CHECK(bpfhost_close_all(second, TENANTS, &result) == BPFHOST_DONE && result.status == -1 && result.result == 0);
+    CHECK(bpfhost_close_all(NULL, 1, &result) == BPFHOST_ERR_NULL && bpfhost_close_all(second, 1, NULL) == BPFHOST_ERR_NULL);
+    checks_renumbering(second, target.bytes, target.length);
     free(target.bytes);
-    target = (struct target){second, first, 1, NULL, 0, 0, 0};
+    target = (struct target){second, first, 1, 1, NULL, 0, 0, 0};
     CHECK(bpfhost_save(first, 1, takes, &target) == BPFHOST_DONE && target.parts == 4);
     CHECK(count_once(first, 1) == 1 && count_once(second, 1) == 1 && count_once(second, 1) == 2);
     bpfhost_free(first);
@@ -280,17 +315,17 @@ int main(int argc, char **argv)
     checks_codes();
     for (long i = 0; i < histories; i++) {
         bpfhost *first = NULL, *second = NULL;
-        uint16_t tenant = (uint16_t)below(TENANTS);
+        uint16_t tenant = (uint16_t)below(TENANTS), other = (uint16_t)below(TENANTS);
         CHECK(bpfhost_new(&first, TENANTS, &test_seed) == BPFHOST_DONE);
         CHECK(bpfhost_new(&second, TENANTS, &test_seed) == BPFHOST_DONE);
         live(first, tenant);
-        bytes += moves(first, second, tenant);
-        reply_alike(first, second, tenant, 60);
+        bytes += moves(first, second, tenant, other);
+        reply_alike(first, second, tenant, other, 60);
         bpfhost_free(first);
         bpfhost_free(second);
     }
     CHECK(histories < 1000 || (kept_by_programs > histories / 8 && full_tables > histories / 64 && changed_by_runs > histories / 4));
-    printf("saves: %ld histories restored from %zu bytes, with the same replies (%ld closed maps kept by programs, %ld full tables,"
+    printf("saves: %ld histories restored from %zu bytes, with the same replies, two of three as another tenant (%ld closed maps kept by programs, %ld full tables,"
            " %ld maps changed by runs)\n", histories, bytes, kept_by_programs, full_tables, changed_by_runs);
     return 0;
 }

@@ -3,7 +3,7 @@
 #include "common.h"
 #include <string.h>
 
-enum { MOST_PACKETS = 200, BYTES = 200000, MOST_BUFFER = 65536, COUNTER = 4, UNSET = 0x5a5a5a5a };
+enum { LONGEST_PATH = 54, MOST_PACKETS = 200, BYTES = 200000, MOST_BUFFER = 65536, COUNTER = 4, UNSET = 0x5a5a5a5a };
 
 #define SLOT(op, dst, src, off, imm)                                                                                            \
     (uint8_t)(op), (uint8_t)((dst) | (src) << 4), (uint8_t)(off), (uint8_t)((off) < 0 ? 0xff : 0), (uint8_t)(imm),              \
@@ -132,6 +132,61 @@ static void copies_to_one_piece(size_t count)
     }
 }
 
+/* Any bound: none, one that allows no packet whole, or some packets of the program, whose longest path has 54 instructions. */
+static uint64_t any_bound(uint64_t *state)
+{
+    uint64_t which = random_number(state) % 8;
+    return which == 0 ? 0 : which == 1 ? 1 + random_number(state) % LONGEST_PATH : random_number(state) % (220 * LONGEST_PATH) + 1;
+}
+
+/* How many packets of so many a bound allows. */
+static size_t allowed(uint64_t bound, size_t count)
+{
+    uint64_t runs = bound < LONGEST_PATH ? 1 : bound / LONGEST_PATH;
+    return bound == 0 || runs > count ? count : (size_t)runs;
+}
+
+/* Random batches with random bounds, by each of both functions and by frames, each on a host of its own: the same packets are run. A packet
+ * that is too long comes after them. */
+static void compares_bounded(unsigned batches)
+{
+    static const size_t buffers[] = {0, 1, 63, 64, 1499, 1500, 4096, MOST_BUFFER};
+    bpfhost *scattered = new_host(), *together = new_host(), *by_frames = new_host(), *again = new_host();
+    uint64_t state = 0x2545f4914f6cdd1d;
+    for (unsigned i = 0; i < batches; i++) {
+        size_t count = any_packets(&state), given = any_contexts(&state, count), room = buffers[random_number(&state) % 8];
+        uint64_t bound = any_bound(&state);
+        size_t wanted = allowed(bound, count), ran = 99, later = count;
+        int32_t status = 1;
+        if (wanted < count)
+            later = wanted + random_number(&state) % (count - wanted);
+        if (later < count)
+            packets[later].at = bytes, packets[later].length = BPFHOST_LONGEST_PACKET + 1;
+        unset();
+        CHECK(bpfhost_run_bounded_scattered(scattered, 1, COUNTER, contexts, given, packets, count, buffer, room, bound, results, &status,
+                                            &ran) == BPFHOST_DONE);
+        CHECK(status == 0 && ran == wanted);
+        same_as_frames(by_frames, contexts, given, wanted);
+        CHECK(count_of(scattered) == count_of(by_frames));
+        if (later < count)
+            packets[later].length = 0;
+        copies_to_one_piece(count);
+        if (later < count)
+            ends[later] = SIZE_MAX;
+        unset();
+        status = 1, ran = 99;
+        CHECK(bpfhost_run_bounded_with(together, 1, COUNTER, contexts, given, in_one_piece, sizeof in_one_piece, ends, count, bound,
+                                       results, &status, &ran) == BPFHOST_DONE);
+        CHECK(status == 0 && ran == wanted);
+        same_as_frames(again, contexts, given, wanted);
+        CHECK(count_of(together) == count_of(again));
+    }
+    bpfhost_free(scattered);
+    bpfhost_free(together);
+    bpfhost_free(by_frames);
+    bpfhost_free(again);
+}
+
 /* Random batches by each of both functions, and by frames, each on a host of its own. */
 static void compares(unsigned batches)
 {
@@ -180,6 +235,13 @@ static void refuses(bpfhost *host, uint16_t tenant, uint32_t fd, size_t given, s
         CHECK(bpfhost_run_packets_with(host, tenant, fd, contexts, given, in_one_piece, sizeof in_one_piece, ends, count, results,
                                        &status) == BPFHOST_DONE);
         CHECK(status == wanted && count_of(host) == before);
+        for (uint64_t bound = 0; bound <= UINT64_MAX / 2; bound += UINT64_MAX / 4) {
+            size_t ran = 99;
+            status = 1;
+            CHECK(bpfhost_run_bounded_scattered(host, tenant, fd, contexts, given, packets, count, buffer, room, bound, results, &status, &ran)
+                  == BPFHOST_DONE);
+            CHECK(status == wanted && ran == 0 && count_of(host) == before);
+        }
         for (size_t i = 0; i <= MOST_PACKETS; i++)
             CHECK(results[i] == UNSET);
     }
@@ -275,12 +337,38 @@ static void checks_objects(void)
     bpfhost_free(host);
 }
 
+/* The number of packets that were run is an object too, as the others are with a bound. */
+static void checks_bounded_objects(void)
+{
+    bpfhost *host = new_host();
+    const size_t all = MOST_BUFFER;
+    int32_t status = 1;
+    size_t ran = 99;
+    void *const others[] = {host, results, &status, contexts, packets, buffer, bytes};
+    unset();
+    buffer[0] = 7;
+    CHECK(bpfhost_run_bounded_scattered(NULL, 1, COUNTER, contexts, 1, packets, 3, buffer, all, 1, results, &status, &ran) == BPFHOST_ERR_NULL);
+    CHECK(bpfhost_run_bounded_scattered(host, 1, COUNTER, contexts, 1, packets, 3, buffer, all, 1, results, &status, NULL) == BPFHOST_ERR_NULL);
+    CHECK(bpfhost_run_bounded_scattered(host, 1, COUNTER, contexts, 1, NULL, 3, buffer, all, 1, results, &status, &ran) == BPFHOST_ERR_NULL);
+    CHECK(bpfhost_run_bounded_scattered(host, 1, COUNTER, contexts, 1, packets, SIZE_MAX / 2, buffer, all, 1, results, &status, &ran)
+          == BPFHOST_ERR_LENGTH);
+    CHECK(bpfhost_run_bounded_scattered(host, 1, COUNTER, contexts, SIZE_MAX / 2, packets, 3, buffer, all, 1, results, &status, &ran)
+          == BPFHOST_ERR_LENGTH);
+    for (size_t i = 0; i < sizeof others / sizeof *others; i++)
+        CHECK(bpfhost_run_bounded_scattered(host, 1, COUNTER, contexts, 3, packets, 3, buffer, all, 0, results, &status, (size_t *)others[i])
+              == BPFHOST_ERR_OVERLAP);
+    CHECK(ran == 99 && status == 1 && count_of(host) == 0 && results[0] == UNSET && buffer[0] == 7);
+    bpfhost_free(host);
+}
+
 int main(int word_count, char **words)
 {
     unsigned batches = word_count > 1 ? (unsigned)strtoul(words[1], NULL, 10) : 2000;
     compares(batches);
+    compares_bounded(batches);
     checks_refusals();
     checks_objects();
+    checks_bounded_objects();
     printf("scattered: %u batches have the results of their frames, and what is refused changes nothing\n", batches);
     return 0;
 }

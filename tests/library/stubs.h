@@ -5,7 +5,7 @@
 
 #include <bpfhost.h>
 
-#define MOST_ASKED 6
+#define MOST_ASKED 7
 #define MARK 0x3c
 
 /* What the proved functions return, how often one was called, since the test reset the count and in all, and the arguments of the last
@@ -16,8 +16,10 @@ static struct {
     long ever;
     const void *at[MOST_ASKED];
     size_t numbers[MOST_ASKED];
+    uint64_t bound; /* of a run */
     bpfhost_context context; /* the first one */
     size_t context_words;
+    size_t made[3]; /* of the last new host: its tenants and the words of its seed */
 } asked;
 
 /* The binary interface of the library. */
@@ -67,7 +69,7 @@ static void record(const struct piece *pieces, size_t count)
 }
 
 /* Marks what may be written, unless the call is to be refused. */
-static int32_t answer(const struct piece *pieces, size_t count)
+static int32_t finish(const struct piece *pieces, size_t count)
 {
     for (size_t i = 0; i < count && asked.code == BPFHOST_DONE; i++)
         if (pieces[i].is_written)
@@ -92,10 +94,10 @@ int32_t bpfhost_c_new(bpfhost *handle, size_t tenants, uint64_t first, uint64_t 
     record(pieces, 1);
     if (memcmp(handle, empty, sizeof empty) != 0)
         fails("a new host is put into a handle that is not empty");
-    asked.numbers[0] = tenants;
-    asked.numbers[1] = (size_t)first;
-    asked.numbers[2] = (size_t)second;
-    return answer(pieces, 1);
+    asked.made[0] = tenants;
+    asked.made[1] = (size_t)first;
+    asked.made[2] = (size_t)second;
+    return finish(pieces, 1);
 }
 
 int32_t bpfhost_c_handle(bpfhost *handle, const uint8_t *frame, size_t frame_length, uint8_t *room, size_t room_length,
@@ -106,7 +108,7 @@ int32_t bpfhost_c_handle(bpfhost *handle, const uint8_t *frame, size_t frame_len
     record(pieces, 4);
     asked.numbers[0] = frame_length;
     asked.numbers[1] = room_length;
-    return answer(pieces, 4);
+    return finish(pieces, 4);
 }
 
 /* A reply to a load that is refused at slot 7 for reason 20, which it lends. */
@@ -120,25 +122,27 @@ int32_t bpfhost_c_handle_lent(bpfhost *handle, const uint8_t *frame, size_t fram
     if (reply->at == NULL)
         fails("a proved function is given a reply that leads nowhere");
     read_all(reply->at, reply->length);
-    if (answer(pieces, 3) == BPFHOST_DONE) {
+    if (finish(pieces, 3) == BPFHOST_DONE) {
         reply->at = lent_reply;
         reply->length = sizeof lent_reply;
     }
     return asked.code;
 }
 
-int32_t bpfhost_c_run_packets(bpfhost *handle, uint16_t tenant, uint32_t fd, const uint32_t *contexts, size_t word_count,
-                              size_t context_words, const uint8_t *bytes, size_t byte_count, const size_t *ends, size_t packets,
-                              uint32_t *results, size_t room, int32_t *status)
+int32_t bpfhost_c_run_packets(bpfhost *handle, uint16_t tenant, uint32_t fd, uint64_t bound, const uint32_t *contexts,
+                              size_t word_count, size_t context_words, const uint8_t *bytes, size_t byte_count, const size_t *ends,
+                              size_t packets, uint32_t *results, size_t room, int32_t *status, size_t *ran)
 {
     const struct piece pieces[] = {{handle, BPFHOST_HANDLE_SIZE, true},     {contexts, word_count * sizeof *contexts, false},
                                    {bytes, byte_count, false},              {ends, packets * sizeof *ends, false},
-                                   {results, room * sizeof *results, true}, {status, sizeof *status, true}};
+                                   {results, room * sizeof *results, true}, {status, sizeof *status, true},
+                                   {ran, sizeof *ran, true}};
     if (packets > PTRDIFF_MAX / sizeof *ends || room > PTRDIFF_MAX / sizeof *results || word_count > PTRDIFF_MAX / sizeof *contexts)
         fails("a proved function is given more elements than an object has");
     if (context_words == 0 || word_count % context_words != 0)
         fails("a proved function is given contexts that are not whole");
-    record(pieces, 6);
+    record(pieces, 7);
+    asked.bound = bound;
     asked.numbers[0] = tenant;
     asked.numbers[1] = fd;
     asked.numbers[2] = byte_count;
@@ -148,7 +152,7 @@ int32_t bpfhost_c_run_packets(bpfhost *handle, uint16_t tenant, uint32_t fd, con
     asked.context_words = context_words;
     if (word_count * sizeof *contexts >= sizeof asked.context)
         memcpy(&asked.context, contexts, sizeof asked.context);
-    return answer(pieces, 6);
+    return finish(pieces, 7);
 }
 
 int32_t bpfhost_c_save(bpfhost *handle, uint16_t tenant, size_t part, bpfhost_bytes *frames)
@@ -160,7 +164,7 @@ int32_t bpfhost_c_save(bpfhost *handle, uint16_t tenant, size_t part, bpfhost_by
     if (frames->at == NULL)
         fails("a proved function is given frames that lead nowhere");
     read_all(frames->at, frames->length);
-    if (answer(pieces, 2) == BPFHOST_DONE) {
+    if (finish(pieces, 2) == BPFHOST_DONE) {
         frames->at = lent_reply;
         frames->length = sizeof lent_reply;
     }
@@ -176,16 +180,110 @@ int32_t bpfhost_c_memory_refused(bpfhost *handle, uint16_t tenant, bool *refused
     memcpy(&byte, refused, 1);
     if (byte > 1)
         fails("a proved function is given a bool that is neither false nor true");
-    if (answer(pieces, 2) == BPFHOST_DONE)
+    if (finish(pieces, 2) == BPFHOST_DONE)
         *refused = true;
     return asked.code;
+}
+
+int32_t bpfhost_c_status(bpfhost *handle, uint16_t tenant, bpfhost_counts *counts)
+{
+    const struct piece pieces[] = {{handle, BPFHOST_HANDLE_SIZE, true}, {counts, sizeof *counts, true}};
+    const bpfhost_counts given = {1, 2, 3, 4, 5, true};
+    record(pieces, 2);
+    asked.numbers[0] = tenant;
+    if (finish(pieces, 2) == BPFHOST_DONE)
+        *counts = given;
+    return asked.code;
+}
+
+/* Of descriptor 5 a map, of 6 a program, of others nothing. */
+int32_t bpfhost_c_describe(bpfhost *handle, uint16_t tenant, uint32_t fd, bpfhost_described *described)
+{
+    const struct piece pieces[] = {{handle, BPFHOST_HANDLE_SIZE, true}, {described, sizeof *described, true}};
+    const bpfhost_described none = {0, 0, 0, 0, 0, 0, 0}, map = {BPFHOST_MAP, 1, 4, 8, 16, 3, 0}, program = {BPFHOST_PROGRAM, 0, 0, 0, 0, 0, 9};
+    record(pieces, 2);
+    asked.numbers[0] = tenant;
+    asked.numbers[1] = fd;
+    if (finish(pieces, 2) == BPFHOST_DONE)
+        *described = fd == 5 ? map : fd == 6 ? program : none;
+    return asked.code;
+}
+
+/* Of descriptor 6, the program. Of others it is ten instructions, for bpfhost_run_bounded_scattered: no call of which the test counts. */
+int32_t bpfhost_c_program_cost(bpfhost *handle, uint16_t tenant, uint32_t fd, bpfhost_cost *cost)
+{
+    const struct piece pieces[] = {{handle, BPFHOST_HANDLE_SIZE, true}, {cost, sizeof *cost, true}};
+    const bpfhost_cost ten = {10, 1}, program = {12, 1};
+    if (handle == NULL || cost == NULL)
+        fails("a proved function is given a null pointer");
+    if (fd != 6) {
+        if (asked.code == BPFHOST_DONE)
+            *cost = ten;
+        return asked.code;
+    }
+    record(pieces, 2);
+    asked.numbers[0] = tenant;
+    asked.numbers[1] = fd;
+    if (finish(pieces, 2) == BPFHOST_DONE)
+        *cost = program;
+    return asked.code;
+}
+
+int32_t bpfhost_c_verify(bpfhost *handle, uint16_t tenant, const uint8_t *slots, size_t slots_length, uint32_t style, uint8_t *room,
+                         size_t room_length, bpfhost_logged *logged)
+{
+    const struct piece pieces[] = {
+        {handle, BPFHOST_HANDLE_SIZE, true}, {slots, slots_length, false}, {room, room_length, true}, {logged, sizeof *logged, true}};
+    const bpfhost_logged given = {77, true};
+    record(pieces, 4);
+    asked.numbers[0] = tenant;
+    asked.numbers[1] = slots_length;
+    asked.numbers[2] = style;
+    asked.numbers[3] = room_length;
+    if (finish(pieces, 4) == BPFHOST_DONE)
+        *logged = given;
+    return asked.code;
+}
+
+/* It refuses the slots, if there are none. */
+int32_t bpfhost_c_prepare(bpfhost_prepared *prepared, const uint8_t *slots, size_t slots_length, const bpfhost_descriptor *descriptors,
+                          size_t descriptor_count, bpfhost_refusal *refusal)
+{
+    const struct piece pieces[] = {{prepared, BPFHOST_HANDLE_SIZE, true},
+                                   {slots, slots_length, false},
+                                   {descriptors, descriptor_count * sizeof *descriptors, false},
+                                   {refusal, sizeof *refusal, true}};
+    const bpfhost_refusal none = {0, 0, 0}, given = {-13, 7, 20};
+    record(pieces, 4);
+    asked.numbers[0] = slots_length;
+    asked.numbers[1] = descriptor_count;
+    if (finish(pieces, 4) == BPFHOST_DONE)
+        *refusal = slots_length == 0 ? given : none;
+    return asked.code;
+}
+
+int32_t bpfhost_c_install(bpfhost *handle, uint16_t tenant, bpfhost_prepared *prepared, int32_t *status)
+{
+    const struct piece pieces[] = {{handle, BPFHOST_HANDLE_SIZE, true}, {prepared, BPFHOST_HANDLE_SIZE, true}, {status, sizeof *status, true}};
+    record(pieces, 3);
+    asked.numbers[0] = tenant;
+    if (finish(pieces, 3) == BPFHOST_DONE)
+        *status = 9;
+    return asked.code;
+}
+
+void bpfhost_c_prepared_free(bpfhost_prepared *prepared)
+{
+    const struct piece pieces[] = {{prepared, BPFHOST_HANDLE_SIZE, true}};
+    record(pieces, 1);
+    (void)finish(pieces, 1);
 }
 
 void bpfhost_c_free(bpfhost *handle)
 {
     const struct piece pieces[] = {{handle, BPFHOST_HANDLE_SIZE, true}};
     record(pieces, 1);
-    (void)answer(pieces, 1);
+    (void)finish(pieces, 1);
 }
 
 #endif

@@ -94,14 +94,15 @@ static void try_sizes(bpfhost *host)
 {
     const struct newer one = {{.mark = 1}, {0, 0}};
     const uint32_t *words = (const uint32_t *)(const void *)&one;
+    size_t ran = 7;
     CHECK(run(host, &one, 0, 1) == BPFHOST_ERR_SIZE && is_unchanged());
     CHECK(run(host, &one, 41, 1) == BPFHOST_ERR_SIZE && is_unchanged());
     CHECK(run(host, &one, 4, SIZE_MAX / 4) == BPFHOST_ERR_LENGTH && is_unchanged());
     CHECK(run(host, NULL, 0, 0) == BPFHOST_DONE && are_results(0, 0, 0));
-    CHECK(bpfhost_c_run_packets(host, 0, 3, words, 12, 0, bytes, 3, ends, 3, results, 3, &status) == BPFHOST_ERR_SIZE);
-    CHECK(bpfhost_c_run_packets(host, 0, 3, words, 12, 10, bytes, 3, ends, 3, results, 3, &status) == BPFHOST_ERR_SIZE);
-    CHECK(bpfhost_c_run_packets(host, 0, 3, words, 12, 5, bytes, 3, ends, 3, results, 3, &status) == BPFHOST_ERR_SIZE);
-    CHECK(bpfhost_c_run_packets(host, 0, 3, words, 0, 10, bytes, 3, ends, 3, results, 3, &status) == BPFHOST_DONE && status == -22);
+    CHECK(bpfhost_c_run_packets(host, 0, 3, 0, words, 12, 0, bytes, 3, ends, 3, results, 3, &status, &ran) == BPFHOST_ERR_SIZE);
+    CHECK(bpfhost_c_run_packets(host, 0, 3, 0, words, 12, 10, bytes, 3, ends, 3, results, 3, &status, &ran) == BPFHOST_ERR_SIZE);
+    CHECK(bpfhost_c_run_packets(host, 0, 3, 0, words, 12, 5, bytes, 3, ends, 3, results, 3, &status, &ran) == BPFHOST_ERR_SIZE && ran == 7);
+    CHECK(bpfhost_c_run_packets(host, 0, 3, 0, words, 0, 10, bytes, 3, ends, 3, results, 3, &status, &ran) == BPFHOST_DONE && status == -22 && ran == 0);
 }
 
 /* Replies of an older header, without slot and reason, and of a newer one. */

@@ -45,6 +45,7 @@ TIERS: tuple[tuple[str, list[Name], frozenset[Name]], ...] = (
     ("For the library", [name(OF_LAWS, "calls_are_told_alone")], frozenset[Name]()),
     ("For batches", [name(HOST, "run_packets"), name(OF_LAWS, "batch_is_its_calls")], frozenset[Name]()),
     ("For saves", [name(HOST, "save"), name(HOST, "tenants_are_restored"), name(OF_LAWS, "tenants_are_restored")], frozenset[Name]()),
+    ("For installed programs", [name("host_core/src/installing.rt", "install")], frozenset[Name]()),
 )
 # The crates whose definitions, with some exceptions, say which programs are accepted.
 VERIFIER = ("verifier", "transfer", "reg_kinds", "interval")

@@ -12,7 +12,7 @@ from generating.shared import Shared, Worded
 COMMENTS = {".md": ("<!-- ", " -->"), ".h": ("/* ", " */"), ".py": ("# ", ""), ".rs": ("// ", "")}
 PYTHON, RUST, HEADER = "clients/python/bpfhost/", "clients/rust/", "clients/c/include/bpfhost.h"
 # The limits that the header and the crates for Rust have.
-OF_LIBRARY = ("MOST_TENANTS", "LONGEST_PACKET", "LONGEST_FRAME", "LONGEST_REPLY", "LONGEST_PAYLOAD", "TEST_RUN_HEAD", "LONGEST_PART", "ABI")
+OF_LIBRARY = ("MOST_TENANTS", "FIRST_DESCRIPTOR", "MOST_DESCRIPTORS", "LONGEST_PACKET", "LONGEST_FRAME", "LONGEST_REPLY", "LONGEST_PAYLOAD", "TEST_RUN_HEAD", "LONGEST_PART", "ABI")
 
 
 @dataclass(frozen=True)
@@ -185,6 +185,8 @@ PLACES = [
     Place(PYTHON + "numbers.py", "map types", lambda shared: [f"{name} = {number}" for name, number in shared.map_types.items()]),
     Place(PYTHON + "numbers.py", "update flags", lambda shared: [f"{name} = {number}" for name, number in shared.update_flags.items()]),
     Place(PYTHON + "numbers.py", "errors", lambda shared: [f"{each.name} = {each.number}" for each in shared.errors]),
+    Place(PYTHON + "numbers.py", "codes", lambda shared: [f"{each.name} = {each.number}" for each in shared.codes]),
+    Place(PYTHON + "words.py", "codes", lambda shared: [f"Code.{each.name}: {_literal(each.text)}," for each in shared.codes]),
     Place(PYTHON + "numbers.py", "limits", _python_numbers((
         "MOST_TENANTS", "MOST_DESCRIPTORS", "FIRST_DESCRIPTOR", "MOST_MAPS", "MOST_ENTRIES", "MOST_SLOTS", "MOST_FRAMES", "LONGEST_KEY",
         "LONGEST_VALUE", "LARGEST_AREA", "LARGEST_SUM", "LONGEST_PACKET", "LONGEST_FRAME", "LONGEST_PAYLOAD", "REPLY_HEAD", "SOCKET_FILTER"))),

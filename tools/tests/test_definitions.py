@@ -59,10 +59,11 @@ class Tiers(unittest.TestCase):
         self.assertIn(name("transfer/specs/Effects.antt", "effect"), verdict.names)
 
     def test_claims(self) -> None:
-        library, batches, saves = tiers()[5:]
+        library, batches, saves, installed = tiers()[5:]
         self.assertIn(name(LAWS, "CallsAreToldAlone"), library.names)
         self.assertLessEqual({name("host_core/src/host.rt", "run_packets"), name("host_core/specs/Batch.antt", "BatchIsItsCalls")}, batches.names)
         self.assertIn(name("host_core/specs/Saving.antt", "TenantsAreRestored"), saves.names)
+        self.assertIn(name("host_core/specs/Installs.antt", "Installs"), installed.names)
 
     def test_idle_stop(self) -> None:
         tier = Tier("T", frozenset({name("host_core/specs/Served.antt", "IsUnrefused")}), frozenset({name("tenant/specs/State.antt", "live")}))

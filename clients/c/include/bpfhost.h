@@ -8,22 +8,23 @@
  * Units: all lengths and sizes are bytes, unless a name says slots, entries or tenants. Numbers in frames are little-endian, and
  * these functions write and read them so on every machine.
  *
- * What a caller owes, and nothing tests:
- *   - A bpfhost comes from bpfhost_new, and is not used after bpfhost_free.
+ * What a caller owes, and nothing tests; if BPFHOST_DEBUG is defined before this header is included, what is marked by a star is tested, and a
+ * sentence on standard error and abort() end a program that breaks it (docs/EMBEDDING.md, "Debug builds"):
+ *   * A bpfhost comes from bpfhost_new, and is not used or freed after bpfhost_free.
  *   - A pointer that is not null is aligned for its type and leads to as many bytes as the call says. They belong to the call
  *     while it lasts.
  *   - What is lent, a reply (bpfhost_handle_lent, bpfhost_ask) or the frames of a part (bpfhost_save_part, a sink), is read only before
- *     the next call on its host, bpfhost_free included, and is not the frame of that call. Only the library writes it.
- *   - A host is in one call at a time. It may go from thread to thread, ordered by a lock, or by a thread's start or join; a
+ *     the next call on its host, bpfhost_free included. Only the library writes it.
+ *   * A host is in one call at a time. It may go from thread to thread, ordered by a lock, or by a thread's start or join; a
  *     lent reply goes with it. Two hosts share nothing.
  *   - No call from a signal handler, or from the forked child of a process with threads.
  *   - There is stack: 256 KiB are more than enough.
  *   - malloc, calloc, realloc and free come from one allocator, and align as malloc does.
  *
  * What each function tests before it writes anything: that no pointer is null which must lead somewhere, that no length is above
- * PTRDIFF_MAX, and that what it may write overlaps nothing else that it is given. If a test fails, the function returns which one, or
- * 0 if it builds a frame, and writes nothing; only bpfhost_handle_lent may empty its reply then. Only bpfhost_put16 and the small
- * functions next to it test nothing.
+ * PTRDIFF_MAX, that what it may write overlaps nothing else that it is given, and that no frame or packet lies in what its host has
+ * lent. If a test fails, the function returns which one, or 0 if it builds a frame, and writes nothing; only bpfhost_handle_lent may
+ * empty its reply then. Only bpfhost_put16 and the small functions next to it test nothing.
  */
 #ifndef BPFHOST_H
 #define BPFHOST_H
@@ -34,6 +35,12 @@
 #include <stdio.h>
 #include <stdlib.h>
 #include <string.h>
+#if defined __GLIBC__ && defined __GLIBC_PREREQ
+#if __GLIBC_PREREQ(2, 33)
+#include <malloc.h>
+#define BPFHOST_HAS_MALLINFO2
+#endif
+#endif
 
 #ifdef __cplusplus
 extern "C" {
@@ -48,14 +55,14 @@ extern "C" {
  * in this file become part of the caller, so the library that it meets when it runs may be another one: bpfhost_library_version asks it. */
 
 #define BPFHOST_VERSION_MAJOR 0
-#define BPFHOST_VERSION_MINOR 2
+#define BPFHOST_VERSION_MINOR 3
 #define BPFHOST_VERSION_PATCH 0
-#define BPFHOST_VERSION "0.2.0"
+#define BPFHOST_VERSION "0.3.0"
 
 /* The version as one number: its three numbers in eight bits each, as bpfhost_library_version has them. */
 #define BPFHOST_VERSION_NUMBER (BPFHOST_VERSION_MAJOR * 65536 + BPFHOST_VERSION_MINOR * 256 + BPFHOST_VERSION_PATCH)
 
-/* The version as text: "0.2.0". */
+/* The version as text: "0.3.0". */
 static inline const char *bpfhost_version(void)
 {
     return BPFHOST_VERSION;
@@ -75,13 +82,15 @@ static inline uint32_t bpfhost_library_version(void)
 
 /* limits: written by tools/generate */
 #define BPFHOST_MOST_TENANTS 64 /* the most tenants of a host */
+#define BPFHOST_FIRST_DESCRIPTOR 3 /* the lowest descriptor */
+#define BPFHOST_MOST_DESCRIPTORS 64 /* the most open descriptors of a tenant */
 #define BPFHOST_LONGEST_PACKET 65536 /* the most bytes of a packet */
 #define BPFHOST_LONGEST_FRAME 131072 /* the most bytes of a frame, without its length field; the reply to a longer one is E2BIG */
 #define BPFHOST_LONGEST_REPLY 4108 /* the most bytes of a reply, its length field included */
 #define BPFHOST_LONGEST_PAYLOAD 4096 /* the most bytes of a reply's payload */
 #define BPFHOST_TEST_RUN_HEAD 48 /* the bytes of a PROG_TEST_RUN frame before its packet */
 #define BPFHOST_LONGEST_PART 2244648 /* the most bytes of a part of a save: a full map with the longest keys */
-#define BPFHOST_ABI 2 /* the number of the library's binary interface, which changes with its soname */
+#define BPFHOST_ABI 3 /* the number of the library's binary interface, which changes with its soname */
 /* end of limits */
 
 /* ---- codes of calls. Each call returns one; a status in a reply is another thing. ERR_NO_HOST and ERR_HAS_HOST come only from
@@ -98,6 +107,11 @@ enum bpfhost_code {
     BPFHOST_ERR_NO_PART = -6,          /* the tenant has no such part, or is not served */
     BPFHOST_ERR_TOO_BIG = -7,          /* a struct has a word that the library does not know, and that is not 0 */
     BPFHOST_ERR_SIZE = -8,             /* a struct has no size, or one of no whole words */
+    BPFHOST_ERR_STALE = -9,            /* a descriptor of the program names no map of the shape with which it was prepared */
+    BPFHOST_ERR_NO_PROGRAM = -10,      /* there is no prepared program: it was installed or freed */
+    BPFHOST_ERR_HAS_PROGRAM = -11,     /* there is a prepared program already */
+    BPFHOST_ERR_DESCRIPTORS = -12,     /* a descriptor is given an object that there cannot be, or there are too many */
+    BPFHOST_ERR_STYLE = -13,           /* there is no style of a log with this number */
     /* only of this header; if more than one of them holds, the call returns one that does */
     BPFHOST_ERR_NULL = -16,            /* a pointer is null */
     BPFHOST_ERR_LENGTH = -17,          /* a length is above PTRDIFF_MAX */
@@ -105,8 +119,10 @@ enum bpfhost_code {
     BPFHOST_ERR_NO_REPLY = -19,        /* the bytes are not one whole reply */
     BPFHOST_ERR_STOPPED = -20,         /* the sink stopped the save */
     BPFHOST_ERR_REFUSED = -21,         /* a frame that restores the tenant is refused */
-    BPFHOST_ERR_BAD_FRAMES = -22,      /* the bytes are not whole frames of this tenant */
-    BPFHOST_ERR_VERSION = -23          /* the library is of another binary interface than the header */
+    BPFHOST_ERR_BAD_FRAMES = -22,      /* the bytes are not whole frames of this tenant, or of one tenant */
+    BPFHOST_ERR_VERSION = -23,         /* the library is of another binary interface than the header */
+    BPFHOST_ERR_LENT = -24,            /* a frame or a packet lies in what the host has lent */
+    BPFHOST_ERR_WHICH = -25            /* there is no count of this number here */
     /* end of codes */
 };
 
@@ -123,6 +139,16 @@ typedef struct bpfhost_bytes {
     const uint8_t *at;
     size_t length;
 } bpfhost_bytes;
+
+/* The memory of a bpfhost: its handle, which only the library writes, and what this header keeps of it. All is zero at first. Only the
+ * functions of this header look into it. */
+typedef struct bpfhost_memory {
+    void *handle;
+    const uint8_t *replies; /* the buffer in which replies are lent, BPFHOST_LONGEST_REPLY bytes */
+    bpfhost_bytes part;     /* the part of a save that was lent last */
+    uint32_t state;         /* of BPFHOST_DEBUG, as is the next: whether the host is made or freed */
+    uint32_t is_busy;       /* whether it is in a call */
+} bpfhost_memory;
 
 /* The seed of a host's hash maps: two random words. Who knows them can choose keys that collide, which makes the calls of a map
  * slow; no reply depends on them. */
@@ -144,6 +170,60 @@ typedef struct bpfhost_packet {
     size_t length;
 } bpfhost_packet;
 
+/* How much a tenant has at a moment. It stays as it is in later versions. */
+typedef struct bpfhost_counts {
+    uint32_t maps;        /* live maps, those that an open descriptor or a loaded program names */
+    uint32_t entries;     /* the keys of all of them; an array has all its indices */
+    uint32_t value_bytes; /* the bytes that their values take, each rounded up to a multiple of eight */
+    uint32_t programs;    /* open descriptors that name a program */
+    uint32_t descriptors; /* open descriptors */
+    bool memory_refused;  /* whether memory was ever refused to a load or a new map */
+} bpfhost_counts;
+
+enum bpfhost_kind { BPFHOST_NOTHING, BPFHOST_MAP, BPFHOST_PROGRAM };
+
+/* What a descriptor names. Fields that do not belong to its kind are 0. It stays as it is in later versions. */
+typedef struct bpfhost_described {
+    uint32_t kind;        /* one of bpfhost_kind */
+    uint32_t type;        /* of a map: BPFHOST_HASH or BPFHOST_ARRAY */
+    uint32_t key_size;    /* in bytes */
+    uint32_t value_size;  /* in bytes */
+    uint32_t max_entries; /* the most keys that a map may have */
+    uint32_t entries;     /* the keys that it has; an array has all its indices */
+    uint32_t slots;       /* of a program */
+} bpfhost_described;
+
+/* What a program costs: the most instructions, and the most calls of helpers, on a path through it, which may be two paths. No run executes
+ * more. It stays as it is in later versions. */
+typedef struct bpfhost_cost {
+    uint32_t instructions; /* 1 to 4,096 */
+    uint32_t calls;        /* 0 to 4,095 */
+} bpfhost_cost;
+
+/* A log of the verifier: its length in bytes, and whether the program is accepted. */
+typedef struct bpfhost_logged {
+    size_t length;
+    bool is_accepted;
+} bpfhost_logged;
+
+/* A program that was verified without a host, by the handle that bpfhost_prepare makes. Only these functions look into it. */
+typedef struct bpfhost_prepared bpfhost_prepared;
+
+/* The object that a descriptor is to name for a program that is prepared. */
+typedef struct bpfhost_descriptor {
+    uint32_t fd;
+    uint32_t type;       /* 0 for a program, BPFHOST_HASH or BPFHOST_ARRAY for a map */
+    uint32_t key_size;   /* of a map, as bpfhost_map_attr has them */
+    uint32_t value_size;
+    uint32_t entries;
+} bpfhost_descriptor;
+
+/* Why slots are refused; all 0 if they are not. */
+typedef struct bpfhost_refusal {
+    int32_t status;
+    uint32_t slot, reason;
+} bpfhost_refusal;
+
 /* The proved functions. No pointer is null, no length is above PTRDIFF_MAX, what they may write overlaps nothing else that they
  * are given, `*refused` is false or true, and `reply->at` leads to `reply->length` bytes, as `frames->at` does. The contexts of
  * bpfhost_c_run_packets are `word_count` words, and each context has `context_words` of them. Call those below in their place. */
@@ -151,11 +231,20 @@ int32_t bpfhost_c_new(bpfhost *handle, size_t tenants, uint64_t first, uint64_t 
 int32_t bpfhost_c_handle(bpfhost *handle, const uint8_t *frame, size_t frame_length, uint8_t *room, size_t room_length,
                          size_t *written);
 int32_t bpfhost_c_handle_lent(bpfhost *handle, const uint8_t *frame, size_t frame_length, bpfhost_bytes *reply);
-int32_t bpfhost_c_run_packets(bpfhost *handle, uint16_t tenant, uint32_t fd, const uint32_t *contexts, size_t word_count,
-                              size_t context_words, const uint8_t *bytes, size_t byte_count, const size_t *ends, size_t packets,
-                              uint32_t *results, size_t room, int32_t *status);
+int32_t bpfhost_c_run_packets(bpfhost *handle, uint16_t tenant, uint32_t fd, uint64_t bound, const uint32_t *contexts,
+                              size_t word_count, size_t context_words, const uint8_t *bytes, size_t byte_count, const size_t *ends,
+                              size_t packets, uint32_t *results, size_t room, int32_t *status, size_t *ran);
 int32_t bpfhost_c_save(bpfhost *handle, uint16_t tenant, size_t part, bpfhost_bytes *frames);
 int32_t bpfhost_c_memory_refused(bpfhost *handle, uint16_t tenant, bool *refused);
+int32_t bpfhost_c_status(bpfhost *handle, uint16_t tenant, bpfhost_counts *counts);
+int32_t bpfhost_c_describe(bpfhost *handle, uint16_t tenant, uint32_t fd, bpfhost_described *described);
+int32_t bpfhost_c_program_cost(bpfhost *handle, uint16_t tenant, uint32_t fd, bpfhost_cost *cost);
+int32_t bpfhost_c_verify(bpfhost *handle, uint16_t tenant, const uint8_t *slots, size_t slots_length, uint32_t style, uint8_t *room,
+                         size_t room_length, bpfhost_logged *logged);
+int32_t bpfhost_c_prepare(bpfhost_prepared *prepared, const uint8_t *slots, size_t slots_length, const bpfhost_descriptor *descriptors,
+                          size_t descriptor_count, bpfhost_refusal *refusal);
+int32_t bpfhost_c_install(bpfhost *handle, uint16_t tenant, bpfhost_prepared *prepared, int32_t *status);
+void bpfhost_c_prepared_free(bpfhost_prepared *prepared);
 void bpfhost_c_free(bpfhost *handle);
 
 /* Whether two objects have no byte in common. One that reaches the last address counts as all bytes: no object lies there. */
@@ -175,6 +264,83 @@ static inline int bpfhost_pair_code(const void *a, size_t a_length, const void *
     if (a_length > PTRDIFF_MAX || b_length > PTRDIFF_MAX)
         return BPFHOST_ERR_LENGTH;
     return bpfhost_are_apart(a, a_length, b, b_length) ? BPFHOST_DONE : BPFHOST_ERR_OVERLAP;
+}
+
+/* What a host has in its memory. */
+static inline bpfhost_memory *bpfhost_memory_of(const bpfhost *host)
+{
+    return (bpfhost_memory *)(uintptr_t)host;
+}
+
+/* ---- BPFHOST_DEBUG: whether a call on a host may be made. Without it these functions do nothing, but that memory is freed. With it a freed
+ * host is emptied, and its memory is kept for ever, in a list, so that it is known again. Units with and without it may pass hosts to one
+ * another: what only the others do with a host is not tested. */
+
+#ifdef BPFHOST_DEBUG
+#ifndef __GNUC__
+#error "BPFHOST_DEBUG needs the atomic operations of GCC or clang"
+#endif
+enum { BPFHOST_MADE = 0x6d616465, BPFHOST_FREED = 0x66726565 };
+static bpfhost_memory *bpfhost_freed_hosts; /* each leads to the one before by the address of its part */
+#define BPFHOST_STOP(sentence) (fputs("bpfhost: " sentence "\n", stderr), abort())
+#endif
+
+/* Begins a call of a proved function. */
+static inline void bpfhost_enter(const bpfhost *host)
+{
+#ifdef BPFHOST_DEBUG
+    bpfhost_memory *memory = bpfhost_memory_of(host);
+    uint32_t was_busy = __atomic_exchange_n(&memory->is_busy, 1, __ATOMIC_ACQ_REL);
+    uint32_t state = __atomic_load_n(&memory->state, __ATOMIC_ACQUIRE);
+    if (state == BPFHOST_FREED)
+        BPFHOST_STOP("a host or a prepared program is used or freed after it was freed");
+    if (state != BPFHOST_MADE && state != 0) /* a unit without BPFHOST_DEBUG leaves it 0 */
+        BPFHOST_STOP("what is used is no host of bpfhost_new and no prepared program, or its memory was overwritten");
+    if (was_busy != 0)
+        BPFHOST_STOP("two calls on a host or a prepared program at once: of two threads, or of a signal handler");
+#else
+    (void)host;
+#endif
+}
+
+/* Ends it. */
+static inline void bpfhost_leave(const bpfhost *host)
+{
+#ifdef BPFHOST_DEBUG
+    __atomic_store_n(&bpfhost_memory_of(host)->is_busy, 0, __ATOMIC_RELEASE);
+#else
+    (void)host;
+#endif
+}
+
+/* Gives back the memory of a host that the library has freed. */
+static inline void bpfhost_give_back(bpfhost *host)
+{
+#ifdef BPFHOST_DEBUG
+    bpfhost_memory *memory = bpfhost_memory_of(host), *before = __atomic_load_n(&bpfhost_freed_hosts, __ATOMIC_RELAXED);
+    memory->replies = NULL;
+    memory->part.length = 0;
+    __atomic_store_n(&memory->state, BPFHOST_FREED, __ATOMIC_RELEASE);
+    bpfhost_leave(host);
+    do
+        memory->part.at = (const uint8_t *)before;
+    while (!__atomic_compare_exchange_n(&bpfhost_freed_hosts, &before, memory, false, __ATOMIC_RELEASE, __ATOMIC_RELAXED));
+#else
+    free(host);
+#endif
+}
+
+/* ERR_LENT if bytes have one in common with what the host has lent: its buffer for replies, which is never moved, or the last part of
+ * a save. Else DONE, as for no bytes at an address of the caller's. Their last byte is in the buffer, or up to `length - 1` bytes after
+ * it, if they have one of it. */
+static inline int bpfhost_lent_code(const bpfhost *host, const void *at, size_t length)
+{
+    const bpfhost_memory *memory = bpfhost_memory_of(host);
+    const uintptr_t last = (uintptr_t)at + (length - 1);
+    if (last - (uintptr_t)memory->replies < BPFHOST_LONGEST_REPLY + (length - 1))
+        return BPFHOST_ERR_LENT;
+    return memory->part.length == 0 || bpfhost_are_apart(at, length, memory->part.at, memory->part.length) ? BPFHOST_DONE
+                                                                                                          : BPFHOST_ERR_LENT;
 }
 
 /* The address of bytes; if there are none, it may be null. */
@@ -206,19 +372,27 @@ static inline bool bpfhost_random_seed(bpfhost_seed *seed)
 static inline int bpfhost_new(bpfhost **host, size_t tenants, const bpfhost_seed *seed)
 {
     bpfhost *made;
+    bpfhost_bytes lent = {bpfhost_bytes_at(NULL, 0), 0};
     int code = bpfhost_pair_code(host, sizeof *host, seed, sizeof *seed);
     if (code == BPFHOST_DONE && bpfhost_c_abi() != BPFHOST_ABI)
         code = BPFHOST_ERR_VERSION;
     if (code != BPFHOST_DONE)
         return code;
-    made = (bpfhost *)calloc(1, BPFHOST_HANDLE_SIZE);
+    made = (bpfhost *)calloc(1, sizeof(bpfhost_memory));
     if (made == NULL)
         return BPFHOST_ERR_NO_MEMORY;
     code = (int)bpfhost_c_new(made, tenants, seed->words[0], seed->words[1]);
-    if (code == BPFHOST_DONE)
-        *host = made;
-    else
+    if (code != BPFHOST_DONE) {
         free(made);
+        return code;
+    }
+    /* The reply to a frame of no tenant shows the address of the buffer for replies. */
+    (void)bpfhost_c_handle_lent(made, lent.at, 0, &lent);
+    bpfhost_memory_of(made)->replies = lent.at;
+#ifdef BPFHOST_DEBUG
+    bpfhost_memory_of(made)->state = BPFHOST_MADE;
+#endif
+    *host = made;
     return code;
 }
 
@@ -226,9 +400,9 @@ static inline int bpfhost_new(bpfhost **host, size_t tenants, const bpfhost_seed
 static inline int bpfhost_frame_code(const bpfhost *host, const uint8_t *frame, size_t frame_length, const void *out,
                                      size_t out_length)
 {
-    int code = bpfhost_pair_code(host, BPFHOST_HANDLE_SIZE, frame, frame_length);
+    int code = bpfhost_pair_code(host, sizeof(bpfhost_memory), frame, frame_length);
     if (code == BPFHOST_DONE)
-        code = bpfhost_pair_code(host, BPFHOST_HANDLE_SIZE, out, out_length);
+        code = bpfhost_pair_code(host, sizeof(bpfhost_memory), out, out_length);
     if (code == BPFHOST_DONE)
         code = bpfhost_pair_code(frame, frame_length, out, out_length);
     return code;
@@ -236,7 +410,7 @@ static inline int bpfhost_frame_code(const bpfhost *host, const uint8_t *frame, 
 
 /* Handles a frame of any length and content, which is what follows the length field in a stream, and leaves the reply, with its
  * length field, at the front of the room; `written` gets its length, 12 to BPFHOST_LONGEST_REPLY. ERR_BUFFER_TOO_SMALL,
- * ERR_NULL, ERR_LENGTH, ERR_OVERLAP: nothing is written, and no tenant's state has changed. */
+ * ERR_NULL, ERR_LENGTH, ERR_OVERLAP, ERR_LENT: nothing is written, and no tenant's state has changed. */
 static inline int bpfhost_handle(bpfhost *host, const void *frame, size_t frame_length, void *room, size_t room_length,
                                  size_t *written)
 {
@@ -246,7 +420,24 @@ static inline int bpfhost_handle(bpfhost *host, const void *frame, size_t frame_
         code = bpfhost_frame_code(host, at, frame_length, written, sizeof *written);
     if (code == BPFHOST_DONE)
         code = bpfhost_pair_code(room, room_length, written, sizeof *written);
-    return code == BPFHOST_DONE ? (int)bpfhost_c_handle(host, at, frame_length, (uint8_t *)room, room_length, written) : code;
+    if (code == BPFHOST_DONE)
+        code = bpfhost_lent_code(host, at, frame_length);
+    if (code != BPFHOST_DONE)
+        return code;
+    bpfhost_enter(host);
+    code = (int)bpfhost_c_handle(host, at, frame_length, (uint8_t *)room, room_length, written);
+    bpfhost_leave(host);
+    return code;
+}
+
+/* The proved function that lends a reply, with a frame that was tested. */
+static inline int bpfhost_lend(bpfhost *host, const uint8_t *frame, size_t frame_length, bpfhost_bytes *reply)
+{
+    int code;
+    bpfhost_enter(host);
+    code = (int)bpfhost_c_handle_lent(host, frame, frame_length, reply);
+    bpfhost_leave(host);
+    return code;
 }
 
 /* Whether a refused call may empty its reply: it is there, and overlaps neither the host nor the frame. A frame that is
@@ -254,22 +445,23 @@ static inline int bpfhost_handle(bpfhost *host, const void *frame, size_t frame_
 static inline bool bpfhost_may_empty(const bpfhost_bytes *reply, const bpfhost *host, const uint8_t *frame, size_t frame_length)
 {
     return reply != NULL && frame_length <= PTRDIFF_MAX
-        && (host == NULL || bpfhost_are_apart(reply, sizeof *reply, host, BPFHOST_HANDLE_SIZE))
+        && (host == NULL || bpfhost_are_apart(reply, sizeof *reply, host, sizeof(bpfhost_memory)))
         && (frame == NULL || bpfhost_are_apart(reply, sizeof *reply, frame, frame_length));
 }
 
 /* The same, but the reply is lent in the host's own buffer, until the next call on this host: nothing is
- * copied. ERR_NULL, ERR_LENGTH, ERR_OVERLAP: no tenant's state has changed, and `reply` has no bytes. But it is as
+ * copied. ERR_NULL, ERR_LENGTH, ERR_OVERLAP, ERR_LENT: no tenant's state has changed, and `reply` has no bytes. But it is as
  * it was if the frame's length is above PTRDIFF_MAX, or if `reply` itself overlaps the host or the frame. */
 static inline int bpfhost_handle_lent(bpfhost *host, const void *frame, size_t frame_length, bpfhost_bytes *reply)
 {
+    const bpfhost_bytes none = {bpfhost_bytes_at(NULL, 0), 0};
     const uint8_t *at = bpfhost_bytes_at(frame, frame_length);
     int code = bpfhost_frame_code(host, at, frame_length, reply, sizeof *reply);
-    if (code == BPFHOST_DONE || bpfhost_may_empty(reply, host, at, frame_length)) {
-        reply->at = bpfhost_bytes_at(NULL, 0);
-        reply->length = 0;
-    }
-    return code == BPFHOST_DONE ? (int)bpfhost_c_handle_lent(host, at, frame_length, reply) : code;
+    if (code == BPFHOST_DONE)
+        code = bpfhost_lent_code(host, at, frame_length);
+    if (code == BPFHOST_DONE || bpfhost_may_empty(reply, host, at, frame_length))
+        *reply = none;
+    return code == BPFHOST_DONE ? bpfhost_lend(host, at, frame_length, reply) : code;
 }
 
 /* The address of a context; of one with zeros for null. */
@@ -325,53 +517,62 @@ static inline int bpfhost_packets_code(const void *out, size_t out_length, bpfho
     return code;
 }
 
-/* What is wrong with the objects that a run of many packets may write, or DONE. */
-static inline int bpfhost_written_code(const bpfhost *host, const uint32_t *results, size_t packets, const int32_t *status)
+/* What is wrong with the objects that a run of many packets may write, or DONE. `ran` is null for a run without a bound, which does not
+ * write it. */
+static inline int bpfhost_written_code(const bpfhost *host, const uint32_t *results, size_t packets, const int32_t *status,
+                                       const size_t *ran)
 {
-    int code = bpfhost_pair_code(host, BPFHOST_HANDLE_SIZE, results, packets * sizeof *results);
+    int code = bpfhost_pair_code(host, sizeof(bpfhost_memory), results, packets * sizeof *results);
     if (code == BPFHOST_DONE)
-        code = bpfhost_pair_code(host, BPFHOST_HANDLE_SIZE, status, sizeof *status);
+        code = bpfhost_pair_code(host, sizeof(bpfhost_memory), status, sizeof *status);
     if (code == BPFHOST_DONE)
         code = bpfhost_pair_code(results, packets * sizeof *results, status, sizeof *status);
+    if (code == BPFHOST_DONE && ran != NULL)
+        code = bpfhost_pair_code(host, sizeof(bpfhost_memory), ran, sizeof *ran);
+    if (code == BPFHOST_DONE && ran != NULL)
+        code = bpfhost_pair_code(results, packets * sizeof *results, ran, sizeof *ran);
+    if (code == BPFHOST_DONE && ran != NULL)
+        code = bpfhost_pair_code(status, sizeof *status, ran, sizeof *ran);
     return code;
 }
 
 /* What is wrong with the objects of a run of many packets, or DONE. */
 static inline int bpfhost_run_code(const bpfhost *host, bpfhost_contexts contexts, const uint8_t *bytes, size_t byte_count,
-                                   const size_t *ends, size_t packets, const uint32_t *results, const int32_t *status)
+                                   const size_t *ends, size_t packets, const uint32_t *results, const int32_t *status, const size_t *ran)
 {
     int code = packets > PTRDIFF_MAX / sizeof *ends ? (int)BPFHOST_ERR_LENGTH : bpfhost_contexts_code(contexts);
     if (code == BPFHOST_DONE)
-        code = bpfhost_packets_code(host, BPFHOST_HANDLE_SIZE, contexts, bytes, byte_count, ends, packets);
+        code = bpfhost_packets_code(host, sizeof(bpfhost_memory), contexts, bytes, byte_count, ends, packets);
     if (code == BPFHOST_DONE)
         code = bpfhost_packets_code(results, packets * sizeof *results, contexts, bytes, byte_count, ends, packets);
     if (code == BPFHOST_DONE)
         code = bpfhost_packets_code(status, sizeof *status, contexts, bytes, byte_count, ends, packets);
-    return code == BPFHOST_DONE ? bpfhost_written_code(host, results, packets, status) : code;
+    if (code == BPFHOST_DONE && ran != NULL)
+        code = bpfhost_packets_code(ran, sizeof *ran, contexts, bytes, byte_count, ends, packets);
+    if (code == BPFHOST_DONE)
+        code = bpfhost_written_code(host, results, packets, status, ran);
+    return code == BPFHOST_DONE ? bpfhost_lent_code(host, bytes, byte_count) : code;
 }
 
 /* The proved run of many packets, with contexts that were tested. */
-static inline int bpfhost_run_given(bpfhost *host, uint16_t tenant, uint32_t fd, bpfhost_contexts contexts, const uint8_t *bytes,
-                                    size_t byte_count, const size_t *ends, size_t packets, uint32_t *results, int32_t *status)
+static inline int bpfhost_run_given(bpfhost *host, uint16_t tenant, uint32_t fd, uint64_t bound, bpfhost_contexts contexts,
+                                    const uint8_t *bytes, size_t byte_count, const size_t *ends, size_t packets, uint32_t *results,
+                                    int32_t *status, size_t *ran)
 {
     size_t words = contexts.size / sizeof(uint32_t);
-    return (int)bpfhost_c_run_packets(host, tenant, fd, (const uint32_t *)contexts.at, contexts.count * words, words, bytes,
-                                      byte_count, ends, packets, results, packets, status);
+    int code;
+    bpfhost_enter(host);
+    code = (int)bpfhost_c_run_packets(host, tenant, fd, bound, (const uint32_t *)contexts.at, contexts.count * words, words, bytes,
+                                      byte_count, ends, packets, results, packets, status, ran);
+    bpfhost_leave(host);
+    return code;
 }
 
-/* Runs a program of a tenant on many packets, one after another, as PROG_TEST_RUN does on each, without frames and replies. The
- * packets lie one after another in `bytes`, and packet i ends before byte ends[i]. With one context it is that of all packets, with as
- * many contexts as packets each has its own, and with none, whose address may be null, all have zeros; the packet's length is always
- * its own. A context has `context_size` bytes, whole words: fewer than bpfhost_context has if the caller is older, more if it is newer.
- * `results` has room for as many results as packets, and `status` gets 0. What PROG_TEST_RUN would refuse is refused before
- * the first packet, and `status` gets its error: -1 for a tenant that is not served, -9 and -22 for a descriptor that is not open or
- * names a map, -7 for a packet of more than 65,536 bytes; -22 too for another number of contexts, and for ends that are out of order
- * or outside the bytes. Then no packet was run, and `results` is as it was. ERR_NULL, ERR_LENGTH, ERR_OVERLAP; ERR_SIZE for a context of
- * no whole words; ERR_TOO_BIG for one with a word that the library does not know and that is not 0; ERR_NO_MEMORY for contexts of another
- * size than the library's: nothing is written, and no tenant's state has changed. */
-static inline int bpfhost_run_packets_sized(bpfhost *host, uint16_t tenant, uint32_t fd, const void *contexts,
-                                            size_t context_size, size_t context_count, const void *bytes, size_t byte_count,
-                                            const size_t *ends, size_t packets, uint32_t *results, int32_t *status)
+/* What bpfhost_run_packets_sized and bpfhost_run_bounded_sized do: the former without a bound, and with null for `ran`, which is then not
+ * written. */
+static inline int bpfhost_run_up_to(bpfhost *host, uint16_t tenant, uint32_t fd, const void *contexts, size_t context_size,
+                                    size_t context_count, const void *bytes, size_t byte_count, const size_t *ends, size_t packets,
+                                    uint64_t bound, uint32_t *results, int32_t *status, size_t *ran)
 {
     static const size_t no_ends[1] = {0};
     uint32_t no_results[1] = {0};
@@ -381,13 +582,34 @@ static inline int bpfhost_run_packets_sized(bpfhost *host, uint16_t tenant, uint
     const uint8_t *at = bpfhost_bytes_at(bytes, byte_count);
     const size_t *stops = packets == 0 ? no_ends : ends;
     uint32_t *room = packets == 0 ? no_results : results;
-    int32_t told = 0;
-    int code = bpfhost_run_code(host, given, at, byte_count, stops, packets, room, status);
+    int32_t found = 0;
+    size_t done = 0;
+    int code = bpfhost_run_code(host, given, at, byte_count, stops, packets, room, status, ran);
     if (code == BPFHOST_DONE)
-        code = bpfhost_run_given(host, tenant, fd, given, at, byte_count, stops, packets, room, &told);
+        code = bpfhost_run_given(host, tenant, fd, bound, given, at, byte_count, stops, packets, room, &found, &done);
     if (code == BPFHOST_DONE)
-        *status = told;
+        *status = found;
+    if (code == BPFHOST_DONE && ran != NULL)
+        *ran = done;
     return code;
+}
+
+/* Runs a program of a tenant on many packets, one after another, as PROG_TEST_RUN does on each, without frames and replies. The
+ * packets lie one after another in `bytes`, and packet i ends before byte ends[i]. With one context it is that of all packets, with as
+ * many contexts as packets each has its own, and with none, whose address may be null, all have zeros; the packet's length is always
+ * its own. A context has `context_size` bytes, whole words: fewer than bpfhost_context has if the caller is older, more if it is newer.
+ * `results` has room for as many results as packets, and `status` gets 0. What PROG_TEST_RUN would refuse is refused before
+ * the first packet, and `status` gets its error: -1 for a tenant that is not served, -9 and -22 for a descriptor that is not open or
+ * names a map, -7 for a packet of more than 65,536 bytes; -22 too for another number of contexts, and for ends that are out of order
+ * or outside the bytes. Then no packet was run, and `results` is as it was. ERR_NULL, ERR_LENGTH, ERR_OVERLAP, ERR_LENT; ERR_SIZE for a
+ * context of no whole words; ERR_TOO_BIG for one with a word that the library does not know and that is not 0; ERR_NO_MEMORY for contexts
+ * of another size than the library's: nothing is written, and no tenant's state has changed. */
+static inline int bpfhost_run_packets_sized(bpfhost *host, uint16_t tenant, uint32_t fd, const void *contexts,
+                                            size_t context_size, size_t context_count, const void *bytes, size_t byte_count,
+                                            const size_t *ends, size_t packets, uint32_t *results, int32_t *status)
+{
+    return bpfhost_run_up_to(host, tenant, fd, contexts, context_size, context_count, bytes, byte_count, ends, packets, 0, results,
+                             status, NULL);
 }
 
 /* The same with contexts of this header. */
@@ -406,6 +628,39 @@ static inline int bpfhost_run_packets(bpfhost *host, uint16_t tenant, uint32_t f
 {
     return bpfhost_run_packets_with(host, tenant, fd, bpfhost_context_at(context), 1, bytes, byte_count, ends, packets, results,
                                     status);
+}
+
+/* The same as bpfhost_run_packets_sized, but no longer than the caller allows: the batch is made shorter to as many of its first packets as
+ * can be run by `bound` instructions, if each takes the longest path of the program, which no run exceeds. One packet is run in any
+ * case, and 0 is no bound. `ran` gets how many packets were run, 0 if the status is not 0. `results` has room for all packets; what follows
+ * the results of those that were run stays as it is. Later packets are not looked at: the next call begins with them, and with their own
+ * contexts if each has one. The codes are those of bpfhost_run_packets_sized, and `ran` is not written either if it is one of them. */
+static inline int bpfhost_run_bounded_sized(bpfhost *host, uint16_t tenant, uint32_t fd, const void *contexts, size_t context_size,
+                                            size_t context_count, const void *bytes, size_t byte_count, const size_t *ends,
+                                            size_t packets, uint64_t bound, uint32_t *results, int32_t *status, size_t *ran)
+{
+    if (ran == NULL)
+        return BPFHOST_ERR_NULL;
+    return bpfhost_run_up_to(host, tenant, fd, contexts, context_size, context_count, bytes, byte_count, ends, packets, bound, results,
+                             status, ran);
+}
+
+/* The same with contexts of this header. */
+static inline int bpfhost_run_bounded_with(bpfhost *host, uint16_t tenant, uint32_t fd, const bpfhost_context *contexts,
+                                           size_t context_count, const void *bytes, size_t byte_count, const size_t *ends,
+                                           size_t packets, uint64_t bound, uint32_t *results, int32_t *status, size_t *ran)
+{
+    return bpfhost_run_bounded_sized(host, tenant, fd, contexts, sizeof *contexts, context_count, bytes, byte_count, ends, packets,
+                                     bound, results, status, ran);
+}
+
+/* The same with one context for all packets, which may be null for zeros. */
+static inline int bpfhost_run_bounded(bpfhost *host, uint16_t tenant, uint32_t fd, const bpfhost_context *context, const void *bytes,
+                                      size_t byte_count, const size_t *ends, size_t packets, uint64_t bound, uint32_t *results,
+                                      int32_t *status, size_t *ran)
+{
+    return bpfhost_run_bounded_with(host, tenant, fd, bpfhost_context_at(context), 1, bytes, byte_count, ends, packets, bound, results,
+                                    status, ran);
 }
 
 /* The ends of the packets that bpfhost_run_scattered gathers for one call of the proved function. */
@@ -469,7 +724,7 @@ static inline int bpfhost_scattered_code(const void *out, size_t out_length, con
 /* What is wrong with the objects of such a run, or DONE. */
 static inline int bpfhost_scattered_run_code(const bpfhost *host, const bpfhost_context *contexts, size_t context_count,
                                              const bpfhost_packet *packets, size_t count, const uint8_t *buffer,
-                                             size_t buffer_length, const uint32_t *results, const int32_t *status)
+                                             size_t buffer_length, const uint32_t *results, const int32_t *status, const size_t *ran)
 {
     size_t results_size = count * sizeof *results;
     bpfhost_bytes span;
@@ -478,21 +733,29 @@ static inline int bpfhost_scattered_run_code(const bpfhost *host, const bpfhost_
         return BPFHOST_ERR_LENGTH;
     code = packets == NULL ? BPFHOST_ERR_NULL : bpfhost_span_code(packets, count, &span);
     if (code == BPFHOST_DONE)
-        code = bpfhost_written_code(host, results, count, status);
+        code = bpfhost_written_code(host, results, count, status, ran);
     if (code == BPFHOST_DONE)
-        code = bpfhost_pair_code(host, BPFHOST_HANDLE_SIZE, buffer, buffer_length);
+        code = bpfhost_pair_code(host, sizeof(bpfhost_memory), buffer, buffer_length);
     if (code == BPFHOST_DONE)
         code = bpfhost_pair_code(results, results_size, buffer, buffer_length);
     if (code == BPFHOST_DONE)
         code = bpfhost_pair_code(status, sizeof *status, buffer, buffer_length);
+    if (code == BPFHOST_DONE && ran != NULL)
+        code = bpfhost_pair_code(ran, sizeof *ran, buffer, buffer_length);
     if (code == BPFHOST_DONE)
-        code = bpfhost_scattered_code(host, BPFHOST_HANDLE_SIZE, contexts, context_count, packets, count, span);
+        code = bpfhost_scattered_code(host, sizeof(bpfhost_memory), contexts, context_count, packets, count, span);
     if (code == BPFHOST_DONE)
         code = bpfhost_scattered_code(results, results_size, contexts, context_count, packets, count, span);
     if (code == BPFHOST_DONE)
         code = bpfhost_scattered_code(status, sizeof *status, contexts, context_count, packets, count, span);
+    if (code == BPFHOST_DONE && ran != NULL)
+        code = bpfhost_scattered_code(ran, sizeof *ran, contexts, context_count, packets, count, span);
     if (code == BPFHOST_DONE)
         code = bpfhost_scattered_code(buffer, buffer_length, contexts, context_count, packets, count, span);
+    if (code == BPFHOST_DONE && bpfhost_lent_code(host, span.at, span.length) == BPFHOST_DONE)
+        return code;
+    for (size_t i = 0; i < count && code == BPFHOST_DONE; i++)
+        code = bpfhost_lent_code(host, bpfhost_bytes_at(packets[i].at, packets[i].length), packets[i].length);
     return code;
 }
 
@@ -508,7 +771,7 @@ static inline int32_t bpfhost_scattered_status(size_t context_count, const bpfho
 }
 
 /* Runs packets of a batch that lie anywhere, from the first one on: as many as fit into the buffer together, or one in its place. It
- * returns the code of the proved function, and `done` gets how many packets were given to it. */
+ * returns the code of the proved function, and `done` gets how many packets it ran. */
 static inline int bpfhost_run_some(bpfhost *host, uint16_t tenant, uint32_t fd, const bpfhost_context *contexts, bool is_shared,
                                    const bpfhost_packet *packets, size_t count, uint8_t *buffer, size_t buffer_length,
                                    uint32_t *results, int32_t *status, size_t *done)
@@ -520,20 +783,15 @@ static inline int bpfhost_run_some(bpfhost *host, uint16_t tenant, uint32_t fd, 
         many = 1;
         gathered.ends[0] = packets->length;
     }
-    *done = many;
     const bpfhost_contexts given = {contexts, sizeof *contexts, is_shared ? 1 : many};
-    return bpfhost_run_given(host, tenant, fd, given, at, gathered.ends[many - 1], gathered.ends, many, results, status);
+    return bpfhost_run_given(host, tenant, fd, 0, given, at, gathered.ends[many - 1], gathered.ends, many, results, status, done);
 }
 
-/* Runs a program of a tenant on packets that lie anywhere, as recvmmsg, the rings of packet(7) and DPDK's mbufs have them. It does what
- * bpfhost_run_packets_with does on these packets, and what is refused is refused before the first packet. Packets are copied one after
- * another to `buffer`, at most 64 at a time and as many as fit, and are run by one call of the proved function; then the next ones. A
- * packet that is longer than the buffer is not copied, and is run by a call of its own. So the buffer may have any length, or none at all;
- * room for 64 usual packets serves best. It holds any bytes afterwards. This loop is tested, not proved; what it calls is proved.
- * Packets may overlap one another. ERR_NO_HOST, ERR_NULL, ERR_LENGTH, ERR_OVERLAP: nothing is written, and no tenant's state has changed. */
-static inline int bpfhost_run_scattered(bpfhost *host, uint16_t tenant, uint32_t fd, const bpfhost_context *contexts,
-                                        size_t context_count, const bpfhost_packet *packets, size_t count, void *buffer,
-                                        size_t buffer_length, uint32_t *results, int32_t *status)
+/* What bpfhost_run_scattered does, and bpfhost_run_bounded_scattered on the packets that its bound allows; for the former `ran` is null, and
+ * not written. */
+static inline int bpfhost_run_anywhere(bpfhost *host, uint16_t tenant, uint32_t fd, const bpfhost_context *contexts, size_t context_count,
+                                       const bpfhost_packet *packets, size_t count, void *buffer, size_t buffer_length, uint32_t *results,
+                                       int32_t *status, size_t *ran)
 {
     static const bpfhost_packet no_packets[1] = {{NULL, 0}};
     static const size_t no_ends[1] = {0};
@@ -546,17 +804,17 @@ static inline int bpfhost_run_scattered(bpfhost *host, uint16_t tenant, uint32_t
     size_t given = context_count == 0 ? 1 : context_count, done = 0, some = 0;
     const bpfhost_contexts first = {c, sizeof *c, 1}, all = {c, sizeof *c, given};
     int32_t wrong, told = 0;
-    int code = bpfhost_scattered_run_code(host, c, given, p, count, room, buffer_length, out, status);
+    int code = bpfhost_scattered_run_code(host, c, given, p, count, room, buffer_length, out, status, ran);
     if (code != BPFHOST_DONE)
         return code;
     wrong = bpfhost_scattered_status(given, p, count);
     /* A library of another version may not know a word of a context: it reads all of them before the first packet. */
     if (given != 1 && bpfhost_library_version() != BPFHOST_VERSION_NUMBER)
-        code = bpfhost_run_given(host, tenant, fd, all, no_bytes, 0, no_ends, 0, no_results, &told);
+        code = bpfhost_run_given(host, tenant, fd, 0, all, no_bytes, 0, no_ends, 0, no_results, &told, &some);
     told = 0;
     /* The errors of no packets, those of the tenant and the descriptor, come before those of packets. */
     if (code == BPFHOST_DONE && (wrong != 0 || count == 0))
-        code = bpfhost_run_given(host, tenant, fd, first, no_bytes, 0, no_ends, 0, no_results, &told);
+        code = bpfhost_run_given(host, tenant, fd, 0, first, no_bytes, 0, no_ends, 0, no_results, &told, &some);
     told = told == 0 ? wrong : told;
     while (code == BPFHOST_DONE && told == 0 && done < count) {
         const bpfhost_context *own = given == 1 ? c : c + done;
@@ -565,23 +823,84 @@ static inline int bpfhost_run_scattered(bpfhost *host, uint16_t tenant, uint32_t
     }
     if (code == BPFHOST_DONE)
         *status = told;
+    if (code == BPFHOST_DONE && ran != NULL)
+        *ran = told == 0 ? done : 0;
     return code;
+}
+
+/* Runs a program of a tenant on packets that lie anywhere, as recvmmsg, the rings of packet(7) and DPDK's mbufs have them. It does what
+ * bpfhost_run_packets_with does on these packets, and what is refused is refused before the first packet. Packets are copied one after
+ * another to `buffer`, at most 64 at a time and as many as fit, and are run by one call of the proved function; then the next ones. A
+ * packet that is longer than the buffer is not copied, and is run by a call of its own. So the buffer may have any length, or none at all;
+ * room for 64 usual packets serves best. It holds any bytes afterwards. This loop is tested, not proved; what it calls is proved.
+ * Packets may overlap one another. ERR_NO_HOST, ERR_NULL, ERR_LENGTH, ERR_OVERLAP, ERR_LENT: nothing is written, and no tenant's state
+ * has changed. */
+static inline int bpfhost_run_scattered(bpfhost *host, uint16_t tenant, uint32_t fd, const bpfhost_context *contexts,
+                                        size_t context_count, const bpfhost_packet *packets, size_t count, void *buffer,
+                                        size_t buffer_length, uint32_t *results, int32_t *status)
+{
+    return bpfhost_run_anywhere(host, tenant, fd, contexts, context_count, packets, count, buffer, buffer_length, results, status, NULL);
+}
+
+/* Lowers a number of packets to what a bound allows the program at a descriptor, as the proved run of many packets does: as many as can be
+ * run by `bound` instructions, if each takes the longest path of the program, but one at least. 0 is no bound; what is no program
+ * allows all, and is refused when it is run. Returns the code of the proved function. */
+static inline int bpfhost_allowed_packets(bpfhost *host, uint16_t tenant, uint32_t fd, uint64_t bound, size_t *packets)
+{
+    bpfhost_cost cost = {0, 0};
+    int code = BPFHOST_DONE;
+    if (bound == 0)
+        return code;
+    bpfhost_enter(host);
+    code = (int)bpfhost_c_program_cost(host, tenant, fd, &cost);
+    bpfhost_leave(host);
+    if (code == BPFHOST_DONE && cost.instructions != 0 && *packets > 1 && bound / cost.instructions < *packets)
+        *packets = bound < cost.instructions ? 1 : (size_t)(bound / cost.instructions);
+    return code;
+}
+
+/* The same as bpfhost_run_scattered, but no longer than the caller allows: with the bound, the number of packets and the rest of the results
+ * of bpfhost_run_bounded_sized. Packets after those that the bound allows are not looked at: a caller with many packets passes all that are
+ * left to each call. The cost of the program is asked of the library, so a call takes some instructions more than one without a bound. */
+static inline int bpfhost_run_bounded_scattered(bpfhost *host, uint16_t tenant, uint32_t fd, const bpfhost_context *contexts,
+                                                size_t context_count, const bpfhost_packet *packets, size_t count, void *buffer,
+                                                size_t buffer_length, uint64_t bound, uint32_t *results, int32_t *status, size_t *ran)
+{
+    size_t allowed = count, given = context_count;
+    int code = BPFHOST_DONE;
+    if (host == NULL || ran == NULL)
+        return BPFHOST_ERR_NULL;
+    if (count > PTRDIFF_MAX / sizeof *packets || context_count > PTRDIFF_MAX / sizeof *contexts)
+        return BPFHOST_ERR_LENGTH;
+    /* What has neither one context nor one for each packet is refused as a whole. */
+    if (context_count <= 1 || context_count == count)
+        code = bpfhost_allowed_packets(host, tenant, fd, bound, &allowed);
+    if (context_count > 1 && context_count == count)
+        given = allowed;
+    if (code != BPFHOST_DONE)
+        return code;
+    return bpfhost_run_anywhere(host, tenant, fd, contexts, given, packets, allowed, buffer, buffer_length, results, status, ran);
 }
 
 /* Saves one part of a tenant: `frames` gets the frames of this part, each with its length field before it as in a stream, lent
  * until the next call on this host. Parts are numbered from 0, and a tenant has 2 to 82 of them: the first opens a program at each
  * descriptor, each part after it makes one map with its keys or one program, in the order in which they were made, and the last
  * closes what is not open. A new tenant of this number, of any host, that is given the frames of all parts in their order
- * (bpfhost_restore) then replies to each frame as the saved tenant does. Until the last part is taken, the tenant must not be given a frame
- * or packets; other tenants may be. A part has at most BPFHOST_LONGEST_PART bytes, which the host keeps until the next call of
+ * (bpfhost_restore, or bpfhost_restore_as for another number) then replies to each frame as the saved tenant does. Until the last part is
+ * taken, the tenant must not be given a frame or packets; other tenants may be. A part has at most BPFHOST_LONGEST_PART bytes, which the host keeps until the next call of
  * bpfhost_save_part or bpfhost_save on it. ERR_NO_PART: there are no more parts, or the tenant is not served. ERR_NO_MEMORY, ERR_NO_PART,
  * ERR_NULL, ERR_OVERLAP: nothing is written. No tenant's state changes. */
 static inline int bpfhost_save_part(bpfhost *host, uint16_t tenant, size_t part, bpfhost_bytes *frames)
 {
+    const bpfhost_bytes none = {NULL, 0};
     bpfhost_bytes found = {bpfhost_bytes_at(NULL, 0), 0};
-    int code = bpfhost_pair_code(host, BPFHOST_HANDLE_SIZE, frames, sizeof *frames);
-    if (code == BPFHOST_DONE)
-        code = (int)bpfhost_c_save(host, tenant, part, &found);
+    int code = bpfhost_pair_code(host, sizeof(bpfhost_memory), frames, sizeof *frames);
+    if (code != BPFHOST_DONE)
+        return code;
+    bpfhost_enter(host);
+    code = (int)bpfhost_c_save(host, tenant, part, &found);
+    bpfhost_leave(host);
+    bpfhost_memory_of(host)->part = code == BPFHOST_DONE ? found : none; /* the part before is freed in any case */
     if (code == BPFHOST_DONE) {
         frames->at = bpfhost_bytes_at(found.at, found.length);
         frames->length = found.length;
@@ -614,9 +933,12 @@ static inline int bpfhost_save(bpfhost *host, uint16_t tenant, bpfhost_sink *sin
 static inline int bpfhost_memory_refused(bpfhost *host, uint16_t tenant, bool *refused)
 {
     bool found = false;
-    int code = bpfhost_pair_code(host, BPFHOST_HANDLE_SIZE, refused, sizeof *refused);
-    if (code == BPFHOST_DONE)
-        code = (int)bpfhost_c_memory_refused(host, tenant, &found);
+    int code = bpfhost_pair_code(host, sizeof(bpfhost_memory), refused, sizeof *refused);
+    if (code != BPFHOST_DONE)
+        return code;
+    bpfhost_enter(host);
+    code = (int)bpfhost_c_memory_refused(host, tenant, &found);
+    bpfhost_leave(host);
     if (code == BPFHOST_DONE)
         *refused = found;
     return code;
@@ -627,8 +949,179 @@ static inline void bpfhost_free(bpfhost *host)
 {
     if (host == NULL)
         return;
+    bpfhost_enter(host);
     bpfhost_c_free(host);
-    free(host);
+    bpfhost_give_back(host);
+}
+
+/* ---- what a tenant has. ERR_NULL, ERR_OVERLAP: nothing is written. No tenant's state changes. */
+
+/* The counts of a tenant; all are 0 for a number that is not served. */
+static inline int bpfhost_counts_of(bpfhost *host, uint16_t tenant, bpfhost_counts *counts)
+{
+    int code = bpfhost_pair_code(host, sizeof(bpfhost_memory), counts, sizeof *counts);
+    if (code != BPFHOST_DONE)
+        return code;
+    bpfhost_enter(host);
+    code = (int)bpfhost_c_status(host, tenant, counts);
+    bpfhost_leave(host);
+    return code;
+}
+
+/* The counts, as bpfhost_counts has them, and what the allocator of the C library holds. */
+enum bpfhost_which {
+    BPFHOST_STATUS_MAPS,
+    BPFHOST_STATUS_ENTRIES,
+    BPFHOST_STATUS_VALUE_BYTES,
+    BPFHOST_STATUS_PROGRAMS,
+    BPFHOST_STATUS_DESCRIPTORS,
+    BPFHOST_STATUS_MEMORY_REFUSED, /* 0 or 1 */
+    BPFHOST_STATUS_MEMORY_HELD     /* bytes that malloc has given to the whole process (mallinfo2 of glibc 2.33), of whatever tenant and host */
+};
+
+/* The bytes that malloc has given to this process and were not freed. false if the C library does not say. */
+static inline bool bpfhost_memory_held(uint64_t *bytes)
+{
+#ifdef BPFHOST_HAS_MALLINFO2
+    struct mallinfo2 all = mallinfo2();
+    *bytes = (uint64_t)all.uordblks + all.hblkhd;
+    return true;
+#else
+    (void)bytes;
+    return false;
+#endif
+}
+
+/* One count of a tenant. ERR_WHICH: there is no count of this number, or the C library does not say what memory is held. */
+static inline int bpfhost_status(bpfhost *host, uint16_t tenant, enum bpfhost_which which, uint64_t *out)
+{
+    bpfhost_counts counts;
+    uint64_t held = 0;
+    int code = bpfhost_pair_code(host, sizeof(bpfhost_memory), out, sizeof *out);
+    if (code == BPFHOST_DONE)
+        code = bpfhost_counts_of(host, tenant, &counts);
+    if (code != BPFHOST_DONE)
+        return code;
+    switch ((int)which) {
+    case BPFHOST_STATUS_MAPS: held = counts.maps; break;
+    case BPFHOST_STATUS_ENTRIES: held = counts.entries; break;
+    case BPFHOST_STATUS_VALUE_BYTES: held = counts.value_bytes; break;
+    case BPFHOST_STATUS_PROGRAMS: held = counts.programs; break;
+    case BPFHOST_STATUS_DESCRIPTORS: held = counts.descriptors; break;
+    case BPFHOST_STATUS_MEMORY_REFUSED: held = counts.memory_refused; break;
+    case BPFHOST_STATUS_MEMORY_HELD:
+        if (bpfhost_memory_held(&held))
+            break;
+        return BPFHOST_ERR_WHICH;
+    default: return BPFHOST_ERR_WHICH;
+    }
+    *out = held;
+    return BPFHOST_DONE;
+}
+
+/* What a descriptor of a tenant names: a map with its shape, a program, or nothing. */
+static inline int bpfhost_describe(bpfhost *host, uint16_t tenant, uint32_t fd, bpfhost_described *described)
+{
+    int code = bpfhost_pair_code(host, sizeof(bpfhost_memory), described, sizeof *described);
+    if (code != BPFHOST_DONE)
+        return code;
+    bpfhost_enter(host);
+    code = (int)bpfhost_c_describe(host, tenant, fd, described);
+    bpfhost_leave(host);
+    return code;
+}
+
+/* What the program that a descriptor of a tenant names costs; both numbers are 0 if it names none, and for a number that is not served. */
+static inline int bpfhost_program_cost(bpfhost *host, uint16_t tenant, uint32_t fd, bpfhost_cost *cost)
+{
+    int code = bpfhost_pair_code(host, sizeof(bpfhost_memory), cost, sizeof *cost);
+    if (code != BPFHOST_DONE)
+        return code;
+    bpfhost_enter(host);
+    code = (int)bpfhost_c_program_cost(host, tenant, fd, cost);
+    bpfhost_leave(host);
+    return code;
+}
+
+/* An open descriptor, what it names, and what that costs, which is 0 for a map. */
+typedef struct bpfhost_listed {
+    uint32_t fd;
+    bpfhost_described is;
+    bpfhost_cost cost;
+} bpfhost_listed;
+
+/* The open descriptors of a tenant in their order: as many as fit into `room` entries. `count` gets how many are open, at most
+ * BPFHOST_MOST_DESCRIPTORS. ERR_LENGTH too. */
+static inline int bpfhost_list(bpfhost *host, uint16_t tenant, bpfhost_listed *entries, size_t room, size_t *count)
+{
+    bpfhost_listed none[1] = {{0, {0, 0, 0, 0, 0, 0, 0}, {0, 0}}}, *at = room == 0 ? none : entries;
+    const size_t size = room > PTRDIFF_MAX / sizeof *at ? SIZE_MAX : room * sizeof *at;
+    size_t found = 0;
+    int code = bpfhost_pair_code(host, sizeof(bpfhost_memory), at, size);
+    if (code == BPFHOST_DONE)
+        code = bpfhost_pair_code(host, sizeof(bpfhost_memory), count, sizeof *count);
+    if (code == BPFHOST_DONE)
+        code = bpfhost_pair_code(at, size, count, sizeof *count);
+    for (uint32_t i = 0; code == BPFHOST_DONE && i < BPFHOST_MOST_DESCRIPTORS; i++) {
+        bpfhost_listed each = {BPFHOST_FIRST_DESCRIPTOR + i, {0, 0, 0, 0, 0, 0, 0}, {0, 0}};
+        code = bpfhost_describe(host, tenant, each.fd, &each.is);
+        if (code == BPFHOST_DONE && each.is.kind == BPFHOST_PROGRAM)
+            code = bpfhost_program_cost(host, tenant, each.fd, &each.cost);
+        if (code != BPFHOST_DONE || each.is.kind == BPFHOST_NOTHING)
+            continue;
+        if (found < room)
+            at[found] = each;
+        found++;
+    }
+    if (code == BPFHOST_DONE)
+        *count = found;
+    return code;
+}
+
+/* ---- the verifier's log */
+
+/* A line for each instruction, with what is new before it or with all that is known; or a graph for Graphviz. */
+enum bpfhost_style { BPFHOST_LOG_NEW = 0, BPFHOST_LOG_WHOLE = 1, BPFHOST_LOG_GRAPH = 2 };
+
+/* Verifies the program of so many slots of 8 bytes with the tenant's open descriptors, as PROG_LOAD does, and loads nothing. `log` gets as
+ * much of the text of verifier_log as fits into `size` bytes, ended by a zero byte; it may be null if `size` is 0. `logged` gets the length of
+ * the whole text, without that byte, and the verdict. For slots that are no program the text is the line of their refusal. For a tenant that
+ * is not served nothing is open. ERR_STYLE: there is no such style. ERR_NO_MEMORY, ERR_NULL, ERR_LENGTH, ERR_OVERLAP, ERR_LENT: nothing is
+ * written. No tenant's state changes. */
+static inline int bpfhost_verify_as(bpfhost *host, uint16_t tenant, const void *slots, size_t slot_count, enum bpfhost_style style, char *log,
+                                    size_t size, bpfhost_logged *logged)
+{
+    uint8_t no_room[1] = {0}, *room = size == 0 ? no_room : (uint8_t *)log;
+    const size_t length = slot_count > PTRDIFF_MAX / 8 ? SIZE_MAX : 8 * slot_count;
+    const uint8_t *at = bpfhost_bytes_at(slots, length);
+    int code = bpfhost_frame_code(host, at, length, room, size);
+    if (code == BPFHOST_DONE)
+        code = bpfhost_frame_code(host, at, length, logged, sizeof *logged);
+    if (code == BPFHOST_DONE)
+        code = bpfhost_pair_code(room, size, logged, sizeof *logged);
+    if (code == BPFHOST_DONE)
+        code = bpfhost_lent_code(host, at, length);
+    if (code != BPFHOST_DONE)
+        return code;
+    bpfhost_enter(host);
+    code = (int)bpfhost_c_verify(host, tenant, at, length, (uint32_t)style, room, size, logged);
+    bpfhost_leave(host);
+    return code;
+}
+
+/* The same with what is new before each instruction; `length` gets the length of the whole text. */
+static inline int bpfhost_verify(bpfhost *host, uint16_t tenant, const void *slots, size_t slot_count, char *log, size_t size, size_t *length)
+{
+    bpfhost_logged logged = {0, false};
+    const size_t slots_length = slot_count > PTRDIFF_MAX / 8 ? SIZE_MAX : 8 * slot_count;
+    int code = bpfhost_frame_code(host, bpfhost_bytes_at(slots, slots_length), slots_length, length, sizeof *length);
+    if (code == BPFHOST_DONE && size != 0)
+        code = bpfhost_pair_code(log, size, length, sizeof *length);
+    if (code == BPFHOST_DONE)
+        code = bpfhost_verify_as(host, tenant, slots, slot_count, BPFHOST_LOG_NEW, log, size, &logged);
+    if (code == BPFHOST_DONE)
+        *length = logged.length;
+    return code;
 }
 
 /* ---- frames. Each function writes a frame into a room and returns its length. If the room is too small, a pointer is null that
@@ -667,6 +1160,23 @@ static inline uint8_t *bpfhost_put32(uint8_t *at, uint32_t number)
     return bpfhost_put16(bpfhost_put16(at, (uint16_t)number), (uint16_t)(number >> 16));
 }
 
+/* Not every compiler makes one store of eight. */
+static inline uint8_t *bpfhost_put64(uint8_t *at, uint64_t number)
+{
+#if defined __BYTE_ORDER__ && __BYTE_ORDER__ == __ORDER_LITTLE_ENDIAN__
+    memcpy(at, &number, sizeof number);
+    return at + sizeof number;
+#else
+    return bpfhost_put32(bpfhost_put32(at, (uint32_t)number), (uint32_t)(number >> 32));
+#endif
+}
+
+/* The head of a frame, and the number after it. */
+static inline uint8_t *bpfhost_put_head(uint8_t *at, uint16_t tenant, enum bpfhost_command command, uint32_t number)
+{
+    return bpfhost_put64(at, tenant | (uint64_t)command << 16 | (uint64_t)number << 32);
+}
+
 static inline uint8_t *bpfhost_put_bytes(uint8_t *at, const void *bytes, size_t length)
 {
     if (length != 0)
@@ -691,7 +1201,7 @@ static inline uint8_t *bpfhost_frame_begin(void *frame, size_t room, size_t fixe
 {
     if (frame == NULL || room > PTRDIFF_MAX || room < fixed || room - fixed < more)
         return NULL;
-    return bpfhost_put32(bpfhost_put16(bpfhost_put16((uint8_t *)frame, tenant), (uint16_t)command), first);
+    return bpfhost_put_head((uint8_t *)frame, tenant, command, first);
 }
 
 /* MAP_CREATE: 24 bytes. The status of the reply is a new descriptor. `type` is BPFHOST_HASH or BPFHOST_ARRAY, `flags` 0. */
@@ -756,8 +1266,7 @@ static inline size_t bpfhost_frame_map_update(void *frame, size_t room, uint16_t
     at = bpfhost_frame_begin(frame, room, 16, key_size + value_size, tenant, BPFHOST_MAP_UPDATE, fd);
     if (at == NULL)
         return 0;
-    at = bpfhost_put32(bpfhost_put32(at, (uint32_t)flags), (uint32_t)(flags >> 32));
-    bpfhost_put_bytes(bpfhost_put_bytes(at, key, key_size), value, value_size);
+    bpfhost_put_bytes(bpfhost_put_bytes(bpfhost_put64(at, flags), key, key_size), value, value_size);
     return 16 + key_size + value_size;
 }
 
@@ -821,15 +1330,9 @@ typedef struct bpfhost_reply {
     uint16_t reason;
 } bpfhost_reply;
 
-/* Reads one whole reply. ERR_NULL, ERR_LENGTH, ERR_OVERLAP, ERR_NO_REPLY: nothing is written. */
-static inline int bpfhost_read_reply(const void *bytes, size_t length, bpfhost_reply *reply)
+/* Reads the fields of one whole reply. It tests nothing. */
+static inline void bpfhost_read_fields(const uint8_t *at, size_t length, bpfhost_reply *reply)
 {
-    const uint8_t *at = (const uint8_t *)bytes;
-    int code = bpfhost_pair_code(bytes, length, reply, sizeof *reply);
-    if (code != BPFHOST_DONE)
-        return code;
-    if (length < 12 || length > BPFHOST_LONGEST_REPLY || bpfhost_get32(at) != length - 4)
-        return BPFHOST_ERR_NO_REPLY;
     reply->tenant = bpfhost_get16(at + 4);
     reply->command = bpfhost_get16(at + 6);
     reply->status = (int32_t)bpfhost_get32(at + 8);
@@ -844,6 +1347,18 @@ static inline int bpfhost_read_reply(const void *bytes, size_t length, bpfhost_r
         reply->slot = bpfhost_get32(reply->payload);
         reply->reason = bpfhost_get16(reply->payload + 4);
     }
+}
+
+/* Reads one whole reply. ERR_NULL, ERR_LENGTH, ERR_OVERLAP, ERR_NO_REPLY: nothing is written. */
+static inline int bpfhost_read_reply(const void *bytes, size_t length, bpfhost_reply *reply)
+{
+    const uint8_t *at = (const uint8_t *)bytes;
+    int code = bpfhost_pair_code(bytes, length, reply, sizeof *reply);
+    if (code != BPFHOST_DONE)
+        return code;
+    if (length < 12 || length > BPFHOST_LONGEST_REPLY || bpfhost_get32(at) != length - 4)
+        return BPFHOST_ERR_NO_REPLY;
+    bpfhost_read_fields(at, length, reply);
     return BPFHOST_DONE;
 }
 
@@ -863,15 +1378,19 @@ static inline int bpfhost_read_reply_sized(const void *bytes, size_t length, voi
 }
 
 /* Handles a frame and reads the reply, whose payload is lent until the next call on this host. ERR_NO_HOST, ERR_NULL,
- * ERR_LENGTH, ERR_OVERLAP: nothing is written, and no tenant's state has changed. */
+ * ERR_LENGTH, ERR_OVERLAP, ERR_LENT: nothing is written, and no tenant's state has changed. */
 static inline int bpfhost_ask(bpfhost *host, const void *frame, size_t frame_length, bpfhost_reply *reply)
 {
     const uint8_t *at = bpfhost_bytes_at(frame, frame_length);
     bpfhost_bytes lent = {bpfhost_bytes_at(NULL, 0), 0};
     int code = bpfhost_frame_code(host, at, frame_length, reply, sizeof *reply);
     if (code == BPFHOST_DONE)
-        code = (int)bpfhost_c_handle_lent(host, at, frame_length, &lent);
-    return code == BPFHOST_DONE ? bpfhost_read_reply(lent.at, lent.length, reply) : code;
+        code = bpfhost_lent_code(host, at, frame_length);
+    if (code == BPFHOST_DONE)
+        code = bpfhost_lend(host, at, frame_length, &lent);
+    if (code == BPFHOST_DONE)
+        bpfhost_read_fields(lent.at, lent.length, reply);
+    return code;
 }
 
 /* The same for a reply of `size` bytes, as bpfhost_read_reply_sized has it. ERR_SIZE: it has no byte, and no tenant's state has changed. */
@@ -881,7 +1400,9 @@ static inline int bpfhost_ask_sized(bpfhost *host, const void *frame, size_t fra
     bpfhost_bytes lent = {bpfhost_bytes_at(NULL, 0), 0};
     int code = bpfhost_frame_code(host, at, frame_length, reply, size);
     if (code == BPFHOST_DONE)
-        code = size == 0 ? (int)BPFHOST_ERR_SIZE : (int)bpfhost_c_handle_lent(host, at, frame_length, &lent);
+        code = size == 0 ? (int)BPFHOST_ERR_SIZE : bpfhost_lent_code(host, at, frame_length);
+    if (code == BPFHOST_DONE)
+        code = bpfhost_lend(host, at, frame_length, &lent);
     return code == BPFHOST_DONE ? bpfhost_read_reply_sized(lent.at, lent.length, reply, size) : code;
 }
 
@@ -889,6 +1410,11 @@ static inline int bpfhost_ask_sized(bpfhost *host, const void *frame, size_t fra
  * code of the call; the host's reply is in the result. A frame of up to BPFHOST_ROOM bytes is made on the stack, a longer one in memory of
  * malloc. */
 
+#ifdef __GNUC__
+#define BPFHOST_BY_FORCE __attribute__((always_inline))
+#else
+#define BPFHOST_BY_FORCE
+#endif
 #define BPFHOST_ROOM (16 + 512 + BPFHOST_LONGEST_PAYLOAD) /* an update with the longest key and the longest value; a load of 577 slots */
 
 /* The attributes of a map. A later version may have more words after these: bpfhost_map_create_sized takes the size. */
@@ -903,7 +1429,7 @@ typedef struct bpfhost_map_attr {
 /* The host's reply to a command. It stays as it is in later versions. */
 typedef struct bpfhost_result {
     int32_t status;  /* a new descriptor, 0, or a negative error number of bpf(2) */
-    uint32_t result; /* of a test run with status 0; else 0 */
+    uint32_t result; /* of a test run with status 0; of bpfhost_close_all, how many were closed; else 0 */
     uint32_t slot;   /* of a load that is refused with a slot and a reason; else 0 */
     uint16_t reason;
     size_t length;   /* how many bytes of a value or a key were written; else 0 */
@@ -912,7 +1438,7 @@ typedef struct bpfhost_result {
 /* What is wrong with the host and the result of a command, or DONE. */
 static inline int bpfhost_result_code(const bpfhost *host, const bpfhost_result *out)
 {
-    return bpfhost_pair_code(host, BPFHOST_HANDLE_SIZE, out, sizeof *out);
+    return bpfhost_pair_code(host, sizeof(bpfhost_memory), out, sizeof *out);
 }
 
 /* What is wrong with bytes that a command reads or writes, if its host and its result are right, or DONE. If there are none, their address
@@ -925,7 +1451,7 @@ static inline int bpfhost_object_code(const bpfhost *host, const bpfhost_result 
         return BPFHOST_ERR_NULL;
     if (length > PTRDIFF_MAX)
         return BPFHOST_ERR_LENGTH;
-    return bpfhost_are_apart(host, BPFHOST_HANDLE_SIZE, at, length) && bpfhost_are_apart(out, sizeof *out, at, length)
+    return bpfhost_are_apart(host, sizeof(bpfhost_memory), at, length) && bpfhost_are_apart(out, sizeof *out, at, length)
              ? BPFHOST_DONE
              : BPFHOST_ERR_OVERLAP;
 }
@@ -948,14 +1474,15 @@ static inline int bpfhost_carry_out(bpfhost *host, const uint8_t *frame, size_t 
     bpfhost_bytes lent = {bpfhost_bytes_at(NULL, 0), 0};
     int32_t status;
     size_t copied;
-    int code = (int)bpfhost_c_handle_lent(host, frame, frame_length, &lent);
+    int code = bpfhost_lend(host, frame, frame_length, &lent);
     if (code != BPFHOST_DONE)
         return code;
     status = (int32_t)bpfhost_get32(lent.at + 8);
     copied = status == 0 ? lent.length - 12 : 0;
     if (copied > to_length)
         return BPFHOST_ERR_BUFFER_TOO_SMALL;
-    bpfhost_put_bytes((uint8_t *)to, lent.at + 12, copied);
+    if (to != NULL)
+        memcpy(to, lent.at + 12, copied);
     bpfhost_set_result(out, status, copied);
     if (status < 0 && lent.length == 18) { /* of a load */
         out->slot = bpfhost_get32(lent.at + 12);
@@ -964,11 +1491,26 @@ static inline int bpfhost_carry_out(bpfhost *host, const uint8_t *frame, size_t 
     return BPFHOST_DONE;
 }
 
-/* Carries out a command whose frame has a number and bytes. */
-static inline int bpfhost_carry_out_on(bpfhost *host, uint16_t tenant, enum bpfhost_command command, uint32_t number, const void *bytes,
+/* Carries out a command whose frame has a number and bytes that were tested, and is made in memory of malloc. */
+static inline int bpfhost_carry_out_long(bpfhost *host, uint16_t tenant, enum bpfhost_command command, uint32_t number, const void *bytes,
+                                         size_t length, void *to, size_t to_length, bpfhost_result *out)
+{
+    uint8_t *frame = length > PTRDIFF_MAX - 8 ? NULL : (uint8_t *)malloc(8 + length);
+    int code = BPFHOST_ERR_NO_MEMORY;
+    if (frame != NULL) {
+        bpfhost_put_bytes(bpfhost_put_head(frame, tenant, command, number), bytes, length);
+        code = bpfhost_carry_out(host, frame, 8 + length, to, to_length, out);
+        free(frame);
+    }
+    return code;
+}
+
+/* Carries out a command whose frame has a number and bytes. It is inlined by force: most callers have constant lengths, of which most tests
+ * and copies then leave nothing. */
+static inline BPFHOST_BY_FORCE int bpfhost_carry_out_on(bpfhost *host, uint16_t tenant, enum bpfhost_command command, uint32_t number, const void *bytes,
                                        size_t length, void *to, size_t to_length, bpfhost_result *out)
 {
-    uint8_t room[BPFHOST_ROOM], *frame = room;
+    uint8_t room[BPFHOST_ROOM];
     int code = bpfhost_result_code(host, out);
     if (code == BPFHOST_DONE)
         code = bpfhost_object_code(host, out, bytes, length);
@@ -978,16 +1520,10 @@ static inline int bpfhost_carry_out_on(bpfhost *host, uint16_t tenant, enum bpfh
         return code;
     if (!bpfhost_are_apart(bytes, length, to, to_length))
         return BPFHOST_ERR_OVERLAP;
-    if (length > sizeof room - 8) {
-        frame = length > PTRDIFF_MAX - 8 ? NULL : (uint8_t *)malloc(8 + length);
-        if (frame == NULL)
-            return BPFHOST_ERR_NO_MEMORY;
-    }
-    bpfhost_put_bytes(bpfhost_put32(bpfhost_put16(bpfhost_put16(frame, tenant), (uint16_t)command), number), bytes, length);
-    code = bpfhost_carry_out(host, frame, 8 + length, to, to_length, out);
-    if (frame != room)
-        free(frame);
-    return code;
+    if (length > sizeof room - 8)
+        return bpfhost_carry_out_long(host, tenant, command, number, bytes, length, to, to_length, out);
+    bpfhost_put_bytes(bpfhost_put_head(room, tenant, command, number), bytes, length);
+    return bpfhost_carry_out(host, room, 8 + length, to, to_length, out);
 }
 
 /* MAP_CREATE with attributes of `size` bytes, whole words: a word that the caller does not have counts as 0. The status is a new
@@ -1034,7 +1570,6 @@ static inline int bpfhost_map_update(bpfhost *host, uint16_t tenant, uint32_t fd
                                      size_t value_size, uint64_t flags, bpfhost_result *out)
 {
     uint8_t room[BPFHOST_ROOM], *frame = room;
-    size_t length = 16 + key_size + value_size;
     int code = bpfhost_result_code(host, out);
     if (code == BPFHOST_DONE)
         code = bpfhost_object_code(host, out, key, key_size);
@@ -1042,13 +1577,15 @@ static inline int bpfhost_map_update(bpfhost *host, uint16_t tenant, uint32_t fd
         code = bpfhost_object_code(host, out, value, value_size);
     if (code != BPFHOST_DONE)
         return code;
-    if (length > sizeof room) {
-        frame = length > PTRDIFF_MAX ? NULL : (uint8_t *)malloc(length);
+    if (key_size > sizeof room - 16 || value_size > sizeof room - 16 - key_size) {
+        const bool is_too_long = key_size > PTRDIFF_MAX - 16 || value_size > PTRDIFF_MAX - 16 - key_size;
+        frame = is_too_long ? NULL : (uint8_t *)malloc(16 + key_size + value_size);
         if (frame == NULL)
             return BPFHOST_ERR_NO_MEMORY;
     }
-    bpfhost_frame_map_update(frame, length, tenant, fd, flags, key, key_size, value, value_size);
-    code = bpfhost_carry_out(host, frame, length, frame, 0, out);
+    bpfhost_put_bytes(bpfhost_put_bytes(bpfhost_put64(bpfhost_put_head(frame, tenant, BPFHOST_MAP_UPDATE, fd), flags), key, key_size), value,
+                      value_size);
+    code = bpfhost_carry_out(host, frame, 16 + key_size + value_size, frame, 0, out);
     if (frame != room)
         free(frame);
     return code;
@@ -1080,7 +1617,7 @@ static inline int bpfhost_prog_load(bpfhost *host, uint16_t tenant, uint32_t typ
 
 /* PROG_TEST_RUN with a context of `context_size` bytes, as bpfhost_run_packets_sized has it; null is one with zeros. It is a batch of one
  * packet, so nothing is copied. ERR_SIZE, ERR_TOO_BIG, ERR_NO_MEMORY for a context of another size than the library's, ERR_NULL,
- * ERR_LENGTH, ERR_OVERLAP: nothing is written, and no tenant's state has changed. */
+ * ERR_LENGTH, ERR_OVERLAP, ERR_LENT: nothing is written, and no tenant's state has changed. */
 static inline int bpfhost_prog_test_run_sized(bpfhost *host, uint16_t tenant, uint32_t fd, const void *context, size_t context_size,
                                               const void *packet, size_t packet_length, bpfhost_result *out)
 {
@@ -1088,6 +1625,7 @@ static inline int bpfhost_prog_test_run_sized(bpfhost *host, uint16_t tenant, ui
     const bpfhost_contexts given = context == NULL ? zeros : one;
     uint32_t result = 0;
     int32_t status = 0;
+    size_t ran = 0;
     int code = bpfhost_result_code(host, out);
     if (code == BPFHOST_DONE)
         code = bpfhost_contexts_code(given);
@@ -1096,8 +1634,10 @@ static inline int bpfhost_prog_test_run_sized(bpfhost *host, uint16_t tenant, ui
     if (code == BPFHOST_DONE)
         code = bpfhost_object_code(host, out, packet, packet_length);
     if (code == BPFHOST_DONE)
-        code = bpfhost_run_given(host, tenant, fd, given, bpfhost_bytes_at(packet, packet_length), packet_length, &packet_length, 1, &result,
-                                 &status);
+        code = bpfhost_lent_code(host, bpfhost_bytes_at(packet, packet_length), packet_length);
+    if (code == BPFHOST_DONE)
+        code = bpfhost_run_given(host, tenant, fd, 0, given, bpfhost_bytes_at(packet, packet_length), packet_length, &packet_length, 1,
+                                 &result, &status, &ran);
     if (code != BPFHOST_DONE)
         return code;
     bpfhost_set_result(out, status, 0);
@@ -1112,10 +1652,110 @@ static inline int bpfhost_prog_test_run(bpfhost *host, uint16_t tenant, uint32_t
     return bpfhost_prog_test_run_sized(host, tenant, fd, context, sizeof *context, packet, packet_length, out);
 }
 
+/* ---- programs that are verified without a host, on any thread, and installed in one later */
+
+/* Verifies a program of so many slots of 8 bytes with the objects that its descriptors are to name. If it is accepted, `*prepared` leads to
+ * it then, until bpfhost_prepared_free; the status is 0. If it is refused, `*prepared` is null, and the result has the status, the slot and
+ * the reason of PROG_LOAD for descriptors with these objects. Of several entries with one descriptor the first counts. ERR_DESCRIPTORS: a map
+ * of such a shape cannot be, or there are more than BPFHOST_MOST_DESCRIPTORS. ERR_NO_MEMORY, ERR_VERSION, ERR_NULL, ERR_LENGTH, ERR_OVERLAP:
+ * nothing is written. */
+static inline int bpfhost_prepare(const void *slots, size_t slot_count, const bpfhost_descriptor *descriptors, size_t descriptor_count,
+                                  bpfhost_prepared **prepared, bpfhost_result *result)
+{
+    static const bpfhost_descriptor none[1] = {{0, 0, 0, 0, 0}};
+    const bpfhost_descriptor *named = descriptor_count == 0 ? none : descriptors;
+    const size_t named_size = descriptor_count > PTRDIFF_MAX / sizeof *named ? SIZE_MAX : descriptor_count * sizeof *named;
+    const size_t length = slot_count > PTRDIFF_MAX / 8 ? SIZE_MAX : 8 * slot_count;
+    const uint8_t *at = bpfhost_bytes_at(slots, length);
+    bpfhost_prepared *made;
+    bpfhost_refusal refusal = {0, 0, 0};
+    int code = bpfhost_pair_code(prepared, sizeof *prepared, result, sizeof *result);
+    if (code == BPFHOST_DONE)
+        code = bpfhost_pair_code(prepared, sizeof *prepared, at, length);
+    if (code == BPFHOST_DONE)
+        code = bpfhost_pair_code(prepared, sizeof *prepared, named, named_size);
+    if (code == BPFHOST_DONE)
+        code = bpfhost_pair_code(result, sizeof *result, at, length);
+    if (code == BPFHOST_DONE)
+        code = bpfhost_pair_code(result, sizeof *result, named, named_size);
+    if (code == BPFHOST_DONE && bpfhost_c_abi() != BPFHOST_ABI)
+        code = BPFHOST_ERR_VERSION;
+    if (code != BPFHOST_DONE)
+        return code;
+    made = (bpfhost_prepared *)calloc(1, sizeof(bpfhost_memory));
+    if (made == NULL)
+        return BPFHOST_ERR_NO_MEMORY;
+    code = (int)bpfhost_c_prepare(made, at, length, named, descriptor_count, &refusal);
+    if (code == BPFHOST_DONE) {
+        bpfhost_set_result(result, refusal.status, 0);
+        result->slot = refusal.slot;
+        result->reason = (uint16_t)refusal.reason;
+        *prepared = refusal.status == 0 ? made : NULL;
+    }
+    if (code != BPFHOST_DONE || refusal.status != 0)
+        free(made);
+#ifdef BPFHOST_DEBUG
+    else
+        bpfhost_memory_of((bpfhost *)(void *)made)->state = BPFHOST_MADE;
+#endif
+    return code;
+}
+
+/* Installs a prepared program in a tenant: what happens, and the status, are those of PROG_LOAD of its slots, but it is neither copied nor
+ * verified again. The program is used up then, whatever the status is. ERR_STALE: a descriptor of the program names no map of the shape with
+ * which it was prepared, and nothing has changed: load the slots. ERR_NO_PROGRAM: it was installed already. ERR_NULL, ERR_OVERLAP: nothing
+ * is written, and no tenant's state has changed. */
+static inline int bpfhost_install(bpfhost *host, uint16_t tenant, bpfhost_prepared *prepared, bpfhost_result *result)
+{
+    bpfhost *memory = (bpfhost *)(void *)prepared;
+    int32_t status = 0;
+    int code = bpfhost_frame_code(host, (const uint8_t *)prepared, sizeof(bpfhost_memory), result, sizeof *result);
+    if (code != BPFHOST_DONE)
+        return code;
+    bpfhost_enter(host);
+    bpfhost_enter(memory);
+    code = (int)bpfhost_c_install(host, tenant, prepared, &status);
+    bpfhost_leave(memory);
+    bpfhost_leave(host);
+    if (code == BPFHOST_DONE)
+        bpfhost_set_result(result, status, 0);
+    return code;
+}
+
+/* Frees a prepared program, installed or not. Null is ignored. */
+static inline void bpfhost_prepared_free(bpfhost_prepared *prepared)
+{
+    bpfhost *memory = (bpfhost *)(void *)prepared;
+    if (prepared == NULL)
+        return;
+    bpfhost_enter(memory);
+    bpfhost_c_prepared_free(prepared);
+    bpfhost_give_back(memory);
+}
+
 /* CLOSE of a descriptor. ERR_NULL, ERR_OVERLAP: nothing is written, and no tenant's state has changed. */
 static inline int bpfhost_close(bpfhost *host, uint16_t tenant, uint32_t fd, bpfhost_result *out)
 {
     return bpfhost_carry_out_on(host, tenant, BPFHOST_CLOSE, fd, NULL, 0, NULL, 0, out);
+}
+
+/* Closes all descriptors of a tenant, by a CLOSE of each: then it is new again. The status is 0, or -1 (EPERM) for a tenant that is not
+ * served; the result is how many were open. ERR_NULL, ERR_OVERLAP: nothing is written, and no tenant's state has changed. */
+static inline int bpfhost_close_all(bpfhost *host, uint16_t tenant, bpfhost_result *out)
+{
+    const uint32_t end = BPFHOST_FIRST_DESCRIPTOR + BPFHOST_MOST_DESCRIPTORS;
+    uint32_t closed = 0;
+    bpfhost_result each = {0, 0, 0, 0, 0};
+    int code = bpfhost_result_code(host, out);
+    for (uint32_t fd = BPFHOST_FIRST_DESCRIPTOR; code == BPFHOST_DONE && each.status != -1 && fd < end; fd++) {
+        code = bpfhost_close(host, tenant, fd, &each);
+        closed += each.status == 0;
+    }
+    if (code == BPFHOST_DONE) {
+        bpfhost_set_result(out, each.status == -1 ? -1 : 0, 0); /* EPERM; that one is not open is no error */
+        out->result = each.status == -1 ? 0 : closed;
+    }
+    return code;
 }
 
 /* The length of the frame at the front of bytes, after its length field, if the frame is whole and this tenant's; else 0. */
@@ -1125,19 +1765,36 @@ static inline size_t bpfhost_frame_of_tenant(const uint8_t *at, size_t left, uin
     return size < 4 || left - 4 < size || bpfhost_get16(at + 4) != tenant ? 0 : size;
 }
 
+/* Whether bytes are whole frames of one tenant; `longest` gets the length of the longest one, without its length field. */
+static inline bool bpfhost_are_of_one_tenant(const uint8_t *at, size_t left, size_t *longest)
+{
+    const uint16_t tenant = left < 8 ? 0 : bpfhost_get16(at + 4);
+    size_t size = 1;
+    *longest = 0;
+    while (size != 0 && left > 0) {
+        size = bpfhost_frame_of_tenant(at, left, tenant);
+        *longest = size > *longest ? size : *longest;
+        at += size == 0 ? 0 : 4 + size;
+        left -= size == 0 ? 0 : 4 + size;
+    }
+    return left == 0;
+}
+
 /* Gives saved frames, with their length fields, to a tenant one after another, and stops at the first that is refused. They may be those
  * of all parts or of some: a save is restored by its parts in their order, in any number of calls. The tenant has to be new: it was
  * given no frame yet, or has nothing open any more. `status` gets the status of the last reply, or 0 if there are no frames.
  * ERR_BAD_FRAMES: the bytes end inside a frame, or a frame is another tenant's, and is not handled; the frames before it are. ERR_REFUSED: a
  * frame is refused with this status, and those before it are handled: the tenant was not new (-24, EMFILE), or memory was refused
- * (-12, ENOMEM). After both, the tenant is not the saved one: close its descriptors, 3 to 66, and it is new again. ERR_NULL, ERR_LENGTH,
- * ERR_OVERLAP: nothing is written, and no tenant's state has changed. */
+ * (-12, ENOMEM). After both, the tenant is not the saved one: bpfhost_close_all makes it new again. ERR_NULL, ERR_LENGTH,
+ * ERR_OVERLAP, ERR_LENT: nothing is written, and no tenant's state has changed. */
 static inline int bpfhost_restore(bpfhost *host, uint16_t tenant, const void *frames, size_t length, int32_t *status)
 {
     const uint8_t *at = bpfhost_bytes_at(frames, length);
     size_t left = length;
     int32_t told = 0;
     int code = bpfhost_frame_code(host, at, length, status, sizeof *status);
+    if (code == BPFHOST_DONE)
+        code = bpfhost_lent_code(host, at, length);
     while (code == BPFHOST_DONE && left > 0) {
         size_t size = bpfhost_frame_of_tenant(at, left, tenant);
         bpfhost_reply reply;
@@ -1150,6 +1807,56 @@ static inline int bpfhost_restore(bpfhost *host, uint16_t tenant, const void *fr
         }
     }
     if (code == BPFHOST_DONE || code == BPFHOST_ERR_REFUSED || code == BPFHOST_ERR_BAD_FRAMES)
+        *status = told;
+    return code;
+}
+
+/* Gives whole frames with their length fields to a tenant, each copied to a room that it fits into, with this tenant's number. Stops at the
+ * first that is refused, with ERR_REFUSED, or ERR_NO_HOST; `status` gets the status of the last reply. It tests nothing. */
+static inline int bpfhost_give_as(bpfhost *host, uint16_t tenant, const uint8_t *at, size_t left, uint8_t *room, int32_t *status)
+{
+    int code = BPFHOST_DONE;
+    while (code == BPFHOST_DONE && left > 0) {
+        size_t size = bpfhost_get32(at), kept = size > BPFHOST_LONGEST_FRAME ? BPFHOST_LONGEST_FRAME + 1 : size;
+        bpfhost_bytes lent = {bpfhost_bytes_at(NULL, 0), 0};
+        memcpy(bpfhost_put16(room, tenant), at + 6, kept - 2);
+        code = bpfhost_lend(host, room, kept, &lent); /* a frame that is too long is refused by its length */
+        if (code == BPFHOST_DONE) {
+            *status = (int32_t)bpfhost_get32(lent.at + 8);
+            code = *status < 0 ? BPFHOST_ERR_REFUSED : BPFHOST_DONE;
+            at += 4 + size;
+            left -= 4 + size;
+        }
+    }
+    return code;
+}
+
+/* The same as bpfhost_restore for saved frames of any one tenant: each is given to this one in a copy with its number. The tenant then
+ * replies as the saved one does, but for the number. All frames of a call are looked at before the first is handled: with ERR_BAD_FRAMES,
+ * as they end inside a frame or are of several tenants, none is handled, and nothing is written; nor is it with ERR_NO_MEMORY, for a copy of
+ * more than BPFHOST_ROOM bytes. ERR_REFUSED, ERR_NULL, ERR_LENGTH, ERR_OVERLAP and ERR_LENT as there: what the same host has lent has to be
+ * copied. */
+static inline int bpfhost_restore_as(bpfhost *host, uint16_t tenant, const void *frames, size_t length, int32_t *status)
+{
+    const uint8_t *at = bpfhost_bytes_at(frames, length);
+    uint8_t here[BPFHOST_ROOM], *room = here;
+    size_t longest = 0;
+    int32_t told = 0;
+    int code = bpfhost_frame_code(host, at, length, status, sizeof *status);
+    if (code == BPFHOST_DONE)
+        code = bpfhost_lent_code(host, at, length);
+    if (code == BPFHOST_DONE && !bpfhost_are_of_one_tenant(at, length, &longest))
+        code = BPFHOST_ERR_BAD_FRAMES;
+    if (code == BPFHOST_DONE && longest > sizeof here) {
+        room = (uint8_t *)malloc(longest > BPFHOST_LONGEST_FRAME ? BPFHOST_LONGEST_FRAME + 1 : longest);
+        code = room == NULL ? BPFHOST_ERR_NO_MEMORY : BPFHOST_DONE;
+    }
+    if (code != BPFHOST_DONE)
+        return code;
+    code = bpfhost_give_as(host, tenant, at, length, room, &told);
+    if (room != here)
+        free(room);
+    if (code == BPFHOST_DONE || code == BPFHOST_ERR_REFUSED)
         *status = told;
     return code;
 }
@@ -1168,14 +1875,21 @@ static inline const char *bpfhost_code_text(int code)
     case BPFHOST_ERR_NO_PART: return "the tenant has no such part, or is not served";
     case BPFHOST_ERR_TOO_BIG: return "a struct has a word that the library does not know, and that is not 0";
     case BPFHOST_ERR_SIZE: return "a struct has no size, or one of no whole words";
+    case BPFHOST_ERR_STALE: return "a descriptor of the program names no map of the shape with which it was prepared";
+    case BPFHOST_ERR_NO_PROGRAM: return "there is no prepared program: it was installed or freed";
+    case BPFHOST_ERR_HAS_PROGRAM: return "there is a prepared program already";
+    case BPFHOST_ERR_DESCRIPTORS: return "a descriptor is given an object that there cannot be, or there are too many";
+    case BPFHOST_ERR_STYLE: return "there is no style of a log with this number";
     case BPFHOST_ERR_NULL: return "a pointer is null";
     case BPFHOST_ERR_LENGTH: return "a length is above PTRDIFF_MAX";
     case BPFHOST_ERR_OVERLAP: return "an object that the call may write, the handle included, overlaps another one";
     case BPFHOST_ERR_NO_REPLY: return "the bytes are not one whole reply";
     case BPFHOST_ERR_STOPPED: return "the sink stopped the save";
     case BPFHOST_ERR_REFUSED: return "a frame that restores the tenant is refused";
-    case BPFHOST_ERR_BAD_FRAMES: return "the bytes are not whole frames of this tenant";
+    case BPFHOST_ERR_BAD_FRAMES: return "the bytes are not whole frames of this tenant, or of one tenant";
     case BPFHOST_ERR_VERSION: return "the library is of another binary interface than the header";
+    case BPFHOST_ERR_LENT: return "a frame or a packet lies in what the host has lent";
+    case BPFHOST_ERR_WHICH: return "there is no count of this number here";
     /* end of texts of codes */
     default: return "no code of bpfhost";
     }

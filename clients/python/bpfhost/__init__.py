@@ -26,7 +26,7 @@ from bpfhost.replies import Reply, read_replies
 from bpfhost.runs import TestRuns
 from bpfhost.tenant import Tenant
 
-__version__ = "0.2.0"
+__version__ = "0.3.0"
 
 __all__ = [
     "BpfhostError",

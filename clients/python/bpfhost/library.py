@@ -12,7 +12,7 @@ import re
 import secrets
 import threading
 from array import array
-from collections.abc import Iterable, Iterator, Sequence
+from collections.abc import Iterable, Iterator, Mapping, Sequence
 from functools import lru_cache
 from itertools import accumulate
 from operator import sub
@@ -23,25 +23,31 @@ from typing import Any
 from bpfhost import frames
 from bpfhost.errors import HostError
 from bpfhost.frames import NO_CONTEXT, Context
-from bpfhost.functions import CONTEXT_WORDS, NO_MEMORY, NO_PART, TOO_BIG, OneOwner, functions_of, lent_bytes, version_text
-from bpfhost.numbers import LONGEST_PACKET, LONGEST_PAYLOAD, MOST_TENANTS, REPLY_HEAD, Command, Errno
+from bpfhost.functions import CONTEXT_WORDS, CountsStruct, OneOwner, functions_of, lent_bytes, version_text
+from bpfhost.inspection import Cost, Counts, Log, LogStyle, Opened, cost_of, log_of, opened_of
+from bpfhost.prepared import Named, PreparedProgram
+from bpfhost.numbers import FIRST_DESCRIPTOR, LONGEST_PACKET, LONGEST_PAYLOAD, MOST_DESCRIPTORS, MOST_TENANTS, REPLY_HEAD, Code, Command, Errno
 from bpfhost.packets import Packets
 from bpfhost.replies import Reply, read_replies
 from bpfhost.shared_object import soname_of
-from bpfhost.state import split
+from bpfhost.state import split, with_tenant
 from bpfhost.tenant import Commands
+from bpfhost.words import CODE_WORDS
 
 # The versions that have the functions below, as in the name of an installed library (docs/RELEASING.md, "The library's binary interface").
-VERSION = "0.2"
+VERSION = "0.3"
 _NAME = re.compile(r"libbpfhost\.so\.(\d+\.\d+)")
 _LENGTH_FIELD = 4
 _LONGEST_REPLY = REPLY_HEAD + LONGEST_PAYLOAD
 # The address of empty packets and results: not null, and aligned.
 _ANYWHERE = 8
-_CODES = {
-    -1: "its host is closed",
-    NO_MEMORY: "there is no memory for a host, for a part of a save, or for contexts",
-    TOO_BIG: "it does not know a word of a context, which is not 0",
+# Codes in the words of this client, if it has its own.
+_CODES: dict[int, str] = {
+    **CODE_WORDS,
+    Code.ERR_NO_HOST: "its host is closed",
+    Code.ERR_NO_MEMORY: "there is no memory for a host, for a part of a save, or for contexts",
+    Code.ERR_TOO_BIG: "it does not know a word of a context, which is not 0",
+    Code.ERR_NO_PROGRAM: "there is no prepared program: it was installed or closed already",
 }
 
 
@@ -55,7 +61,7 @@ class Library:
     """A shared library of the host. Hosts share nothing, and each may belong to a thread of its own."""
 
     def __init__(self, path: str | os.PathLike[str], keeps_lock: bool = False) -> None:
-        """Opens a file, or an installed library by its name, `libbpfhost.so.0.2`, as the system's loader finds it.
+        """Opens a file, or an installed library by its name, `libbpfhost.so.0.3`, as the system's loader finds it.
 
         Raises LibraryError if there is none, or if it is not a library of this version. With `keeps_lock`, only a run of packets releases
         Python's lock: that is better for one thread, and short calls.
@@ -86,7 +92,7 @@ class Library:
         return f"<Library {self.path}>"
 
     def version(self) -> str:
-        """The version of the library, as 0.2.0."""
+        """The version of the library, as 0.3.0."""
         return version_text(self.functions)
 
     def demand_done(self, code: int) -> None:
@@ -95,6 +101,13 @@ class Library:
             failed = LibraryError(f"{self.path}: {_CODES.get(code, f'a function returned {code}')}")
             failed.code = code
             raise failed
+
+    def prepare(self, slots: bytes, named: Mapping[int, Named] | None = None) -> PreparedProgram:
+        """Verifies a program without a host, with the objects that its descriptors are to name; any thread may do it.
+
+        Raises ProgramRefused, as a load with these objects, and ValueError if no map can have such a shape.
+        """
+        return PreparedProgram(self.functions, self.demand_done, slots, named or {})
 
     def host(self, tenants: int = 1, seed: tuple[int, int] | None = None) -> LibraryHost:
         """A host of 1 to 64 tenants. Its seed is two words of 64 bits that no tenant may know: drawn, if they are not given."""
@@ -168,6 +181,49 @@ class LibraryHost(OneOwner):
             self.library.demand_done(self.library.functions.memory_refused(self._at, tenant, ctypes.byref(self._refused)))
             return self._refused.value
 
+    def status(self, tenant: int) -> Counts:
+        """How much a tenant has; all is 0 for a number that is not served."""
+        found = CountsStruct()
+        with self._lock:
+            self.library.demand_done(self.library.functions.status(self._at, tenant, ctypes.byref(found)))
+        return Counts(found.maps, found.entries, found.value_bytes, found.programs, found.descriptors, found.memory_refused)
+
+    def describe(self, tenant: int, descriptor: int) -> Opened | None:
+        """What a descriptor of a tenant names, with the cost of a program; None if it is not open."""
+        words, cost = (ctypes.c_uint32 * 7)(), (ctypes.c_uint32 * 2)()
+        with self._lock:
+            self.library.demand_done(self.library.functions.describe(self._at, tenant, descriptor, words))
+            self.library.demand_done(self.library.functions.program_cost(self._at, tenant, descriptor, cost))
+        return opened_of(Cost(*cost), *words)
+
+    def program_cost(self, tenant: int, descriptor: int) -> Cost | None:
+        """What the program that a descriptor of a tenant names costs; None if it names none, and for a number that is not served."""
+        cost = (ctypes.c_uint32 * 2)()
+        with self._lock:
+            self.library.demand_done(self.library.functions.program_cost(self._at, tenant, descriptor, cost))
+        return cost_of(*cost)
+
+    def verify(self, tenant: int, slots: bytes, style: LogStyle = LogStyle.NEW) -> Log:
+        """The verifier's log of slots with the open descriptors of a tenant; nothing is loaded."""
+        with self._lock:
+            code, log = log_of(self.library.functions, self._at, tenant, lent_bytes(slots), style)
+        self.library.demand_done(code)
+        return log
+
+    def install(self, tenant: int, prepared: PreparedProgram) -> int | None:
+        """Installs a prepared program, which is used up then; returns its descriptor.
+
+        None if a descriptor that it names is not the map with which it was prepared: nothing has changed, and the caller loads the slots. Raises
+        Refused as a load does, and LibraryError if it was installed or closed already.
+        """
+        status = ctypes.c_int32()
+        with self._lock:
+            code = self.library.functions.install(self._at, tenant, prepared.at, ctypes.byref(status))
+        if code == Code.ERR_STALE:
+            return None
+        self.library.demand_done(code)
+        return Reply(tenant, Command.PROG_LOAD, status.value).done()
+
     def save_part(self, tenant: int, part: int) -> bytes | None:
         """The frames of one part of a tenant, counted from 0; None after its last part, and if the tenant is not served.
 
@@ -176,7 +232,7 @@ class LibraryHost(OneOwner):
         """
         with self._lock:
             code, frames = self.library.functions.saved_part(self._at, tenant, part)
-        if code == NO_PART:
+        if code == Code.ERR_NO_PART:
             return None
         self.library.demand_done(code)
         return frames
@@ -185,13 +241,24 @@ class LibraryHost(OneOwner):
         """Gives saved frames, of all parts or of some in their order, to a tenant that is new or has nothing open.
 
         Raises ValueError, before the first frame, if the bytes are not whole frames of this tenant; Refused if a frame is refused. Then those
-        before it are handled, and the tenant is new again after its descriptors, 3 to 66, are closed.
+        before it are handled, and `close_all` makes the tenant new again.
         """
         each = split(saved)
-        if any(frame[_LENGTH_FIELD : _LENGTH_FIELD + 2] != tenant.to_bytes(2, "little") for frame in each):
+        if _numbers_of(each) - {tenant}:
             raise ValueError(f"a frame of the save is not of tenant {tenant}")
         for frame in each:
             self.ask(frame).done()
+
+    def restore_as(self, tenant: int, saved: bytes) -> None:
+        """The same for saved frames of any one tenant: each is given to this one, with its number.
+
+        Raises ValueError, before the first frame, if the bytes are not whole frames of one tenant; Refused as `restore`.
+        """
+        each = split(saved)
+        if len(_numbers_of(each)) > 1:
+            raise ValueError("the frames of the save are of several tenants")
+        for frame in each:
+            self.ask(with_tenant(frame, tenant)).done()
 
     def run_packets(
         self,
@@ -199,34 +266,74 @@ class LibraryHost(OneOwner):
         descriptor: int,
         packets: Packets | Iterable[bytes],
         context: Context | Sequence[Context] = NO_CONTEXT,
+        bound: int = 0,
     ) -> list[int]:
         """Runs a program of a tenant on packets, one after another, by one call; returns the result of each.
 
         The context is the same for all, or there is one for each packet; the length is that of each. If PROG_TEST_RUN would be refused, no
         packet is run: it raises Refused with the status. Raises ValueError if a packet has more than 65,536 bytes, or if the contexts are
         not as many as the packets.
+
+        With a bound the packets are run by as many calls of the library as it takes, of which each executes at most so many instructions, or
+        one packet (`run_bounded`). Threads that share the host are served between two calls. If one of them closes the descriptor, this
+        raises Refused, and packets before it were run.
         """
-        if tenant >> 16 or descriptor >> 32:
-            raise ValueError("the tenant is a number of 16 bits, and a descriptor one of 32")
         data, ends = _in_one_piece(packets)
-        status, results = self._run(tenant, descriptor, _contexts_of(context, len(ends)), data, ends)
-        if status == -Errno.E2BIG:
-            longest = max(map(sub, ends, (0, *ends)))
-            raise ValueError(f"a packet has {longest:,} bytes, and that of a test run has {LONGEST_PACKET:,} at most")
-        Reply(tenant, Command.PROG_TEST_RUN, status).done()
+        contexts = _contexts_of(context, len(ends))
+        if bound:
+            _demand_short(ends)
+        results = self._results(tenant, descriptor, contexts, data, ends, bound)
+        ran = len(results)
+        while len(results) < len(ends):
+            piece = _piece(contexts, data, ends, len(results), ran)
+            some = self._results(tenant, descriptor, *piece, bound)
+            results += some
+            ran = len(some)
         return results.tolist()
 
+    def run_bounded(
+        self,
+        tenant: int,
+        descriptor: int,
+        packets: Packets | Iterable[bytes],
+        bound: int,
+        context: Context | Sequence[Context] = NO_CONTEXT,
+    ) -> list[int]:
+        """The same by one call that executes at most `bound` instructions: it returns the results of the first packets, as many as were run.
+
+        Each packet counts as the longest path of the program; one is run in any case, and 0 is no bound. Packets after those that the bound
+        allows are not looked at.
+        """
+        data, ends = _in_one_piece(packets)
+        return self._results(tenant, descriptor, _contexts_of(context, len(ends)), data, ends, bound).tolist()
+
+    def _results(
+        self, tenant: int, descriptor: int, contexts: tuple[bytes, int, int], data: Any, ends: array[int], bound: int
+    ) -> array[int]:
+        """The results of one call."""
+        if tenant >> 16 or descriptor >> 32:
+            raise ValueError("the tenant is a number of 16 bits, and a descriptor one of 32")
+        if bound >> 64:
+            raise ValueError("a bound is a number of 64 bits")
+        status, results = self._run(tenant, descriptor, contexts, data, ends, bound)
+        if status == -Errno.E2BIG:
+            _demand_short(ends)
+        Reply(tenant, Command.PROG_TEST_RUN, status).done()
+        return results
+
     def _run(
-        self, tenant: int, descriptor: int, contexts: tuple[bytes, int, int], data: bytes, ends: array[int]
+        self, tenant: int, descriptor: int, contexts: tuple[bytes, int, int], data: Any, ends: array[int], bound: int = 0
     ) -> tuple[int, array[int]]:
         """The status and the results of runs on packets that are one after another, and end at these places."""
-        count, results, status = len(ends), array("I", bytes(4 * len(ends))), ctypes.c_int32()
+        count, results, status, ran = len(ends), array("I", bytes(4 * len(ends))), ctypes.c_int32(), ctypes.c_size_t()
         places = (ends.buffer_info()[0] or _ANYWHERE, count, results.buffer_info()[0] or _ANYWHERE, count)
         with self._lock:
             code = self.library.functions.run_packets(
-                *(self._at, tenant, descriptor, *contexts, data, len(data), *places, ctypes.byref(status))
+                *(self._at, tenant, descriptor, bound, *contexts, data, len(data), *places, ctypes.byref(status), ctypes.byref(ran))
             )
             self.library.demand_done(code)
+        if ran.value < count:
+            del results[ran.value :]
         return status.value, results
 
 
@@ -238,10 +345,20 @@ class LibraryTenant(Commands[LibraryHost]):
         return self.host.ask(frames.prog_load(self.number, slots)).done()
 
     def run_packets(
-        self, descriptor: int, packets: Packets | Iterable[bytes], context: Context | Sequence[Context] = NO_CONTEXT
+        self,
+        descriptor: int,
+        packets: Packets | Iterable[bytes],
+        context: Context | Sequence[Context] = NO_CONTEXT,
+        bound: int = 0,
     ) -> list[int]:
-        """Runs a program on packets by one call (`LibraryHost.run_packets`)."""
-        return self.host.run_packets(self.number, descriptor, packets, context)
+        """Runs a program on packets by one call, or by some with a bound (`LibraryHost.run_packets`)."""
+        return self.host.run_packets(self.number, descriptor, packets, context, bound)
+
+    def run_bounded(
+        self, descriptor: int, packets: Packets | Iterable[bytes], bound: int, context: Context | Sequence[Context] = NO_CONTEXT
+    ) -> list[int]:
+        """Runs a program on the first packets, as many as a bound on instructions allows (`LibraryHost.run_bounded`)."""
+        return self.host.run_bounded(self.number, descriptor, packets, bound, context)
 
     def save_parts(self) -> Iterator[bytes]:
         """The frames that restore this tenant, part by part (`LibraryHost.save_part`); it must not change before the last one."""
@@ -258,9 +375,45 @@ class LibraryTenant(Commands[LibraryHost]):
         """Gives the frames of a save, of a tenant of this number, to this one, which is new (`LibraryHost.restore`)."""
         self.host.restore(self.number, saved)
 
+    def restore_as(self, saved: bytes) -> None:
+        """Gives the frames of a save, of a tenant of any number, to this one, which is new (`LibraryHost.restore_as`)."""
+        self.host.restore_as(self.number, saved)
+
+    def close_all(self) -> int:
+        """Closes all descriptors, and returns how many were open: the tenant is new again."""
+        descriptors = range(FIRST_DESCRIPTOR, FIRST_DESCRIPTOR + MOST_DESCRIPTORS)
+        statuses = [self.host.ask(frames.close(self.number, descriptor)).status for descriptor in descriptors]
+        return statuses.count(0)
+
+    def status(self) -> Counts:
+        """How much this tenant has."""
+        return self.host.status(self.number)
+
+    def opened(self) -> dict[int, Opened]:
+        """The open descriptors in their order, and what they name."""
+        found = {number: self.host.describe(self.number, number) for number in range(FIRST_DESCRIPTOR, FIRST_DESCRIPTOR + MOST_DESCRIPTORS)}
+        return {number: opened for number, opened in found.items() if opened is not None}
+
+    def program_cost(self, descriptor: int) -> Cost | None:
+        """What the program of a descriptor costs; None if it names none."""
+        return self.host.program_cost(self.number, descriptor)
+
+    def verify(self, slots: bytes, style: LogStyle = LogStyle.NEW) -> Log:
+        """The verifier's log of slots with the descriptors of this tenant (`LibraryHost.verify`)."""
+        return self.host.verify(self.number, slots, style)
+
+    def install(self, prepared: PreparedProgram) -> int | None:
+        """Installs a prepared program (`LibraryHost.install`)."""
+        return self.host.install(self.number, prepared)
+
     def memory_refused(self) -> bool:
         """Whether memory was ever refused to this tenant."""
         return self.host.memory_refused(self.number)
+
+
+def _numbers_of(each: Iterable[bytes]) -> set[int]:
+    """The tenants of whole frames."""
+    return {int.from_bytes(frame[_LENGTH_FIELD : _LENGTH_FIELD + 2], "little") for frame in each}
 
 
 @lru_cache(maxsize=64)
@@ -276,6 +429,26 @@ def _contexts_of(context: Context | Sequence[Context], packets: int) -> tuple[by
     if len(context) != packets:
         raise ValueError(f"there are {len(context):,} contexts for {packets:,} packets")
     return b"".join(map(_words_of, context)), len(context) * CONTEXT_WORDS, CONTEXT_WORDS
+
+
+def _demand_short(ends: array[int]) -> None:
+    """Raises ValueError if a packet is too long; each ends at its place."""
+    longest = max(map(sub, ends, (0, *ends)), default=0)
+    if longest > LONGEST_PACKET:
+        raise ValueError(f"a packet has {longest:,} bytes, and that of a test run has {LONGEST_PACKET:,} at most")
+
+
+def _piece(
+    contexts: tuple[bytes, int, int], data: Any, ends: array[int], done: int, count: int
+) -> tuple[tuple[bytes, int, int], Any, array[int]]:
+    """The contexts, bytes and ends of the next so many packets of a batch, after those that are done."""
+    begin, some = ends[done - 1], ends[done : done + count]
+    words, word_count, size = contexts
+    if word_count == size * len(ends) and len(ends) > 1:
+        words = words[4 * size * done : 4 * size * (done + len(some))]
+        word_count = size * len(some)
+    with memoryview(data) as view:
+        return (words, word_count, size), bytes(view.cast("B")[begin : some[-1]]), array("Q", [end - begin for end in some])
 
 
 def _in_one_piece(packets: Packets | Iterable[bytes]) -> tuple[Any, array[int]]:

@@ -54,6 +54,27 @@ class Errno(enum.IntEnum):
     # end of errors
 
 
+class Code(enum.IntEnum):
+    """What the functions of the library for C return."""
+
+    # codes: written by tools/generate
+    DONE = 0
+    ERR_NO_HOST = -1
+    ERR_HAS_HOST = -2
+    ERR_TENANT_COUNT = -3
+    ERR_NO_MEMORY = -4
+    ERR_BUFFER_TOO_SMALL = -5
+    ERR_NO_PART = -6
+    ERR_TOO_BIG = -7
+    ERR_SIZE = -8
+    ERR_STALE = -9
+    ERR_NO_PROGRAM = -10
+    ERR_HAS_PROGRAM = -11
+    ERR_DESCRIPTORS = -12
+    ERR_STYLE = -13
+    # end of codes
+
+
 SLOT_SIZE = 8
 # limits: written by tools/generate
 MOST_TENANTS = 64  # the most tenants of a host

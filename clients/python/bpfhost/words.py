@@ -1,6 +1,6 @@
 """Errors, reasons and faults in words: docs/PROTOCOL.md, docs/VERIFIER.md ("Reasons"), docs/INSTRUCTIONS.md ("Text")."""
 
-from bpfhost.numbers import Command, Errno
+from bpfhost.numbers import Code, Command, Errno
 
 ERRNO_WORDS = {
     # errors: written by tools/generate
@@ -15,6 +15,25 @@ ERRNO_WORDS = {
     Errno.EMFILE: "no descriptor is free",
     Errno.ENOSPC: "no room for another map",
     # end of errors
+}
+
+CODE_WORDS: dict[int, str] = {
+    # codes: written by tools/generate
+    Code.DONE: "the call succeeded",
+    Code.ERR_NO_HOST: "the handle is empty",
+    Code.ERR_HAS_HOST: "the handle has a host already",
+    Code.ERR_TENANT_COUNT: "a host has 1 to 64 tenants",
+    Code.ERR_NO_MEMORY: "out of memory for the host or for the call",
+    Code.ERR_BUFFER_TOO_SMALL: "the buffer is smaller than the longest reply, or than a value or a key",
+    Code.ERR_NO_PART: "the tenant has no such part, or is not served",
+    Code.ERR_TOO_BIG: "a struct has a word that the library does not know, and that is not 0",
+    Code.ERR_SIZE: "a struct has no size, or one of no whole words",
+    Code.ERR_STALE: "a descriptor of the program names no map of the shape with which it was prepared",
+    Code.ERR_NO_PROGRAM: "there is no prepared program: it was installed or freed",
+    Code.ERR_HAS_PROGRAM: "there is a prepared program already",
+    Code.ERR_DESCRIPTORS: "a descriptor is given an object that there cannot be, or there are too many",
+    Code.ERR_STYLE: "there is no style of a log with this number",
+    # end of codes
 }
 
 REASONS = {

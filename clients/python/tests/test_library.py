@@ -21,8 +21,11 @@ from pathlib import Path
 from typing import Any
 
 from bpfhost import Context, Host, Packets, ProgramRefused, Refused, __version__, frames
+from bpfhost.inspection import Cost, Counts, Log, LogStyle, OpenedMap, OpenedProgram
 from bpfhost.library import Library, LibraryError, LibraryHost
 from bpfhost.numbers import MapType
+from bpfhost.prepared import Named, PreparedProgram
+from bpfhost.program import MapShape
 from bpfhost.state import FILLER
 from tests.classic.common import needs_libpcap
 from tests.common import LENGTH, ONE, PROGRAM, TimedTest
@@ -39,6 +42,11 @@ COUNT = bytes.fromhex("b701000001000000 1822000003000000 0000000000000000 db1200
 FIRST_BYTE = bytes.fromhex(
     "b702000000000000 bfa3000000000000 07030000f8ffffff b704000001000000 850000001a000000"
     "5500010000000000 71a0f8ff00000000 9500000000000000"
+)
+# r0 = the length; if r0 > 10, then r0 = 1, six times r0 += 1, exit; otherwise load a byte of the packet, exit.
+BRANCHES = bytes.fromhex(
+    "6110000000000000 250006000a000000 b702000000000000 bfa3000000000000 07030000fcffffff b704000001000000 850000001a000000"
+    f"9500000000000000 b700000001000000 {6 * '0700000001000000'} 9500000000000000"
 )
 # A save of a tenant with nothing open: a program at each descriptor, which are all closed.
 EMPTY = b"".join([FILLER] * 64 + [frames.close(0, number) for number in range(3, 67)])
@@ -62,7 +70,7 @@ class Files(TimedTest):
     def test_no_file(self) -> None:
         self.refused(self.scratch / "none.so", "there is no library .*/none.so: tools/library and tools/shared-library make it")
         self.refused(self.scratch, "there is no library .*")
-        self.refused(Path("libnone.so.0.2"), "there is no library libnone.so.0.2, neither here nor among those that are installed")
+        self.refused(Path("libnone.so.0.3"), "there is no library libnone.so.0.3, neither here nor among those that are installed")
 
     def test_no_library(self) -> None:
         path = self.scratch / "text.so"
@@ -73,22 +81,22 @@ class Files(TimedTest):
         found = sorted(Path("/lib").glob("*/libm.so.6")) or sorted(Path("/usr/lib").glob("*/libm.so.6"))
         if not found:
             self.skipTest("there is no libm.so.6")
-        self.refused(found[0], ".*/libm.so.6 is no library of bpfhost 0.2: it has no bpfhost_c_abi")
+        self.refused(found[0], ".*/libm.so.6 is no library of bpfhost 0.3: it has no bpfhost_c_abi")
 
     def test_another_version(self) -> None:
-        path = self.scratch / "libbpfhost.so.0.3.7"
+        path = self.scratch / "libbpfhost.so.0.4.7"
         path.write_bytes(b"")
         link = self.scratch / "libbpfhost.so"
         link.symlink_to(path)
-        self.refused(link, ".*/libbpfhost.so is of version 0.3, and this client is for 0.2")
+        self.refused(link, ".*/libbpfhost.so is of version 0.4, and this client is for 0.3")
 
     @unittest.skipIf(shutil.which("cc") is None, "a C compiler is missing")
     def test_another_binary_interface(self) -> None:
         path = self.scratch / "other.so"
         source = "unsigned bpfhost_c_abi(void) { return 99; }"
         subprocess.run(["cc", "-shared", "-x", "c", "-", "-o", str(path)], input=source.encode(), check=True)
-        reason = "its functions are of the binary interface 99, and this client calls those of 2"
-        self.refused(path, f".*/other.so is no library of bpfhost 0.2: {reason}")
+        reason = "its functions are of the binary interface 99, and this client calls those of 3"
+        self.refused(path, f".*/other.so is no library of bpfhost 0.3: {reason}")
 
 
 @unittest.skipUnless(IS_THERE, "there is no library: BPFHOST_LIBRARY names none, and no libbpfhost.a is beside the program")
@@ -104,8 +112,8 @@ class Calls(TimedTest):
 
     def test_by_its_name(self) -> None:
         """A name without a folder is that of an installed library."""
-        (self.scratch / "libbpfhost.so.0.2").symlink_to(self.library.path.resolve())
-        code = "from bpfhost.library import Library; print(Library('libbpfhost.so.0.2').version())"
+        (self.scratch / "libbpfhost.so.0.3").symlink_to(self.library.path.resolve())
+        code = "from bpfhost.library import Library; print(Library('libbpfhost.so.0.3').version())"
         environment = {**os.environ, "LD_LIBRARY_PATH": str(self.scratch), "PYTHONPATH": str(CLIENT)}
         ended = subprocess.run([sys.executable, "-c", code], capture_output=True, check=False, text=True, cwd="/", env=environment)
         self.assertEqual((ended.stdout, ended.stderr), (f"{__version__}\n", ""))
@@ -137,6 +145,39 @@ class Calls(TimedTest):
         for count in (0, 1, 2, 4):
             with self.assertRaisesRegex(ValueError, f"there are 3 contexts for {count} packets"):
                 tenant.run_packets(descriptor, [b""] * count, marks)
+
+    def test_bounds(self) -> None:
+        """By one call as many packets as a bound allows, and all of them by some calls; COUNT has five instructions."""
+        tenant = self.host.tenant(1)
+        tenant.map_create(MapType.ARRAY, 4, 8, 1)
+        count, length, mark = tenant.prog_load(COUNT), tenant.prog_load(LENGTH), tenant.prog_load(MARK)
+        packets = [bytes(size) for size in (3, 0, 5, 1, 0, 2, 9)]
+        for bound, ran in ((1, 1), (9, 1), (10, 2), (34, 6), (35, 7), (2**64 - 1, 7), (0, 7)):
+            begin = tenant.run_packets(count, [b""])[0] + 1
+            self.assertEqual(tenant.run_bounded(count, packets, bound), list(range(begin, begin + ran)))
+            begin += ran
+            self.assertEqual(tenant.run_packets(count, packets, bound=bound), list(range(begin, begin + 7)))
+        marks = [Context(mark=each) for each in (7, 1, 8, 2, 9, 3, 0)]
+        data = b"".join(packets)
+        starts, lengths = [0, 3, 3, 8, 9, 9, 11], [len(packet) for packet in packets]
+        later = Packets(bytearray(b".." + data), [start + 2 for start in starts], lengths)
+        forms: list[Packets | list[bytes]] = [packets, Packets.of(packets), Packets(bytearray(data), starts, lengths), later]
+        for bound in (1, 4, 5, 6, 13, 14, 0):
+            for each in forms:
+                self.assertEqual(tenant.run_packets(length, each, bound=bound), [3, 0, 5, 1, 0, 2, 9])
+            self.assertEqual(tenant.run_packets(mark, packets, marks, bound), [context.mark for context in marks])
+            self.assertEqual(tenant.run_packets(mark, packets, Context(mark=6), bound), [6] * 7)
+            self.assertEqual(tenant.run_packets(mark, packets[:1], marks[:1], bound), [7])
+            self.assertEqual((tenant.run_packets(length, [], bound=bound), tenant.run_bounded(length, [], bound)), ([], []))
+        self.assertEqual(tenant.run_bounded(mark, packets, 4, marks), [7, 1])
+        first = tenant.run_packets(count, [b""])[0]
+        with self.assertRaisesRegex(ValueError, "a packet has 65,537 bytes"):
+            tenant.run_packets(count, [b"", b"", bytes(65_537)], bound=1)
+        self.assertEqual(tenant.run_bounded(count, [b"", bytes(65_537)], 1), [first + 1])
+        with self.assertRaisesRegex(ValueError, "a bound is a number of 64 bits"):
+            tenant.run_packets(count, [b""], bound=2**64)
+        with self.assertRaises(Refused):
+            tenant.run_packets(60, [b"", b""], bound=1)
 
     @unittest.skipUnless(PROGRAM, "the variable BPFHOST names no program")
     def test_beside_pipes(self) -> None:
@@ -239,6 +280,93 @@ class Calls(TimedTest):
                 tenant.restore(saved[:length])
         tenant.restore(saved)
         self.assertEqual(tenant.save(), saved)
+
+    def test_saves_as_another_tenant(self) -> None:
+        """Frames of one tenant, whatever its number; those of several are none's. All descriptors are closed after it."""
+        tenant = self.host.tenant(1)
+        map_ = tenant.map_create(MapType.HASH, 2, 8, 4).descriptor
+        tenant.map_update_elem(map_, b"no", bytes(8))
+        count, saved = tenant.prog_load(ONE), tenant.save()
+        with self.library.host(2) as other:
+            first, second = other.tenant(0), other.tenant(1)
+            first.restore_as(saved)
+            self.assertEqual((first.map_lookup_elem(map_, b"no"), first.run_packets(count, [b""])), (bytes(8), [1]))
+            second.restore_as(first.save())
+            self.assertEqual(second.save(), saved)
+            with self.assertRaises(Refused) as refused:
+                first.restore_as(saved)
+            self.assertEqual((refused.exception.status, first.close_all(), first.close_all()), (-24, 64, 0))
+            with self.assertRaisesRegex(ValueError, "the frames of the save are of several tenants"):
+                first.restore_as(saved + frames.close(0, 3))
+            with self.assertRaisesRegex(ValueError, "no whole frame"):
+                first.restore_as(saved[:-1])
+            self.assertEqual(first.close_all(), 0)
+            first.restore_as(b"")
+            self.assertEqual(first.save(), EMPTY)
+
+    def test_inspection(self) -> None:
+        """Counts, what descriptors name, and logs that fit into the first buffer or not."""
+        tenant = self.host.tenant(1)
+        self.assertEqual((tenant.status(), tenant.opened()), (Counts(0, 0, 0, 0, 0, False), {}))
+        map_ = tenant.map_create(MapType.HASH, 2, 8, 4)
+        map_[b"no"] = bytes(8)
+        program = tenant.prog_load(ONE)
+        self.assertEqual(tenant.status(), Counts(1, 1, 32, 1, 2, False))
+        self.assertEqual(tenant.opened(), {3: OpenedMap(MapType.HASH, 2, 8, 4, 1), program: OpenedProgram(len(ONE) // 8, Cost(2, 0))})
+        self.assertEqual((self.host.status(3).maps, self.host.describe(1, 66)), (0, None))
+        log = tenant.verify(ONE)
+        self.assertTrue(log.is_accepted and "accepted" in log.text)
+        self.assertTrue(tenant.verify(ONE, LogStyle.GRAPH).text.startswith("digraph"))
+        long = ONE[:8] * 1000 + ONE
+        self.assertEqual((tenant.verify(long).is_accepted, len(tenant.verify(long).text) > 8192), (True, True))
+        self.assertFalse(tenant.verify(ONE[:-8]).is_accepted or tenant.verify(b"abc").is_accepted)
+        self.assertEqual(tenant.status().programs, 1)
+
+    def test_costs_of_loaded_programs(self) -> None:
+        """The most instructions are on one path, and the only call on another; what names no program costs nothing."""
+        tenant = self.host.tenant(1)
+        branches = tenant.prog_load(BRANCHES)
+        cost = tenant.program_cost(branches)
+        self.assertEqual((cost, tenant.verify(BRANCHES).cost()), (Cost(10, 1), Cost(10, 1)))
+        self.assertEqual(tenant.run_packets(branches, [b"", bytes(11)]), [2**32 - 14, 7])
+        self.assertEqual(tenant.opened()[branches], OpenedProgram(16, Cost(10, 1)))
+        map_ = tenant.map_create(MapType.HASH, 2, 8, 4)
+        self.assertEqual([tenant.program_cost(number) for number in (map_.descriptor, 0, 66)], [None, None, None])
+        self.assertEqual([self.host.program_cost(number, branches) for number in (0, 3)], [None, None])
+        tenant.close(branches)
+        self.assertIsNone(tenant.program_cost(branches))
+
+    def test_costs(self) -> None:
+        """The line before the verdict of an accepted program."""
+        lines = "0: r0 = 1\n1: exit\ncost: instructions 2, calls 0\naccepted\n"
+        self.assertEqual(Log(lines, True).cost(), Cost(2, 0))
+        for log in (Log(lines, False), Log("accepted\n", True), Log("digraph {}\n", True)):
+            self.assertIsNone(log.cost())
+
+    def test_prepared(self) -> None:
+        """By another thread; for a map that is not there, then there; a second time; and refused as a load is."""
+        tenant, array, made = self.host.tenant(1), MapShape(MapType.ARRAY, 4, 8, 1), list[PreparedProgram]()
+        thread = threading.Thread(target=lambda: made.append(self.library.prepare(COUNT, {3: array})))
+        thread.start()
+        thread.join()
+        with made[0] as prepared:
+            self.assertIsNone(tenant.install(prepared))
+            tenant.map_create(array.map_type, array.key_size, array.value_size, array.max_entries)
+            self.assertEqual(tenant.install(prepared), 4)
+            self.assertEqual(tenant.run_packets(4, [b"", b""]), [1, 2])
+            with self.assertRaisesRegex(LibraryError, "it was installed or closed already"):
+                tenant.install(prepared)
+            with self.assertRaisesRegex(TypeError, "a prepared program can't be copied"):
+                copy.copy(prepared)
+        with self.assertRaises(ProgramRefused) as loaded:
+            self.host.tenant(0).prog_load(COUNT)
+        with self.assertRaises(ProgramRefused) as refused:
+            self.library.prepare(COUNT)
+        self.assertEqual((refused.exception.slot, refused.exception.reason), (loaded.exception.slot, loaded.exception.reason))
+        wrong: list[dict[int, Named]] = [{3: MapShape(MapType.ARRAY, 5, 8, 1)}, dict.fromkeys(range(65))]
+        for named in wrong:
+            with self.assertRaisesRegex(ValueError, "a map that there cannot be, or there are more than 64"):
+                self.library.prepare(ONE, named)
 
     def test_frames(self) -> None:
         """Valid and invalid ones; a program that is rejected."""

@@ -173,12 +173,12 @@ class Log(TimedTest):
 
 @unittest.skipUnless(PROGRAM and find_verifier_log(PROGRAM), "there is no program verifier_log")
 class TrueLog(HostTest):
-    """The program itself: its log has the program's text, and ends with the verdict."""
+    """The program itself: its log has the program's text, and ends with the cost and the verdict."""
 
     def test_an_accepted_program(self) -> None:
         log = verifier_log(PROGRAM, ONE, {})
         assert log is not None
-        self.assertEqual(log.splitlines()[-1], "accepted")
+        self.assertEqual(log.splitlines()[-2:], ["cost: instructions 2, calls 0", "accepted"])
         for text in disassemble(PROGRAM, ONE).splitlines():
             self.assertIn(text, log)
 

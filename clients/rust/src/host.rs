@@ -1,7 +1,10 @@
 use crate::batch::Batch;
-use crate::library::{ERR_VERSION, Handle, unexpected};
+use crate::library::{ERR_VERSION, Handle, PreparedHandle, Run, unexpected};
 use crate::{Context, Errno, Error, Reply, Tenant};
-use bpfhost_sys::{ERR_NO_MEMORY, ERR_NO_PART, ERR_TENANT_COUNT, LONGEST_FRAME};
+use bpfhost_sys::{
+    ERR_NO_MEMORY, ERR_NO_PART, ERR_TENANT_COUNT, LONGEST_FRAME, bpfhost_cost, bpfhost_counts, bpfhost_described,
+    bpfhost_logged,
+};
 use std::collections::hash_map::RandomState;
 use std::fmt;
 use std::hash::{BuildHasher, Hasher};
@@ -72,32 +75,37 @@ impl Host {
         Reply::new(self.handle.handle(&self.frame))
     }
 
-    /// Copies packets one after another, and runs a program of a tenant on them. Returns how many there were.
+    /// Handles a frame of a tenant, of which `after` has what follows its number.
+    pub(crate) fn ask_as(&mut self, tenant: u16, after: &[u8]) -> Reply<'_> {
+        self.frame.clear();
+        self.frame.extend_from_slice(&tenant.to_le_bytes());
+        self.frame.extend_from_slice(after);
+        Reply::new(self.handle.handle(&self.frame))
+    }
+
+    /// Copies packets one after another, and runs a program of a tenant on them. Returns how many were run.
     pub(crate) fn run_packets(
         &mut self,
-        tenant: u16,
-        prog: u32,
+        run: Run,
         contexts: &[Context],
         packets: impl IntoIterator<Item: AsRef<[u8]>>,
         results: &mut [u32],
     ) -> Result<usize, Error> {
         self.batch.fill(packets, results.len())?;
         let Batch { bytes, ends } = &self.batch;
-        run_packets(&mut self.handle, tenant, prog, contexts, bytes, ends, results)?;
-        Ok(ends.len())
+        run_packets(&mut self.handle, run, contexts, bytes, ends, results)
     }
 
-    /// Runs a program of a tenant on packets that lie one after another.
+    /// Runs a program of a tenant on packets that lie one after another. Returns how many were run.
     pub(crate) fn run_packets_in_place(
         &mut self,
-        tenant: u16,
-        prog: u32,
+        run: Run,
         contexts: &[Context],
         bytes: &[u8],
         ends: &[usize],
         results: &mut [u32],
-    ) -> Result<(), Error> {
-        run_packets(&mut self.handle, tenant, prog, contexts, bytes, ends, results)
+    ) -> Result<usize, Error> {
+        run_packets(&mut self.handle, run, contexts, bytes, ends, results)
     }
 
     /// The frames of one part of a tenant, lent; `None` if there is no such part.
@@ -108,6 +116,32 @@ impl Host {
             Err(ERR_NO_MEMORY) => Err(Error::NoMemory),
             Err(code) => panic!("{}", unexpected(code)),
         }
+    }
+
+    pub(crate) fn counts(&mut self, tenant: u16) -> bpfhost_counts {
+        self.handle.counts(tenant)
+    }
+
+    pub(crate) fn describe(&mut self, tenant: u16, fd: u32) -> bpfhost_described {
+        self.handle.describe(tenant, fd)
+    }
+
+    pub(crate) fn program_cost(&mut self, tenant: u16, fd: u32) -> bpfhost_cost {
+        self.handle.program_cost(tenant, fd)
+    }
+
+    pub(crate) fn verify(
+        &mut self,
+        tenant: u16,
+        slots: &[u8],
+        style: u32,
+        room: &mut [u8],
+    ) -> Result<bpfhost_logged, i32> {
+        self.handle.verify(tenant, slots, style, room)
+    }
+
+    pub(crate) fn install(&mut self, tenant: u16, prepared: &mut PreparedHandle) -> Result<i32, i32> {
+        self.handle.install(tenant, prepared)
     }
 
     /// Whether memory was ever refused to a tenant. While it was not, the tenant's replies are those that it would get on a host of its own.
@@ -126,16 +160,15 @@ impl fmt::Debug for Host {
 /// Runs a program of a tenant on packets that lie one after another in `bytes`, and end before the bytes of `ends`.
 fn run_packets(
     handle: &mut Handle,
-    tenant: u16,
-    prog: u32,
+    run: Run,
     contexts: &[Context],
     bytes: &[u8],
     ends: &[usize],
     results: &mut [u32],
-) -> Result<(), Error> {
+) -> Result<usize, Error> {
     if results.len() < ends.len() {
         return Err(Error::Room { results: results.len() });
     }
-    let status = handle.run_packets(tenant, prog, contexts, bytes, ends, results);
-    if status == 0 { Ok(()) } else { Err(Error::Status(Errno::of_status(status))) }
+    let ran = handle.run_packets(run, contexts, bytes, ends, results);
+    ran.map_err(|status| Error::Status(Errno::of_status(status)))
 }

@@ -1,6 +1,7 @@
 //! A tenant as frames: saved from one host, restored on another.
 
-use crate::{Errno, Error, Tenant};
+use crate::{Errno, Error, Fd, Tenant};
+use bpfhost_sys::{FIRST_DESCRIPTOR, LONGEST_FRAME, MOST_DESCRIPTORS};
 
 /// The bytes of a frame's length field.
 const LENGTH_FIELD: usize = 4;
@@ -58,7 +59,7 @@ impl Tenant<'_> {
     ///
     /// [`Error::BadFrames`]: the bytes end inside a frame, or a frame is another tenant's, and is not handled. Otherwise the error of the
     /// first frame that is refused: EMFILE if the tenant was not new, ENOMEM if memory is refused. The frames before it are handled, and
-    /// the tenant is not the saved one; close its descriptors, 3 to 66, and it is new again.
+    /// the tenant is not the saved one; [`close_all`](Tenant::close_all) makes it new again.
     pub fn restore(&mut self, frames: &[u8]) -> Result<(), Error> {
         let mut rest = frames;
         while !rest.is_empty() {
@@ -67,6 +68,60 @@ impl Tenant<'_> {
             rest = later;
         }
         Ok(())
+    }
+
+    /// As [`restore`](Tenant::restore), for saved frames of any one tenant: each is handled with this tenant's number. All are looked at
+    /// before the first is handled.
+    ///
+    /// ```
+    /// # use bpfhost::{Error, Fd, Host, MapShape, MapType};
+    /// # let mut host = Host::new(2)?;
+    /// # let shape = MapShape { map_type: MapType::Hash, key_size: 4, value_size: 8, max_entries: 16 };
+    /// host.tenant(0).map_create(shape)?;
+    /// let saved = host.tenant(0).save()?;
+    /// host.tenant(1).restore_as(&saved)?;
+    /// assert_eq!(host.tenant(1).close_all(), Ok(1));
+    /// # Ok::<(), Error>(())
+    /// ```
+    ///
+    /// # Errors
+    ///
+    /// [`Error::BadFrames`]: the bytes end inside a frame, or are of several tenants; nothing is handled. Otherwise as
+    /// [`restore`](Tenant::restore).
+    pub fn restore_as(&mut self, frames: &[u8]) -> Result<(), Error> {
+        let saved =
+            frames.get(LENGTH_FIELD..LENGTH_FIELD + 2).map_or(0, |number| u16::from_le_bytes([number[0], number[1]]));
+        let mut each = Vec::new();
+        let mut rest = frames;
+        while !rest.is_empty() {
+            let (frame, later) = first_frame(rest, saved).ok_or(Error::BadFrames)?;
+            each.push(frame);
+            rest = later;
+        }
+        let number = self.number();
+        for frame in each {
+            let (_, after) = frame.split_at(2);
+            // One byte more than a frame may have says that it is too long.
+            self.host().ask_as(number, &after[..after.len().min(LONGEST_FRAME - 1)]).done()?;
+        }
+        Ok(())
+    }
+
+    /// Closes all descriptors, and returns how many were open: the tenant is new again.
+    ///
+    /// # Errors
+    ///
+    /// EPERM: the tenant is not served.
+    pub fn close_all(&mut self) -> Result<usize, Error> {
+        let mut closed = 0;
+        for fd in FIRST_DESCRIPTOR..FIRST_DESCRIPTOR + MOST_DESCRIPTORS {
+            match self.close(Fd(fd as u32)) {
+                Ok(()) => closed += 1,
+                Err(Error::Status(Errno::EBADF)) => {}
+                Err(error) => return Err(error),
+            }
+        }
+        Ok(closed)
     }
 }
 

@@ -1,3 +1,4 @@
+use crate::library::Run;
 use crate::{AsContexts, AsProgram, Context, Errno, Error, Host, Reply};
 use bpfhost_sys::{
     ANY, ARRAY, CLOSE, EXIST, HASH, MAP_CREATE, MAP_DELETE, MAP_LOOKUP, MAP_NEXT_KEY, MAP_UPDATE, NOEXIST, PROG_LOAD,
@@ -211,7 +212,7 @@ impl<'a> Tenant<'a> {
         packets: impl IntoIterator<Item: AsRef<[u8]>>,
         results: &mut [u32],
     ) -> Result<usize, Error> {
-        self.host.run_packets(self.number, prog.0, contexts.as_contexts(), packets, results)
+        self.host.run_packets(self.run(prog, 0), contexts.as_contexts(), packets, results)
     }
 
     /// Runs a program on many packets in place, one after another in `bytes`: the first begins at 0, and packet i ends before
@@ -243,7 +244,62 @@ impl<'a> Tenant<'a> {
         ends: &[usize],
         results: &mut [u32],
     ) -> Result<(), Error> {
-        self.host.run_packets_in_place(self.number, prog.0, contexts.as_contexts(), bytes, ends, results)
+        self.host.run_packets_in_place(self.run(prog, 0), contexts.as_contexts(), bytes, ends, results).map(drop)
+    }
+
+    /// Runs a program on packets as [`run_packets`](Tenant::run_packets), but no longer than the caller allows: on as many of the first ones
+    /// as can be run by `bound` instructions, if each takes the longest path of the program, which no run exceeds. One packet is run
+    /// in any case, and 0 is no bound. Returns how many packets were run; later ones are not looked at, and the rest of `results`, which has
+    /// room for all, stays as it is.
+    ///
+    /// ```
+    /// # use bpfhost::{Context, Error, Host};
+    /// # /// r0 = the packet's length; exit
+    /// # const LENGTH: [u64; 2] = [0x6110_0000_0000_0000, 0x9500_0000_0000_0000];
+    /// # let mut host = Host::new(1)?;
+    /// # let mut tenant = host.tenant(0);
+    /// # let prog = tenant.prog_load(&LENGTH.map(u64::to_be_bytes))?;
+    /// // The program returns the packet's length, by two instructions.
+    /// let packets = [&b"one"[..], b"", b"three"];
+    /// let (mut done, mut results) = (0, [0; 3]);
+    /// while done < packets.len() {
+    ///     done += tenant.run_bounded(prog, &Context::default(), &packets[done..], 5, &mut results[done..])?;
+    ///     // Other tenants may be served here.
+    /// }
+    /// assert_eq!(results, [3, 0, 5]);
+    /// # Ok::<(), Error>(())
+    /// ```
+    ///
+    /// # Errors
+    ///
+    /// As [`run_packets`](Tenant::run_packets).
+    pub fn run_bounded(
+        &mut self,
+        prog: Fd,
+        contexts: &(impl AsContexts + ?Sized),
+        packets: impl IntoIterator<Item: AsRef<[u8]>>,
+        bound: u64,
+        results: &mut [u32],
+    ) -> Result<usize, Error> {
+        self.host.run_packets(self.run(prog, bound), contexts.as_contexts(), packets, results)
+    }
+
+    /// The same on packets in place, as [`run_packets_in_place`](Tenant::run_packets_in_place) has them. The next call takes the bytes after
+    /// the last packet that was run, and ends that count from there.
+    ///
+    /// # Errors
+    ///
+    /// As [`run_packets_in_place`](Tenant::run_packets_in_place).
+    pub fn run_bounded_in_place(
+        &mut self,
+        prog: Fd,
+        contexts: &(impl AsContexts + ?Sized),
+        bytes: &[u8],
+        ends: &[usize],
+        bound: u64,
+        results: &mut [u32],
+    ) -> Result<usize, Error> {
+        self.host.run_packets_in_place(self.run(prog, bound), contexts.as_contexts(), bytes, ends, results)
     }
 
     /// Closes a descriptor. A map goes when no descriptor and no open program names it.
@@ -253,6 +309,10 @@ impl<'a> Tenant<'a> {
     /// EBADF.
     pub fn close(&mut self, fd: Fd) -> Result<(), Error> {
         self.ask(CLOSE, &[&fd.0.to_le_bytes()]).done().map(drop)
+    }
+
+    fn run(&self, prog: Fd, bound: u64) -> Run {
+        Run { tenant: self.number, prog: prog.0, bound }
     }
 
     fn ask(&mut self, command: u16, fields: &[&[u8]]) -> Reply<'_> {

@@ -98,3 +98,47 @@ fn a_tenant_that_is_not_new() {
     second.tenant(1).restore(&frames).expect("the tenant is new again");
     is_as_it_was(&mut second, map, counter, 2);
 }
+
+#[test]
+fn a_tenant_is_restored_as_another() {
+    let mut first = host(2);
+    let (map, counter) = open_all(&mut first);
+    let mut frames = first.tenant(1).save().expect("there is memory");
+    // On another host, on which it is tenant 0; then back as tenant 1.
+    let mut second = host(1);
+    assert_eq!(second.tenant(0).restore(&frames), Err(Error::BadFrames));
+    second.tenant(0).restore_as(&frames).expect("the tenant is new");
+    let again = second.tenant(0).save().expect("there is memory");
+    let mut third = host(2);
+    third.tenant(1).restore_as(&again).expect("the tenant is new");
+    is_as_it_was(&mut third, map, counter, 2);
+    // As another one of the same host.
+    assert_eq!(first.tenant(0).restore_as(&frames), Ok(()));
+    assert_eq!(run(&mut first.tenant(0), counter), 2);
+    is_as_it_was(&mut first, map, counter, 2);
+    // Whatever is wrong with the last frame, none is handled.
+    let mut fourth = host(2);
+    for length in [1, 7, 8, frames.len() - 1] {
+        assert_eq!(fourth.tenant(0).restore_as(&frames[..length]), Err(Error::BadFrames));
+    }
+    let last = frames.len() - 8;
+    frames[last] = 0;
+    assert_eq!(fourth.tenant(0).restore_as(&frames), Err(Error::BadFrames));
+    assert_eq!(fourth.tenant(0).close_all(), Ok(0));
+    assert_eq!(fourth.tenant(0).restore_as(&[]), Ok(()));
+    frames[last] = 1;
+    fourth.tenant(0).restore_as(&frames).expect("the tenant is new");
+    assert_eq!(fourth.tenant(0).restore_as(&frames), Err(Error::Status(Errno::EMFILE)));
+    let mut long = vec![0; 4 + 131_073];
+    long[..4].copy_from_slice(&131_073_u32.to_le_bytes());
+    assert_eq!(fourth.tenant(1).restore_as(&long), Err(Error::Status(Errno::E2BIG)));
+}
+
+#[test]
+fn all_descriptors_are_closed() {
+    let mut first = host(2);
+    open_all(&mut first);
+    assert_eq!(first.tenant(1).close_all(), Ok(2));
+    assert_eq!(first.tenant(1).close_all(), Ok(0));
+    assert_eq!(first.tenant(2).close_all(), Err(Error::Status(Errno::EPERM)));
+}

@@ -110,7 +110,33 @@ pub(crate) fn copy_double(bytes: &mut [u8], from: usize, to: usize)
     write(bytes, to, 8, double);
 }
 
-/// Copies `count` bytes from offset `from` to offset `to` like memmove: the ranges may overlap.
+/// From this number of bytes on, ranges that do not overlap are copied by a call of memcpy.
+const LONG: usize = 256;
+
+/// Copies `count` bytes from offset `from` to offset `to`, which is not before their end, by memcpy.
+#[inline(never)]
+fn copy_up(bytes: &mut [u8], from: usize, to: usize, count: usize)
+    requires source { from + count ≤ to }
+    requires target { to + count ≤ length bytes.old }
+    ensures { bytes.new ≡ written_at bytes.old to (bytes_at bytes.old from count) }
+{
+    let (low, high) = bytes.split_at_mut(to);
+    high[..count].copy_from_slice(&low[from..from + count]);
+}
+
+/// Copies `count` bytes from offset `from` to offset `to`, after which they end at `from` or before it, by memcpy.
+#[inline(never)]
+fn copy_down(bytes: &mut [u8], from: usize, to: usize, count: usize)
+    requires source { from + count ≤ length bytes.old }
+    requires target { to + count ≤ from }
+    ensures { bytes.new ≡ written_at bytes.old to (bytes_at bytes.old from count) }
+{
+    let (low, high) = bytes.split_at_mut(from);
+    low[to..to + count].copy_from_slice(&high[..count]);
+}
+
+/// Copies `count` bytes from offset `from` to offset `to` like memmove: the ranges may overlap. Many bytes are copied in longer pieces if they
+/// do not.
 #[inline(always)]
 pub(crate) fn copy_bytes(bytes: &mut [u8], from: usize, to: usize, count: usize)
     requires source { from + count ≤ length bytes.old }
@@ -119,6 +145,10 @@ pub(crate) fn copy_bytes(bytes: &mut [u8], from: usize, to: usize, count: usize)
 {
     if count == 8 {
         copy_double(bytes, from, to);
+    } else if count >= LONG && from + count <= to {
+        copy_up(bytes, from, to, count);
+    } else if count >= LONG && to + count <= from {
+        copy_down(bytes, from, to, count);
     } else {
         bytes.copy_within(from..from + count, to);
     }

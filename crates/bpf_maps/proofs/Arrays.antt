@@ -16,12 +16,16 @@ module _ (s : MapShape) (array : s.kind ≡ Array) where
   entries_are : new_entries (λ i. i) s.kind s.max_entries ≡ indexed (λ i. i) 0 s.max_entries
   entries_are = ap (λ (d : MapKind). new_entries (λ i. i) d s.max_entries) array
 
+  -- it has as many keys as entries
+  pub length_new : length (new_keys s).entries ≡ s.max_entries
+  length_new = ap length entries_are ∙ length_indexed 0 s.max_entries
+
   pub sound_array : IsSound (new_keys s)
   sound_array = record {
     once = λ p.
         let e : occurrences p (values_of (new_entries (λ i. i) s.kind s.max_entries)) ≡ (if nat_lt p s.max_entries then 1 else 0) = ap (λ (es : List (List ℕ × ℕ)). occurrences p (values_of es)) entries_are ∙ once_indexed p s.max_entries in
         omega arith;
-    few = let e : length (new_entries (λ i. i) s.kind s.max_entries) ≡ s.max_entries = ap length entries_are ∙ length_indexed 0 s.max_entries in omega arith;
+    few = let all = length_new in omega arith;
     sized = subst (λ (es : List (List ℕ × ℕ)). IsSized s.key_size es) (sym entries_are) (subst (λ (n : ℕ). IsSized n (indexed (λ i. i) 0 s.max_entries)) (sym (array_key s array)) (sized_indexed 0 s.max_entries));
     array = λ _. refl;
   }

@@ -1,8 +1,8 @@
 -- Sums over the live maps.
-use Rattle.std.proofs.Common.{◌≡◌, ◌≢◌, ℕ, zero, suc, ◌+◌, ◌≤◌, List, [], ◌∷◌, Option, None, refl, get_or, arith}
-use Rattle.bpf_maps.specs.Live.{LiveMap}
+use Rattle.std.proofs.Common.{◌≡◌, ◌≢◌, ℕ, zero, suc, ◌+◌, ◌<◌, ◌≤◌, false, List, [], ◌∷◌, length, take, Option, Some, None, IsSome, is_some, refl, sym, ap, ◌∙◌, get_or, arith, true≢false}
+use Rattle.bpf_maps.specs.Live.{LiveMap, LiveMaps, live_at, live_or, keys_at}
 use Rattle.bpf_maps.specs.Sum.{weight, total}
-use Rattle.bpf_maps.specs.LiveLaws.{total_same}
+use Rattle.bpf_maps.specs.LiveLaws.{total_same, total_next}
 
 module _ (f : LiveMap → ℕ) where
   -- the sums of two lists whose numbers are equal at all indices but one
@@ -32,3 +32,32 @@ unfolding total
 weight_most f k [] = omega arith
 weight_most f zero (x ∷ xs) = omega arith
 weight_most f (suc k) (x ∷ xs) = let r = weight_most f k xs in omega arith
+
+-- ---- the sum over one more handle
+
+keys_of_weight : (o : Option LiveMap) → weight (λ l. length l.keys.entries) o ≡ length (live_or o).keys.entries
+keys_of_weight None = refl
+keys_of_weight (Some l) = refl
+
+pub more_keys : (t : LiveMaps) (handle : ℕ) → handle < length t.maps
+    → total (λ l. length l.keys.entries) (take (handle + 1) t.maps) ≡ total (λ l. length l.keys.entries) (take handle t.maps) + length (keys_at t handle).entries
+more_keys t handle within = total_next (λ l. length l.keys.entries) handle t.maps within ∙ ap (λ (n : ℕ). total (λ l. length l.keys.entries) (take handle t.maps) + n) (keys_of_weight (live_at t handle))
+
+module _ (f : LiveMap → ℕ) where
+  weight_some : (o : Option LiveMap) → IsSome o → weight f o ≡ f (live_or o)
+  weight_some None some = absurd (true≢false (sym some))
+  weight_some (Some l) some = refl
+
+  weight_none : (o : Option LiveMap) → is_some o ≡ false → weight f o ≡ 0
+  weight_none None none = refl
+  weight_none (Some l) none = absurd (true≢false none)
+
+  module _ (t : LiveMaps) (handle : ℕ) (within : handle < length t.maps) where
+    pub one_more_live : IsSome (live_at t handle) → total f (take (handle + 1) t.maps) ≡ total f (take handle t.maps) + f (live_or (live_at t handle))
+    one_more_live live = total_next f handle t.maps within ∙ ap (λ (n : ℕ). total f (take handle t.maps) + n) (weight_some (live_at t handle) live)
+
+    pub no_more_live : is_some (live_at t handle) ≡ false → total f (take (handle + 1) t.maps) ≡ total f (take handle t.maps)
+    no_more_live none =
+        let next = total_next f handle t.maps within in
+        let nothing = weight_none (live_at t handle) none in
+        omega arith

@@ -1,7 +1,7 @@
 -- Laws of live maps and of the changes by calls, proved here for the proofs of this crate and of
 -- the crates above. This project's own. No contract cites them, so they are not part of what has to
 -- be trusted.
-use Rattle.std.proofs.Common.{◌≡◌, ◌≢◌, ℕ, zero, suc, ◌+◌, ◌<◌, ◌≤◌, ◌⊎◌, inl, inr, false, cond, List, [], ◌∷◌, length, Option, Some, None, IsSome, is_some, refl, sym, subst, ap, ap₂, ◌∙◌, get_or, arith, true≢false}
+use Rattle.std.proofs.Common.{◌≡◌, ◌≢◌, ℕ, zero, suc, ◌+◌, ◌<◌, ◌≤◌, ◌⊎◌, inl, inr, false, cond, List, [], ◌∷◌, length, take, Option, Some, None, IsSome, is_some, refl, sym, subst, ap, ap₂, ◌∙◌, get_or, arith, true≢false}
 use Rattle.std.specs.Prelude.{is_none, position, nat_lt}
 use Rattle.std.specs.List.{position_or_len}
 use Rattle.std.proofs.lemmas.Bool.{false≢true, lt-ltb, cases_lt}
@@ -24,6 +24,23 @@ total_same f (x ∷ xs) [] h =
     let r = total_same f xs [] (λ j. h (suc j)) in let a = h 0 in omega arith
 total_same f (x ∷ xs) (y ∷ ys) h =
     ap₂ (λ (m n : ℕ). m + n) (h 0) (total_same f xs ys (λ j. h (suc j)))
+
+-- the sum over the first elements and one more
+total_after : {A : Type 0} (f : A → ℕ) (n : ℕ) (xs : List (Option A))
+    → n < length xs
+    → total f (take (suc n) xs) ≡ total f (take n xs) + weight f (get_or xs n None)
+unfolding total
+total_after f n [] within = absurd (omega arith)
+total_after f zero (x ∷ xs) within = omega arith
+total_after f (suc n) (x ∷ xs) within =
+    let rest = total_after f n xs (omega arith) in omega arith
+
+pub total_next : {A : Type 0} (f : A → ℕ) (n : ℕ) (xs : List (Option A))
+    → n < length xs
+    → total f (take (n + 1) xs) ≡ total f (take n xs) + weight f (get_or xs n None)
+total_next f n xs within =
+    let next : n + 1 ≡ suc n = omega arith in
+    ap (λ (k : ℕ). total f (take k xs)) next ∙ total_after f n xs within
 
 -- a list with one element fewer: the one at k is absent, and the others are unchanged
 record IsWithout {A : Type 0} (k : ℕ) (xs : List (Option A)) : Type 0 where

@@ -53,6 +53,13 @@ impl ArrayMap {
         self.shape
     }
 
+    /// How many keys the array has: all its indices, which are `max_entries`.
+    pub(crate) fn key_count(&self) -> u32
+        ensures { result ≡ length self.now.entries }
+    {
+        self.shape.max_entries
+    }
+
     /// A law: the array has all its indices and nothing else, and their keys have four bytes. It does nothing when it runs.
     #[inline(always)]
     fn keys_are_its_indices(&self)

@@ -10,7 +10,7 @@ ghost use Rattle.bpf_maps.specs.BpfMap.{keys_in};
 use crate::array_map::ArrayMap;
 use crate::hash_map::HashMap;
 use crate::key_ref::KeyRef;
-use crate::spare_maps::SpareMaps;
+use crate::spare_maps::{LiveHashMaps, SpareMaps};
 use crate::value_map::ValueMap;
 use seeded_hash::HashSeed;
 use std::alloc::{AllocError, Global};
@@ -34,20 +34,20 @@ impl BpfMap {
         }
     }
 
-    /// Makes a map of this shape, a hash map in the memory of a spare one, if one fits. The live maps have `entries`. `AllocError`: out
-    /// of memory.
+    /// Makes a map of this shape, a hash map in the memory of a spare one, if one fits. `live` are the other hash maps. `AllocError`:
+    /// out of memory.
     pub(crate) fn with_spares(
         alloc: Global,
         shape: MapShape,
         seed: HashSeed,
         spares: &mut SpareMaps,
-        entries: usize,
+        live: LiveHashMaps,
     ) -> Result<BpfMap, AllocError>
         ensures { IfOk result (λ map. keys_in map ≡ new_keys shape) }
     {
         match shape.kind {
             MapKind::Array => Ok(BpfMap::Array(ArrayMap::new(shape))),
-            MapKind::Hash => Ok(BpfMap::Hash(spares.hash_map(alloc, shape, seed, entries)?)),
+            MapKind::Hash => Ok(BpfMap::Hash(spares.hash_map(alloc, shape, seed, live)?)),
         }
     }
 
@@ -58,6 +58,16 @@ impl BpfMap {
         match self {
             BpfMap::Array(map) => map.shape(),
             BpfMap::Hash(map) => map.shape(),
+        }
+    }
+
+    /// How many keys the map has.
+    pub(crate) fn key_count(&self) -> u32
+        ensures { result ≡ length (keys_in self.now).entries }
+    {
+        match self {
+            BpfMap::Array(map) => map.key_count(),
+            BpfMap::Hash(map) => map.key_count(),
         }
     }
 

@@ -83,6 +83,13 @@ impl HashMap {
         self.shape
     }
 
+    /// How many keys the map has: each of its elements that is not spare has one.
+    pub(crate) fn key_count(&self) -> u32
+        ensures { result ≡ length self.now.entries }
+    {
+        self.shape.max_entries - self.spare.len() as u32
+    }
+
     /// A law: no two keys have the same element. It does nothing when it runs.
     #[inline(always)]
     fn elements_are_distinct(&self)

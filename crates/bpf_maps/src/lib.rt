@@ -59,6 +59,8 @@
 //!   delete keeps the other elements: `maps_are_laid`, `areas_keep_elements`, `deletes_keep_elements`.
 //! - A key and a value of any map are no longer than a part: `sizes_fit_in_parts`.
 //! - A map is freed at its last release, and no other map: `less`, `gone`, `others` of `release`.
+//! - How many maps are live, how many keys one has and all have, and how many bytes their values take: `live_count`, `key_count`,
+//!   `key_sum`, `value_bytes` of `Maps`.
 //!
 //! What a caller can derive only from these, such as a whole update, a whole delete, or a map in the area of another, is
 //! proved in `contract_clients.rt`. The keys of a hash map are in an `OrderedMap` of `ordered_keys`, and hashed with a seed
@@ -116,6 +118,7 @@
 mod array_map;
 mod bpf_map;
 mod contract_clients;
+mod counting;
 mod elements;
 mod hash_map;
 mod inline_key;

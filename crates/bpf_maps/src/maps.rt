@@ -32,7 +32,7 @@ const LAST: u32 = 1;
 /// The handle of a live map, 0 to 15. Contracts see the number.
 #[derive(Clone, Copy, Debug, PartialEq, Eq)]
 pub struct MapKey {
-    handle: usize,
+    pub(crate) handle: usize,
 }
 
 impl Model for MapKey {
@@ -55,7 +55,7 @@ pub struct Maps {
     spares: SpareMaps,
     // The number of bytes that the areas of all maps take. The areas lie one after another, in order of creation, after the stack
     // and the context.
-    bytes: usize,
+    pub(crate) bytes: usize,
     refused: bool,
 }
 
@@ -109,7 +109,7 @@ impl Maps {
 
     /// The live map of a handle.
     #[inline(always)]
-    fn stored(&self, map: MapKey) -> &StoredMap
+    pub(crate) fn stored(&self, map: MapKey) -> &StoredMap
         requires { IsSome (live_at self.now map) }
         ensures { live_at self.now map ≡ Some (live_of result.now) }
     {
@@ -163,13 +163,9 @@ impl Maps {
         if self.bytes + size > LARGEST_SUM {
             return Err(MapFault::NoSpace);
         }
-        let Ok(map) = BpfMap::with_spares(
-            self.alloc,
-            shape,
-            self.seed,
-            &mut self.spares,
-            self.bytes / 8,
-        ) else {
+        let live = self.live_hash_maps();
+        let spares = &mut self.spares;
+        let Ok(map) = BpfMap::with_spares(self.alloc, shape, self.seed, spares, live) else {
             self.refused = true;
             return Err(MapFault::Memory);
         };

@@ -15,8 +15,33 @@ use tagged_model::MapShape;
 /// The most entries of a tenant's hash maps: the values of each take at least eight bytes of `LARGEST_SUM`.
 const MOST_ENTRIES: usize = LARGEST_SUM / 8;
 
-/// Hash maps that are no longer live. With the live ones they have at most `MOST_ENTRIES` entries whenever a map takes memory, so that a
-/// tenant takes no more memory than one whose hash maps are all live.
+/// The live hash maps of a tenant: how many they are, and how many entries they can have.
+#[derive(Clone, Copy)]
+pub(crate) struct LiveHashMaps {
+    pub(crate) maps: usize,
+    pub(crate) entries: usize,
+}
+
+/// No live hash maps.
+pub(crate) const NO_HASH_MAPS: LiveHashMaps = LiveHashMaps {
+    maps: 0,
+    entries: 0,
+};
+
+impl LiveHashMaps {
+    /// With a map more, which can have so many entries.
+    pub(crate) fn with(self, entries: u32) -> LiveHashMaps {
+        LiveHashMaps {
+            maps: self.maps.saturating_add(1),
+            entries: self.entries.saturating_add(entries as usize),
+        }
+    }
+}
+
+/// Hash maps that are no longer live. With the live ones they are at most `MAPS`, with at most `MOST_ENTRIES` entries, whenever a map takes
+/// memory. So a tenant takes no more memory than one whose hash maps are all live; there is room for each map that is closed, so a close
+/// frees none; and a new map frees at most two as large as the largest one, since an older one is freed only while the others and the new one are
+/// too many, or have too many entries.
 #[derive(Drop)]
 pub struct SpareMaps {
     maps: Vec<HashMap>,
@@ -41,7 +66,7 @@ impl SpareMaps {
     }
 
     /// Makes a hash map of this shape: a spare one with the same size of keys and as many entries, if there is one, or a new one.
-    /// The live maps have `entries`. `AllocError`: out of memory.
+    /// `live` are the other hash maps. `AllocError`: out of memory.
     #[cold]
     #[inline(never)]
     pub(crate) fn hash_map(
@@ -49,7 +74,7 @@ impl SpareMaps {
         alloc: Global,
         shape: MapShape,
         seed: HashSeed,
-        entries: usize,
+        live: LiveHashMaps,
     ) -> Result<HashMap, AllocError>
         requires { shape.kind ≡ Hash }
         ensures { IfOk result (λ map. map ≡ new_keys shape) }
@@ -59,7 +84,7 @@ impl SpareMaps {
             map.renew(shape);
             return Ok(map);
         }
-        self.drop_above(entries.saturating_add(shape.max_entries as usize));
+        self.make_room(live.with(shape.max_entries));
         HashMap::new(alloc, shape, seed)
     }
 
@@ -84,10 +109,16 @@ impl SpareMaps {
         sum
     }
 
-    /// Frees maps, those that were kept first, until there are at most `MOST_ENTRIES` with these.
-    fn drop_above(&mut self, entries: usize) {
+    /// Whether there is room for these live maps besides the kept ones.
+    fn has_room(&self, live: LiveHashMaps) -> bool {
+        self.maps.len().saturating_add(live.maps) <= MAPS
+            && self.entries().saturating_add(live.entries) <= MOST_ENTRIES
+    }
+
+    /// Frees maps, those that were kept first, until there is room for these live ones.
+    fn make_room(&mut self, live: LiveHashMaps) {
         for _ in 0..self.maps.len() {
-            if !self.maps.is_empty() && self.entries().saturating_add(entries) > MOST_ENTRIES {
+            if !self.maps.is_empty() && !self.has_room(live) {
                 let _gone = self.maps.remove(0);
             }
         }

@@ -1,7 +1,7 @@
 -- The effect of a call on many packets. This project's own.
-use Rattle.std.specs.Prelude.{◌≡◌, ◌≢◌, ℕ, ℤ, pos, List, length, slice_get}
-use Rattle.host_core.specs.Batch.{RunsFor, ChangesTenant, refusal_for, batch_status}
-use Rattle.host_core.specs.TenantBatch.{packets_in, inputs_of}
+use Rattle.std.specs.Prelude.{◌≡◌, ◌≢◌, ◌==◌, ℕ, ℤ, pos, true, false, List, length, take, slice_get, if◌then◌else◌}
+use Rattle.host_core.specs.Batch.{RunsFor, ChangesTenant, IsAllowedFor, refusal_for, batch_status}
+use Rattle.host_core.specs.TenantBatch.{packets_in, inputs_of, are_contexts}
 use Rattle.host_core.specs.State.{TenantState}
 
 -- A batch of a tenant with its status. If the status is 0, each packet was run; else none was run,
@@ -17,3 +17,21 @@ pub record RunsPackets (tenant fd : ℕ) (contexts : List (List ℕ)) (bytes end
       (inputs_of contexts (packets_in bytes ends)) room written (slice_get after tenant)
   pub refused : status ≢ pos 0 → (after ≡ before) × (written ≡ room)
   pub others : ChangesTenant tenant before after
+
+-- the contexts of the first n of so many packets: that of all, or those of each
+abbrev pub front_contexts : ℕ → ℕ → List (List ℕ) → List (List ℕ)
+front_contexts packets n contexts = if length contexts == packets then take n contexts else contexts
+
+-- A bound on executed instructions makes a batch shorter: its first packets are a batch, as many as
+-- the bound allows. A batch with neither one context nor one for each packet is not made shorter.
+pub record RunsBounded (tenant fd bound : ℕ) (contexts : List (List ℕ))
+    (bytes ends room written : List ℕ) (status : ℤ) (ran : ℕ)
+    (before after : List TenantState) : Type 0 where
+  pub packets : ℕ
+  pub allowed : are_contexts (length contexts) (length ends) ≡ true
+      → IsAllowedFor (slice_get before tenant) fd bound (length ends) packets
+  pub whole : are_contexts (length contexts) (length ends) ≡ false → packets ≡ length ends
+  pub runs : RunsPackets tenant fd (front_contexts (length ends) packets contexts) bytes
+      (take packets ends) room written status before after
+  pub counted : status ≡ pos 0 → ran ≡ packets
+  pub none_ran : status ≢ pos 0 → ran ≡ 0

@@ -26,3 +26,18 @@ pub(crate) const ERR_TOO_BIG: i32 = -7;
 
 /// The size of a context is 0, or the words are not whole contexts.
 pub(crate) const ERR_SIZE: i32 = -8;
+
+/// A descriptor of the program names no map of the shape with which the program was prepared.
+pub(crate) const ERR_STALE: i32 = -9;
+
+/// There is no prepared program: it was refused, installed or freed.
+pub(crate) const ERR_NO_PROGRAM: i32 = -10;
+
+/// There is a prepared program already.
+pub(crate) const ERR_HAS_PROGRAM: i32 = -11;
+
+/// A descriptor is given an object that there cannot be, or there are more than a tenant can have open.
+pub(crate) const ERR_DESCRIPTORS: i32 = -12;
+
+/// There is no style of a log with this number.
+pub(crate) const ERR_STYLE: i32 = -13;

@@ -1,4 +1,4 @@
-//! The host as a library for C: nine functions, and a handle that is one pointer. The header is `clients/c/include/bpfhost.h`.
+//! The host as a library for C: sixteen functions, and handles that are one pointer each. The header is `clients/c/include/bpfhost.h`.
 //!
 //! A session (`Session`) is a host with its last reply and the last part of a save; a `Handle` owns one or is empty, and contracts see which. The header
 //! declares these functions and adds others in C, which are tested and not proved; so is the crate for Rust, `clients/rust`.
@@ -18,6 +18,8 @@
 //! - Many packets are run as `Host::run_packets` promises (`RunsPackets`): the status is 0 and the results are at the front of
 //!   the room, or the status is that of the rejection, and states and room are unchanged. No other tenant changes: `done` of
 //!   `bpfhost_c_run_packets`.
+//! - A batch with a bound on executed instructions is the batch of its first packets, as many as the bound allows by the cost of the
+//!   program, and their number is written (`RunsBounded`, `IsAllowedFor`): `done` of `bpfhost_c_run_packets`.
 //! - Contexts of any size are brought to the words that a run is given (`contexts_of`): `done` of `bpfhost_c_run_packets`. The code
 //!   says whether the handle is empty, and whether a context is of no size or has a word that is not known and not zero
 //!   (`run_code`); then, or out of memory, host, room and status are unchanged: `code`, `memory`, `otherwise`, `results`, `status`
@@ -27,12 +29,27 @@
 //! - The frames of a part of a tenant are those of `Host::save`, and are at the returned address, with the returned length; the
 //!   code says whether there is such a part (`save_code`), unless out of memory. The parts of each tenant restore it, whatever
 //!   calls the host had (`AreRestored`). No tenant changes: `done`, `code`, `restored`, `host`, `lent` of `bpfhost_c_save`.
+//! - A program is verified without a host. It is accepted with the objects that its descriptors are to name, and stored; or it is refused,
+//!   with the status, the slot and the number of the reason of PROG_LOAD (`Prepares`): `done`, `code`, `memory`, `otherwise`, `refusal` of
+//!   `bpfhost_c_prepare`.
+//! - A prepared program is installed as `Host::install` promises: what happens is what happens at the frame that loads it, and the status
+//!   is that of the reply; then it is used up. Or a descriptor of its maps names no map of its shape, which the code says, and nothing
+//!   changes: `done`, `fits`, `stale`, `code`, `there`, `empty`, `otherwise`, `kept`, `status` of `bpfhost_c_install`.
+//! - A prepared program that is freed leaves an empty handle: `bpfhost_c_prepared_free`.
 //! - A new host has new tenants without births: `made` of `bpfhost_c_new`. The other calls do to states and births what calls of
 //!   a host do (`Call`), or nothing: `call` of `bpfhost_c_handle`, `call` of `bpfhost_c_handle_lent`, `call` of
-//!   `bpfhost_c_run_packets`.
+//!   `bpfhost_c_run_packets`, `call` of `bpfhost_c_install`.
+//! - The counts of a tenant are those of its state: live maps, their keys, the bytes of their values, programs and descriptors, and
+//!   whether memory was refused: `done`, `refused` of `bpfhost_c_status`. What a descriptor names is what the state says, with the
+//!   shape and the number of keys of a map: `done` of `bpfhost_c_describe`. What its program costs is the most instructions, and the
+//!   most calls, on a path through it: `done` of `bpfhost_c_program_cost`. Nothing changes.
+//! - The log of slots is that of `log_core`, for the objects that the tenant's descriptors name: as lines it ends with the verdict of
+//!   the definition, and slots that are no program get the line of their refusal. The room has its front, with a zero byte after it;
+//!   the length is that of the whole: `done` of `bpfhost_c_verify`. The code says whether the handle is empty or there is no such
+//!   style, unless out of memory (`verify_code`); then nothing is written. The host is unchanged.
 //! - A host that is freed leaves an empty handle: `bpfhost_c_free`.
 //! - The version and the number of the binary interface are the constants of this crate: `bpfhost_c_version`, `bpfhost_c_abi`.
-//! - A handle may be sent from thread to thread: `Send` for `Handle`.
+//! - A handle may be sent from thread to thread: `Send` for `Handle`, `Send` for `Prepared`.
 //!
 //! From `Handles` of each call and `calls_are_told_alone` of `host_core` follows what the headline says of a stream;
 //! `batch_is_its_calls` replaces a call with many packets by its frames.
@@ -61,12 +78,15 @@
 //!   while it handles a frame.
 //! - The frames of a part are lent like a reply, since only the library knows their number of bytes. A handle keeps the last
 //!   part until the next save frees it.
-//! - The library uses `host_core`, tenants and streams without the command line, so it contains nothing of `clap` or of the
-//!   text of programs.
+//! - The library uses `host_core`, tenants and streams without the command line, and `log_core`, the verifier's log without its
+//!   command line, so it contains nothing of `clap`. Of the text of programs it has the disassembler, for the log.
+//! - Counts and descriptions are structs of a fixed layout, which are those of `tenant`: C reads what is proved there.
 //! - The caller passes the seed of the hash maps: so the archive needs nothing of the system except memory, and an embedder may
 //!   have a better source. The header reads one from /dev/urandom; the crate for Rust uses the standard library.
-//! - A batch is run or rejected as a whole: everything is checked before the first packet runs, so there is no count of packets
-//!   that ran. The order of errors is that of PROG_TEST_RUN, with those that a frame cannot have in between: the tenant is not
+//! - A batch is run or rejected as a whole: everything is checked before the first packet runs. A bound on executed instructions makes
+//!   it shorter before that: packets after those that the bound allows are not even checked, so a caller with many packets pays for
+//!   each once. The number of packets follows only from the cost of the program (`Verified::cost`), and no run is stopped; one packet
+//!   is always allowed, so that a caller makes progress with any bound. The order of errors is that of PROG_TEST_RUN, with those that a frame cannot have in between: the tenant is not
 //!   served (-1); the descriptor is not open (-9), or names a map (-22); there is room for fewer results than packets (-22); there
 //!   is neither one context nor one for each packet (-22); then packet by packet, its end is before the previous one or after the
 //!   bytes (-22), or it is too long (-7). An empty batch of what is no program is rejected too.
@@ -80,6 +100,10 @@
 //!   library it meets. The header makes no host if the numbers differ.
 //! - Whether memory was refused is a call of its own, for each tenant, and no part of each reply: replies are those of the
 //!   protocol, and the flag is never cleared.
+//! - A prepared program is a handle of its own, of the same form: so it can be prepared on one thread and installed on another, and a
+//!   second installation, or one after it was freed, returns a code.
+//! - A program is prepared for at most 64 descriptors, as many as a tenant can have open. So the list of its objects is short, and its
+//!   installation takes little time.
 //! - Codes are the library's, statuses the protocol's: the code says whether there is a reply, the status in the reply is the
 //!   result of the command.
 //! - The archive `libbpfhost.a` has this crate and the kit's three calls of malloc, realloc and free (`tools/library`). `rt ci`
@@ -89,9 +113,14 @@
 
 mod codes;
 mod contexts;
+mod costs;
 mod handle;
+mod inspection;
+mod prepared;
+mod preparing;
 mod raw_box;
 mod session;
+mod verifying;
 mod version;
 
 ghost use Rattle.std.specs.Prelude.{◌≡◌, ◌≢◌, ◌≤◌, ℕ, List, ◌++◌, length, drop, slice_get, true, false, Some, None};
@@ -102,7 +131,7 @@ ghost use Rattle.host_core.specs.Served.{IsUnrefused};
 ghost use Rattle.host_core.specs.States.{new_host};
 ghost use Rattle.bpfhost_c.specs.Calls.{states, host_of, StandsAt, SavedAt, new_code, host_code, room_code, run_code, save_code};
 ghost use Rattle.bpfhost_c.specs.Contexts.{contexts_of};
-ghost use Rattle.bpfhost_c.specs.Packets.{RunsPackets};
+ghost use Rattle.bpfhost_c.specs.Packets.{RunsBounded};
 ghost use Rattle.bpfhost_c.specs.declared.codes.TheConstants.{DONE, ERR_NO_HOST, ERR_NO_MEMORY};
 ghost use Rattle.bpfhost_c.specs.declared.version.TheConstants.{VERSION, ABI};
 
@@ -110,10 +139,16 @@ use codes::{
     DONE, ERR_BUFFER_TOO_SMALL, ERR_HAS_HOST, ERR_NO_HOST, ERR_NO_MEMORY, ERR_NO_PART,
     ERR_TENANT_COUNT,
 };
+pub use costs::{ProgramCost, bpfhost_c_program_cost};
 use handle::Handle;
 use host_core::{HashSeed, LONGEST_REPLY, MOST_TENANTS};
+pub use inspection::{bpfhost_c_describe, bpfhost_c_status};
+pub use preparing::{
+    Descriptor, PreparedRefusal, bpfhost_c_install, bpfhost_c_prepare, bpfhost_c_prepared_free,
+};
 use session::Session;
 use std::alloc::Global;
+pub use verifying::{Logged, bpfhost_c_verify};
 use version::{ABI, VERSION};
 
 /// The address of a reply, and its length in bytes.
@@ -234,10 +269,15 @@ pub extern "C" fn bpfhost_c_handle_lent(
 
 /// Runs the program at a descriptor of a tenant on many packets, one after another. The packets lie one after another in `bytes`, and
 /// each ends at its number in `ends`. `contexts` has the context that all packets get, or that of each, each of `size` words: one that
-/// is not there counts as 0, and one that no run is given has to be 0. Writes the result of each to the front of `results`, and 0 to
-/// `status`; or, if the batch is rejected, the status of the error that its frames would get, and then no packet was run.
+/// is not there counts as 0, and one that no run is given has to be 0.
 ///
-/// Returns `DONE`; else `ERR_NO_HOST`, `ERR_SIZE`, `ERR_TOO_BIG` or `ERR_NO_MEMORY`, and the host, `results` and `status` are
+/// With a `bound` that is not 0 the batch is made shorter: it has as many of the first packets as can be run, by the cost of the program,
+/// without executing more than `bound` instructions, but at least one.
+///
+/// Writes the result of each packet to the front of `results`, 0 to `status` and the number of packets to `ran`; or, if the batch is
+/// rejected, the status of the error that its frames would get, and 0 to `ran`, and then no packet was run.
+///
+/// Returns `DONE`; else `ERR_NO_HOST`, `ERR_SIZE`, `ERR_TOO_BIG` or `ERR_NO_MEMORY`, and the host, `results`, `status` and `ran` are
 /// unchanged. With contexts of as many words as a run is given it takes no memory.
 #[unsafe(no_mangle)]
 pub extern "C" fn bpfhost_c_run_packets(
@@ -245,15 +285,18 @@ pub extern "C" fn bpfhost_c_run_packets(
     handle: &mut Handle,
     tenant: u16,
     fd: u32,
+    bound: u64,
     contexts: &[u32],
     size: usize,
     bytes: &[u8],
     ends: &[usize],
     results: &mut [u32],
     status: &mut i32,
+    ran: &mut usize,
 ) -> i32
-    ensures done { result ≡ DONE → RunsPackets tenant fd (contexts_of size contexts.now) bytes.now
-        ends.now results.old results.new status.new (states handle.old.session) (states handle.new.session) }
+    ensures done { result ≡ DONE → RunsBounded tenant fd bound (contexts_of size contexts.now)
+        bytes.now ends.now results.old results.new status.new ran.new (states handle.old.session)
+        (states handle.new.session) }
     ensures code { result ≢ ERR_NO_MEMORY
         → result ≡ run_code handle.old.session size contexts.now }
     ensures memory { result ≡ ERR_NO_MEMORY
@@ -262,12 +305,20 @@ pub extern "C" fn bpfhost_c_run_packets(
     ensures otherwise { result ≢ DONE → handle.new.session ≡ handle.old.session }
     ensures results { result ≢ DONE → results.new ≡ results.old }
     ensures status { result ≢ DONE → status.new ≡ status.old }
+    ensures ran { result ≢ DONE → ran.new ≡ ran.old }
 {
     let Some(mut session) = handle.take(alloc) else {
         return ERR_NO_HOST;
     };
     let tenant = usize::from(tenant);
-    let code = session.run_sized(tenant, fd, contexts, size, bytes, ends, results, status);
+    let code = match session.run_sized(tenant, fd, bound, contexts, size, bytes, ends, results) {
+        Ok(batch) => {
+            *status = batch.status;
+            *ran = batch.packets;
+            DONE
+        }
+        Err(code) => code,
+    };
     handle.put(session);
     code
 }

@@ -1,20 +1,23 @@
 //! A host with its last reply.
 
-ghost use Rattle.std.specs.Prelude.{◌≡◌, ◌≢◌, ◌≤◌, length, vec_capacity, IfOk, Some, None, if◌then◌else◌};
+ghost use Rattle.std.specs.Prelude.{◌≡◌, ◌≢◌, ◌≤◌, length, slice_get, vec_capacity, IfErr, IfOk, OnErr, OnOk, Some, None, true, false, if◌then◌else◌};
+ghost use Rattle.host_core.specs.Batch.{IsAllowedFor};
 ghost use Rattle.host_core.specs.Frame.{longest_reply};
 ghost use Rattle.host_core.specs.Handled.{Handles};
+ghost use Rattle.host_core.specs.Installs.{Installs, FitsTenant};
 ghost use Rattle.host_core.specs.Saving.{Records, AreRestored, saved_part};
 ghost use Rattle.host_core.specs.States.{new_host};
 ghost use Rattle.host_core.specs.Limits.{most_tenants};
+ghost use Rattle.host_core.specs.TenantBatch.{are_contexts};
 ghost use Rattle.bpfhost_c.specs.Contexts.{contexts_of, contexts_code};
-ghost use Rattle.bpfhost_c.specs.Packets.{RunsPackets};
+ghost use Rattle.bpfhost_c.specs.Packets.{RunsPackets, RunsBounded, front_contexts};
 ghost use Rattle.bpfhost_c.specs.declared.codes.TheConstants.{DONE, ERR_NO_MEMORY};
 
-use crate::codes::DONE;
 use crate::contexts::given_contexts;
 use host_core::{GIVEN_WORDS, HashSeed, Host, LONGEST_REPLY, MOST_TENANTS, ReplyBuf};
 use std::alloc::{AllocError, Global};
 use std::mem::replace;
+use verifier::Verified;
 
 /// A host and its last reply, in a vector with the capacity for the longest one.
 #[derive(Drop)]
@@ -25,6 +28,30 @@ pub struct Session {
     pub(crate) saved: Vec<u8>,
     alloc: Global,
     ghost room: { longest_reply ≤ vec_capacity reply },
+}
+
+/// What a batch gave: its status, and how many packets were run.
+#[derive(Clone, Copy)]
+pub(crate) struct Ran {
+    /// 0, or that of the error for which no packet was run.
+    pub(crate) status: i32,
+    pub(crate) packets: usize,
+}
+
+/// The contexts of the first `count` of so many packets: that of all, or those of each.
+fn front_contexts(
+    contexts: &[[u32; GIVEN_WORDS]],
+    packets: usize,
+    count: usize,
+) -> &[[u32; GIVEN_WORDS]]
+    requires { count ≤ packets }
+    ensures { result.now ≡ front_contexts packets count contexts.now }
+{
+    if contexts.len() == packets {
+        &contexts[..count]
+    } else {
+        contexts
+    }
 }
 
 impl Session {
@@ -85,6 +112,22 @@ impl Session {
         }
     }
 
+    /// Installs a program, as `Host::install` does. If it does not fit, the session is unchanged.
+    pub(crate) fn install(
+        &mut self,
+        tenant: u16,
+        program: Box<Verified>,
+    ) -> Result<i32, Box<Verified>>
+        ensures loaded { IfOk result (λ status.
+            Installs tenant program.value.code status self.old.host self.new.host) }
+        ensures fits { OnOk result
+            (FitsTenant program.value (slice_get self.old.host.states tenant)) }
+        ensures stale { IfErr result (λ kept. (kept.value ≡ program.value) × (self.new ≡ self.old)
+            × ¬ FitsTenant program.value (slice_get self.old.host.states tenant)) }
+    {
+        self.host.install(tenant, program)
+    }
+
     /// Runs a program of a tenant on many packets, and returns the status: 0, or that of the refusal.
     pub(crate) fn run_packets(
         &mut self,
@@ -108,33 +151,77 @@ impl Session {
         }
     }
 
-    /// The same with contexts of `size` words, one after another in `words`; the status is written. Returns `DONE`; else `ERR_SIZE`,
-    /// `ERR_TOO_BIG` or `ERR_NO_MEMORY`, and nothing is changed.
+    /// The number of packets at the front of a batch that a bound on executed instructions allows. A batch with neither one context nor
+    /// one for each packet is rejected, and not made shorter.
+    fn allowed_packets(
+        &self,
+        tenant: usize,
+        fd: u32,
+        bound: u64,
+        contexts: usize,
+        packets: usize,
+    ) -> usize
+        ensures allowed { are_contexts contexts packets ≡ true
+            → IsAllowedFor (slice_get self.now.host.states tenant) fd bound packets result }
+        ensures whole { are_contexts contexts packets ≡ false → result ≡ packets }
+        ensures few { result ≤ packets }
+    {
+        if contexts != 1 && contexts != packets {
+            return packets;
+        }
+        self.host.allowed_packets(tenant, fd, bound, packets)
+    }
+
+    /// Runs a program of a tenant on the packets at the front of a batch that a bound on executed instructions allows.
+    pub(crate) fn run_bounded(
+        &mut self,
+        tenant: usize,
+        fd: u32,
+        bound: u64,
+        contexts: &[[u32; GIVEN_WORDS]],
+        bytes: &[u8],
+        ends: &[usize],
+        results: &mut [u32],
+    ) -> Ran
+        ensures runs { RunsBounded tenant fd bound contexts.now bytes.now ends.now results.old
+            results.new result.status result.packets self.old.host.states self.new.host.states }
+        ensures births { self.new.host.births ≡ self.old.host.births }
+    {
+        let packets = self.allowed_packets(tenant, fd, bound, contexts.len(), ends.len());
+        let front = front_contexts(contexts, ends.len(), packets);
+        let status = self.run_packets(tenant, fd, front, bytes, &ends[..packets], results);
+        if status != 0 {
+            return Ran { status, packets: 0 };
+        }
+        Ran { status, packets }
+    }
+
+    /// The same with contexts of `size` words, one after another in `words`.
+    ///
+    /// `Err`: the code of the call, `ERR_SIZE`, `ERR_TOO_BIG` or `ERR_NO_MEMORY`, and nothing is changed.
     pub(crate) fn run_sized(
         &mut self,
         tenant: usize,
         fd: u32,
+        bound: u64,
         words: &[u32],
         size: usize,
         bytes: &[u8],
         ends: &[usize],
         results: &mut [u32],
-        status: &mut i32,
-    ) -> i32
-        ensures done { result ≡ DONE → RunsPackets tenant fd (contexts_of size words.now) bytes.now
-            ends.now results.old results.new status.new self.old.host.states self.new.host.states }
-        ensures code { result ≢ ERR_NO_MEMORY → result ≡ contexts_code size words.now }
-        ensures memory { result ≡ ERR_NO_MEMORY → contexts_code size words.now ≡ DONE }
+    ) -> Result<Ran, i32>
+        ensures done { IfOk result (λ ran. RunsBounded tenant fd bound (contexts_of size words.now)
+            bytes.now ends.now results.old results.new ran.status ran.packets self.old.host.states
+            self.new.host.states) }
+        ensures known { IfOk result (λ ran. contexts_code size words.now ≡ DONE) }
+        ensures code { IfErr result (λ code. (code ≢ DONE)
+            × (code ≢ ERR_NO_MEMORY → code ≡ contexts_code size words.now)
+            × (code ≡ ERR_NO_MEMORY → contexts_code size words.now ≡ DONE)) }
         ensures births { self.new.host.births ≡ self.old.host.births }
-        ensures session { result ≢ DONE → self.new ≡ self.old }
-        ensures results { result ≢ DONE → results.new ≡ results.old }
-        ensures status { result ≢ DONE → status.new ≡ status.old }
+        ensures session { OnErr result (self.new ≡ self.old) }
+        ensures results { OnErr result (results.new ≡ results.old) }
     {
-        let contexts = match given_contexts(self.alloc, words, size) {
-            Ok(contexts) => contexts,
-            Err(code) => return code,
-        };
-        *status = self.run_packets(tenant, fd, contexts.as_slice(), bytes, ends, results);
-        DONE
+        let contexts = given_contexts(self.alloc, words, size)?;
+        Ok(self.run_bounded(tenant, fd, bound, contexts.as_slice(), bytes, ends, results))
     }
 }

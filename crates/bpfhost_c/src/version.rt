@@ -2,7 +2,7 @@
 
 const MAJOR: u32 = 0;
 
-const MINOR: u32 = 2;
+const MINOR: u32 = 3;
 
 const PATCH: u32 = 0;
 
@@ -10,4 +10,4 @@ const PATCH: u32 = 0;
 pub(crate) const VERSION: u32 = MAJOR * 65_536 + MINOR * 256 + PATCH;
 
 /// The number of the binary interface: it changes whenever the soname does.
-pub(crate) const ABI: u32 = 2;
+pub(crate) const ABI: u32 = 3;

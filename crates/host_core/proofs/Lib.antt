@@ -11,3 +11,4 @@ mod BatchCalls
 mod Replays
 mod Ends
 mod Histories
+mod Installs

@@ -1,8 +1,10 @@
 -- The states of all tenants, if one of them changes.
-use Rattle.std.proofs.Common.{◌≡◌, ◌≢◌, ℕ, zero, suc, ◌+◌, ◌<◌, ◌≤◌, Bool, true, false, List, [], ◌∷◌, ◌++◌, length, Option, Some, None, refl, sym, ap, ap₂, subst, ◌∙◌, arith, get_or, set, length-set}
+use Rattle.std.proofs.Common.{◌≡◌, ◌≢◌, ℕ, zero, suc, ◌+◌, ◌<◌, ◌≤◌, Bool, true, false, List, [], ◌∷◌, ◌++◌, length, Bor, Option, Some, None, refl, sym, ap, ap₂, subst, ◌∙◌, arith, get_or, set, length-set}
+use Rattle.std.proofs.lemmas.Bool.{ltb-true, ltb-false}
 use Rattle.std.proofs.lemmas.List.{map-append}
 use Rattle.std.proofs.lemmas.Option.{none-some, same_Some, slice_get_read, slice_get-map}
 use Rattle.std.specs.Prelude.{slice_get, option_and_then, option_map, replicate, nat_lt, if◌then◌else◌, Result, Ok, Err, OnOk, OnErr}
+use Rattle.std.specs.Slice.{IsItemAt}
 use Rattle.arena.specs.Memory.{Memory, part_bytes}
 use Rattle.saving.specs.declared.birth.Birth.{Birth}
 use Rattle.saving.specs.Recorded.{RecordedTenant, RecordsFrame, tenant_state}
@@ -87,6 +89,25 @@ count_stays m n ks i k = states_length n 0 (set ks i k) ∙ length-set ks i k �
 -- the state of a tenant that is served
 pub state_there : (m : Memory) (ks : List RecordedTenant) (states : List TenantState) (i : ℕ) (k : RecordedTenant) → states_in m ks ≡ states → slice_get ks i ≡ Some k → slice_get states i ≡ Some (tenant_state (part_bytes m i) k)
 state_there m ks states i k is found = ap (λ (s : List TenantState). slice_get s i) (sym is) ∙ own_before m ks i k found
+
+-- what was read by its number is the tenant's record, and gives its state
+pub kept_is : (m : Memory) (ks xs : List RecordedTenant) (states : List TenantState) (i : ℕ) → states_in m ks ≡ states → xs ≡ ks → (r : Option (Bor RecordedTenant)) → IsItemAt xs i r
+    → slice_get states i ≡ option_map (λ kept. tenant_state (part_bytes m i) kept.now) r
+kept_is m ks xs states i is same (Some kept) at =
+    state_there m ks states i kept.now is (subst (λ (l : List RecordedTenant). slice_get l i ≡ Some kept.now) same (slice_get_in xs i kept.now (ltb-true i (length xs) (sym at.0)) at.1))
+kept_is m ks xs states i is same None at =
+    let few = ltb-false i (length xs) (sym at.0) in
+    let many = states_length m 0 ks in
+    no_state states i (omega (arith, few, many, ap length is, ap length same))
+
+-- what is read of a tenant that was found, or not
+pub of_kept : {X : Type 0} (of : Option TenantState → X) (part : List ℕ) {r : Option (Bor RecordedTenant)} {kept : Bor RecordedTenant} {o : Option TenantState}
+    → o ≡ option_map (λ k. tenant_state part k.now) r → r ≡ Some kept → of (Some (tenant_state part kept.now)) ≡ of o
+of_kept of part is found = sym (ap of (is ∙ ap (option_map (λ k. tenant_state part k.now)) found))
+
+pub of_none : {X : Type 0} (of : Option TenantState → X) (part : List ℕ) {r : Option (Bor RecordedTenant)} {o : Option TenantState}
+    → o ≡ option_map (λ k. tenant_state part k.now) r → r ≡ None → of None ≡ of o
+of_none of part is none = sym (ap of (is ∙ ap (option_map (λ k. tenant_state part k.now)) none))
 
 -- its own state changes by the reply
 pub tells_own : (m n : Memory) (ks : List RecordedTenant) (states : List TenantState) (i o : ℕ) (k l : RecordedTenant) (frame reply : List ℕ) → states_in m ks ≡ states → i ≡ o → i < length ks → slice_get ks i ≡ Some k

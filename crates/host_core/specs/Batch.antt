@@ -5,7 +5,7 @@ use Rattle.command_frames.specs.Frame.{owner}
 use Rattle.tenant.specs.Table.{named}
 use Rattle.tenant.specs.declared.errno.Errno.{Errno}
 use Rattle.tenant.specs.declared.errno.Errno.TheVariants.{NotPermitted}
-use Rattle.tenant.specs.Batch.{BatchInput, RunsInOrder, RunsBatch, AreTestRuns, batch_refusal, result_replies}
+use Rattle.tenant.specs.Batch.{BatchInput, RunsInOrder, RunsBatch, AreTestRuns, IsAllowed, batch_refusal, result_replies}
 use Rattle.tenant.specs.Errno.{status_of}
 use Rattle.tenant.specs.State.{TenantState}
 use Rattle.host_core.specs.Handled.{Turn, frames_in, replies_in, HandlesInOrder}
@@ -22,6 +22,12 @@ abbrev pub refusal_for : Option TenantState → ℕ → ℕ → ℕ → List ℕ
 refusal_for None fd contexts many ends room = Some NotPermitted
 refusal_for (Some s) fd contexts many ends room =
     batch_refusal (named s.objects fd) contexts many ends room
+
+-- n packets of a batch are allowed by a bound on executed instructions; the batch of a tenant that
+-- is not served is rejected as a whole
+abbrev pub IsAllowedFor : Option TenantState → ℕ → ℕ → ℕ → ℕ → Type 0
+IsAllowedFor None fd bound packets n = n ≡ packets
+IsAllowedFor (Some s) fd bound packets n = IsAllowed (named s.objects fd) bound packets n
 
 -- the status of a batch, as that of the frames: 0, or the negated error number
 abbrev pub batch_status : Option Errno → ℤ

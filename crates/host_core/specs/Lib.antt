@@ -4,7 +4,9 @@ pub mod States
 pub mod Served
 pub mod Handled
 pub mod Saving
+pub mod Targets
 pub mod Batch
+pub mod Installs
 pub mod Laws
 pub mod inside
 -- what public contracts cite of crates below
@@ -13,3 +15,5 @@ pub use Rattle.tenant.specs.Alone
 pub use Rattle.tenant.specs.Batch as TenantBatch
 pub use Rattle.saving.specs.SaveParts
 pub use Rattle.tenant.specs.State
+pub use Rattle.tenant.specs.Counts
+pub use Rattle.tenant.specs.Described

@@ -35,12 +35,12 @@ pub const MOST_TENANTS: usize = 64;
 /// by tenant number.
 #[derive(Drop)]
 pub struct Host {
-    tenants: Vec<SavableTenant>,
+    pub(crate) tenants: Vec<SavableTenant>,
     /// A part for each tenant: the values of its maps, and the stack and the context of its runs.
     arena: Arena,
     /// The memory in which a load is verified, whichever tenant's it is.
     working: WorkingMemory,
-    alloc: Global,
+    pub(crate) alloc: Global,
 }
 
 impl Model for Host {

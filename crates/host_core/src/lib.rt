@@ -26,7 +26,9 @@
 //!   (`only_creations_and_loads_are_refused` of `tenant`).
 //! - Both also hold for a sequence of calls of `Host::handle` without a stream, and no test run faults: `calls_are_told_alone`.
 //! - `serve_new_host` promises the same of a stream that a new host serves, from the states of new tenants.
-//! - A caller can ask whether a tenant's flag is set: `refused`, `unrefused` of `Host::memory_was_refused`.
+//! - A caller can ask whether a tenant's flag is set: `refused`, `unrefused` of `Host::memory_was_refused`. How much a tenant has, what
+//!   a descriptor of it names, and all descriptors as the verifier sees them are what its state says: `Host::counts`,
+//!   `Host::describe`, `Host::targets`.
 //! - Two streams that agree on a tenant's initial state and on its frames give it the same replies, if neither refuses memory
 //!   to it: `same_frames_same_replies`.
 //! - Two streams with the same frames have the same replies, and the same bytes are written, whatever hosts serve them, if each
@@ -64,6 +66,13 @@
 //! - The runs of a batch are calls of `Host::handle` on the test-run frames of its packets. So what holds for a sequence of
 //!   calls holds if some of them are batches, and no run of a batch faults: `batch_is_its_calls`. These frames exist:
 //!   `test_runs_have_frames` of `saving`.
+//!
+//! Programs that were verified elsewhere:
+//!
+//! - To install one is the call of `Host::handle` on the frame that loads it, with the status of its reply, which has no payload. So
+//!   what holds for a sequence of calls holds if some of them are installations: `loaded` of `Host::install`.
+//! - Or a descriptor of its maps names no map of the shape with which it was accepted. Then it is given back, and nothing has changed:
+//!   `stale`, `fits` of `Host::install`.
 //!
 //! Saves:
 //!
@@ -113,6 +122,8 @@
 
 mod contract_clients;
 mod host;
+mod inspection;
+mod installing;
 pub mod laws;
 mod reading;
 mod server;
@@ -125,5 +136,5 @@ pub use reading::fill;
 pub use seeded_hash::HashSeed;
 pub use server::{MOST_FRAMES, ServeFault, ServeFaultKind, serve, serve_new_host};
 pub use stream::{Counted, Sink, Source};
-pub use tenant::Errno;
+pub use tenant::{Counts, Described, Errno, MAP_THERE, NOTHING_THERE, PROGRAM_THERE};
 pub use writing::write_whole;

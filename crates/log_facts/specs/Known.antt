@@ -1,12 +1,14 @@
 -- The contents of a log: the verdict on a program, and the facts before each instruction that the
 -- verifier's pass reached. This project's own.
-use Rattle.std.specs.Prelude.{◌≡◌, ◌⊎◌, ℕ, ◌+◌, Bool, true, false, List, [], map, Option, Some, None}
+use Rattle.std.specs.Prelude.{◌≡◌, ◌⊎◌, ℕ, ◌+◌, Bool, true, false, List, [], map, Result, Ok, Err}
 use Rattle.insn_set.specs.declared.insn.Insn.{Insn}
 use Rattle.insn_set.specs.Program.{slot_count}
 use Rattle.log_facts.specs.declared.recorder.KnownFacts.{KnownFacts}
 use Rattle.reg_kinds.specs.declared.facts.Facts.{Facts}
 use Rattle.tagged_model.specs.declared.shape.Named.{Named}
+use Rattle.verifier.specs.declared.cost.Cost.{Cost}
 use Rattle.verifier.specs.declared.fault.VerifyFault.{VerifyFault}
+use Rattle.verifier.specs.Cost.{IsCostOf}
 use Rattle.verifier.specs.Maps.{shapes_of}
 use Rattle.verifier.specs.Shape.{structure_fault}
 use Rattle.verifier.specs.Told.{reached}
@@ -41,10 +43,10 @@ abbrev pub IsRefusedWith : List Insn → List Named → List KnownFacts → Veri
 IsRefusedWith code named known fault =
     IsMisshapen code named known fault ⊎ IsUnsafe code named known fault
 
--- the verdict: the fault for which the program is rejected, if it is not accepted
-abbrev pub IsJudged : List Insn → List Named → List KnownFacts → Option VerifyFault → Type 0
-IsJudged code named known None = IsAcceptedWith code named known
-IsJudged code named known (Some fault) = IsRefusedWith code named known fault
+-- the verdict: what the program costs if it is accepted, or the fault for which it is rejected
+abbrev pub IsJudged : List Insn → List Named → List KnownFacts → Result Cost VerifyFault → Type 0
+IsJudged code named known (Ok cost) = IsAcceptedWith code named known × IsCostOf cost code
+IsJudged code named known (Err fault) = IsRefusedWith code named known fault
 
 -- the facts of a log, which says whether the program is accepted
 abbrev pub IsLogged : List Insn → List Named → Bool → List KnownFacts → Type 0

@@ -1,8 +1,11 @@
 -- What the text of a log says of the verdict, unless it is a graph. This project's own.
-use Rattle.std.specs.Prelude.{◌≡◌, ◌⊎◌, ℕ, Bool, true, false, List, [], ◌∷◌, ◌++◌, Option, Some, None, codes}
+use Rattle.std.specs.Prelude.{◌≡◌, ◌⊎◌, ℕ, Bool, true, false, List, [], ◌∷◌, ◌++◌, Result, Ok, Err, codes}
+use Rattle.std.specs.Fmt.{decimal}
 use Rattle.insn_set.specs.declared.insn.Insn.{Insn}
 use Rattle.tagged_model.specs.declared.shape.Named.{Named}
+use Rattle.verifier.specs.declared.cost.Cost.{Cost}
 use Rattle.verifier.specs.declared.fault.VerifyFault.{VerifyFault}
+use Rattle.verifier.specs.Cost.{IsCostOf}
 use Rattle.verifier.specs.Judgement.{refusal_of_program, refusal_text}
 use Rattle.verifier.specs.Verdict.{IsRefused}
 
@@ -14,24 +17,31 @@ AreLines bytes = (bytes ≡ []) ⊎ ((before : List ℕ) × (bytes ≡ before ++
 abbrev pub accepted_line : List ℕ
 accepted_line = codes "accepted" ++ 10 ∷ []
 
+-- the line of what a program costs
+abbrev pub cost_line : Cost → List ℕ
+cost_line cost =
+    codes "cost: instructions "
+    ++ (decimal cost.instructions ++ (codes ", calls " ++ (decimal cost.calls ++ 10 ∷ [])))
+
 -- the first line of a refusal, with the slot and the number of the reason
 abbrev pub refusal_line : VerifyFault → List ℕ
 refusal_line fault = refusal_text (refusal_of_program fault) ++ 10 ∷ []
 
--- the verdict is added: the line of an acceptance, or that of a refusal with more text after it
-abbrev pub AddsVerdict : Option VerifyFault → List ℕ → List ℕ → Type 0
-AddsVerdict None old new = new ≡ old ++ accepted_line
-AddsVerdict (Some fault) old new = (more : List ℕ) × (new ≡ old ++ refusal_line fault ++ more)
+-- the verdict is added: the lines of the cost and of an acceptance, or that of a refusal with more
+-- text after it
+abbrev pub AddsVerdict : Result Cost VerifyFault → List ℕ → List ℕ → Type 0
+AddsVerdict (Ok cost) old new = new ≡ old ++ cost_line cost ++ accepted_line
+AddsVerdict (Err fault) old new = (more : List ℕ) × (new ≡ old ++ refusal_line fault ++ more)
 
 -- lines, and then the verdict
-abbrev pub EndsInVerdict : Option VerifyFault → List ℕ → Type 0
-EndsInVerdict fault text = (lines : List ℕ) × AreLines lines × AddsVerdict fault lines text
+abbrev pub EndsInVerdict : Result Cost VerifyFault → List ℕ → Type 0
+EndsInVerdict verdict text = (lines : List ℕ) × AreLines lines × AddsVerdict verdict lines text
 
--- the text says whether the program is accepted, and if not, at which slot and for which reason it
--- is rejected
+-- the text says whether the program is accepted, and if so, what it costs; if not, at which slot
+-- and for which reason it is rejected
 abbrev pub SaysVerdict : List Insn → List Named → Bool → List ℕ → Type 0
-SaysVerdict code named true text = EndsInVerdict None text
+SaysVerdict code named true text = (cost : Cost) × IsCostOf cost code × EndsInVerdict (Ok cost) text
 SaysVerdict code named false text =
     (fault : VerifyFault)
     × IsRefused code named fault.slot fault.reason
-    × EndsInVerdict (Some fault) text
+    × EndsInVerdict (Err fault) text

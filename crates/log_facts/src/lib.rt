@@ -5,11 +5,12 @@
 //!
 //! - The facts that are kept are those of the definition (`reached`), before each instruction that a run may reach, in the order
 //!   of the slots and no others, with the verdict of the definition: for an accepted program before all of its instructions; for
-//!   one that is rejected for its safety up to the slot of the fault; for one that is rejected for its shape none: `judge`.
-//! - The verdict as text is the line `accepted`, or the line of the rejection, with its slot and the number of its reason, and
-//!   some text after it: `write_verdict`.
-//! - A log of a judged program says that it is accepted exactly if it is, has its facts, and its text says the verdict if it
-//!   ends with it: `Judged::into_log`.
+//!   one that is rejected for its safety up to the slot of the fault; for one that is rejected for its shape none: `judge`. An
+//!   accepted program's cost is that of the definition.
+//! - The verdict as text is a line with the cost of the program and the line `accepted`; or the line of the rejection, with its
+//!   slot and the number of its reason, and some text after it: `write_verdict`.
+//! - A log of a judged program says that it is accepted exactly if it is, has its facts, and its text says the verdict, and of an
+//!   accepted program the cost, if it ends with it: `Judged::into_log`.
 //!
 //! # Decisions
 //!

@@ -39,21 +39,21 @@ impl Judged {
     pub fn into_log(self, text: String) -> Log
         ensures text { result.text ≡ text }
         ensures verdict { (code : List Insn) (named : List Named)
-            → IsJudged code named self.known.items self.fault
+            → IsJudged code named self.known.items self.verdict
             → IsTrue result.is_accepted ↔ IsAccepted code named }
         ensures facts { (code : List Insn) (named : List Named)
-            → IsJudged code named self.known.items self.fault
+            → IsJudged code named self.known.items self.verdict
             → IsLogged code named result.is_accepted result.facts.items }
         ensures said { (code : List Insn) (named : List Named)
-            → IsJudged code named self.known.items self.fault
-            → EndsInVerdict self.fault (string_bytes text)
+            → IsJudged code named self.known.items self.verdict
+            → EndsInVerdict self.verdict (string_bytes text)
             → SaysVerdict code named result.is_accepted (string_bytes result.text) }
     {
         laws::accepted_is_not_refused();
-        let Judged { known, fault } = self;
+        let Judged { known, verdict } = self;
         Log {
             text,
-            is_accepted: fault.is_none(),
+            is_accepted: verdict.is_ok(),
             facts: known,
         }
     }

@@ -7,7 +7,7 @@ use insn_codec::Program;
 use reg_kinds::{Facts, Kind, Reason, Slot};
 use std::alloc::{AllocError, Global};
 use tagged_model::Named;
-use verifier::{VerifyFault, Watcher, verify_watched};
+use verifier::{Cost, VerifyFault, Watcher, verify_watched};
 use words::{REGISTERS, STACK_SLOTS};
 
 /// What the verifier knows before an instruction that a run may reach.
@@ -51,8 +51,8 @@ impl Watcher for Recorder {
 pub struct Judged {
     /// What is known before each instruction that the pass reached, in order.
     pub known: Vec<KnownFacts>,
-    /// Why the program is rejected; `None` if it is accepted.
-    pub fault: Option<VerifyFault>,
+    /// What the program costs if it is accepted; otherwise why it is rejected.
+    pub verdict: Result<Cost, VerifyFault>,
 }
 
 /// Verifies a program, if descriptors name these objects, and keeps what is known before each instruction that the pass reaches.
@@ -61,7 +61,7 @@ pub struct Judged {
 ///
 /// `AllocError`: out of memory for the verdict or for the facts.
 pub fn judge(alloc: Global, program: &Program, named: &[Named]) -> Result<Judged, AllocError>
-    ensures { IfOk result (λ told. IsJudged program.now named.now told.known.items told.fault) }
+    ensures { IfOk result (λ told. IsJudged program.now named.now told.known.items told.verdict) }
 {
     let mut recorder = Recorder {
         known: Vec::new(alloc),
@@ -69,11 +69,7 @@ pub fn judge(alloc: Global, program: &Program, named: &[Named]) -> Result<Judged
     let verdict = verify_watched(alloc, program, named, &mut recorder);
     let Recorder { known } = recorder;
     match verdict {
-        Ok(()) => Ok(Judged { known, fault: None }),
         Err(fault) if fault.reason == Reason::Memory => Err(AllocError),
-        Err(fault) => Ok(Judged {
-            known,
-            fault: Some(fault),
-        }),
+        _ => Ok(Judged { known, verdict }),
     }
 }

@@ -1,12 +1,12 @@
 //! The verdict as text.
 
-ghost use Rattle.std.specs.Prelude.{◌≡◌, ◌++◌, OnOk, string_bytes};
-ghost use Rattle.log_facts.specs.Said.{AddsVerdict, refusal_line};
+ghost use Rattle.std.specs.Prelude.{◌≡◌, ◌++◌, Ok, Err, OnOk, string_bytes};
+ghost use Rattle.log_facts.specs.Said.{AddsVerdict, cost_line, refusal_line};
 
 use reg_kinds::Reason;
 use std::alloc::AllocError;
 use std::fmt::Write;
-use verifier::{Refusal, VerifyFault};
+use verifier::{Cost, Refusal, VerifyFault};
 
 /// Whether a reason concerns a program's shape, and not its safety.
 pub fn is_of_shape(reason: Reason) -> bool {
@@ -23,27 +23,46 @@ fn write_fault(text: &mut String, fault: VerifyFault) -> Result<(), AllocError>
 
 /// Writes the line of a refusal, and `why` after it.
 fn write_refusal(text: &mut String, fault: VerifyFault, why: &str) -> Result<(), AllocError>
-    ensures { OnOk result (AddsVerdict (Some fault) (string_bytes text.old)
+    ensures { OnOk result (AddsVerdict (Err fault) (string_bytes text.old)
         (string_bytes text.new)) }
 {
     write_fault(text, fault)?;
     text.push_str(why)
 }
 
-/// Writes the verdict: the line `accepted`, or the line of the refusal, and `why` after it.
+/// Writes what a program costs: the most instructions and the most calls of helpers that a run executes.
+fn write_cost(text: &mut String, cost: Cost) -> Result<(), AllocError>
+    ensures { OnOk result (string_bytes text.new ≡ string_bytes text.old ++ cost_line cost) }
+{
+    let Cost {
+        instructions,
+        calls,
+    } = cost;
+    writeln!(text, "cost: instructions {instructions}, calls {calls}")
+}
+
+/// Writes the line of the cost, and the line `accepted`.
+fn write_acceptance(text: &mut String, cost: Cost) -> Result<(), AllocError>
+    ensures { OnOk result (AddsVerdict (Ok cost) (string_bytes text.old) (string_bytes text.new)) }
+{
+    write_cost(text, cost)?;
+    text.push_str("accepted\n")
+}
+
+/// Writes the verdict: what the program costs and the line `accepted`, or the line of the refusal, and `why` after it.
 ///
 /// # Errors
 ///
 /// `AllocError`: out of memory for the text.
 pub fn write_verdict(
     text: &mut String,
-    fault: Option<VerifyFault>,
+    verdict: Result<Cost, VerifyFault>,
     why: &str,
 ) -> Result<(), AllocError>
-    ensures { OnOk result (AddsVerdict fault (string_bytes text.old) (string_bytes text.new)) }
+    ensures { OnOk result (AddsVerdict verdict (string_bytes text.old) (string_bytes text.new)) }
 {
-    match fault {
-        None => text.push_str("accepted\n"),
-        Some(fault) => write_refusal(text, fault, why),
+    match verdict {
+        Ok(cost) => write_acceptance(text, cost),
+        Err(fault) => write_refusal(text, fault, why),
     }
 }

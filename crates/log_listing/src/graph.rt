@@ -159,7 +159,7 @@ impl<'a> Graph<'a> {
         match self.fault {
             Some(fault) if fault.slot == slot => {
                 let mut lines = String::new(self.alloc);
-                write_verdict(&mut lines, self.fault, self.why)?;
+                write_verdict(&mut lines, Err(fault), self.why)?;
                 self.block.is_refused = true;
                 write_label(text, lines.as_str())
             }

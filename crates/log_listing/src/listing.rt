@@ -11,21 +11,21 @@ use insn_codec::Program;
 use log_facts::{Judged, LogStyle, is_of_shape, write_verdict};
 use std::alloc::{AllocError, Global};
 use tagged_model::Named;
-use verifier::VerifyFault;
+use verifier::{Cost, VerifyFault};
 
 /// The lines of the instructions up to the rejected one, and the verdict.
 fn lines_of(
     alloc: Global,
     story: &Story<'_>,
-    fault: Option<VerifyFault>,
+    verdict: Result<Cost, VerifyFault>,
     why: &str,
 ) -> Result<String, AllocError>
-    ensures { IfOk result (λ text. EndsInVerdict fault (string_bytes text)) }
+    ensures { IfOk result (λ text. EndsInVerdict verdict (string_bytes text)) }
 {
-    let last = fault.map_or(story.program.slots(), |fault| fault.slot);
+    let last = verdict.map_or_else(|fault| fault.slot, |_| story.program.slots());
     let mut text = String::new(alloc);
     write_lines(&mut text, story, last)?;
-    write_verdict(&mut text, fault, why)?;
+    write_verdict(&mut text, verdict, why)?;
     Ok(text)
 }
 
@@ -44,19 +44,19 @@ pub fn listing_of(
     why: &str,
 ) -> Result<String, AllocError>
     ensures { style ≢ LogStyle.Graph
-        → IfOk result (λ text. EndsInVerdict judged.now.fault (string_bytes text)) }
+        → IfOk result (λ text. EndsInVerdict judged.now.verdict (string_bytes text)) }
 {
-    let Judged { known, fault } = judged;
+    let Judged { known, verdict } = judged;
     let steps = steps_of(alloc, program, named, known, style == LogStyle::Whole)?;
     let jumps = live_jumps(alloc, program, &steps)?;
     let story = Story {
         program,
         steps: &steps,
         jumps: &jumps,
-        is_told: fault.is_none_or(|fault| !is_of_shape(fault.reason)),
+        is_told: !verdict.is_err_and(|fault| is_of_shape(fault.reason)),
     };
     match style {
-        LogStyle::New | LogStyle::Whole => lines_of(alloc, &story, *fault, why),
-        LogStyle::Graph => graph_of(alloc, &story, *fault, why),
+        LogStyle::New | LogStyle::Whole => lines_of(alloc, &story, *verdict, why),
+        LogStyle::Graph => graph_of(alloc, &story, verdict.err(), why),
     }
 }

@@ -87,8 +87,8 @@ pub fn rejection_text(
     judged: &Judged,
     between: &str,
 ) -> Result<String, AllocError> {
-    let Judged { known, fault } = judged;
-    let Some(fault) = *fault else {
+    let Judged { known, verdict } = judged;
+    let Err(fault) = *verdict else {
         return Ok(String::new(alloc));
     };
     let facts = last_facts(known);

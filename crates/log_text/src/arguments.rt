@@ -1,7 +1,7 @@
 //! The program's arguments.
 
 use clap::{Arg, ArgAction, ArgMatches, Command};
-use log_facts::LogStyle;
+use log_core::LogStyle;
 use std::alloc::{AllocError, Global};
 
 /// The form of the input's program.
@@ -27,7 +27,7 @@ fn program<'a>(alloc: Global) -> Command<'a> {
         .about(
             "Reads a program, hex lines or text, and writes what the verifier knows before each instruction, and the verdict",
         )
-        .version("0.2.0")
+        .version("0.3.0")
         .no_binary_name(true)
 }
 

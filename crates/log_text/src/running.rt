@@ -1,15 +1,12 @@
 //! The command-line program: it reads a program and writes its log.
 
 use crate::arguments::{ProgramForm, form_of, parse_arguments, style_of};
-use crate::log::log_of;
 use clap::ArgMatches;
 use host::{Failure, hex_slots, maps_named, text_program, whole_input};
-use insn_codec::{FaultKind, Program, read_program};
-use log_facts::{Log, LogStyle};
+use log_core::{Log, SlotsLog, log_of, log_of_slots};
 use std::alloc::{AllocError, Global};
 use std::io::{Read, Write};
 use tagged_model::Named;
-use verifier::Refusal;
 
 /// The program's output and its exit status.
 #[derive(Drop)]
@@ -26,55 +23,15 @@ fn maps_given(alloc: Global, matches: &ArgMatches<'_>) -> Result<Vec<Named>, Fai
     }
 }
 
-/// The program of slots, or their refusal if they are none.
-fn program_of_slots(alloc: Global, slots: &[u8]) -> Result<Result<Program, Refusal>, AllocError> {
-    match read_program(alloc, slots) {
-        Ok(program) => Ok(Ok(program)),
-        Err(fault) if fault.kind == FaultKind::Memory => Err(AllocError),
-        Err(fault) => Ok(Err(Refusal::from(fault))),
+impl Answer {
+    /// The output for a log: its text, and the status of its verdict.
+    fn of_log(text: String, is_accepted: bool) -> Answer {
+        let status = if is_accepted { 0 } else { 1 };
+        Answer { text, status }
     }
 }
 
-/// The program of an input, or the refusal of its slots if they are none.
-fn program_in(
-    alloc: Global,
-    matches: &ArgMatches<'_>,
-    input: &[u8],
-) -> Result<Result<Program, Refusal>, Failure> {
-    match form_of(matches, input) {
-        ProgramForm::Hex => {
-            let slots = hex_slots(alloc, input)?;
-            Ok(program_of_slots(alloc, &slots)?)
-        }
-        ProgramForm::Text => Ok(Ok(text_program(alloc, input)?)),
-    }
-}
-
-/// The output for an input whose slots are no program: the line that `verify` writes.
-fn refused(alloc: Global, refusal: Refusal) -> Result<Answer, AllocError> {
-    Ok(Answer {
-        text: format!(in alloc; "{refusal}\n")?,
-        status: 1,
-    })
-}
-
-/// The log of a program.
-fn logged(
-    alloc: Global,
-    program: &Program,
-    maps: &[Named],
-    style: LogStyle,
-) -> Result<Answer, AllocError> {
-    let Log {
-        text,
-        is_accepted,
-        facts: _,
-    } = log_of(alloc, program, maps, style)?;
-    let status = if is_accepted { 0 } else { 1 };
-    Ok(Answer { text, status })
-}
-
-/// The log of the program of an input.
+/// The log of the program of an input, or the refusal of its slots if they are none.
 fn log_answer<I: Read + Drop>(
     alloc: Global,
     matches: &ArgMatches<'_>,
@@ -82,9 +39,22 @@ fn log_answer<I: Read + Drop>(
 ) -> Result<Answer, Failure> {
     let maps = maps_given(alloc, matches)?;
     let input = whole_input(alloc, input)?;
-    match program_in(alloc, matches, &input)? {
-        Ok(program) => Ok(logged(alloc, &program, &maps, style_of(matches))?),
-        Err(refusal) => Ok(refused(alloc, refusal)?),
+    let style = style_of(matches);
+    match form_of(matches, &input) {
+        ProgramForm::Hex => {
+            let slots = hex_slots(alloc, &input)?;
+            let SlotsLog { text, is_accepted } = log_of_slots(alloc, &slots, &maps, style)?;
+            Ok(Answer::of_log(text, is_accepted))
+        }
+        ProgramForm::Text => {
+            let program = text_program(alloc, &input)?;
+            let Log {
+                text,
+                is_accepted,
+                facts: _,
+            } = log_of(alloc, &program, &maps, style)?;
+            Ok(Answer::of_log(text, is_accepted))
+        }
     }
 }
 

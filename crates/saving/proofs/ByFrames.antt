@@ -17,7 +17,8 @@ use Rattle.tenant.specs.State.{Map, TenantState, new_tenant, live}
 use Rattle.tenant.specs.Alone.{AnswersFrame, IsToldAlone}
 use Rattle.saving.specs.Births.{Birth, OfMap, OfProgram, number, AreInOrder, IsBorn}
 use Rattle.saving.specs.Filler.{filler}
-use Rattle.saving.specs.Restored.{load_of, kind_number, create_of, put_of, made_map, made_program, made, filled, born, closings, restored, Leads}
+use Rattle.tenant.specs.Described.{type_number}
+use Rattle.saving.specs.Restored.{load_of, create_of, put_of, made_map, made_program, made, filled, born, closings, restored, Leads}
 use Rattle.saving.specs.Restorable.{IsRestorable}
 use Rattle.saving.specs.Frames.{frame_of, AreGood}
 use Rattle.saving.specs.Laws.{RestoredIsAlike, RestoredByFrames}
@@ -39,13 +40,13 @@ module _ (tenant : ℕ) where
 
   -- ---- each command of a walk
 
-  program_carried : (insns : List Insn) → IsProgram insns → IsCarried (load_of insns)
+  pub program_carried : (insns : List Insn) → IsProgram insns → IsCarried (load_of insns)
   program_carried insns is = let room = is.room in let long = length-program_bytes insns in load_parsed tenant (program_bytes insns) (omega arith)
 
   close_carried : (fd : ℕ) → fd < first_descriptor + most → IsCarried (close fd)
   close_carried fd lt = close_parsed tenant fd (omega arith)
 
-  kind_small : (kind : MapKind) → kind_number kind < 2 ^ 32
+  kind_small : (kind : MapKind) → type_number kind < 2 ^ 32
   kind_small Hash = omega arith
   kind_small Array = omega arith
 
@@ -55,7 +56,7 @@ module _ (tenant : ℕ) where
       let key = within.key in
       let value = within.value in
       let entries = within.entries in
-      create_parsed tenant (kind_number shape.kind) shape.key_size shape.value_size shape.max_entries (kind_small shape.kind) (omega arith) (omega arith) (omega arith)
+      create_parsed tenant (type_number shape.kind) shape.key_size shape.value_size shape.max_entries (kind_small shape.kind) (omega arith) (omega arith) (omega arith)
 
   puts_carried : (shape : MapShape) (fd : ℕ) (es : List (List ℕ × List ℕ)) → fd < first_descriptor + most → AllByRecursion (λ e. length e.0 ≡ shape.key_size) es → AllByRecursion (λ e. length e.1 ≡ shape.value_size) es → AreCarried (map (put_of fd) es)
   puts_carried shape fd [] lt keys values = tt

@@ -42,8 +42,8 @@ may_record frame command h reply before after births later headed is t = record 
   recorded = subst (λ (r : Result Command BadFrame). later ≡ births_after_frame r t.answer births) (sym is) t.recorded;
 }
 
-pub no_fault_told : (frame : List ℕ) (h : Head) (reply : List ℕ) → head_of frame ≡ Some h → reply ≢ reply_bytes h.tenant h.command (status_of BadAddress) [] → reply ≢ reply_to frame (status_of BadAddress) []
-no_fault_told frame h reply headed apart e = apart (e ∙ sym (by_head frame h headed (status_of BadAddress) []))
+pub no_fault_replied : (frame : List ℕ) (h : Head) (reply : List ℕ) → head_of frame ≡ Some h → reply ≢ reply_bytes h.tenant h.command (status_of BadAddress) [] → reply ≢ reply_to frame (status_of BadAddress) []
+no_fault_replied frame h reply headed apart e = apart (e ∙ sym (by_head frame h headed (status_of BadAddress) []))
 
 -- ---- a frame without a command
 
@@ -67,4 +67,4 @@ refused_record frame reply s births fault errno h headed is same written = recor
 
 pub refused_no_fault : (frame bytes : List ℕ) (s : TenantState) (errno : Errno) (h : Head) → head_of frame ≡ Some h → errno ≢ BadAddress → Writes h bytes (refuses errno s)
     → bytes ≢ reply_to frame (status_of BadAddress) []
-refused_no_fault frame bytes s errno h headed other written = no_fault_told frame h bytes headed (no_fault_written h bytes (Err errno) s other written)
+refused_no_fault frame bytes s errno h headed other written = no_fault_replied frame h bytes headed (no_fault_written h bytes (Err errno) s other written)

@@ -30,5 +30,6 @@ mod FramesLengths
 mod FramesParts
 mod FramesReplies
 mod Recorded
+mod Installs
 mod Saves
 mod SaveSteps

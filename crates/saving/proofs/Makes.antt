@@ -26,7 +26,8 @@ use Rattle.tenant.specs.declared.object.OpenObject.TheVariants as object
 use Rattle.bpf_maps.specs.Limits.{most_bytes}
 use Rattle.tenant.specs.State.{Map, TenantState, live, is_named, named_from, map_area, maps_area, shape_area, free_handle, with_map_at}
 use Rattle.tenant.specs.Machine.{Answer, Answers, opens, gives, refuses, kind_of, asked_shape, shape_where, new_map, room_for, created, created_under, created_as, of_object, of_handle, element_put}
-use Rattle.saving.specs.Restored.{create_of, kind_number, put_of, Leads}
+use Rattle.tenant.specs.Described.{type_number}
+use Rattle.saving.specs.Restored.{create_of, put_of, Leads}
 use Rattle.saving.specs.Restorable.{AreDistinct, IsWholeMap}
 use Rattle.saving.specs.Laws.{MapsAreHeld, AlikeIsBisimulation}
 use Rattle.saving.proofs.Lists.{set_by_index, there_within, there_is}
@@ -51,14 +52,14 @@ asked_listed true true shape s e same = ap Ok (same refl)
 asked_listed true false shape s e same = absurd (true≢false (sym e))
 asked_listed false fits shape s e same = absurd (true≢false (sym e))
 
-kind_again : (kind : MapKind) → kind_of (kind_number kind) ≡ Some kind
+kind_again : (kind : MapKind) → kind_of (type_number kind) ≡ Some kind
 kind_again Hash = refl
 kind_again Array = refl
 
 abbrev in_limits : MapKind → ℕ → ℕ → ℕ → Bool
 in_limits kind key value max = (has_key kind key && is_from_to 1 longest_value value) && is_from_to 1 most_entries max
 
-asked_again : (shape : MapShape) → asked_shape (kind_of (kind_number shape.kind)) shape.key_size shape.value_size shape.max_entries 0 ≡ Ok shape
+asked_again : (shape : MapShape) → asked_shape (kind_of (type_number shape.kind)) shape.key_size shape.value_size shape.max_entries 0 ≡ Ok shape
 asked_again shape =
     ap (λ (o : Option MapKind). asked_shape o shape.key_size shape.value_size shape.max_entries 0) (kind_again shape.kind)
     ∙ asked_listed (in_limits shape.kind shape.key_size shape.value_size shape.max_entries) (fits shape.value_size shape.max_entries)

@@ -114,14 +114,14 @@ no_birth Invalid s births = refl
 no_birth TooManyOpen s births = refl
 no_birth NoSpace s births = refl
 
-pub told_is_opened : (r : Result Reply Errno) (s : TenantState) (births : List Birth) → with_told r s.objects births ≡ with_opened (shown_answer r s).status (shown_answer r s).after births
-told_is_opened (Ok reply.Done) s births = refl
-told_is_opened (Ok (reply.Opened fd)) s births = refl
-told_is_opened (Ok (reply.Value value)) s births = refl
-told_is_opened (Ok (reply.Key key)) s births = refl
-told_is_opened (Ok (reply.Number number)) s births = refl
-told_is_opened (Ok (reply.Refused refusal)) s births = no_birth (cause_errno refusal.cause) s births
-told_is_opened (Err errno) s births = no_birth errno s births
+pub births_opened : (r : Result Reply Errno) (s : TenantState) (births : List Birth) → with_told r s.objects births ≡ with_opened (shown_answer r s).status (shown_answer r s).after births
+births_opened (Ok reply.Done) s births = refl
+births_opened (Ok (reply.Opened fd)) s births = refl
+births_opened (Ok (reply.Value value)) s births = refl
+births_opened (Ok (reply.Key key)) s births = refl
+births_opened (Ok (reply.Number number)) s births = refl
+births_opened (Ok (reply.Refused refusal)) s births = no_birth (cause_errno refusal.cause) s births
+births_opened (Err errno) s births = no_birth errno s births
 
 -- ---- births with the latest first
 

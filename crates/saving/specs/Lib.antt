@@ -4,6 +4,7 @@ pub mod Filler
 pub mod Restored
 pub mod Restorable
 pub mod Frames
+pub mod Installs
 pub mod Laws
 pub mod Recorded
 pub mod SaveParts

@@ -6,9 +6,8 @@ use Rattle.insn_set.specs.declared.insn.Insn.{Insn}
 use Rattle.insn_set.specs.Program.{program_bytes}
 use Rattle.command_frames.specs.Command.{Command, map_create, map_update, prog_load, close}
 use Rattle.fd_table.specs.Table.{first_descriptor, most, named}
-use Rattle.tagged_model.specs.declared.shape.MapKind.{MapKind}
-use Rattle.tagged_model.specs.declared.shape.MapKind.TheVariants.{Hash, Array}
 use Rattle.tagged_model.specs.declared.shape.MapShape.{MapShape}
+use Rattle.tenant.specs.Described.{type_number}
 use Rattle.tenant.specs.declared.object.OpenObject.{OpenObject}
 use Rattle.tenant.specs.declared.object.OpenObject.TheVariants as object
 use Rattle.tenant.specs.State.{Map, TenantState, live}
@@ -21,13 +20,9 @@ use Rattle.saving.specs.Births.{Birth, OfMap, OfProgram, number}
 abbrev pub load_of : List Insn → Command
 load_of insns = prog_load 1 (program_bytes insns)
 
-abbrev pub kind_number : MapKind → ℕ
-kind_number Hash = 1
-kind_number Array = 2
-
 abbrev pub create_of : MapShape → Command
 create_of shape =
-    map_create (kind_number shape.kind) shape.key_size shape.value_size shape.max_entries 0
+    map_create (type_number shape.kind) shape.key_size shape.value_size shape.max_entries 0
 
 abbrev pub put_of : ℕ → List ℕ × List ℕ → Command
 put_of fd e = map_update fd 0 (e.0 ++ e.1)

@@ -4,10 +4,11 @@ ghost use Rattle.std.specs.Prelude.{◌≡◌, ◌++◌, ◌+◌, ◌<◌, ◌^�
 ghost use Rattle.byteorder.specs.Endian.{little_bytes};
 ghost use Rattle.command_frames.specs.Command.{close, prog_load};
 ghost use Rattle.saving.specs.Frames.{frame_of};
-ghost use Rattle.saving.specs.Restored.{create_of, kind_number, put_of};
+ghost use Rattle.saving.specs.Restored.{create_of, put_of};
 
 use std::alloc::AllocError;
-use tagged_model::{MapKind, MapShape};
+use tagged_model::MapShape;
+use tenant::type_number;
 
 const MAP_CREATE: u16 = 0;
 
@@ -36,16 +37,6 @@ fn append(frame: &mut Vec<u8>, number: u32) -> Result<(), AllocError>
     frame.extend_from_slice(&number.to_le_bytes())
 }
 
-/// The number of a kind of map (bpf(2)).
-fn number_of(kind: MapKind) -> u32
-    ensures { result ≡ kind_number kind }
-{
-    match kind {
-        MapKind::Hash => 1,
-        MapKind::Array => 2,
-    }
-}
-
 /// Writes the frame that closes a descriptor, in place of the buffer's contents.
 pub(crate) fn write_close(frame: &mut Vec<u8>, tenant: u16, fd: u32) -> Result<(), AllocError>
     ensures { OnOk result (frame.new.items ≡ frame_of tenant (close fd)) }
@@ -63,7 +54,7 @@ pub(crate) fn write_create(
     ensures { OnOk result (frame.new.items ≡ frame_of tenant (create_of shape)) }
 {
     begin(frame, tenant, MAP_CREATE)?;
-    append(frame, number_of(shape.kind))?;
+    append(frame, type_number(shape.kind))?;
     append(frame, shape.key_size)?;
     append(frame, shape.value_size)?;
     append(frame, shape.max_entries)?;

@@ -43,6 +43,15 @@ fn append_framed(frames: &mut Vec<u8>, frame: &[u8]) -> Result<(), AllocError>
     frames.extend_from_slice(frame)
 }
 
+/// The bytes of a frame that puts a key into a map, but for the key and its value, with the length before it.
+const PUT_HEAD: usize = 20;
+
+/// The bytes of the frames that put so many keys into a map of this shape.
+fn bytes_of_puts(shape: MapShape, keys: u32) -> usize {
+    let each = PUT_HEAD + shape.key_size as usize + shape.value_size as usize;
+    each.saturating_mul(keys as usize)
+}
+
 impl FrameWriter {
     /// No frames to tenant `number`.
     pub(crate) fn new(alloc: Global, number: u16) -> FrameWriter
@@ -171,6 +180,9 @@ impl FrameWriter {
             return Ok(());
         };
         self.create(shape)?;
+        // The frames are not moved while they grow.
+        self.frames
+            .reserve(bytes_of_puts(shape, tenant.key_count(map)))?;
         self.put_all(tenant, map, fd, part)
     }
 

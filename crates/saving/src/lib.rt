@@ -17,8 +17,12 @@
 //! - The births after a frame are those after its command (`births_after`): `recorded` of `SavableTenant::handle`. There is room
 //!   for all of them from the start, so no command is refused memory for a birth. They are always those of the state:
 //!   the invariant `IsRecorded`.
+//! - A program that was verified elsewhere is opened as by the frame that loads it, with the reply and the births after this frame; or
+//!   it does not fit and is given back: `replied`, `recorded`, `no_fault`, `fits`, `stale` of `SavableTenant::install`.
 //! - Many packets are run as `Tenant::run_packets` promises, and the births are unchanged: `runs`, `refusal`, `births`,
 //!   `unchanged` of `SavableTenant::run_packets`.
+//! - Counts, descriptors and their objects are those of `Tenant`, and nothing changes: `counts`, `describe`, `targets` of
+//!   `SavableTenant`.
 //!
 //! Saves:
 //!
@@ -64,6 +68,8 @@ mod birth;
 mod command_bytes;
 mod frame_writer;
 mod handling;
+mod inspection;
+mod installing;
 pub mod laws;
 mod savable;
 

@@ -1,6 +1,6 @@
 //! A tenant that can be saved.
 
-ghost use Rattle.std.specs.Prelude.{◌≡◌, ◌≢◌, ℕ, List, [], length, option_map, slice_get, IfOk, OnOk, OnErr};
+ghost use Rattle.std.specs.Prelude.{◌≡◌, ◌≢◌, ℕ, ◌≤◌, List, [], length, option_map, slice_get, IfOk, OnOk, OnErr};
 ghost use Rattle.std.specs.Result.{result_err};
 ghost use Rattle.arena.specs.Memory.{part_bytes};
 ghost use Rattle.bpf_helpers.specs.Parts.{IsPartOf};
@@ -8,7 +8,7 @@ ghost use Rattle.fd_table.specs.Table.{named};
 ghost use Rattle.bpf_maps.specs.declared.part.TheConstants.{PART};
 ghost use Rattle.saving.specs.Recorded.{tenant_state};
 ghost use Rattle.saving.specs.SaveParts.{parts, frames_of};
-ghost use Rattle.tenant.specs.Batch.{RunsBatch, packets_in, inputs_of, batch_refusal};
+ghost use Rattle.tenant.specs.Batch.{RunsBatch, packets_in, inputs_of, batch_refusal, IsAllowed};
 ghost use Rattle.tenant.specs.State.{new_tenant};
 
 use crate::birth::Births;
@@ -100,6 +100,14 @@ impl SavableTenant {
         }
         writer.close_rest(&self.tenant)?;
         Ok(Some(writer.frames))
+    }
+
+    /// The number of packets that a bound on executed instructions allows a batch, as `Tenant::allowed_packets` says.
+    pub fn allowed_packets(&self, fd: u32, bound: u64, packets: usize) -> usize
+        ensures allowed { IsAllowed (named self.now.kept.objects fd) bound packets result }
+        ensures few { result ≤ packets }
+    {
+        self.tenant.allowed_packets(fd, bound, packets)
     }
 
     /// Runs the program at a descriptor on many packets, as `Tenant::run_packets` does.

@@ -2,13 +2,11 @@
 use Rattle.std.proofs.Common.{◌≡◌, ◌≢◌, ℕ, ◌+◌, ◌-◌, ◌≤◌, ◌<◌, Bool, true, false, List, [], length, get_or, Option, Some, None, IsSome, is_some, Result, Ok, Err, refl, sym, ap, ap₂, subst, ◌∙◌, inl, inr, arith, length-set}
 use Rattle.std.specs.Prelude.{◌||◌, ◌⊎◌, nat_lt, is_none, if◌then◌else◌}
 use Rattle.std.proofs.Math.Bool.{or-true}
-use Rattle.std.proofs.lemmas.Bool.{cases_lt}
 use Rattle.std.proofs.lemmas.Option.{none-some, same_Some}
 use Rattle.bpf_maps.specs.declared.part.TheConstants.{MAPS, LARGEST_SUM}
 use Rattle.bpf_maps.specs.Live as live
-use Rattle.bpf_maps.specs.Live.{LiveMaps, LiveMap, live_or, live_at, holds_at, keys_at, map_in, areas, area_of, area_by, create_fault, Creates, IsCreated, KeepsMaps}
+use Rattle.bpf_maps.specs.Live.{LiveMaps, LiveMap, live_or, live_at, holds_at, keys_at, map_in, areas, area_by, create_fault, Creates, IsCreated, KeepsMaps}
 use Rattle.bpf_maps.specs.KeyTable.{KeyTable}
-use Rattle.bpf_maps.specs.Sum.{weight}
 use Rattle.fd_table.specs.Table.{first_descriptor, lowest, with_open}
 use Rattle.tagged_model.specs.declared.fault.MapFault.{MapFault}
 use Rattle.tagged_model.specs.declared.fault.MapFault.TheVariants as fault
@@ -16,36 +14,20 @@ use Rattle.tagged_model.specs.declared.shape.MapShape.{MapShape}
 use Rattle.tenant.specs.declared.object.OpenObject.{OpenObject}
 use Rattle.tenant.specs.declared.object.OpenObject.TheVariants as object
 use Rattle.tenant.specs.Loaded.{LoadedProgram}
-use Rattle.tenant.specs.State as state
 use Rattle.bpf_maps.specs.Limits.{most_bytes, most_maps}
-use Rattle.tenant.specs.State.{Map, free_handle, shape_area, map_area}
+use Rattle.tenant.specs.State.{Map, free_handle, shape_area}
 use Rattle.tenant.specs.declared.errno.Errno.TheVariants.{NoMemory}
 use Rattle.tenant.specs.Errno.{map_errno}
 use Rattle.tenant.specs.Machine.{refuses, room_for, new_map, created, created_under, created_as, created_at}
 use Rattle.tenant.specs.Kept.{KeptTenant, IsWellFormedTenant, AreHeld, IsBound, times_named, by_descriptor, holders, descriptors, at_handles, map_at, state_in}
-use Rattle.tenant.proofs.AtHandles.{at_each, at-within, at-past, set_at, free_at, map_if, map_there, none_there, live_or_not, not_live, same_map_at}
+use Rattle.tenant.proofs.AtHandles.{at_each, set_at, free_at, map_if, map_there, none_there, live_or_not, not_live, same_map_at}
 use Rattle.tenant.proofs.Releases.{here_one, none_one}
-use Rattle.tenant.proofs.Sums.{total-each, total-less}
+use Rattle.tenant.proofs.LiveSums.{areas_are}
+use Rattle.tenant.proofs.Sums.{total-less}
 use Rattle.tenant.proofs.Opened.{set_cases, index_free, descriptor_free, opened_sum}
 use Rattle.tenant.proofs.StillKept.{with_live, with_both, bound_along}
 
 -- ---- room
-
-weigh : (part : List ℕ) (o : Option LiveMap) → weight map_area (map_if part o) ≡ weight area_of o
-weigh part None = refl
-weigh part (Some l) = refl
-
--- the bytes that the machine counts under the handles are the bytes of all live maps
-areas_are : (part : List ℕ) (k : KeptTenant) → AreHeld k.live → state.maps_area (state_in part k).maps ≡ areas k.live
-areas_are part k is = total-each map_area area_of (at_handles (map_at part k.live)) k.live.maps (λ j. by j (cases_lt j most_maps))
-  where
-    none : (j : ℕ) → most_maps ≤ j → IsSome (live_at k.live j) ⊎ (live_at k.live j ≡ None) → live_at k.live j ≡ None
-    none j past (inl live) = absurd (let within = is.within j live in omega arith)
-    none j past (inr e) = e
-
-    by : (j : ℕ) → (j < most_maps) ⊎ (most_maps ≤ j) → weight map_area (get_or (at_handles (map_at part k.live)) j None) ≡ weight area_of (get_or k.live.maps j None)
-    by j (inl lt) = ap (weight map_area) (at-within (map_at part k.live) j lt) ∙ weigh part (live_at k.live j)
-    by j (inr past) = ap (weight map_area) (at-past (map_at part k.live) j past) ∙ sym (ap (weight area_of) (none j past (live_or_not (live_at k.live j))))
 
 same_some : (part : List ℕ) (o : Option LiveMap) → is_some (map_if part o) ≡ is_some o
 same_some part None = refl

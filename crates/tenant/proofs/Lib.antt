@@ -12,11 +12,13 @@ mod OneMap
 mod Deletes
 mod Updates
 mod Opened
+mod LiveSums
 mod Creates
 mod Releases
 mod Times
 mod Closes
 mod Targets
+mod Counted
 mod Memory
 mod Flag
 mod Faults
@@ -32,4 +34,5 @@ mod TestRunKeys
 mod TestRunMaps
 mod TestRunEnds
 mod Batches
+mod Bounds
 mod BatchLaws

@@ -1,6 +1,6 @@
 -- A program on many packets: the test runs of the packets, one after another. Packets are counted
 -- from 0. This project's own.
-use Rattle.std.specs.Prelude.{◌≡◌, ℕ, pos, nat_lt, List, [], ◌∷◌, ◌++◌, length, drop, Option, Some, None, option_map, Ok, if◌then◌else◌}
+use Rattle.std.specs.Prelude.{◌≡◌, ℕ, ◌/◌, ◌==◌, max, min, pos, nat_lt, List, [], ◌∷◌, ◌++◌, length, drop, Option, Some, None, option_map, Ok, if◌then◌else◌}
 use Rattle.byteorder.specs.Endian.{little_bytes}
 use Rattle.command_frames.specs.Command.{prog_test_run, parsed}
 use Rattle.command_frames.specs.Frame.{reply_to}
@@ -8,7 +8,8 @@ use Rattle.fd_table.specs.Table.{named}
 use Rattle.flat_machine.specs.declared.packets.PacketFault.{PacketFault}
 use Rattle.flat_machine.specs.declared.packets.PacketFault.TheVariants.{Contexts, Outside, TooLong}
 use Rattle.flat_machine.specs.Packets.{batch_fault}
-pub use Rattle.flat_machine.specs.Packets.{BatchInput, packets_in, inputs_of}
+pub use Rattle.flat_machine.specs.Packets.{BatchInput, packets_in, inputs_of, are_contexts}
+use Rattle.verifier.specs.Cost.{IsMostOf}
 use Rattle.tenant.specs.declared.errno.Errno.{Errno}
 use Rattle.tenant.specs.declared.errno.Errno.TheVariants.{TooBig, BadDescriptor, Invalid}
 use Rattle.tenant.specs.declared.object.OpenObject.{OpenObject}
@@ -78,6 +79,22 @@ packets_refusal contexts many ends room =
 abbrev pub batch_refusal : Option OpenObject → ℕ → ℕ → List ℕ → ℕ → Option Errno
 batch_refusal o contexts many ends room =
     else_refusal (object_refusal o) (packets_refusal contexts many ends room)
+
+-- ---- the bound
+
+-- The number of packets that a bound on executed instructions allows a batch of so many, if a run
+-- executes at most `cost`: as many runs as fit, but at least one. Bound 0 allows all.
+abbrev pub allowed : ℕ → ℕ → ℕ → ℕ
+allowed bound cost packets =
+    if bound == 0 then packets else min packets (max 1 (bound / cost))
+
+-- the same for an object: a program has the cost of its longest path; a batch of anything else is
+-- rejected as a whole
+abbrev pub IsAllowed : Option OpenObject → ℕ → ℕ → ℕ → Type 0
+IsAllowed None bound packets n = n ≡ packets
+IsAllowed (Some (object.Map handle)) bound packets n = n ≡ packets
+IsAllowed (Some (object.Program l)) bound packets n =
+    (cost : ℕ) × IsMostOf length l.insns cost × (n ≡ allowed bound cost packets)
 
 -- ---- laws
 

@@ -4,7 +4,10 @@ pub mod State
 pub mod Machine
 pub mod Alone
 pub mod Batch
+pub mod Costs
 pub mod Laws
+pub mod Counts
+pub mod Described
 pub mod Kept
 pub mod KeptLaws
 pub mod Entry

@@ -1,11 +1,11 @@
 //! A program on many packets.
 
-ghost use Rattle.std.specs.Prelude.{◌≡◌, ◌≢◌, ℕ, length, OnOk, OnErr};
+ghost use Rattle.std.specs.Prelude.{◌≡◌, ◌≢◌, ℕ, ◌≤◌, length, OnOk, OnErr};
 ghost use Rattle.std.specs.Result.{result_err};
 ghost use Rattle.arena.specs.Memory.{part_bytes};
 ghost use Rattle.bpf_helpers.specs.Parts.{IsPartOf};
 ghost use Rattle.fd_table.specs.Table.{named};
-ghost use Rattle.tenant.specs.Batch.{packets_in, inputs_of, RunsBatch, batch_refusal};
+ghost use Rattle.tenant.specs.Batch.{packets_in, inputs_of, RunsBatch, batch_refusal, IsAllowed, allowed};
 ghost use Rattle.tenant.specs.Kept.{state_in};
 
 use crate::errno::Errno;
@@ -15,7 +15,34 @@ use arena::{Arena, Trace};
 use flat_machine::{GIVEN_WORDS, Packets, run_packets};
 use verifier::laws;
 
+/// The number of packets that a bound on executed instructions allows a batch, if a run executes at most `cost`.
+fn allowed(bound: u64, cost: u32, packets: usize) -> usize
+    requires { 1 ≤ cost }
+    ensures allowed { result ≡ allowed bound cost packets }
+    ensures few { result ≤ packets }
+{
+    if bound == 0 {
+        return packets;
+    }
+    let runs = (bound / u64::from(cost)).max(1) as usize;
+    packets.min(runs)
+}
+
 impl Tenant {
+    /// The number of packets that a batch of `packets` may have, of the program at a descriptor, so that its runs execute at most `bound`
+    /// instructions by the cost of the program: at least one, and all if the bound is 0. All if the descriptor names no program: such a
+    /// batch is rejected.
+    #[tactic(auto, using(crate::proofs::Bounds::costs_are_positive, crate::proofs::Bounds::allowed_of_program, crate::proofs::Bounds::allowed_otherwise))]
+    pub fn allowed_packets(&self, fd: u32, bound: u64, packets: usize) -> usize
+        ensures allowed { IsAllowed (named self.now.objects fd) bound packets result }
+        ensures few { result ≤ packets }
+    {
+        match program_at(&self.objects, fd) {
+            Ok(program) => allowed(bound, program.program().cost().instructions, packets),
+            Err(_) => packets,
+        }
+    }
+
     /// Runs the program at a descriptor on many packets, one after another. The packets lie one after another in `bytes`, and each
     /// ends at its number in `ends`. `contexts` has the ten words of context that all packets get, or those of each. The result of each
     /// is written to `results`, whose rest is unchanged.

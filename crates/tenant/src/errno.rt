@@ -116,7 +116,7 @@ impl Errno {
     }
 
     /// The error of a load that is refused for this cause.
-    pub(crate) fn of_cause(cause: Cause) -> Errno
+    pub fn of_cause(cause: Cause) -> Errno
         ensures { result ≡ cause_errno cause }
     {
         match cause {

@@ -4,6 +4,8 @@ ghost use Rattle.std.specs.Prelude.{◌≡◌, ◌≤◌, ◌+◌, ◌*◌, ◌<
 ghost use Rattle.bpf_maps.specs.Live.{holds_at};
 ghost use Rattle.fd_table.specs.Table.{first_descriptor, most, named, lowest};
 ghost use Rattle.verifier.specs.Judgement.{Judges};
+ghost use Rattle.verifier.specs.Maps.{maps_of, entries_of};
+ghost use Rattle.verifier.specs.Verdict.{IsAccepted};
 ghost use Rattle.tenant.specs.Kept.{times_listed, AreHeld, IsBound, state_in};
 ghost use Rattle.tenant.specs.Loaded.{map_handles};
 ghost use Rattle.tenant.specs.inside.Loading.{with_program, AreLive, IsHeldMore};
@@ -17,7 +19,7 @@ use crate::tenant::{Tenant, open};
 use bpf_maps::{MapKey, Maps};
 use fd_table::FdTable;
 use std::alloc::{AllocError, Global};
-use verifier::{Refusal, WorkingMemory, laws, verify_slots};
+use verifier::{Refusal, Verified, WorkingMemory, laws, verify_slots};
 
 /// The type of socket filters, the only one that can be loaded (BPF_PROG_TYPE_SOCKET_FILTER).
 const SOCKET_FILTER: u32 = 1;
@@ -65,6 +67,28 @@ fn maps_named(
 }
 
 impl Tenant {
+    /// A program with the handles of its maps, if it was accepted with the open descriptors. `AllocError`: out of memory.
+    pub(crate) fn with_maps(
+        &self,
+        alloc: Global,
+        program: Verified,
+    ) -> Result<LoadedProgram, AllocError>
+        requires accepted { (part : List ℕ)
+            → IsAccepted program.code (targets (state_in part self.now)) }
+        requires entries { (part : List ℕ) → program.entries
+            ≡ entries_of (maps_of program.code) (targets (state_in part self.now)) }
+        ensures insns { IfOk result (λ l. l.insns ≡ program.code) }
+        ensures found { IfOk result (λ l. (part : List ℕ) →
+            l ≡ loaded_program (state_in part self.now) l.insns) }
+        ensures bound { IfOk result (IsBound self.now.live) }
+        ensures there { IfOk result (λ l. AreLive self.now.live (map_handles l)) }
+    {
+        laws::loaded_maps_have_shapes();
+        laws::maps_are_listed();
+        let maps = maps_named(alloc, &self.objects, program.maps())?;
+        Ok(LoadedProgram::new(program, maps))
+    }
+
     /// The program that the slots spell, with the handles of its maps, if it is accepted; or why the slots are rejected.
     fn program_of(
         &self,
@@ -84,21 +108,16 @@ impl Tenant {
         ensures slot { IfOk result (λ verdict. IfErr verdict (λ refusal.
             8 * refusal.slot ≤ length slots.now)) }
     {
-        laws::loaded_maps_have_shapes();
-        laws::maps_are_listed();
         let descriptors = self.targets(alloc)?;
         match verify_slots(alloc, slots, &descriptors, working)? {
-            Ok(program) => {
-                let maps = maps_named(alloc, &self.objects, program.maps())?;
-                Ok(Ok(LoadedProgram::new(program, maps)))
-            }
+            Ok(program) => Ok(Ok(self.with_maps(alloc, program)?)),
             Err(refusal) => Ok(Err(refusal)),
         }
     }
 
     /// Opens a program under the lowest free descriptor, of which there is at least one. The program has a
     /// reference to each of its maps.
-    fn open_program(&mut self, program: LoadedProgram) -> u32
+    pub(crate) fn open_program(&mut self, program: LoadedProgram) -> u32
         requires free { is_none (lowest self.old.objects) ≡ false }
         requires bound { IsBound self.old.live program }
         requires there { AreLive self.old.live (map_handles program) }

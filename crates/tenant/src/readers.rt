@@ -4,18 +4,20 @@ ghost use Rattle.std.specs.Prelude.{◌≡◌, ◌≤◌, ℕ, List, IsSome, IfS
 ghost use Rattle.std.specs.Map.{values_of};
 ghost use Rattle.std.specs.Option.{option_copied};
 ghost use Rattle.bpf_maps.specs.declared.part.TheConstants.{PART};
-ghost use Rattle.bpf_maps.specs.Live.{live_at, shape_at, map_in};
+ghost use Rattle.bpf_maps.specs.Live.{live_at, keys_at, shape_at, map_in};
 ghost use Rattle.bpf_maps.specs.KeyTable.{occurrences};
 ghost use Rattle.fd_table.specs.Table.{named};
 ghost use Rattle.ordered_keys.specs.Orders.{next_entry};
+ghost use Rattle.tenant.specs.Costs.{HasCost};
 ghost use Rattle.tenant.specs.Entry.{numbered_entries, lent_entry};
 ghost use Rattle.tenant.specs.Kept.{state_in};
 ghost use Rattle.tenant.specs.State.{live};
 
-use crate::object::OpenObject;
+use crate::object::{OpenObject, program_at};
 use crate::tenant::Tenant;
 use bpf_maps::{KeyRef, MapKey, PART};
 use tagged_model::MapShape;
+use verifier::Cost;
 
 /// A key of a map, its value, and the element of the value in the map.
 #[derive(Drop)]
@@ -31,6 +33,17 @@ impl Tenant {
         ensures { option_copied result ≡ named self.now.objects fd }
     {
         self.objects.get(fd)
+    }
+
+    /// The cost of the program that a descriptor names; `None` if it names none.
+    #[tactic(auto, using(crate::proofs::Bounds::cost_of_program, crate::proofs::Bounds::cost_otherwise))]
+    pub fn program_cost(&self, fd: u32) -> Option<Cost>
+        ensures { HasCost (named self.now.objects fd) result }
+    {
+        match program_at(&self.objects, fd) {
+            Ok(program) => Some(program.program().cost()),
+            Err(_) => None,
+        }
     }
 
     /// Whether a map is live.
@@ -54,6 +67,13 @@ impl Tenant {
         } else {
             None
         }
+    }
+
+    /// How many keys a map has; none if it is not live.
+    pub fn key_count(&self, map: MapKey) -> u32
+        ensures { result ≡ length (keys_at self.now.live map).entries }
+    {
+        self.maps.key_count(map)
     }
 
     /// The key of a map that follows the one of an element, or the first key if no element is given, with its value, which is borrowed

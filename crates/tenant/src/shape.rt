@@ -23,7 +23,7 @@ fn map_kind(number: u32) -> Option<MapKind>
 /// # Errors
 ///
 /// `Invalid` if a field is outside its limits or a flag is set, else `TooBig` if the values take too many bytes.
-pub(crate) fn asked_shape(
+pub fn asked_shape(
     kind: u32,
     key_size: u32,
     value_size: u32,

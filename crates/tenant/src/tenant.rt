@@ -114,7 +114,7 @@ impl Tenant {
     }
 
     /// The object that a descriptor names, as the verifier sees it.
-    fn target(&self, fd: u32) -> Option<Target>
+    pub(crate) fn target(&self, fd: u32) -> Option<Target>
         ensures { (part : List ℕ) →
             result ≡ and_then (named self.now.objects fd) (object_target (state_in part self.now)) }
     {
@@ -125,7 +125,7 @@ impl Tenant {
     }
 
     /// The open descriptors and their objects, as the verifier sees them. `AllocError`: out of memory.
-    pub(crate) fn targets(&self, alloc: Global) -> Result<Vec<Named>, AllocError>
+    pub fn targets(&self, alloc: Global) -> Result<Vec<Named>, AllocError>
         ensures { IfOk result (λ found. (part : List ℕ) →
             found.items ≡ targets (state_in part self.now)) }
     {

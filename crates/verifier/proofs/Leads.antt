@@ -27,7 +27,7 @@ shaped code named none n i begins = let fine = each_is_fine code named none n i 
 
 -- ---- the targets of its edges
 
-second_false : (a b : Bool) → (a && b) ≡ false → a ≡ true → b ≡ false
+pub second_false : (a b : Bool) → (a && b) ≡ false → a ≡ true → b ≡ false
 second_false a b h e = ⊎_elim (λ z. absurd (both_ways a z e)) (λ z. z) (and_cases a b h)
 
 slot_of : (o : Option ℕ) (m : ℕ) → is_slot o m ≡ true → o ≡ Some m
@@ -84,7 +84,7 @@ module _ (code : List Insn) (n : ℕ) (i : Insn) (shape : IsShaped code i n) whe
 
 -- ---- a program without a fault of its shape
 
-some_slot : (o : Option ℕ) → IsSome o → (to : ℕ) × (o ≡ Some to)
+pub some_slot : (o : Option ℕ) → IsSome o → (to : ℕ) × (o ≡ Some to)
 some_slot None h = absurd (false≢true h)
 some_slot (Some to) h = (to, refl)
 

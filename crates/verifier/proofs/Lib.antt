@@ -12,6 +12,7 @@ pub mod Loads
 pub mod LoadedShapes
 pub mod Listed
 pub mod KeptPrograms
+pub mod OtherObjects
 pub mod Edges
 pub mod Leads
 pub mod Words
@@ -19,3 +20,7 @@ pub mod Arrivals
 pub mod Steps
 pub mod FirstMaps
 pub mod Runs
+pub mod Longest
+pub mod Counts
+pub mod Paths
+mod Vectors

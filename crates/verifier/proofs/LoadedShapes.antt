@@ -44,7 +44,7 @@ module _ (fds : List ℕ) (fd : ℕ) (among : is_among fds fd ≡ true) where
   kept_at n ns true e rest = ap (λ o. cond (n.fd == fd) (Some n.target) o) rest
   kept_at n ns false e rest = rest ∙ sym (cond-false (n.fd == fd) (Some n.target) (target_of ns fd) (ne_eqb n.fd fd (other_name n.fd e)))
 
-  target_kept : (named : List Named) → target_of (entries_of fds named) fd ≡ target_of named fd
+  pub target_kept : (named : List Named) → target_of (entries_of fds named) fd ≡ target_of named fd
   target_kept [] = refl
   target_kept (n ∷ ns) = kept_at n ns (is_among fds n.fd) refl (target_kept ns)
 
@@ -80,7 +80,7 @@ shaped_target (Some (target.Map shape)) h g = refl
 shaped_target (Some target.Program) h g = absurd (true≢false g)
 
 module _ (code : List Insn) (named : List Named) (none : HasNoFault (structure_fault code named)) where
-  shaped : (n : ℕ) (i : Insn) → begins_at code n ≡ Some i → (fd : ℕ) → descriptor i ≡ Some fd → IsSome (shapes_named named fd)
+  pub shaped : (n : ℕ) (i : Insn) → begins_at code n ≡ Some i → (fd : ℕ) → descriptor i ≡ Some fd → IsSome (shapes_named named fd)
   shaped n i begins fd e =
       let fine = each_is_fine code named none n i begins in
       shaped_target (target_of named fd) (subst (λ o. is_not_open named o ≡ false) e fine.is_open) (subst (λ o. is_not_map named o ≡ false) e fine.map)

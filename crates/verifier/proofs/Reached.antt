@@ -88,7 +88,7 @@ marked_next code i n insn old new begins reached was is =
     ∙ sym (ap (λ (b : Bool). reached_from code i n || (b && leads_into (begins_at code n) n i)) reached)
     ∙ sym (reached_next code i n)
 
-or_neither : (a b : Bool) → (a || (b && false)) ≡ a
+pub or_neither : (a b : Bool) → (a || (b && false)) ≡ a
 or_neither true true = refl
 or_neither true false = refl
 or_neither false true = refl
@@ -116,7 +116,7 @@ marked_through code i n (suc m) old none was =
 pub begins_first : (code : List Insn) → 0 < slot_count code → Adjoins code 0
 begins_first code some = inr (some, first_begins code some)
 
-begun_of : (code : List Insn) (n : ℕ) (o : Option Insn) → begins_at code n ≡ o → IsSome o → (i : Insn) × (begins_at code n ≡ Some i)
+pub begun_of : (code : List Insn) (n : ℕ) (o : Option Insn) → begins_at code n ≡ o → IsSome o → (i : Insn) × (begins_at code n ≡ Some i)
 begun_of code n None is some = absurd (false≢true some)
 begun_of code n (Some i) is some = (i, is)
 

@@ -54,7 +54,7 @@ at_entry : (shapes : Shapes) (code : List Insn) → facts_before shapes code 0 �
 unfolding facts_from_below
 at_entry shapes code = refl
 
-beginning : (shapes : Shapes) (code : List Insn) (maps : MapsByDescriptor) (words packet : List ℕ) → AreRunInputs shapes maps words packet → IsAdmitted shapes code (start_of_run maps words packet)
+pub beginning : (shapes : Shapes) (code : List Insn) (maps : MapsByDescriptor) (words packet : List ℕ) → AreRunInputs shapes maps words packet → IsAdmitted shapes code (start_of_run maps words packet)
 beginning shapes code maps words packet given =
     record {
       witness = nothing;
@@ -83,7 +83,7 @@ after_step shapes code s faults go h rest = absurd h
 
 module _ (law : StepsGoOn) (code : List Insn) (named : List Named) (program : IsProgram code) (accepted : IsAccepted code named) where
   -- the slot of a state that facts admit is in the program
-  within : (s : RunState) → IsAdmitted (shapes_of code named) code s → s.at < slot_count code
+  pub within : (s : RunState) → IsAdmitted (shapes_of code named) code s → s.at < slot_count code
   within s here =
       let begun = some_insn (begins_at code s.at) (begins_before (shapes_of code named) code named program accepted.0 s.at here.facts here.known) in
       begins_within code s.at begun.0 begun.1

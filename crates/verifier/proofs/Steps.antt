@@ -1,7 +1,7 @@
 -- No step of an accepted program faults.
 use Rattle.std.proofs.Common.{◌≡◌, ℕ, ◌+◌, ◌<◌, Bool, true, false, List, length, Option, Some, None, Result, Ok, Err, refl, sym, ap, subst, ◌∙◌, arith}
 use Rattle.std.specs.Option.{IsSome}
-use Rattle.std.proofs.lemmas.Bool.{false≢true}
+use Rattle.std.proofs.lemmas.Bool.{false≢true, or_left, or_right}
 use Rattle.std.proofs.lemmas.Option.{none-some, same_Some}
 use Rattle.insn_set.specs.declared.insn.Insn.{Insn}
 use Rattle.insn_set.specs.Spelling.{slots}
@@ -23,6 +23,7 @@ use Rattle.insn_set.specs.Flow.{falls_to, jumps_to}
 use Rattle.insn_set.specs.BeginLaws.{some_slots, begun_is_insn}
 use Rattle.verifier.specs.Maps.{shapes_of}
 use Rattle.verifier.specs.Before.{facts_before}
+use Rattle.verifier.specs.Shape.{falls_into, jumps_into, leads_into}
 use Rattle.verifier.specs.Verdict.{reason_of, safety_fault, IsAccepted}
 use Rattle.verifier.specs.Sound.{StepIsSound, IsAdmitted, NextIsAdmitted, StepsGoOn}
 use Rattle.verifier.proofs.Edges.{leads_only}
@@ -65,6 +66,12 @@ on_edge : (shapes : Shapes) (o : Option Facts) (slot : Option ℕ) (t : RunState
 on_edge shapes None slot t h = absurd h
 on_edge shapes (Some f) slot t h = record { at = h.0; witness = h.1; admits = h.2.admits; proper = h.2.proper; maps = h.2.maps }
 
+-- an edge of the instruction leads to the slot of a state after the step
+abbrev pub TakesEdge : Insn → ℕ → Step → Type 0
+TakesEdge i at (goes t) = leads_into (Some i) at t.at ≡ true
+TakesEdge i at (ends n) = Unit {0}
+TakesEdge i at faults = Unit {0}
+
 -- ---- a step of an instruction that may be run
 
 module _ (join : JoinAdmits) (shapes : Shapes) (code : List Insn) (s : RunState) (i : Insn) (f : Facts) (edges : Edges) (begins : begins_at code s.at ≡ Some i) (known : facts_before shapes code s.at ≡ Some f) (e : effect shapes s.at i f ≡ Ok edges) (shape : IsShaped code i s.at) where
@@ -94,6 +101,28 @@ module _ (join : JoinAdmits) (shapes : Shapes) (code : List Insn) (s : RunState)
   covered_on (ends n) h = h
   covered_on faults h = h
 
+  -- ---- the edge that it takes
+
+  falls_along : (t : RunState) → Arrives shapes edges.falling (Some (falls_to i s.at)) t → leads_into (Some i) s.at t.at ≡ true
+  falls_along t h =
+      let at : s.at + length (slots i) ≡ t.at = same_Some (falls_to i s.at) t.at h.at in
+      let leads = (leads_only shapes s.at i f edges e).falling (are_there h.witness edges.falling t h.admits) in
+      or_left (falls_into i s.at t.at) (jumps_into i s.at t.at) (falls_lead code s.at i shape t.at leads at)
+
+  jumps_along : (t : RunState) → Arrives shapes edges.jumping (jumps_to i s.at) t → leads_into (Some i) s.at t.at ≡ true
+  jumps_along t h =
+      let leads = (leads_only shapes s.at i f edges e).jumping (are_there h.witness edges.jumping t h.admits) in
+      or_right (falls_into i s.at t.at) (jumps_into i s.at t.at) (jumps_lead code s.at i shape t.at leads h.at)
+
+  taken_along : (jumps : Bool) (t : RunState) → TakenEdgeAdmits jumps shapes (falls_to i s.at) (jumps_to i s.at) edges t → leads_into (Some i) s.at t.at ≡ true
+  taken_along true t h = jumps_along t (on_edge shapes edges.jumping (jumps_to i s.at) t h)
+  taken_along false t h = falls_along t (on_edge shapes edges.falling (Some (falls_to i s.at)) t h)
+
+  covered_along : (st : Step) → CoversStep shapes i s edges st → TakesEdge i s.at st
+  covered_along (goes t) h = taken_along (takes_jump i s) t h
+  covered_along (ends n) h = tt
+  covered_along faults h = tt
+
 -- ---- any step
 
 safe : (shapes : Shapes) (code : List Insn) (n : ℕ) (i : Insn) (f : Facts) → begins_at code n ≡ Some i → facts_before shapes code n ≡ Some f → safety_fault shapes code n ≡ None → reason_of (effect shapes n i f) ≡ None
@@ -116,9 +145,21 @@ module _ (laws : Laws) (code : List Insn) (named : List Named) (s : RunState) (p
       covered_on laws.join Given code s i here.facts edges begins here.known e shape (act i s)
       (slots_covered laws.cover laws.stay code named here.witness s i here.facts edges program accepted.0 begins here.known here.still e)
 
+  runs_along : (i : Insn) → begins_at code s.at ≡ Some i → (r : Result Edges Reason) → effect Given s.at i here.facts ≡ r → TakesEdge i s.at (act i s)
+  runs_along i begins (Err reason) e =
+      absurd (none-some reason (sym (safe Given code s.at i here.facts begins here.known (accepted.1 s.at)) ∙ ap reason_of e))
+  runs_along i begins (Ok edges) e =
+      let shape = shape_at Given code named program accepted.0 s.at i begins in
+      covered_along laws.join Given code s i here.facts edges begins here.known e shape (act i s)
+      (slots_covered laws.cover laws.stay code named here.witness s i here.facts edges program accepted.0 begins here.known here.still e)
+
   step_on : (o : Option Insn) → begins_at code s.at ≡ o → Goes (or_fault o (λ i. act i s))
   step_on None e = absurd (false≢true (subst (λ o. IsSome o) e (begins_before Given code named program accepted.0 s.at here.facts here.known)))
   step_on (Some i) e = runs_on i e (effect Given s.at i here.facts) refl
 
 pub each_step : Laws → StepsGoOn
 each_step laws code named s program accepted here = step_on laws code named s program accepted here (begins_at code s.at) refl
+
+pub each_step_along : Laws → (code : List Insn) (named : List Named) (s : RunState) (i : Insn) → IsProgram code → IsAccepted code named → IsAdmitted (shapes_of code named) code s → begins_at code s.at ≡ Some i → TakesEdge i s.at (act i s)
+each_step_along laws code named s i program accepted here begins =
+    runs_along laws code named s program accepted here i begins (effect (shapes_of code named) s.at i here.facts) refl

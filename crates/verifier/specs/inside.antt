@@ -2,6 +2,7 @@
 pub mod Edges
 pub mod Descriptors
 pub mod Jumps
+pub mod Longest
 pub mod Arriving
 pub mod Telling
 pub mod Kept

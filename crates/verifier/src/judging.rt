@@ -1,10 +1,12 @@
 //! The verdict, and the maps that a program loads.
 
 ghost use Rattle.std.specs.Prelude.{◌≡◌, IfErr, IfOk, OnOk};
+ghost use Rattle.verifier.specs.Cost.{IsCostOf};
 ghost use Rattle.verifier.specs.Maps.{maps_of, entries_of};
 ghost use Rattle.verifier.specs.Told.{IsToldRefused, IsToldWhole};
 ghost use Rattle.verifier.specs.Verdict.{IsAccepted, IsFaultOf};
 
+use crate::cost::Cost;
 use crate::fault::VerifyFault;
 use crate::maps::{entries_of, loaded_maps};
 use crate::pass::check_safety;
@@ -15,13 +17,14 @@ use insn_codec::Program;
 use std::alloc::Global;
 use tagged_model::Named;
 
-/// The maps that a program loads.
+/// What the verdict has found of an accepted program.
 #[derive(Debug, Drop)]
-pub(crate) struct LoadedMaps {
-    /// The descriptors of the maps, each once, in the order of their first loads.
+pub(crate) struct Findings {
+    /// The descriptors of the maps that it loads, each once, in the order of their first loads.
     pub(crate) maps: Vec<u32>,
     /// The objects that these descriptors name.
     pub(crate) entries: Vec<Named>,
+    pub(crate) cost: Cost,
 }
 
 /// Verifies a program, and passes the facts before its instructions to a watcher, as `verify_watched` does.
@@ -31,22 +34,27 @@ pub(crate) fn judge<W: Watcher>(
     named: &[Named],
     watcher: &mut W,
     working: &mut WorkingMemory,
-) -> Result<LoadedMaps, VerifyFault>
+) -> Result<Findings, VerifyFault>
     ensures accepted { OnOk result (IsAccepted program.now named.now) }
-    ensures maps { IfOk result (λ loaded. loaded.maps.items ≡ maps_of program.now) }
-    ensures entries { IfOk result (λ loaded. loaded.entries.items
+    ensures maps { IfOk result (λ found. found.maps.items ≡ maps_of program.now) }
+    ensures entries { IfOk result (λ found. found.entries.items
         ≡ entries_of (maps_of program.now) named.now) }
+    ensures cost { IfOk result (λ found. IsCostOf found.cost program.now) }
     ensures refused { IfErr result (IsFaultOf program.now named.now) }
     ensures told { OnOk result
         (IsToldWhole program.now named.now (W.told watcher.old) (W.told watcher.new)) }
     ensures told_refused { IfErr result
         (IsToldRefused program.now named.now (W.told watcher.old) (W.told watcher.new)) }
 {
-    check_shape(program, named, &mut working.reached)?;
+    let cost = check_shape(program, named, &mut working.jumping)?;
     let maps = loaded_maps(alloc, program, named)?;
     let entries = entries_of(alloc, named, &maps)?;
     let verdict = check_safety(program, &entries, watcher, &mut working.pass);
     working.pass.end();
     verdict?;
-    Ok(LoadedMaps { maps, entries })
+    Ok(Findings {
+        maps,
+        entries,
+        cost,
+    })
 }

@@ -6,7 +6,9 @@ ghost use Rattle.insn_set.specs.declared.insn.Insn.{Insn};
 ghost use Rattle.reg_kinds.specs.declared.reason.Reason.{Reason};
 ghost use Rattle.reg_kinds.specs.declared.reason.Reason.TheVariants.{Memory};
 ghost use Rattle.tagged_model.specs.declared.shape.Named.{Named};
+ghost use Rattle.verifier.specs.Fits.{SameShapesAreAccepted};
 ghost use Rattle.verifier.specs.Laws.{LoadedMapsHaveShapes, MapsAreListed, OneJudgement, SafetyFollowsShape};
+ghost use Rattle.verifier.specs.Runs.{AcceptedRunsArePaths};
 ghost use Rattle.verifier.specs.Sound.{StepIsSound, StepsGoOn, NeverFaults};
 ghost use Rattle.verifier.specs.Verdict.{IsAccepted, IsRefused};
 
@@ -58,6 +60,11 @@ pub fn maps_are_listed()
     ensures { MapsAreListed }
 {}
 
+/// A program is also accepted with other objects, if its maps have the same shapes there.
+pub fn same_shapes_are_accepted()
+    ensures { SameShapesAreAccepted }
+{}
+
 /// If the shape of a program has no fault, and the facts before a slot admit a state there and let the instruction be run, the
 /// machine has a step, and the facts on the edge that it takes admit the next state.
 pub fn step_is_sound()
@@ -82,4 +89,13 @@ pub fn accepted_programs_never_fault()
     ensures { NeverFaults }
 {
     steps_go_on();
+}
+
+/// What a run of an accepted program executes is a path from slot 0 to an exit, an instruction in each step.
+pub fn accepted_runs_are_paths()
+    ensures { AcceptedRunsArePaths }
+{
+    transfer::laws::transfer_is_sound();
+    transfer::laws::transfer_keeps_well_formed();
+    tagged_model::laws::join_admits();
 }

@@ -5,7 +5,8 @@
 //! each instruction is checked against the facts before it. Each check is one pass over the slots.
 //!
 //! The definitions are `Shape` (the shape of a program), `Before` (the facts before each slot, a recursion over the slots
-//! below), `Maps` (the maps that a program loads), `Verdict`, and `Told` (the facts that a watcher gets).
+//! below), `Maps` (the maps that a program loads), `Verdict`, `Told` (the facts that a watcher gets), `Cost` (paths, and what a
+//! program costs), and `Runs` (what a run executes).
 //!
 //! # What is proved
 //!
@@ -23,6 +24,9 @@
 //!   `verify_watched`.
 //! - A `Verified` is an accepted program, the one that was passed in, with the shapes that its descriptors named: `accepted` of
 //!   `verify`; `accepted`, `entries` of `verify_slots`; `verified` of `Verified::program`.
+//! - It can be used with other objects, if each descriptor of its maps names a map of the same shape among them (`Fits`): it is
+//!   accepted with these too, and is then what `verify_slots` gives for its slots and these objects: `judged`, `entries` of
+//!   `Verified::replace_objects`; `same_shapes_are_accepted`.
 //! - It lists the descriptors of its loads of maps and of values of maps, in the order of first use, each once:
 //!   `Verified::maps`.
 //! - A program has at most one rejection, an accepted program has none, and no rule has out of memory as its reason:
@@ -39,11 +43,19 @@
 //!   one, unless the instruction is an exit or always jumps, and the target of its jump: `Verified::goes_ahead`.
 //! - No run of an accepted program faults, on any maps of the shapes, any context and packet:
 //!   `accepted_programs_never_fault`, `Verified::never_faults`.
+//! - What such a run executes is a path from slot 0 to an exit along the edges, an instruction in each step:
+//!   `accepted_runs_are_paths`, `Verified::runs_are_paths`.
+//! - The cost of an accepted program is the most instructions, and the most calls of helpers, on such a path: no path has more, and
+//!   one has as many: `most` of `Verified::cost`, `cost` of `verify_watched`. So no run executes more: `runs` of `Verified::cost`.
 //!
 //! # Decisions
 //!
 //! - `transfer` has one instruction, `verifier` a program: the verdict, and why no run of an accepted program faults. Each is
 //!   proved by itself.
+//! - The cost is found in the pass over the shape. For each slot that pass has the most instructions and the most calls on the jumps
+//!   there (`Counts`), which also say whether it is reached, and in hand those on the falling edge. The two numbers may be of
+//!   different paths. An instruction that has no fault, names nothing and only goes on to the next one (`is_simple`) adds one to a
+//!   number, and nothing else of it is looked at.
 //! - Facts before a jump target are on the heap, one entry for each target that a taken edge has reached; all other facts are
 //!   changed in place. That a target has at most one entry is part of the type: there is an option for each slot.
 //! - Facts stay in place: they have 2.3 KB, and a local of that size is cleared each time its block is entered. The facts on
@@ -82,8 +94,10 @@
 //!   fewer. That is more than the existence of a witness (`Admits`, which no law cites).
 #![tactic(auto)]
 
+mod cost;
 mod edge_facts;
 mod fault;
+mod fitting;
 mod judging;
 mod known_answers;
 pub mod laws;
@@ -97,6 +111,7 @@ mod verified;
 mod watcher;
 mod working_memory;
 
+pub use cost::Cost;
 pub use fault::VerifyFault;
 pub use refusal::{Cause, Refusal};
 pub use reg_kinds::Reason;

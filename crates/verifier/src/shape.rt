@@ -1,13 +1,17 @@
 //! The shape of a program.
 
-ghost use Rattle.std.specs.Prelude.{◌≡◌, ◌⊎◌, ◌+◌, ◌<◌, ◌≤◌, ◌&&◌, ◌||◌, ℕ, nat_le, not, false, [], ◌∷◌, length, slice_index_or, IsTrue, IfSome, IfErr, OnOk, Some};
+ghost use Rattle.std.specs.Prelude.{◌≡◌, ◌⊎◌, ◌≤◌, ◌&&◌, nat_le, not, [], ◌∷◌, length, None, Some, IsTrue, IfErr, IfOk, OnOk};
 ghost use Rattle.reg_kinds.specs.declared.reason.Reason.TheVariants.{JumpOutside, JumpBackward, FallsOff, Unreachable, FramePointerWritten, DescriptorNotOpen, DescriptorNotMap, NoDirectValue};
 ghost use Rattle.insn_set.specs.Profile.{profile};
-ghost use Rattle.insn_set.specs.Flow.{falls_to, jumps_to, falls, jumps, jump_target, descriptor, descriptor_by};
-ghost use Rattle.verifier.specs.Shape.{leads_into, is_reachable, is_slot, is_unknown_helper, is_not_open, is_not_map, is_no_value, leads_outside, leads_backward, first_reason, shape_reason, structure_fault};
+ghost use Rattle.insn_set.specs.Program.{slot_count};
+ghost use Rattle.insn_set.specs.Flow.{falls_to, jumps_to, falls, jumps, descriptor, descriptor_by};
+ghost use Rattle.verifier.specs.Cost.{IsCostOf};
+ghost use Rattle.verifier.specs.Shape.{is_reachable, is_slot, is_unknown_helper, is_not_open, is_not_map, is_no_value, leads_outside, leads_backward, first_reason, shape_reason, structure_fault};
 ghost use Rattle.verifier.specs.inside.Jumps.{JumpsLand};
+ghost use Rattle.verifier.specs.inside.Longest.{AreFew, IsAdded, IsSimple, LeadTo};
 ghost use Rattle.verifier.specs.Verdict.{IsFirstFault, HasNoFault, memory_fault};
 
+use crate::cost::{Cost, Counts, NO_COUNTS, Paths};
 use crate::fault::VerifyFault;
 use insn_codec::{Insn, MAX_SLOTS, Profile, Program, Reference, Reg, Successors};
 use reg_kinds::Reason;
@@ -69,13 +73,18 @@ fn descriptor_reason(named: &[Named], reference: Reference) -> Option<Reason>
 }
 
 /// The fault of a jump's target, if any.
-fn jump_reason(program: &Program, insn: &Insn, slot: usize) -> Option<Reason>
-    requires { slot ≤ MAX_SLOTS }
+fn jump_reason(
+    program: &Program,
+    insn: &Insn,
+    successors: Successors,
+    slot: usize,
+) -> Option<Reason>
+    requires room { slot ≤ MAX_SLOTS }
+    requires successors { successors ≡ (profile insn.now).successors }
     ensures { result ≡ first_reason
         ((jumps insn.now && leads_outside program.now (jumps_to insn.now slot), JumpOutside)
         ∷ (jumps insn.now && leads_backward (jumps_to insn.now slot) slot, JumpBackward) ∷ []) }
 {
-    let successors = insn.profile().successors;
     if !successors.jumps() {
         return None;
     }
@@ -87,27 +96,23 @@ fn jump_reason(program: &Program, insn: &Insn, slot: usize) -> Option<Reason>
     }
 }
 
-/// The first fault of an instruction whose only successor is the next one, at slot `next`, and which names nothing.
+/// Whether an instruction is simple, and so has no fault: it is reached, its only successor is the next one, at slot `next`, which
+/// exists, it names nothing, and it does not write the frame pointer. False at slot 0.
 #[inline(always)]
-fn plain_reason(written: Option<Reg>, next: usize, slots: usize, is_reached: bool) -> Option<Reason>
-    ensures { result ≡ first_reason ((nat_le slots next, FallsOff)
-        ∷ (not is_reached, Unreachable) ∷ (is_slot written 10, FramePointerWritten) ∷ []) }
+fn is_simple(row: &Profile, next: usize, slots: usize, paths: &Paths) -> bool
+    ensures { IsTrue result → IsSimple row.now next slots paths.now }
 {
-    if next >= slots {
-        return Some(Reason::FallsOff);
-    }
-    if !is_reached {
-        return Some(Reason::Unreachable);
-    }
-    match written {
-        Some(register) if register.number() == FRAME_POINTER => Some(Reason::FramePointerWritten),
-        _ => None,
+    match (row.successors, row.reference) {
+        (Successors::Next, Reference::Nothing) => {
+            next < slots && paths.have_instructions() && !writes_frame_pointer(row.written)
+        }
+        _ => false,
     }
 }
 
 /// The first fault of the instruction at `slot`, whatever the registers hold.
 #[inline(always)]
-fn shape_reason(
+fn other_reason(
     program: &Program,
     named: &[Named],
     insn: &Insn,
@@ -120,33 +125,9 @@ fn shape_reason(
     requires reached { is_reached ≡ is_reachable program.now slot }
     ensures { result ≡ shape_reason program.now named.now insn.now slot }
 {
-    match (row.successors, row.reference) {
-        (Successors::Next, Reference::Nothing) => plain_reason(
-            row.written,
-            slot + row.slots,
-            program.slots(),
-            is_reached,
-        ),
-        _ => other_reason(program, named, insn, slot, is_reached),
-    }
-}
-
-/// The first fault of the instruction at `slot`, whatever the registers hold, of any kind of instruction.
-fn other_reason(
-    program: &Program,
-    named: &[Named],
-    insn: &Insn,
-    slot: usize,
-    is_reached: bool,
-) -> Option<Reason>
-    requires room { slot ≤ MAX_SLOTS }
-    requires reached { is_reached ≡ is_reachable program.now slot }
-    ensures { result ≡ shape_reason program.now named.now insn.now slot }
-{
-    let row = insn.profile();
-    if let Some(reason) = jump_reason(program, insn, slot) {
+    if let Some(reason) = jump_reason(program, insn, row.successors, slot) {
         Some(reason)
-    } else if row.successors.falls() && slot + insn.slots() >= program.slots() {
+    } else if row.successors.falls() && slot + row.slots >= program.slots() {
         Some(Reason::FallsOff)
     } else if !is_reached {
         Some(Reason::Unreachable)
@@ -159,49 +140,93 @@ fn other_reason(
     }
 }
 
-/// Marks the slots to which an instruction's edges lead.
-fn mark_edges(reached: &mut [bool], insn: &Insn, row: &Profile, slot: usize)
+/// Adds the instruction at `slot` to the paths, or finds its first fault. It may be of any kind.
+fn pass_other(
+    program: &Program,
+    named: &[Named],
+    insn: &Insn,
+    slot: usize,
+    jumping: &mut [Counts],
+    paths: &mut Paths,
+) -> Result<(), Reason>
     requires room { slot ≤ MAX_SLOTS }
-    requires row { row.now ≡ profile insn.now }
-    requires falls { IsTrue (falls insn.now) → falls_to insn.now slot < length reached.old }
-    requires jumps { IfSome (jump_target insn.now slot) (λ to. to < length reached.old) }
-    ensures { (i : ℕ) → slot < i → slice_index_or reached.new i false
-        ≡ (slice_index_or reached.old i false || leads_into (Some insn.now) slot i) }
+    requires long { length jumping.old ≡ slot_count program.now }
+    requires reached { LeadTo program.now slot paths.old }
+    requires few { AreFew paths.old }
+    ensures fine { OnOk result (shape_reason program.now named.now insn.now slot ≡ None) }
+    ensures added { OnOk result
+        (IsAdded insn.now slot paths.old paths.new jumping.old jumping.new) }
+    ensures refused { IfErr result (λ reason.
+        shape_reason program.now named.now insn.now slot ≡ Some reason) }
 {
-    if row.successors.falls() {
-        reached[slot + row.slots] = true;
-    }
-    if let Some(to) = row.successors.target(slot) {
-        reached[to] = true;
+    let row = insn.profile();
+    match other_reason(program, named, insn, &row, slot, paths.lead_to(slot)) {
+        Some(reason) => Err(reason),
+        None => {
+            paths.add(jumping, insn, &row, slot);
+            Ok(())
+        }
     }
 }
 
-/// Finds the first fault of a program's shape, in one pass. `reached` is space for a flag for each slot to which an earlier
-/// instruction's edge leads.
+/// Adds the instruction at `slot` to the paths, or finds its first fault.
+#[inline(always)]
+fn pass(
+    program: &Program,
+    named: &[Named],
+    insn: &Insn,
+    row: &Profile,
+    slot: usize,
+    jumping: &mut [Counts],
+    paths: &mut Paths,
+) -> Result<(), Reason>
+    requires room { slot ≤ MAX_SLOTS }
+    requires row { row.now ≡ profile insn.now }
+    requires long { length jumping.old ≡ slot_count program.now }
+    requires reached { LeadTo program.now slot paths.old }
+    requires few { AreFew paths.old }
+    ensures fine { OnOk result (shape_reason program.now named.now insn.now slot ≡ None) }
+    ensures added { OnOk result
+        (IsAdded insn.now slot paths.old paths.new jumping.old jumping.new) }
+    ensures refused { IfErr result (λ reason.
+        shape_reason program.now named.now insn.now slot ≡ Some reason) }
+{
+    if is_simple(row, slot + row.slots, program.slots(), paths) {
+        paths.add_simple();
+        Ok(())
+    } else {
+        pass_other(program, named, insn, slot, jumping, paths)
+    }
+}
+
+/// Finds the first fault of a program's shape, and what an accepted program costs, in one pass. `jumping` is space for the counts on
+/// the jumps to each slot.
 pub(crate) fn check_shape(
     program: &Program,
     named: &[Named],
-    reached: &mut Vec<bool>,
-) -> Result<(), VerifyFault>
+    jumping: &mut Vec<Counts>,
+) -> Result<Cost, VerifyFault>
     ensures sound { OnOk result (HasNoFault (structure_fault program.now named.now)) }
     ensures lands { OnOk result (JumpsLand program.now) }
+    ensures cost { IfOk result (λ cost. IsCostOf cost program.now) }
     ensures refused { IfErr result (λ e. (e ≡ memory_fault)
         ⊎ IsFirstFault (structure_fault program.now named.now) e.slot e.reason) }
 {
     let slots = program.slots();
-    reached.clear();
-    reached.resize(slots, false)?;
-    reached[0] = true;
+    jumping.clear();
+    jumping.resize(slots, NO_COUNTS)?;
+    let jumping = jumping.as_mut_slice();
     let code = program.code();
+    let mut paths = Paths::new();
     let mut slot = 0;
     while slot < slots {
         let insn = &code[slot];
         let row = insn.profile();
-        if let Some(reason) = shape_reason(program, named, insn, &row, slot, reached[slot]) {
+        paths.join(jumping[slot]);
+        if let Err(reason) = pass(program, named, insn, &row, slot, jumping, &mut paths) {
             return Err(VerifyFault { slot, reason });
         }
-        mark_edges(reached, insn, &row, slot);
         slot += row.slots;
     }
-    Ok(())
+    Ok(paths.cost())
 }

@@ -4,15 +4,18 @@ ghost use Rattle.std.specs.Prelude.{◌≡◌, ◌≢◌, ℕ, ◌*◌, ◌≤�
 ghost use Rattle.insn_codec.specs.ProgramFault.{length_fault};
 ghost use Rattle.tagged_model.specs.declared.value.Outcome.TheVariants.{Fault};
 ghost use Rattle.tagged_model.specs.Step.{MapsByDescriptor, result_of};
+ghost use Rattle.verifier.specs.Cost.{IsCostOf};
 ghost use Rattle.verifier.specs.Judgement.{Judges};
 ghost use Rattle.verifier.specs.Maps.{maps_of, entries_of};
+ghost use Rattle.verifier.specs.Runs.{RunsArePaths, RunsCostAtMost};
 ghost use Rattle.verifier.specs.Sound.{AreRunInputs};
 ghost use Rattle.verifier.specs.Told.{IsToldRefused, IsToldWhole};
 ghost use Rattle.verifier.specs.Verdict.{IsAccepted, IsFaultOf};
 ghost use Rattle.verifier.specs.Verified.{IsAcceptedAs, IsVerified, GoesAhead, shapes_in};
 
+use crate::cost::Cost;
 use crate::fault::VerifyFault;
-use crate::judging::{LoadedMaps, judge};
+use crate::judging::{Findings, judge};
 use crate::laws;
 use crate::refusal::Refusal;
 use crate::watcher::{Unwatched, Watcher};
@@ -28,9 +31,9 @@ use tagged_model::Named;
 /// Contracts see the list of its instructions, and the objects that its descriptors named when it was accepted.
 #[derive(Debug, Drop)]
 pub struct Verified {
-    program: Program,
-    /// The maps that it loads.
-    loaded: LoadedMaps,
+    pub(crate) program: Program,
+    /// Its maps, and what it costs.
+    pub(crate) found: Findings,
 }
 
 impl Model for Verified {
@@ -57,7 +60,26 @@ impl Verified {
     pub fn maps(&self) -> &[u32]
         ensures { result.now ≡ maps_of self.now.code }
     {
-        &self.loaded.maps
+        &self.found.maps
+    }
+
+    /// What the program costs: the most instructions and the most calls of helpers on a path from slot 0 to an exit. No run
+    /// executes more.
+    pub fn cost(&self) -> Cost
+        ensures most { IsCostOf result self.now.code }
+        ensures runs { RunsCostAtMost result (shapes_in self.now) self.now.code }
+    {
+        self.runs_are_paths();
+        self.found.cost
+    }
+
+    /// A law: what a run of the program executes is a path from slot 0, an instruction in each step, if the run is given maps of the
+    /// shapes with which the program was accepted. It does nothing when it runs.
+    pub fn runs_are_paths(&self)
+        ensures { RunsArePaths (shapes_in self.now) self.now.code }
+    {
+        self.program.code();
+        laws::accepted_runs_are_paths();
     }
 
     /// A law: no run of the program faults that is given maps of the shapes with which it was accepted. It does nothing when it
@@ -93,9 +115,9 @@ pub fn verify(alloc: Global, program: &Program, named: &[Named]) -> Result<Verif
     ensures refused { IfErr result (IsFaultOf program.now named.now) }
 {
     let mut working = WorkingMemory::new(alloc);
-    let loaded = judge(alloc, program, named, &mut Unwatched, &mut working)?;
+    let found = judge(alloc, program, named, &mut Unwatched, &mut working)?;
     let program = program.clone()?;
-    Ok(Verified { program, loaded })
+    Ok(Verified { program, found })
 }
 
 /// Verifies the program that the bytes of slots spell. It is kept without a copy, or the slots are rejected: out of memory is the
@@ -129,7 +151,7 @@ pub fn verify_slots(
         Err(fault) => return Ok(Err(Refusal::from(fault))),
     };
     match judge(alloc, &program, named, &mut Unwatched, working) {
-        Ok(loaded) => Ok(Ok(Verified { program, loaded })),
+        Ok(found) => Ok(Ok(Verified { program, found })),
         Err(fault) if fault.reason == Reason::Memory => Err(AllocError),
         Err(fault) => Ok(Err(Refusal::from(fault))),
     }
@@ -137,7 +159,7 @@ pub fn verify_slots(
 
 /// Verifies a program like `verify`, and passes the facts before each instruction that a run may reach to `watcher`: each slot once
 /// and in order. If the program is rejected for its safety, the last slot is that of the fault; if for its shape, nothing is passed.
-/// Nothing is kept of the program.
+/// Nothing is kept of the program; the result is what it costs.
 ///
 /// # Errors
 ///
@@ -147,8 +169,9 @@ pub fn verify_watched<W: Watcher>(
     program: &Program,
     named: &[Named],
     watcher: &mut W,
-) -> Result<(), VerifyFault>
+) -> Result<Cost, VerifyFault>
     ensures accepted { OnOk result (IsAccepted program.now named.now) }
+    ensures cost { IfOk result (λ cost. IsCostOf cost program.now) }
     ensures refused { IfErr result (IsFaultOf program.now named.now) }
     ensures told { OnOk result
         (IsToldWhole program.now named.now (W.told watcher.old) (W.told watcher.new)) }
@@ -156,6 +179,6 @@ pub fn verify_watched<W: Watcher>(
         (IsToldRefused program.now named.now (W.told watcher.old) (W.told watcher.new)) }
 {
     let mut working = WorkingMemory::new(alloc);
-    judge(alloc, program, named, watcher, &mut working)?;
-    Ok(())
+    let found = judge(alloc, program, named, watcher, &mut working)?;
+    Ok(found.cost)
 }

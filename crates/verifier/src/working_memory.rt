@@ -1,17 +1,18 @@
 //! The memory that a verification works in.
 
+use crate::cost::Counts;
 use crate::pass::Pass;
 use std::alloc::Global;
 
-/// The memory that verifications work in, one after another: a flag for each slot, and the facts that wait at jump targets.
+/// The memory that verifications work in, one after another: two counts for each slot, and the facts that wait at jump targets.
 ///
 /// It has no contents between two verifications: the judgement on a program is the same with a new one. It is reused since fresh
 /// memory is slow: a program whose jumps wait at 1,900 targets needs 4.7 MB. It keeps what the largest verification so far has
 /// requested, which is at most 5.1 MB, and frees it when it is dropped.
 #[derive(Drop)]
 pub struct WorkingMemory {
-    /// Whether an edge leads to each slot, in the pass over a program's shape.
-    pub(crate) reached: Vec<bool>,
+    /// The counts on the jumps to each slot, in the pass over a program's shape.
+    pub(crate) jumping: Vec<Counts>,
     /// The facts, in the pass over its instructions.
     pub(crate) pass: Pass,
 }
@@ -20,7 +21,7 @@ impl WorkingMemory {
     /// Memory for verifications. Allocates nothing: each verification requests what is missing.
     pub fn new(alloc: Global) -> WorkingMemory {
         WorkingMemory {
-            reached: Vec::new(alloc),
+            jumping: Vec::new(alloc),
             pass: Pass::new(alloc),
         }
     }

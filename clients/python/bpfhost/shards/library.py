@@ -15,10 +15,10 @@ from pathlib import Path
 
 from bpfhost.alike import BEFORE_PACKET, packed, size_of_packet
 from bpfhost.errors import HostError
-from bpfhost.functions import CONTEXT_WORDS, NO_MEMORY
+from bpfhost.functions import CONTEXT_WORDS
 from bpfhost.host import LONGEST_REPLY
 from bpfhost.library import VERSION, Library, LibraryError, LibraryHost
-from bpfhost.numbers import REPLY_HEAD, Command
+from bpfhost.numbers import REPLY_HEAD, Code, Command
 from bpfhost.program import Program, is_unproved
 from bpfhost.replies import Reply
 from bpfhost.shards.calls import Call
@@ -79,7 +79,7 @@ class HostHere(LibraryHost):
                 number += 1
                 yield
         except LibraryError as error:
-            if error.code != NO_MEMORY:
+            if error.code != Code.ERR_NO_MEMORY:
                 raise
             raise MemoryRefused(f"memory was refused to a snapshot of tenant {tenant}") from None
         return bytes(stream)

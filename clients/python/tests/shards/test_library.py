@@ -43,13 +43,20 @@ ZERO = frames.map_update_elem(0, 3, bytes(4), bytes(8))
 _FRAGILE = """
 #include <stdint.h>
 #include <stdlib.h>
-uint32_t bpfhost_c_version(void) { return 512; }
-uint32_t bpfhost_c_abi(void) { return 2; }
+uint32_t bpfhost_c_version(void) { return 768; }
+uint32_t bpfhost_c_abi(void) { return 3; }
 int32_t bpfhost_c_new(void *h, size_t n, uint64_t a, uint64_t b) { return 0; }
 int32_t bpfhost_c_handle(void *h, const uint8_t *f, size_t n, uint8_t *r, size_t m, size_t *w) { abort(); }
 int32_t bpfhost_c_run_packets(void) { abort(); }
 int32_t bpfhost_c_save(void) { abort(); }
 int32_t bpfhost_c_memory_refused(void *h, uint16_t t, uint8_t *r) { *r = 0; return 0; }
+int32_t bpfhost_c_status(void) { abort(); }
+int32_t bpfhost_c_describe(void) { abort(); }
+int32_t bpfhost_c_program_cost(void) { abort(); }
+int32_t bpfhost_c_verify(void) { abort(); }
+int32_t bpfhost_c_prepare(void) { abort(); }
+int32_t bpfhost_c_install(void) { abort(); }
+void bpfhost_c_prepared_free(void *p) { }
 void bpfhost_c_free(void *h) { }
 """
 
@@ -236,12 +243,12 @@ class Refused(HostTest):
         name = ctypes.util.find_library("c")
         found = next((path for path in Path("/lib").rglob(name or "libc.so.6")), None)
         if found:
-            self.refused(found, f"{name} is no library of bpfhost 0.2: it has no bpfhost_c_abi")
+            self.refused(found, f"{name} is no library of bpfhost 0.3: it has no bpfhost_c_abi")
 
     def test_another_version(self) -> None:
         other = self.scratch / SONAME
         other.write_bytes(loaded().path.read_bytes().replace(SONAME.encode(), b"libbpfhost.so.9.9"))
-        self.refused(other, "is of version 9.9, and this client is for 0.2")
+        self.refused(other, "is of version 9.9, and this client is for 0.3")
 
     def test_another_build(self) -> None:
         """One is built without proofs, and the other with them."""

@@ -3,6 +3,10 @@
 // limits: written by tools/generate
 /// The most tenants of a host.
 pub const MOST_TENANTS: usize = 64;
+/// The lowest descriptor.
+pub const FIRST_DESCRIPTOR: usize = 3;
+/// The most open descriptors of a tenant.
+pub const MOST_DESCRIPTORS: usize = 64;
 /// The most bytes of a packet.
 pub const LONGEST_PACKET: usize = 65_536;
 /// The most bytes of a frame, without its length field; the reply to a longer one is E2BIG.
@@ -16,7 +20,7 @@ pub const TEST_RUN_HEAD: usize = 48;
 /// The most bytes of a part of a save: a full map with the longest keys.
 pub const LONGEST_PART: usize = 2_244_648;
 /// The number of the library's binary interface, which changes with its soname.
-pub const ABI: usize = 2;
+pub const ABI: usize = 3;
 // end of limits
 
 // codes: written by tools/generate
@@ -38,6 +42,16 @@ pub const ERR_NO_PART: i32 = -6;
 pub const ERR_TOO_BIG: i32 = -7;
 /// A code: a struct has no size, or one of no whole words.
 pub const ERR_SIZE: i32 = -8;
+/// A code: a descriptor of the program names no map of the shape with which it was prepared.
+pub const ERR_STALE: i32 = -9;
+/// A code: there is no prepared program: it was installed or freed.
+pub const ERR_NO_PROGRAM: i32 = -10;
+/// A code: there is a prepared program already.
+pub const ERR_HAS_PROGRAM: i32 = -11;
+/// A code: a descriptor is given an object that there cannot be, or there are too many.
+pub const ERR_DESCRIPTORS: i32 = -12;
+/// A code: there is no style of a log with this number.
+pub const ERR_STYLE: i32 = -13;
 // end of codes
 
 // commands: written by tools/generate

@@ -11,9 +11,9 @@ use Rattle.bpf_maps.specs.Limits.{most_maps}
 use Rattle.tenant.specs.State.{TenantState}
 use Rattle.saving.specs.Births.{Birth, lives}
 use Rattle.saving.specs.inside.Frames.{tail_length}
-use Rattle.saving.proofs.FramesParts.{IsLent, lent_told}
+use Rattle.saving.proofs.FramesParts.{IsLent, on_lent}
 use Rattle.saving.proofs.FramesTold.{told, shown_after}
-use Rattle.saving.proofs.Recorded.{told_is_opened, few_after}
+use Rattle.saving.proofs.Recorded.{births_opened, few_after}
 use Rattle.saving.proofs.handling.reply_to_command.Goals as goal
 
 -- ---- there is room for a birth
@@ -25,7 +25,7 @@ note-requires c =
     let p = c.part_mut-part.result.now in
     let after = state_in c.create-answer.new.part c.create-answer.new.self in
     let r = c.create-answer.result in
-    subst (λ (bs : List Birth). length bs ≤ most + most_maps) (sym (told_is_opened r after c.args.births.now))
+    subst (λ (bs : List Birth). length bs ≤ most + most_maps) (sym (births_opened r after c.args.births.now))
     (few_after c.maps_are_held.ensures c.births_are_kept.ensures c.args.tenant.now c.args.births.now c.requires.recorded p e.answer.0 (map_create a.kind a.key_size a.value_size a.max_entries a.flags) (shown_answer r after) e.answer.1)
 
 pub note-requires-in-ProgLoad : goal.note-requires-in-ProgLoad
@@ -35,7 +35,7 @@ note-requires-in-ProgLoad c =
     let after = state_in p c.load-loaded.new.self in
     let r = c.load-loaded.result in
     let (refused, loads) = c.load-loaded.ensures.answer p in
-    subst (λ (bs : List Birth). length bs ≤ most + most_maps) (sym (told_is_opened r after c.args.births.now))
+    subst (λ (bs : List Birth). length bs ≤ most + most_maps) (sym (births_opened r after c.args.births.now))
     (few_after c.maps_are_held.ensures c.births_are_kept.ensures c.args.tenant.now c.args.births.now c.requires.recorded p refused (prog_load a.kind a.slots.now) (shown_answer r after) loads)
 
 -- ---- commands that borrow the part to write it
@@ -44,20 +44,20 @@ pub returns-in-MapCreate-clause-told : goal.returns-in-MapCreate-clause-told
 returns-in-MapCreate-clause-told c =
     let e = c.create-answer.ensures in
     let lent : IsLent c.args.arena.now c.args.number c.part_mut-part.result.now c.create-answer.new.part = record { parts = c.memory_is_its_parts.ensures.parts; served = c.requires.part; bytes = c.part_mut-part.ensures.bytes; whole = e.length } in
-    lent_told c.parts_are_apart.ensures c.args.tenant.now c.create-answer.new.self lent (told e.answer.0 c.create-answer.result c.in-MapCreate.is e.answer.1 e.writable c.write_answer.ensures
-    (c.note.ensures ∙ told_is_opened c.create-answer.result (state_in c.create-answer.new.part c.create-answer.new.self) c.args.births.now))
+    on_lent c.parts_are_apart.ensures c.args.tenant.now c.create-answer.new.self lent (told e.answer.0 c.create-answer.result c.in-MapCreate.is e.answer.1 e.writable c.write_answer.ensures
+    (c.note.ensures ∙ births_opened c.create-answer.result (state_in c.create-answer.new.part c.create-answer.new.self) c.args.births.now))
 
 pub returns-in-MapUpdate-clause-told : goal.returns-in-MapUpdate-clause-told
 returns-in-MapUpdate-clause-told c =
     let e = c.update-answer.ensures in
     let lent : IsLent c.args.arena.now c.args.number c.part_mut.result.now c.update-answer.new.part = record { parts = c.memory_is_its_parts.ensures.parts; served = c.requires.part; bytes = c.part_mut.ensures.bytes; whole = e.length } in
-    lent_told c.parts_are_apart.ensures c.args.tenant.now c.update-answer.new.self lent (told false c.update-answer.result c.in-MapUpdate.is e.answer e.writable c.write_answer-in-MapUpdate.ensures refl)
+    on_lent c.parts_are_apart.ensures c.args.tenant.now c.update-answer.new.self lent (told false c.update-answer.result c.in-MapUpdate.is e.answer e.writable c.write_answer-in-MapUpdate.ensures refl)
 
 pub returns-in-Close-clause-told : goal.returns-in-Close-clause-told
 returns-in-Close-clause-told c =
     let e = c.close-answer.ensures in
     let lent : IsLent c.args.arena.now c.args.number c.part_mut-in-Close.result.now c.close-answer.new.part = record { parts = c.memory_is_its_parts.ensures.parts; served = c.requires.part; bytes = c.part_mut-in-Close.ensures.bytes; whole = e.length } in
-    lent_told c.parts_are_apart.ensures c.args.tenant.now c.close-answer.new.self lent (told false c.close-answer.result c.in-Close.is e.answer e.writable c.write_answer-in-Close.ensures
+    on_lent c.parts_are_apart.ensures c.args.tenant.now c.close-answer.new.self lent (told false c.close-answer.result c.in-Close.is e.answer e.writable c.write_answer-in-Close.ensures
     (c.keep_living.ensures c.close-answer.new.part ∙ ap (λ (s : TenantState). filter (lives s) c.args.births.now) (shown_after c.close-answer.result (state_in c.close-answer.new.part c.close-answer.new.self))))
 
 -- ---- commands that read the part, or do not borrow it
@@ -90,7 +90,7 @@ returns-in-ProgLoad-clause-told c =
     let short = subst (λ (x : CodeCommand). tail_length (shown_command x) ≤ longest_frame) c.in-ProgLoad.is c.requires.short in
     let (refused, loads) = e.answer (part_bytes c.args.arena.now c.args.number) in
     told refused c.load-loaded.result c.in-ProgLoad.is loads (e.writable (omega (arith, short))) c.write_answer-in-ProgLoad.ensures
-    (c.note-in-ProgLoad.ensures ∙ told_is_opened c.load-loaded.result (state_in (part_bytes c.args.arena.now c.args.number) c.load-loaded.new.self) c.args.births.now)
+    (c.note-in-ProgLoad.ensures ∙ births_opened c.load-loaded.result (state_in (part_bytes c.args.arena.now c.args.number) c.load-loaded.new.self) c.args.births.now)
 
 pub returns-in-ProgTestRun-clause-told : goal.returns-in-ProgTestRun-clause-told
 returns-in-ProgTestRun-clause-told c =

@@ -8,10 +8,10 @@ use Rattle.verifier.specs.Told.{IsToldBelow}
 use Rattle.verifier.proofs.Telling.{none_told_at_memory, none_told_of_shape}
 use Rattle.verifier.proofs.judging.judge.Goals as goal
 
-pub returns-in_err-check_shape-clause-told_refused : goal.returns-in_err-check_shape-clause-told_refused
-returns-in_err-check_shape-clause-told_refused g c =
+pub returns-in_err-cost-clause-told_refused : goal.returns-in_err-cost-clause-told_refused
+returns-in_err-cost-clause-told_refused g c =
     let p = err_from_is_err_and c.from_residual.result c.from_residual.ensures.1 in
-    rw (p.1, p.2) (none_told_of_shape c.args.program.now c.args.named.now (g.W.Watcher.told c.args.watcher.now) _ c.in_err-check_shape.ensures.refused)
+    rw (p.1, p.2) (none_told_of_shape c.args.program.now c.args.named.now (g.W.Watcher.told c.args.watcher.now) _ c.in_err-cost.ensures.refused)
 
 pub returns-in_err-maps-clause-told_refused : goal.returns-in_err-maps-clause-told_refused
 returns-in_err-maps-clause-told_refused g c =

@@ -1,16 +1,20 @@
-use Rattle.std.proofs.Common.{◌≡◌, ℕ, ◌<◌, ◌≤◌, ◌-◌, length, get_or, false, None}
+use Rattle.std.proofs.Common.{◌≡◌, ℕ, ◌<◌, ◌≤◌, ◌-◌, length, None}
 use Rattle.insn_set.specs.Program.{slot_count, Adjoins}
-use Rattle.verifier.specs.Shape.{reached_from, structure_fault}
+use Rattle.verifier.specs.Shape.{structure_fault}
+use Rattle.verifier.specs.inside.Longest.{arriving, most_from, most_ended, one, one_if_call}
 use Rattle.verifier.proofs.shape.check_shape.Given as goal
 
--- the slot is the end, or an instruction begins there; a later slot is marked if an edge from a slot before this one goes to it, and none
--- of these has a fault
+-- the slot is the end, or an instruction begins there; the counts are the most on the ways along edges from slots before this one, and
+-- none of these has a fault
 abbrev pub invariant-loop-slot : goal.invariant-loop-slot
 invariant-loop-slot l =
     record {
       begins : Adjoins l.program l.slot;
-      long : length l.reached.items ≡ slot_count l.program;
-      marked : (i : ℕ) → l.slot ≤ i → i < slot_count l.program → get_or l.reached.items i false ≡ reached_from l.program i l.slot;
+      long : length l.jumping ≡ slot_count l.program;
+      instructions : (i : ℕ) → l.slot ≤ i → i < slot_count l.program → arriving (λ c. c.instructions) l.slot l.paths.here l.jumping i ≡ most_from one l.program i l.slot;
+      calls : (i : ℕ) → l.slot ≤ i → i < slot_count l.program → arriving (λ c. c.calls) l.slot l.paths.here l.jumping i ≡ most_from one_if_call l.program i l.slot;
+      ended_instructions : l.paths.ended.instructions ≡ most_ended one l.program l.slot;
+      ended_calls : l.paths.ended.calls ≡ most_ended one_if_call l.program l.slot;
       none_below : (n : ℕ) → n < l.slot → structure_fault l.program l.named n ≡ None;
     }
 

@@ -3,4 +3,6 @@ use Rattle.verifier.proofs.verified.verify.Goals as goal
 
 pub invariant_of-result : goal.invariant_of-result
 invariant_of-result c =
-    copy_is_whole c.args.program.now c.in_ok-program.program c.args.named.now c.in_ok-loaded.loaded.entries.items c.in_ok-loaded.loaded.maps.items c.in_ok-program.ensures.cases c.in_ok-loaded.ensures.accepted c.in_ok-loaded.ensures.entries c.in_ok-loaded.ensures.maps
+    let found = c.in_ok-found.found in
+    let is = c.in_ok-found.ensures in
+    copy_is_whole c.args.program.now c.in_ok-program.program c.args.named.now found.entries.items found.maps.items found.cost c.in_ok-program.ensures.cases is.accepted is.entries is.maps is.cost

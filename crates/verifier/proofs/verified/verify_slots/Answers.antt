@@ -6,7 +6,9 @@ use Rattle.verifier.proofs.verified.verify_slots.Goals as goal
 
 pub invariant_of-result : goal.invariant_of-result
 invariant_of-result c =
-    copy_is_whole c.in-Ok.program c.in-Ok.program c.args.named.now c.in-Ok-judge.loaded.entries.items c.in-Ok-judge.loaded.maps.items refl c.in-Ok-judge.ensures.accepted c.in-Ok-judge.ensures.entries c.in-Ok-judge.ensures.maps
+    let found = c.in-Ok-judge.found in
+    let is = c.in-Ok-judge.ensures in
+    copy_is_whole c.in-Ok.program c.in-Ok.program c.args.named.now found.entries.items found.maps.items found.cost refl is.accepted is.entries is.maps is.cost
 
 pub returns-in-Err-judge-clause-memory : goal.returns-in-Err-judge-clause-memory
 returns-in-Err-judge-clause-memory c = may_be_program c.one_fault.ensures.none c.args.slots.now c.in-Ok.program c.in-Ok.ensures.found.0 c.in-Ok.ensures.found.1

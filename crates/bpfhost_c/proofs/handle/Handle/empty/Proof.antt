@@ -20,7 +20,7 @@ use Rattle.std.proofs.raw_atomic.Walks.{proved_at}
 use Rattle.std_heap.specs.contracts.Global as heap
 use Rattle.std_heap.proofs.Global.TheLaws as heap_laws
 use Rattle.bpfhost_c.specs.Owned.{handle_owns}
-use Rattle.core.proofs.alloc.Calls.{handle_tells}
+use Rattle.core.proofs.alloc.Calls.{handle_tells as word_of}
 use Rattle.std_heap.specs.contracts.GlobalAllocator.TheImpl.{ghosts}
 use Rattle.bpfhost_c.proofs.Values.{al, both, handle_in, null_good}
 use Rattle.bpfhost_c.specs.contracts.handle.Handle.empty.{ended, clauses}
@@ -34,7 +34,7 @@ empty_spec 𝓤 𝓛 𝓜 𝓡 wired =
     let From = plain (λ _. Z) in let hs : Stays ended.signature.params ended.kept = (stay_dropped From yes, tt) in
     proved_at 𝓛 ended hs c 𝓜 𝓡 (Goes-dropped 𝓛 0 From yes (λ κs x f. refl), tt) #self code.function (code.unfolded 𝓤 H 𝓜 𝓡 wired) (λ z are.
     let κs = z.0.0 in let a = z.0.3.0 in let Post : Val → SProp 𝓤 = (walk_of 𝓛 ended hs c).post z in let Run : List Val → SProp 𝓤 = λ ws. WpFn 𝓤 H 𝓣.C 𝓣.Λ code.function ws Post in
-    qed 𝓛 ((‵ ftrue ⊛ ‵ (owns (types_at ended.signature.params κs) z.0.3 z.0.4)) ∷ raw ((c κs z.0.3).requires z.1) ∷ []) ∵ split ! $ drop ! $ fsplit ! $ handle_tells (al Z Z LZ ghosts) ! a z.0.4.0 (λ h ea fits.
+    qed 𝓛 ((‵ ftrue ⊛ ‵ (owns (types_at ended.signature.params κs) z.0.3 z.0.4)) ∷ raw ((c κs z.0.3).requires z.1) ∷ []) ∵ split ! $ drop ! $ fsplit ! $ word_of (al Z Z LZ ghosts) ! a z.0.4.0 (λ h ea fits.
     let w : Val = both (ptr_val null_ptr) h in let typed = null_good h fits in
     keep ! (0 ∷ []) $
     suffices ! (Run (h ∷ [])) (subst (λ (us : List Val). ent 𝓤 (Run (h ∷ [])) (Run us)) (sym (λ i. ea i ++ [])) (id⊢ 𝓤 (Run (h ∷ [])))) $

@@ -2,4 +2,4 @@ use Rattle.log_facts.proofs.Verdicts.{says_verdict}
 use Rattle.log_facts.proofs.recorder.Judged.into_log.Goals as goal
 
 pub returns-clause-said : goal.returns-clause-said
-returns-clause-said c = λ code named judged ends. says_verdict _ _ _ _ _ _ c.is_none.ensures judged ends
+returns-clause-said c = λ code named judged ends. says_verdict _ _ _ _ _ _ c.is_ok.ensures.value judged ends

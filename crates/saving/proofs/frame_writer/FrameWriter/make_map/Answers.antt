@@ -1,4 +1,5 @@
-use Rattle.std.proofs.Common.{◌≡◌, List, ◌∷◌, map, sym, ap, ◌∙◌}
+use Rattle.std.proofs.Common.{◌≡◌, ℕ, List, ◌∷◌, ◌++◌, map, sym, ap, subst, ◌∙◌}
+use Rattle.std.specs.Result.{OnOk}
 use Rattle.bpf_maps.specs.Live.{map_in}
 use Rattle.command_frames.specs.Command.{Command}
 use Rattle.tagged_model.specs.declared.shape.MapShape.{MapShape}
@@ -6,6 +7,7 @@ use Rattle.tenant.specs.Entry.{numbered_entries}
 use Rattle.tenant.specs.Kept.{state_in}
 use Rattle.tenant.specs.State.{live}
 use Rattle.saving.specs.Restored.{create_of, put_of, made_map}
+use Rattle.saving.specs.SaveParts.{frames_of}
 use Rattle.saving.specs.inside.Puts.{puts}
 use Rattle.saving.proofs.SaveSteps.{map_puts, ok_more}
 use Rattle.saving.proofs.frame_writer.FrameWriter.make_map.Goals as goal
@@ -23,7 +25,13 @@ returns c =
     ap (made_map fd) (c.in-Some.ensures.state part)
     ∙ ap (λ (s : MapShape). create_of s ∷ map (put_of fd) table.entries) (sym c.in-Some.ensures.shape.1)
     ∙ ap (λ (cs : List Command). create_of shape ∷ cs) (map_puts part maps m fd) in
+    -- what is reserved changes no frame
+    let put : OnOk c.put_all.result (c.put_all.new.self.frames.items
+    ≡ c.create.new.self.frames.items ++ frames_of c.create.new.self.number (puts fd (numbered_entries part maps m))) =
+    subst
+    (λ (frames : List ℕ). OnOk c.put_all.result (c.put_all.new.self.frames.items ≡ frames ++ frames_of c.create.new.self.number (puts fd (numbered_entries part maps m))))
+    c.reserve.ensures.items c.put_all.ensures.written in
     record {
       written = ok_more c.put_all.result c.args.self.now.frames.items c.put_all.new.self.frames.items c.args.self.now.number c.create.new.self.number (create_of shape) (puts fd (numbered_entries part maps m)) all is
-          c.create.ensures.number c.in_ok-create.ensures.written c.put_all.ensures.written;
+          c.create.ensures.number c.in_ok-create.ensures.written put;
     }

@@ -5,7 +5,7 @@ use Rattle.tenant.specs.Alone.{MayReply}
 use Rattle.tenant.specs.Kept.{state_in}
 use Rattle.saving.specs.Recorded.{RecordedTenant, RecordsFrame, tenant_state}
 use Rattle.saving.proofs.FramesLengths.{parsed_within}
-use Rattle.saving.proofs.FramesReplies.{may_tell, may_record, no_fault_told, refused_frame, refused_record, refused_no_fault}
+use Rattle.saving.proofs.FramesReplies.{may_tell, may_record, no_fault_replied, refused_frame, refused_record, refused_no_fault}
 use Rattle.saving.proofs.FramesHeads.{headed_length}
 use Rattle.saving.proofs.Recorded.{recorded_after}
 use Rattle.saving.proofs.savable.SavableTenant.handle.Goals as goal
@@ -42,7 +42,7 @@ returns-in-Ok-clause-recorded c =
     (may_record c.args.frame.now (shown_command c.in-Ok.command) c.args.head e.reply (state_in before c.self.inside.tenant) after c.self.inside.births e.births c.requires.head (sym c.in-Ok.ensures) c.reply_to_command.ensures.told)
 
 pub returns-in-Ok-clause-no_fault : goal.returns-in-Ok-clause-no_fault
-returns-in-Ok-clause-no_fault c = no_fault_told c.args.frame.now c.args.head c.reply_to_command.new.reply c.requires.head c.reply_to_command.ensures.told.no_fault
+returns-in-Ok-clause-no_fault c = no_fault_replied c.args.frame.now c.args.head c.reply_to_command.new.reply c.requires.head c.reply_to_command.ensures.told.no_fault
 
 pub returns-in-Err-clause-told : goal.returns-in-Err-clause-told
 returns-in-Err-clause-told c =

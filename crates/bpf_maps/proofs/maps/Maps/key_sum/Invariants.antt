@@ -1,0 +1,9 @@
+use Rattle.std.proofs.Common.{◌≡◌, ◌*◌, ◌≤◌, length, take}
+use Rattle.bpf_maps.specs.Sum.{total}
+use Rattle.bpf_maps.proofs.maps.Maps.key_sum.Given as goal
+
+abbrev pub invariant-loop-handle : goal.invariant-loop-handle
+invariant-loop-handle l = record {
+  sum : l.sum ≡ total (λ m. length m.keys.entries) (take l.handle l.self.maps);
+  few : l.sum ≤ l.handle * 4096;
+}

@@ -1,0 +1,9 @@
+use Rattle.std.proofs.Common.{◌≡◌, ◌≤◌, take}
+use Rattle.bpf_maps.specs.Sum.{total}
+use Rattle.bpf_maps.proofs.maps.Maps.live_count.Given as goal
+
+abbrev pub invariant-loop-handle : goal.invariant-loop-handle
+invariant-loop-handle l = record {
+  count : l.count ≡ total (λ m. 1) (take l.handle l.self.maps);
+  few : l.count ≤ l.handle;
+}

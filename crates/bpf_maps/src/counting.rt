@@ -1,0 +1,76 @@
+//! How many maps of a tenant are live, how many keys they have, and how many bytes their values take.
+
+ghost use Rattle.std.specs.Prelude.{◌≡◌, ◌*◌, ◌≤◌, length};
+ghost use Rattle.tagged_model.specs.Shape.{most_entries};
+ghost use Rattle.bpf_maps.specs.Limits.{most_bytes, most_maps};
+ghost use Rattle.bpf_maps.specs.Live.{keys_at, areas};
+ghost use Rattle.bpf_maps.specs.Sum.{total};
+
+use crate::maps::{MapKey, Maps};
+use crate::part::MAPS;
+use crate::spare_maps::{LiveHashMaps, NO_HASH_MAPS};
+use tagged_model::MapKind;
+
+impl Maps {
+    /// How many keys a map has: at most `MOST_ENTRIES`, and none if it is not live.
+    pub fn key_count(&self, map: MapKey) -> u32
+        ensures count { result ≡ length (keys_at self.now map).entries }
+        ensures few { result ≤ most_entries }
+    {
+        if !self.is_live(map) {
+            return 0;
+        }
+        self.maps_are_laid();
+        self.stored(map).map.key_count()
+    }
+
+    /// How many maps are live: at most `MAPS`.
+    pub fn live_count(&self) -> u32
+        ensures count { result ≡ total (λ l. 1) self.now.maps }
+        ensures few { result ≤ most_maps }
+    {
+        self.maps_are_laid();
+        let mut count = 0;
+        for handle in 0..MAPS {
+            if self.is_live(MapKey { handle }) {
+                count += 1;
+            }
+        }
+        count
+    }
+
+    /// How many keys all live maps have together: at most `MAPS * MOST_ENTRIES`.
+    pub fn key_sum(&self) -> u32
+        ensures sum { result ≡ total (λ l. length l.keys.entries) self.now.maps }
+        ensures few { result ≤ most_maps * most_entries }
+    {
+        self.maps_are_laid();
+        let mut sum = 0;
+        for handle in 0..MAPS {
+            sum += self.key_count(MapKey { handle });
+        }
+        sum
+    }
+
+    /// The hash maps that are live: how many they are, and how many entries they can have.
+    pub(crate) fn live_hash_maps(&self) -> LiveHashMaps {
+        self.maps_are_laid();
+        let mut live = NO_HASH_MAPS;
+        for handle in 0..MAPS {
+            let map = MapKey { handle };
+            if self.is_live(map) && self.shape(map).kind == MapKind::Hash {
+                live = live.with(self.shape(map).max_entries);
+            }
+        }
+        live
+    }
+
+    /// How many bytes the values of all live maps take, each rounded up to a multiple of eight: at most `LARGEST_SUM`.
+    pub fn value_bytes(&self) -> usize
+        ensures sum { result ≡ areas self.now }
+        ensures few { result ≤ most_bytes }
+    {
+        self.maps_are_laid();
+        self.bytes
+    }
+}

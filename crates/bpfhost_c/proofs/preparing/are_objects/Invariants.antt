@@ -1,0 +1,6 @@
+use Rattle.std.proofs.Common.{◌≡◌, drop}
+use Rattle.bpfhost_c.specs.Prepares.{are_objects}
+use Rattle.bpfhost_c.proofs.preparing.are_objects.Given as goal
+
+abbrev pub invariant-loop-descriptor : goal.invariant-loop-descriptor
+invariant-loop-descriptor l = are_objects (drop l.descriptor-index l.descriptors) ≡ are_objects l.descriptors

@@ -1,0 +1,6 @@
+use Rattle.std.proofs.Common.{◌≡◌, take}
+use Rattle.bpfhost_c.specs.Prepares.{named_by}
+use Rattle.bpfhost_c.proofs.preparing.named_by.Given as goal
+
+abbrev pub invariant-loop-descriptor : goal.invariant-loop-descriptor
+invariant-loop-descriptor l = l.named.items ≡ named_by (take l.descriptor-index l.descriptors)

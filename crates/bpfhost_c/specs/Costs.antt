@@ -1,0 +1,15 @@
+-- What a program costs, for C. This project's own.
+use Rattle.std.specs.Prelude.{◌≡◌, ℕ, Option, Some, None}
+use Rattle.tenant.specs.Costs.{HasCostAt}
+use Rattle.host_core.specs.State.{TenantState}
+use Rattle.verifier.specs.declared.cost.Cost.{Cost}
+use Rattle.bpfhost_c.specs.declared.costs.ProgramCost.{ProgramCost}
+
+-- both numbers are 0 if there is no program; one that there is executes at least one instruction
+abbrev pub shown_cost : Option Cost → ProgramCost
+shown_cost None = record { instructions = 0; calls = 0 }
+shown_cost (Some cost) = record { instructions = cost.instructions; calls = cost.calls }
+
+-- the cost of the program that a descriptor of a tenant names
+abbrev pub ShowsCost : Option TenantState → ℕ → ProgramCost → Type 0
+ShowsCost s fd shown = (cost : Option Cost) × HasCostAt s fd cost × (shown ≡ shown_cost cost)

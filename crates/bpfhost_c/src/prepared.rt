@@ -1,0 +1,90 @@
+//! The handle that C holds of a prepared program: a pointer to it, or null.
+
+ghost use Rattle.std.specs.Prelude.{◌≡◌, Some, None, Option, option_map};
+ghost use Rattle.verifier.specs.Verified.{Accepted};
+ghost use Rattle.bpfhost_c.specs.OwnedProgram.{prepared_coded, prepared_owns};
+
+use crate::raw_box::RawBox;
+use std::alloc::Global;
+use std::marker::Model;
+use std::mem::replace;
+use std::ptr::null_mut;
+use verifier::Verified;
+
+/// A pointer to a prepared program, or null. For C it is an opaque type of the size of a pointer.
+#[repr(C)]
+pub struct Prepared {
+    at: *mut u8,
+    alloc: Global,
+    pub ghost program: { Option Accepted } by { prepared_coded },
+}
+
+impl Model for Prepared {
+    ghost also_owns = { λ h. prepared_owns h.alloc h.at h.program };
+}
+
+impl Prepared {
+    /// A handle with no program.
+    pub(crate) fn empty(alloc: Global) -> Prepared
+        ensures { result.program ≡ None }
+    {
+        Prepared {
+            at: null_mut(),
+            alloc,
+        }
+    }
+
+    /// A handle with the program of a box.
+    pub(crate) fn from_raw_box(raw: RawBox<Verified, Global>) -> Prepared
+        ensures { result.program ≡ Some raw.value }
+    {
+        let RawBox { at, alloc } = raw;
+        Prepared {
+            at: at as *mut u8,
+            alloc,
+        }
+    }
+
+    /// The box of the program; `None` if the handle is empty.
+    pub(crate) fn into_raw_box(self) -> Option<RawBox<Verified, Global>>
+        ensures { option_map (λ raw. raw.value) result ≡ self.program }
+    {
+        let Prepared { at, alloc } = self;
+        if at.is_null() {
+            return None;
+        }
+        Some(RawBox {
+            at: at as *mut Verified,
+            alloc,
+        })
+    }
+
+    /// Takes the program out, which leaves the handle empty; `None` if it was empty.
+    pub(crate) fn take(&mut self, alloc: Global) -> Option<Box<Verified>>
+        ensures program { option_map (λ b. b.value) result ≡ self.old.program }
+        ensures empty { self.new.program ≡ None }
+    {
+        match replace(self, Prepared::empty(alloc)).into_raw_box() {
+            Some(raw) => Some(raw.into_box()),
+            None => None,
+        }
+    }
+
+    /// Puts a program in. A program that was there is dropped.
+    pub(crate) fn put(&mut self, program: Box<Verified>)
+        ensures { self.new.program ≡ Some program.value }
+    {
+        *self = Prepared::from_raw_box(RawBox::from_box(program));
+    }
+}
+
+impl Drop for Prepared {
+    fn drop(self) {
+        if let Some(raw) = self.into_raw_box() {
+            drop(raw.into_box());
+        }
+    }
+}
+
+// The handle owns its box, and a program may be sent to another thread.
+unsafe impl Send for Prepared {}

@@ -1,0 +1,10 @@
+-- The open descriptors with which a program of a tenant is verified. This project's own.
+use Rattle.std.specs.Prelude.{List, [], Option, Some, None}
+use Rattle.tagged_model.specs.declared.shape.Named.{Named}
+use Rattle.tenant.specs.Machine.{targets}
+use Rattle.tenant.specs.State.{TenantState}
+
+-- a tenant that is not served has none
+abbrev pub targets_if_served : Option TenantState → List Named
+targets_if_served (Some s) = targets s
+targets_if_served None = []

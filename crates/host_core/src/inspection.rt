@@ -1,0 +1,81 @@
+//! What the owner of a host can see of a tenant: how much it has, what its descriptors name, and what its programs cost.
+
+ghost use Rattle.std.specs.Prelude.{◌≡◌, ◌≤◌, ℕ, List, slice_get, option_map, IfOk};
+ghost use Rattle.saving.specs.Recorded.{tenant_state};
+ghost use Rattle.tenant.specs.Costs.{HasCostAt};
+ghost use Rattle.tenant.specs.Counts.{counts_if_served};
+ghost use Rattle.tenant.specs.Described.{described_if_served};
+ghost use Rattle.host_core.specs.Batch.{IsAllowedFor};
+ghost use Rattle.host_core.specs.Targets.{targets_if_served};
+
+use crate::host::Host;
+use saving::SavableTenant;
+use std::alloc::AllocError;
+use tagged_model::Named;
+use tenant::{Cost, Counts, Described};
+
+impl Host {
+    /// A tenant; `None` for a number that is not served.
+    fn kept(&self, tenant: usize) -> Option<&SavableTenant>
+        ensures { (part : List ℕ) × (slice_get self.now.states tenant
+            ≡ option_map (λ kept. tenant_state part kept.now) result) }
+    {
+        self.tenants.get(tenant)
+    }
+
+    /// How much `tenant` has at this moment, and whether memory was ever refused to it. Nothing for a number that is not
+    /// served.
+    pub fn counts(&self, tenant: usize) -> Counts
+        ensures { result ≡ counts_if_served (slice_get self.now.states tenant) }
+    {
+        match self.kept(tenant) {
+            Some(tenant) => tenant.counts(),
+            None => Counts::none(),
+        }
+    }
+
+    /// What the descriptor `fd` of `tenant` names at this moment. A tenant that is not served has nothing open.
+    pub fn describe(&self, tenant: usize, fd: u32) -> Described
+        ensures { result ≡ described_if_served (slice_get self.now.states tenant) fd }
+    {
+        match self.kept(tenant) {
+            Some(tenant) => tenant.describe(fd),
+            None => Described::nothing(),
+        }
+    }
+
+    /// The cost of the program that the descriptor `fd` of `tenant` names; `None` if it names none, and for a number that is not served.
+    pub fn program_cost(&self, tenant: usize, fd: u32) -> Option<Cost>
+        ensures { HasCostAt (slice_get self.now.states tenant) fd result }
+    {
+        match self.kept(tenant) {
+            Some(tenant) => tenant.program_cost(fd),
+            None => None,
+        }
+    }
+
+    /// The number of packets that a batch of `packets` may have, of the program at a descriptor of `tenant`, so that its runs execute at
+    /// most `bound` instructions by the cost of the program: at least one, and all if the bound is 0. All if the tenant is not served or
+    /// the descriptor names no program: such a batch is rejected.
+    pub fn allowed_packets(&self, tenant: usize, fd: u32, bound: u64, packets: usize) -> usize
+        ensures allowed { IsAllowedFor (slice_get self.now.states tenant) fd bound packets result }
+        ensures few { result ≤ packets }
+    {
+        match self.kept(tenant) {
+            Some(tenant) => tenant.allowed_packets(fd, bound, packets),
+            None => packets,
+        }
+    }
+
+    /// The open descriptors of `tenant` and their objects, as the verifier sees them: those with which a load of it is verified. None
+    /// for a number that is not served. `AllocError`: out of memory.
+    pub fn targets(&self, tenant: usize) -> Result<Vec<Named>, AllocError>
+        ensures { IfOk result (λ named. named.items
+            ≡ targets_if_served (slice_get self.now.states tenant)) }
+    {
+        match self.kept(tenant) {
+            Some(tenant) => tenant.targets(self.alloc),
+            None => Ok(Vec::new(self.alloc)),
+        }
+    }
+}

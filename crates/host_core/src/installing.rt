@@ -1,0 +1,32 @@
+//! Programs that were verified elsewhere.
+
+ghost use Rattle.std.specs.Prelude.{◌≡◌, slice_get, IfOk, IfErr, OnOk};
+ghost use Rattle.host_core.specs.Installs.{Installs, FitsTenant};
+
+use crate::host::Host;
+use tenant::{Errno, Verified, laws};
+
+impl Host {
+    /// Opens a program of `tenant` that was verified elsewhere, and returns the status of the reply to the frame that would load it: a
+    /// descriptor, or the negated error number. What happens is what happens at this frame; but the program is neither copied nor
+    /// verified again.
+    ///
+    /// With which objects it was accepted does not matter, if each descriptor of its maps names a map of the same shape. If one does not,
+    /// the program is given back, and nothing has changed: then its slots have to be loaded by a frame.
+    pub fn install(&mut self, tenant: u16, program: Box<Verified>) -> Result<i32, Box<Verified>>
+        ensures loaded { IfOk result (λ status.
+            Installs tenant program.value.code status self.old self.new) }
+        ensures fits { OnOk result
+            (FitsTenant program.value (slice_get self.old.states tenant)) }
+        ensures stale { IfErr result (λ kept. (kept.value ≡ program.value) × (self.new ≡ self.old)
+            × ¬ FitsTenant program.value (slice_get self.old.states tenant)) }
+    {
+        laws::faults_have_no_payload();
+        saving::laws::frames_have_owners();
+        let number = usize::from(tenant);
+        if number >= self.tenants.len() {
+            return Ok(Errno::NotPermitted.status());
+        }
+        self.tenants[number].install(self.alloc, program)
+    }
+}

@@ -1,0 +1,71 @@
+//! The log of the bytes of slots.
+
+ghost use Rattle.std.specs.Prelude.{IfOk, string_bytes};
+ghost use Rattle.log_core.specs.Slots.{IsLogOfSlots, IsLogOfProgram, SaysNoProgram};
+
+use crate::log::log_of;
+use insn_codec::{CodecFault, FaultKind, Program, read_program};
+use log_facts::{Log, LogStyle};
+use std::alloc::{AllocError, Global};
+use tagged_model::Named;
+use verifier::Refusal;
+
+/// The log of the bytes of slots.
+#[derive(Debug, Drop)]
+pub struct SlotsLog {
+    /// Its lines, or the graph.
+    pub text: String,
+    /// Whether the slots are a program that is accepted.
+    pub is_accepted: bool,
+}
+
+/// The log of slots that are no program: the line of their refusal.
+fn refused(alloc: Global, fault: CodecFault) -> Result<SlotsLog, AllocError>
+    ensures { IfOk result (λ log. SaysNoProgram fault log.is_accepted (string_bytes log.text)) }
+{
+    let refusal = Refusal::from(fault);
+    Ok(SlotsLog {
+        text: format!(in alloc; "{refusal}\n")?,
+        is_accepted: false,
+    })
+}
+
+/// The log of slots that are a program.
+fn logged(
+    alloc: Global,
+    program: &Program,
+    named: &[Named],
+    style: LogStyle,
+) -> Result<SlotsLog, AllocError>
+    ensures { IfOk result (λ log. IsLogOfProgram program.now named.now style log.is_accepted
+        (string_bytes log.text)) }
+{
+    let Log {
+        text,
+        is_accepted,
+        facts: _,
+    } = log_of(alloc, program, named, style)?;
+    Ok(SlotsLog { text, is_accepted })
+}
+
+/// The log of the program that the bytes of slots spell, if descriptors name these objects. If they spell none, it is the line of
+/// their refusal.
+///
+/// # Errors
+///
+/// `AllocError`: out of memory for the program, for the verdict, for the facts or for the text.
+pub fn log_of_slots(
+    alloc: Global,
+    slots: &[u8],
+    named: &[Named],
+    style: LogStyle,
+) -> Result<SlotsLog, AllocError>
+    ensures { IfOk result (λ log. IsLogOfSlots slots.now named.now style log.is_accepted
+        (string_bytes log.text)) }
+{
+    match read_program(alloc, slots) {
+        Ok(program) => logged(alloc, &program, named, style),
+        Err(fault) if fault.kind == FaultKind::Memory => Err(AllocError),
+        Err(fault) => refused(alloc, fault),
+    }
+}

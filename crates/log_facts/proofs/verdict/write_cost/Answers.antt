@@ -1,0 +1,4 @@
+use Rattle.log_facts.proofs.verdict.write_cost.Goals as goal
+
+pub returns : goal.returns
+returns c = c.writeln.ensures.bytes

@@ -1,0 +1,63 @@
+//! Programs that were verified elsewhere.
+
+ghost use Rattle.std.specs.Prelude.{◌≡◌, ◌≢◌, ℕ, List, [], Some, IfOk, IfErr, OnOk};
+ghost use Rattle.command_frames.specs.Frame.{reply_to};
+ghost use Rattle.tenant.specs.Alone.{MayReply};
+ghost use Rattle.tenant.specs.Errno.{status_of};
+ghost use Rattle.tenant.specs.Machine.{targets};
+ghost use Rattle.tenant.specs.Replies.{IsWritable, shown_answer};
+ghost use Rattle.tenant.specs.State.{TenantState};
+ghost use Rattle.tenant.specs.declared.errno.Errno.TheVariants.{BadAddress};
+ghost use Rattle.verifier.specs.Fits.{Fits};
+ghost use Rattle.saving.specs.Installs.{load_frame, load_reply};
+ghost use Rattle.saving.specs.Recorded.{RecordsFrame, tenant_state};
+
+use crate::laws::{births_are_kept, maps_are_held};
+use crate::savable::SavableTenant;
+use std::alloc::Global;
+use tenant::{Errno, Reply, Verified};
+
+/// The status of the reply to a command, or of its error.
+fn status_of(reply: &Result<Reply<'_>, Errno>) -> i32
+    requires { IsWritable reply.now }
+    ensures { (s : TenantState) → result ≡ (shown_answer reply.now s).status }
+{
+    match reply {
+        Ok(Reply::Done) | Ok(Reply::Value(_)) | Ok(Reply::Key(_)) | Ok(Reply::Number(_)) => 0,
+        Ok(Reply::Opened(fd)) => *fd as i32,
+        Ok(Reply::Refused(refusal)) => Errno::of_cause(refusal.cause).status(),
+        Err(errno) => errno.status(),
+    }
+}
+
+impl SavableTenant {
+    /// Opens a program that was verified elsewhere, as the frame that loads it does, and returns the status of the reply, which has no
+    /// payload. If the program does not fit the tenant's descriptors (`Tenant::install`), it is given back, and nothing has changed.
+    pub fn install(&mut self, alloc: Global, program: Box<Verified>) -> Result<i32, Box<Verified>>
+        ensures replied { IfOk result (λ status. (number : ℕ) (part : List ℕ) → MayReply
+            (load_frame number program.value.code) (load_reply number program.value.code status)
+            (Some (tenant_state part self.old)) (Some (tenant_state part self.new))) }
+        ensures recorded { IfOk result (λ status. (number : ℕ) (part : List ℕ) → RecordsFrame
+            (load_frame number program.value.code) (load_reply number program.value.code status)
+            (tenant_state part self.old) (tenant_state part self.new)
+            self.old.births self.new.births) }
+        ensures no_fault { IfOk result (λ status. (number : ℕ) →
+            load_reply number program.value.code status
+            ≢ reply_to (load_frame number program.value.code) (status_of BadAddress) []) }
+        ensures fits { OnOk result ((part : List ℕ) →
+            Fits program.value (targets (tenant_state part self.old))) }
+        ensures stale { IfErr result (λ kept. (kept.value ≡ program.value) × (self.new ≡ self.old)
+            × ((part : List ℕ) → ¬ Fits program.value (targets (tenant_state part self.old)))) }
+    {
+        maps_are_held();
+        births_are_kept();
+        program.program().code();
+        match self.tenant.install(alloc, program) {
+            Ok(reply) => {
+                self.births.note(&self.tenant, &reply);
+                Ok(status_of(&reply))
+            }
+            Err(program) => Err(program),
+        }
+    }
+}

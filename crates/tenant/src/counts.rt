@@ -1,0 +1,93 @@
+//! How much a tenant has.
+
+ghost use Rattle.std.specs.Prelude.{◌≡◌, ◌≤◌, ℕ, List, None};
+ghost use Rattle.bpf_maps.specs.Sum.{total};
+ghost use Rattle.fd_table.specs.Table.{most};
+ghost use Rattle.tenant.specs.Counts.{counts_of, counts_if_served, one_program};
+ghost use Rattle.tenant.specs.Kept.{state_in};
+
+use crate::object::program_at;
+use crate::tenant::Tenant;
+use fd_table::{FIRST, MOST};
+
+/// How much a tenant has. A C struct with the same fields has this layout.
+#[derive(Clone, Copy, Debug, PartialEq, Eq)]
+#[repr(C)]
+pub struct Counts {
+    /// Its live maps, those that an open descriptor or a loaded program names: 0 to 16.
+    pub maps: u32,
+    /// The keys of all its live maps. An array has all its indices.
+    pub entries: u32,
+    /// The bytes that the values of its live maps take, each rounded up to a multiple of eight; at most 262,144 are allowed.
+    pub value_bytes: u32,
+    /// The open descriptors that name a program.
+    pub programs: u32,
+    /// The open descriptors: 0 to 64.
+    pub descriptors: u32,
+    /// Whether memory was ever refused to a load or a new map.
+    pub memory_refused: bool,
+}
+
+impl Counts {
+    /// The counts of a tenant that is not served.
+    pub fn none() -> Counts
+        ensures { result ≡ counts_if_served None }
+    {
+        Counts {
+            maps: 0,
+            entries: 0,
+            value_bytes: 0,
+            programs: 0,
+            descriptors: 0,
+            memory_refused: false,
+        }
+    }
+}
+
+impl Tenant {
+    /// How many descriptors are open.
+    fn open_count(&self) -> u32
+        ensures count { result ≡ total (λ o. 1) self.now.objects }
+        ensures few { result ≤ most }
+    {
+        // The table has as many entries as there are descriptors.
+        let _ = &self.objects;
+        let mut count = 0;
+        for fd in FIRST..FIRST + MOST as u32 {
+            if self.objects.get(fd).is_some() {
+                count += 1;
+            }
+        }
+        count
+    }
+
+    /// How many descriptors name a program.
+    fn program_count(&self) -> u32
+        ensures count { result ≡ total one_program self.now.objects }
+        ensures few { result ≤ most }
+    {
+        let _ = &self.objects;
+        let mut count = 0;
+        for fd in FIRST..FIRST + MOST as u32 {
+            if program_at(&self.objects, fd).is_ok() {
+                count += 1;
+            }
+        }
+        count
+    }
+
+    /// How much the tenant has at this moment.
+    pub fn counts(&self) -> Counts
+        ensures { (part : List ℕ) → result ≡ counts_of (state_in part self.now) }
+    {
+        self.maps.maps_are_laid();
+        Counts {
+            maps: self.maps.live_count(),
+            entries: self.maps.key_sum(),
+            value_bytes: self.maps.value_bytes() as u32,
+            programs: self.program_count(),
+            descriptors: self.open_count(),
+            memory_refused: self.memory_was_refused(),
+        }
+    }
+}

@@ -1,0 +1,108 @@
+//! What a descriptor names.
+
+ghost use Rattle.std.specs.Prelude.{◌≡◌, ℕ, List, IsSome};
+ghost use Rattle.bpf_maps.specs.Live.{live_at, map_in};
+ghost use Rattle.tenant.specs.Described.{described, described_map, described_program, nothing_there, type_number};
+ghost use Rattle.tenant.specs.Kept.{state_in};
+
+use crate::object::{LoadedProgram, OpenObject};
+use crate::tenant::Tenant;
+use bpf_maps::MapKey;
+use tagged_model::MapKind;
+
+/// The kind of a descriptor at which nothing is open.
+pub const NOTHING_THERE: u32 = 0;
+
+/// The kind of a descriptor that names a map.
+pub const MAP_THERE: u32 = 1;
+
+/// The kind of a descriptor that names a program.
+pub const PROGRAM_THERE: u32 = 2;
+
+/// What a descriptor names. Fields that do not belong to its kind are 0. A C struct with the same fields has this layout.
+#[derive(Clone, Copy, Debug, PartialEq, Eq)]
+#[repr(C)]
+pub struct Described {
+    /// `NOTHING_THERE`, `MAP_THERE` or `PROGRAM_THERE`.
+    pub kind: u32,
+    /// The type of a map in bpf(2): 1 for a hash map, 2 for an array.
+    pub map_type: u32,
+    /// The size of a map's keys in bytes.
+    pub key_size: u32,
+    /// The size of a map's values in bytes.
+    pub value_size: u32,
+    /// The most keys that a map may have.
+    pub max_entries: u32,
+    /// The keys that a map has. An array has all its indices.
+    pub entries: u32,
+    /// The slots of a program.
+    pub slots: u32,
+}
+
+impl Described {
+    /// Nothing is open.
+    pub fn nothing() -> Described
+        ensures { result ≡ nothing_there }
+    {
+        Described {
+            kind: NOTHING_THERE,
+            map_type: 0,
+            key_size: 0,
+            value_size: 0,
+            max_entries: 0,
+            entries: 0,
+            slots: 0,
+        }
+    }
+
+    /// A loaded program.
+    fn of_program(program: &LoadedProgram) -> Described
+        ensures { result ≡ described_program program.now.insns }
+    {
+        Described {
+            kind: PROGRAM_THERE,
+            slots: program.program().program().slots() as u32,
+            ..Described::nothing()
+        }
+    }
+}
+
+/// The number of a kind of maps in bpf(2).
+pub fn type_number(kind: MapKind) -> u32
+    ensures { result ≡ type_number kind }
+{
+    match kind {
+        MapKind::Hash => 1,
+        MapKind::Array => 2,
+    }
+}
+
+impl Tenant {
+    /// A live map.
+    fn described_map(&self, map: MapKey) -> Described
+        requires { IsSome (live_at self.now.live map) }
+        ensures { (part : List ℕ) → result ≡ described_map (map_in part self.now.live map) }
+    {
+        let shape = self.maps.shape(map);
+        Described {
+            kind: MAP_THERE,
+            map_type: type_number(shape.kind),
+            key_size: shape.key_size,
+            value_size: shape.value_size,
+            max_entries: shape.max_entries,
+            entries: self.maps.key_count(map),
+            slots: 0,
+        }
+    }
+
+    /// What a descriptor names at this moment.
+    pub fn describe(&self, fd: u32) -> Described
+        ensures { (part : List ℕ) → result ≡ described (state_in part self.now) fd }
+    {
+        match self.objects.get(fd) {
+            None => Described::nothing(),
+            Some(OpenObject::Map(map)) => self.described_map(*map),
+            Some(OpenObject::Program(program)) => Described::of_program(program),
+        }
+    }
+}

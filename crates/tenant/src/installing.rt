@@ -1,0 +1,115 @@
+//! Programs that were verified elsewhere.
+
+ghost use Rattle.std.specs.Prelude.{◌≡◌, ℕ, Bool, List, [], Ok, IsTrue, IfOk, IfErr, OnOk, ◌↔◌};
+ghost use Rattle.insn_set.specs.Program.{program_bytes};
+ghost use Rattle.tagged_model.specs.Named.{shapes_named};
+ghost use Rattle.verifier.specs.Fits.{Fits};
+ghost use Rattle.verifier.specs.Judgement.{Judges};
+ghost use Rattle.tenant.specs.Kept.{IsBound, state_in};
+ghost use Rattle.tenant.specs.Loaded.{map_handles};
+ghost use Rattle.tenant.specs.inside.Loading.{AreLive};
+ghost use Rattle.tenant.specs.Machine.{loaded_program, targets, Loads};
+ghost use Rattle.tenant.specs.Replies.{shown_answer, IsWritable};
+ghost use Rattle.tenant.specs.State.{TenantState};
+
+use crate::errno::Errno;
+use crate::object::LoadedProgram;
+use crate::reply::Reply;
+use crate::tenant::Tenant;
+use std::alloc::{AllocError, Global};
+use tagged_model::{MapShape, Target};
+use verifier::Verified;
+
+/// Whether two shapes are the same, or both are none.
+fn is_same(one: Option<MapShape>, other: Option<MapShape>) -> bool
+    ensures { IsTrue result ↔ one ≡ other }
+{
+    one == other
+}
+
+impl Tenant {
+    /// The shape of the map that a descriptor names; `None` if it names none.
+    fn shape_at(&self, fd: u32) -> Option<MapShape>
+        ensures { (part : List ℕ) →
+            result ≡ shapes_named (targets (state_in part self.now)) fd }
+    {
+        match self.target(fd) {
+            Some(Target::Map(shape)) => Some(shape),
+            Some(Target::Program) => None,
+            None => None,
+        }
+    }
+
+    /// Whether each descriptor of the program's maps names a map of the shape with which the program was accepted. It ends at the first that
+    /// does not.
+    fn fits(&self, program: &Verified) -> bool
+        ensures { (part : List ℕ) →
+            IsTrue result ↔ Fits program.now (targets (state_in part self.now)) }
+    {
+        for fd in program.maps() {
+            if !is_same(self.shape_at(*fd), program.shape(*fd)) {
+                return false;
+            }
+        }
+        true
+    }
+
+    /// The program as it is accepted with the open descriptors, with the handles of its maps. `AllocError`: out of memory.
+    fn program_here(
+        &self,
+        alloc: Global,
+        mut program: Verified,
+    ) -> Result<LoadedProgram, AllocError>
+        requires fits { (part : List ℕ) → Fits program (targets (state_in part self.now)) }
+        ensures judges { IfOk result (λ l. (part : List ℕ) → Judges
+            (targets (state_in part self.now)) (program_bytes program.code) (Ok l.insns)) }
+        ensures found { IfOk result (λ l. (part : List ℕ) →
+            l ≡ loaded_program (state_in part self.now) l.insns) }
+        ensures bound { IfOk result (IsBound self.now.live) }
+        ensures there { IfOk result (λ l. AreLive self.now.live (map_handles l)) }
+    {
+        let descriptors = self.targets(alloc)?;
+        program.replace_objects(alloc, &descriptors)?;
+        self.with_maps(alloc, program)
+    }
+
+    /// Opens a program that was verified elsewhere, as PROG_LOAD of its slots does. With which objects it was accepted does not matter,
+    /// if each descriptor of its maps names a map of the same shape here. It is neither copied nor verified again.
+    ///
+    /// If it does not fit, it is given back, and nothing has changed. Else the result is that of `load`; with an error the program is
+    /// dropped.
+    ///
+    /// # Errors
+    ///
+    /// The first that applies: `TooManyOpen` if no descriptor is free; `NoMemory` if out of memory, which sets the tenant's flag.
+    pub fn install(
+        &mut self,
+        alloc: Global,
+        program: Box<Verified>,
+    ) -> Result<Result<Reply<'static>, Errno>, Box<Verified>>
+        ensures loaded { IfOk result (λ reply. (part : List ℕ) → (refused : Bool)
+            × Loads refused (state_in part self.old) 1 (program_bytes program.value.code)
+            (shown_answer reply (state_in part self.new))) }
+        ensures fits { OnOk result ((part : List ℕ) →
+            Fits program.value (targets (state_in part self.old))) }
+        ensures stale { IfErr result (λ kept. (kept.value ≡ program.value) × (self.new ≡ self.old)
+            × ((part : List ℕ) → ¬ Fits program.value (targets (state_in part self.old)))) }
+        ensures writable { IfOk result IsWritable }
+        ensures no_payload { IfOk result (λ reply. (s : TenantState) →
+            (shown_answer reply s).payload ≡ []) }
+    {
+        if !self.fits(&program) {
+            return Err(program);
+        }
+        if self.objects.is_full() {
+            return Ok(Err(Errno::TooManyOpen));
+        }
+        match self.program_here(alloc, Box::into_inner(program)) {
+            Ok(program) => Ok(Ok(Reply::Opened(self.open_program(program)))),
+            Err(AllocError) => {
+                self.refused = true;
+                Ok(Err(Errno::NoMemory))
+            }
+        }
+    }
+}

@@ -1,0 +1,10 @@
+use Rattle.verifier.proofs.Paths.{runs_are_paths}
+use Rattle.verifier.proofs.laws.accepted_runs_are_paths.Goals as goal
+
+pub returns : goal.returns
+returns c =
+    runs_are_paths (record {
+      cover = c.transfer_is_sound.ensures;
+      stay = c.transfer_keeps_well_formed.ensures;
+      join = c.join_admits.ensures;
+    })

@@ -1,0 +1,34 @@
+use Rattle.std.proofs.Common.{List, ℕ, Ok, sym, ap, subst, ◌∙◌}
+use Rattle.insn_set.specs.Program.{program_bytes}
+use Rattle.verifier.specs.Fits.{Fits}
+use Rattle.verifier.specs.Judgement.{Judges}
+use Rattle.verifier.specs.Maps.{entries_of}
+use Rattle.verifier.specs.Verified.{Accepted}
+use Rattle.verifier.specs.inside.Kept.{as_accepted}
+use Rattle.verifier.proofs.OtherObjects.{fits_accepted, fits_judged}
+use Rattle.verifier.proofs.verified.Verified.replace_objects.Goals as goal
+
+pub invariant_of-self : goal.invariant_of-self
+invariant_of-self c =
+    let named = c.args.named.now in
+    let a = as_accepted c.self.inside in (
+      record {
+        named = named;
+        accepted = fits_accepted a named c.self.invariant.0 (subst (λ (x : Accepted). Fits x named) (sym c.self.view_is) c.requires);
+        shaped = c.in_ok-self-inside.ensures ∙ ap (λ (fds : List ℕ). entries_of fds named) (c.deref.ensures.value ∙ c.self.invariant.1);
+      },
+      c.self.invariant.1,
+      c.self.invariant.2,
+    )
+
+pub returns-clause-judged : goal.returns-clause-judged
+returns-clause-judged c =
+    let named = c.args.named.now in
+    subst (λ (a : Accepted). Fits a named → Judges named (program_bytes a.code) (Ok a.code)) c.self.view_is
+    (fits_judged (as_accepted c.self.inside) named c.code.ensures.program c.self.invariant.0) c.requires
+
+pub returns-in_err-self-inside-clause-judged : goal.returns-in_err-self-inside-clause-judged
+returns-in_err-self-inside-clause-judged c =
+    let named = c.args.named.now in
+    subst (λ (a : Accepted). Fits a named → Judges named (program_bytes a.code) (Ok a.code)) c.self.view_is
+    (fits_judged (as_accepted c.self.inside) named c.code.ensures.program c.self.invariant.0) c.requires

@@ -1,0 +1,54 @@
+-- The cost of a program: the most instructions, and the most calls of helpers, on a path from slot
+-- 0 to an exit along the edges of `Shape`. This project's own.
+use Rattle.std.specs.Prelude.{◌≡◌, ◌⊎◌, ℕ, ◌≤◌, Bool, true, false, not, ◌||◌, List, [], ◌∷◌, length, Some}
+use Rattle.std.specs.List.{count_by}
+use Rattle.insn_set.specs.declared.insn.Insn.{Insn}
+use Rattle.insn_set.specs.declared.profile.Reference.{Reference}
+use Rattle.insn_set.specs.declared.profile.Reference.TheVariants as names
+use Rattle.insn_set.specs.Profile.{profile}
+use Rattle.insn_set.specs.Program.{begins_at}
+use Rattle.insn_set.specs.Flow.{falls, jumps}
+use Rattle.verifier.specs.declared.cost.Cost.{Cost}
+use Rattle.verifier.specs.Shape.{leads_into}
+
+-- ---- paths
+
+-- control passes from it to no other instruction
+abbrev pub is_exit : Insn → Bool
+is_exit i = not (falls i || jumps i)
+
+-- the instructions on a path from a slot to an exit, in order: one begins at the slot, and either
+-- it is an exit and the last one, or the others are a path from a slot to which its edge leads
+abbrev pub IsPath : List Insn → ℕ → List Insn → Type 0
+IsPath code at [] = ⊥
+IsPath code at (i ∷ is) =
+    (begins_at code at ≡ Some i)
+    × (((is_exit i ≡ true) × (is ≡ []))
+    ⊎ ((to : ℕ) × (leads_into (Some i) at to ≡ true) × IsPath code to is))
+
+-- ---- what is counted
+
+abbrev pub is_helper : Reference → Bool
+is_helper names.Nothing = false
+is_helper (names.Helper id) = true
+is_helper (names.Map fd) = false
+is_helper (names.Value fd off) = false
+
+abbrev pub is_call : Insn → Bool
+is_call i = is_helper (profile i).reference
+
+-- the number of calls of helpers among instructions
+abbrev pub calls_in : List Insn → ℕ
+calls_in is = count_by is_call is
+
+-- ---- the cost
+
+-- n is the most of what is measured on a path from slot 0: no path has more, and one has it
+abbrev pub IsMostOf : (List Insn → ℕ) → List Insn → ℕ → Type 0
+IsMostOf measure code n =
+    ((path : List Insn) → IsPath code 0 path → measure path ≤ n)
+    × ((path : List Insn) × IsPath code 0 path × (measure path ≡ n))
+
+-- of instructions, and of calls, perhaps on another path
+abbrev pub IsCostOf : Cost → List Insn → Type 0
+IsCostOf cost code = IsMostOf length code cost.instructions × IsMostOf calls_in code cost.calls

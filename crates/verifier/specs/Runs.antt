@@ -1,0 +1,61 @@
+-- The instructions that a run executes, and what it costs. This project's own.
+use Rattle.std.specs.Prelude.{◌≡◌, ℕ, zero, suc, ◌≤◌, List, [], ◌∷◌, length, Option, Some, None}
+use Rattle.insn_set.specs.declared.insn.Insn.{Insn}
+use Rattle.insn_set.specs.Program.{IsProgram, begins_at, slot_count}
+use Rattle.tagged_model.specs.declared.shape.Named.{Named}
+use Rattle.tagged_model.specs.Named.{Shapes}
+use Rattle.tagged_model.specs.State.{RunState}
+use Rattle.tagged_model.specs.Step.{Step, goes, ends, faults, act, MapsByDescriptor, start_of_run, steps_of}
+use Rattle.verifier.specs.declared.cost.Cost.{Cost}
+use Rattle.verifier.specs.Cost.{IsPath, calls_in}
+use Rattle.verifier.specs.Maps.{shapes_of}
+use Rattle.verifier.specs.Sound.{AreRunInputs}
+use Rattle.verifier.specs.Verdict.{IsAccepted}
+
+-- ---- what a run executes
+
+-- an instruction, and those that follow its step; a fault executes none
+abbrev pub executed_by : Insn → Step → (RunState → List Insn) → List Insn
+executed_by i (goes t) rest = i ∷ rest t
+executed_by i (ends n) rest = i ∷ []
+executed_by i faults rest = []
+
+abbrev pub executed_at : Option Insn → RunState → (RunState → List Insn) → List Insn
+executed_at None s rest = []
+executed_at (Some i) s rest = executed_by i (act i s) rest
+
+-- the instructions that a run of at most n steps executes, in order
+unfoldable pub executed : List Insn → ℕ → RunState → List Insn
+executed code zero s = []
+executed code (suc n) s = executed_at (begins_at code s.at) s (executed code n)
+
+-- those of the run of a program with these maps, on a context and a packet
+abbrev pub executed_of : List Insn → MapsByDescriptor → List ℕ → List ℕ → List Insn
+executed_of code maps words packet =
+    executed code (slot_count code) (start_of_run maps words packet)
+
+-- ---- what it costs
+
+-- each run executes a path from slot 0, with one instruction in each step
+abbrev pub RunsArePaths : Shapes → List Insn → Type 0
+RunsArePaths shapes code =
+    (maps : MapsByDescriptor) (words packet : List ℕ)
+    → AreRunInputs shapes maps words packet
+    → IsPath code 0 (executed_of code maps words packet)
+    × (length (executed_of code maps words packet) ≡ steps_of code maps words packet)
+
+-- no run takes more steps, or executes more calls
+abbrev pub RunsCostAtMost : Cost → Shapes → List Insn → Type 0
+RunsCostAtMost cost shapes code =
+    (maps : MapsByDescriptor) (words packet : List ℕ)
+    → AreRunInputs shapes maps words packet
+    → (steps_of code maps words packet ≤ cost.instructions)
+    × (calls_in (executed_of code maps words packet) ≤ cost.calls)
+
+-- the runs of an accepted program are paths
+abbrev pub AcceptedRunsArePaths : Type 0
+AcceptedRunsArePaths =
+    (code : List Insn) (named : List Named)
+    → IsProgram code
+    → IsAccepted code named
+    → RunsArePaths (shapes_of code named) code

@@ -1,0 +1,101 @@
+-- The most that a measure can be on the paths from slot 0, found in one pass over the slots. This
+-- project's own.
+use Rattle.std.specs.Prelude.{◌≡◌, ◌<◌, ◌≤◌, ℕ, zero, suc, ◌+◌, ◌==◌, ◌||◌, max, nat_lt, true, false, if◌then◌else◌, List, [], ◌∷◌, Option, Some, None, slice_index_or}
+use Rattle.insn_set.specs.declared.insn.Insn.{Insn}
+use Rattle.insn_set.specs.declared.profile.Profile.{Profile}
+use Rattle.insn_set.specs.declared.profile.Reference.TheVariants.{Nothing}
+use Rattle.insn_set.specs.declared.profile.Successors.TheVariants.{Next}
+use Rattle.insn_set.specs.Program.{begins_at, most_slots}
+use Rattle.insn_set.specs.Flow.{falls_to}
+use Rattle.verifier.specs.declared.cost.Counts.{Counts}
+use Rattle.verifier.specs.declared.cost.Paths.{Paths}
+use Rattle.verifier.specs.Cost.{is_exit, is_call}
+use Rattle.verifier.specs.Shape.{is_slot, leads_into, is_reachable}
+
+-- ---- what an instruction adds to the measure of a path
+
+abbrev pub one : Insn → ℕ
+one i = 1
+
+abbrev pub one_if_call : Insn → ℕ
+one_if_call i = if is_call i then 1 else 0
+
+unfoldable pub total : (Insn → ℕ) → List Insn → ℕ
+total weight [] = 0
+total weight (i ∷ is) = weight i + total weight is
+
+-- ---- the most on the way to a slot
+
+-- what an instruction at slot n passes on to slot i, from the most on the way to it
+abbrev pub passed_on : (Insn → ℕ) → Option Insn → ℕ → ℕ → ℕ → ℕ
+passed_on weight None n i before = 0
+passed_on weight (Some insn) n i before =
+    if leads_into (Some insn) n i then before + weight insn else 0
+
+-- the most on the way to slot i, by edges from slots below n
+unfoldable pub most_from : (Insn → ℕ) → List Insn → ℕ → ℕ → ℕ
+most_from weight code i zero = 0
+most_from weight code i (suc n) =
+    max (most_from weight code i n)
+    (passed_on weight (begins_at code n) n i (most_from weight code n n))
+
+-- ---- the most on a path
+
+abbrev pub at_exit : (Insn → ℕ) → Option Insn → ℕ → ℕ
+at_exit weight None before = 0
+at_exit weight (Some insn) before = if is_exit insn then before + weight insn else 0
+
+-- the most on a path to an exit below slot n
+unfoldable pub most_ended : (Insn → ℕ) → List Insn → ℕ → ℕ
+most_ended weight code zero = 0
+most_ended weight code (suc n) =
+    max (most_ended weight code n)
+    (at_exit weight (begins_at code n) (most_from weight code n n))
+
+-- ---- the counts during the pass
+
+abbrev pub no_counts : Counts
+no_counts = record { instructions = 0; calls = 0 }
+
+-- the counts at slot i: those on the falling edge, which leads to slot `next`, and those on jumps
+abbrev pub arriving : (Counts → ℕ) → ℕ → Counts → List Counts → ℕ → ℕ
+arriving count next falling jumping i =
+    max (if next == i then count falling else 0) (count (slice_index_or jumping i no_counts))
+
+-- the paths to the slot of the pass have few instructions
+pub record AreFew (paths : Paths) : Type 0 where
+  pub instructions : paths.here.instructions ≤ most_slots
+  pub calls : paths.here.calls ≤ most_slots
+
+-- instruction i, at a slot, is added to the paths there, which its edges take to later slots or to
+-- the end
+pub record IsAdded (i : Insn) (slot : ℕ) (old new : Paths)
+    (jumping later : List Counts) : Type 0 where
+  pub instructions : (to : ℕ)
+      → slot < to
+      → arriving (λ c. c.instructions) (falls_to i slot) new.here later to
+      ≡ max (slice_index_or jumping to no_counts).instructions
+      (passed_on one (Some i) slot to old.here.instructions)
+  pub calls : (to : ℕ)
+      → slot < to
+      → arriving (λ c. c.calls) (falls_to i slot) new.here later to
+      ≡ max (slice_index_or jumping to no_counts).calls
+      (passed_on one_if_call (Some i) slot to old.here.calls)
+  pub ended_instructions : new.ended.instructions
+      ≡ max old.ended.instructions (at_exit one (Some i) old.here.instructions)
+  pub ended_calls : new.ended.calls
+      ≡ max old.ended.calls (at_exit one_if_call (Some i) old.here.calls)
+
+-- the slot can be reached exactly if an instruction comes before it, or it is the first
+abbrev pub LeadTo : List Insn → ℕ → Paths → Type 0
+LeadTo code slot paths =
+    (nat_lt 0 paths.here.instructions || slot == 0) ≡ is_reachable code slot
+
+-- a simple instruction: its only successor is the next one, which exists; it names nothing, does
+-- not write the frame pointer, and comes after another one
+pub record IsSimple (row : Profile) (next slots : ℕ) (paths : Paths) : Type 0 where
+  pub goes_on : row.successors ≡ Next
+  pub names : row.reference ≡ Nothing
+  pub within : next < slots
+  pub reached : nat_lt 0 paths.here.instructions ≡ true
+  pub writes : is_slot row.written 10 ≡ false

@@ -2,7 +2,8 @@
 
 The version of this repository is in the file VERSION: three numbers with points between them. Each other place that has it, or some of its
 numbers, is compared, and the status is 1 if one has another version or none. --set writes the number to all of them except those that are
-written by hand: the entries of changes, and the library's soname. docs/RELEASING.md says what may change in which version.
+written by hand: the entries of changes, and the library's soname. docs/RELEASING.md says what may change in which version. The status is 1
+also if an entry of debian/changelog has no later date than the entry before it, which lintian rejects.
 """
 
 from __future__ import annotations
@@ -10,6 +11,8 @@ from __future__ import annotations
 import re
 import sys
 from dataclasses import dataclass
+from email.utils import parsedate_to_datetime
+from itertools import pairwise
 from pathlib import Path
 
 TOP = Path(__file__).resolve().parent.parent
@@ -64,6 +67,13 @@ def wrong_places(version: str) -> list[str]:
     return wrong
 
 
+def wrong_dates(changes: str) -> list[str]:
+    """The entries, the latest first, of which one has no later date than the next."""
+    entries = re.findall(r"^bpfhost \((\S+)\)[^\0]*?^ -- .*>  (.*)$", changes, re.M)
+    return [f"debian/changelog dates {later} no later than {earlier}" for (later, day), (earlier, before) in pairwise(entries)
+            if parsedate_to_datetime(day) <= parsedate_to_datetime(before)]
+
+
 def write(version: str) -> None:
     (TOP / "VERSION").write_text(f"{version}\n")
     for place in PLACES:
@@ -81,5 +91,6 @@ def main(words: list[str]) -> int:
         write(words[1])
     version = (TOP / "VERSION").read_text().strip()
     wrong = wrong_places(version) if NUMBER.fullmatch(version) else [f"VERSION has {version}, which is no three numbers"]
+    wrong += wrong_dates((TOP / "debian/changelog").read_text())
     print("".join(f"version: {line}\n" for line in wrong), end="")
     return bool(wrong)

@@ -23,6 +23,8 @@ class Version(unittest.TestCase):
             self.addCleanup(patch.stop)
         (self.top / "VERSION").write_text("1.2.3\n")
         (self.top / "changes").write_text("## 1.2.3\n")
+        (self.top / "debian").mkdir()
+        (self.top / "debian/changelog").write_text("")
         (self.top / "code.h").write_text('MAJOR 1\nALL "1.2.3"\n')
 
     def test_same(self) -> None:
@@ -42,3 +44,12 @@ class Version(unittest.TestCase):
             with self.subTest(number):
                 self.assertEqual(version.main(["--set", number]), 2)
         self.assertEqual((self.top / "VERSION").read_text(), "1.2.3\n")
+
+    def test_dates(self) -> None:
+        entries = [(f"1.{number}.0", f"bpfhost (1.{number}.0) unstable\n\n  * A change.\n\n -- A <a@b>  {day}\n\n") for number, day in
+                   ((3, "Sun, 29 Nov 2026 00:00:00 +0000"), (2, "Sun, 29 Nov 2026 00:00:00 +0000"), (1, "Sat, 28 Nov 2026 23:59:59 +0000"))]
+        texts = [text for _, text in entries]
+        self.assertEqual(version.wrong_dates("".join(texts[1:])), [])
+        self.assertEqual(version.wrong_dates("".join(texts)), ["debian/changelog dates 1.3.0 no later than 1.2.0"])
+        self.assertEqual(version.wrong_dates("".join(texts[::-1])), [
+            "debian/changelog dates 1.1.0 no later than 1.2.0", "debian/changelog dates 1.2.0 no later than 1.3.0"])

@@ -21,10 +21,11 @@ impl LogPlayer {
         }
     }
 
-    /// The log of a program's text.
+    /// The log of the program to which `text`, in the notation of `cases`, assembles. It is verified with the open descriptors, and has
+    /// a log if it is rejected too.
     fn log(&self, text: &str, style: LogStyle) -> Result<String, CaseError> {
-        let text = written(self.alloc, text)?;
-        let program = assemble(self.alloc, text_of(&text)?)?;
+        let source = written(self.alloc, text)?;
+        let program = assemble(self.alloc, text_of(&source)?)?;
         let Log {
             text,
             is_accepted: _,

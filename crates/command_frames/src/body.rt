@@ -25,6 +25,7 @@ const CONTEXT_LENGTH: usize = GIVEN_WORDS * WORD_LENGTH;
 /// The bytes before the packet of PROG_TEST_RUN: a descriptor and the context.
 const BEFORE_PACKET: usize = WORD_LENGTH + CONTEXT_LENGTH;
 
+/// The word at an offset in bytes, little-endian.
 fn word(bytes: &[u8], at: usize) -> u32
     requires { at + word_length ≤ length bytes.now }
     ensures { result ≡ little_number 4 (drop at bytes.now) }
@@ -32,6 +33,8 @@ fn word(bytes: &[u8], at: usize) -> u32
     LittleEndian::read_u32(&bytes[at..])
 }
 
+/// Reads the body of MAP_CREATE, command 0: the type of the map, the sizes of a key and of a value in bytes, the most entries, and the flags,
+/// four bytes each. `Body` if the body has another length.
 fn map_create(body: &[u8]) -> Result<Command<'_>, BadFrame>
     ensures { shown_result result ≡ command_in 0 body.now }
 {
@@ -47,6 +50,7 @@ fn map_create(body: &[u8]) -> Result<Command<'_>, BadFrame>
     })
 }
 
+/// Reads the body of MAP_LOOKUP, command 1: a descriptor, then the key. `Body` if it is too short for the descriptor.
 fn map_lookup(body: &[u8]) -> Result<Command<'_>, BadFrame>
     ensures { shown_result result ≡ command_in 1 body.now }
 {
@@ -59,6 +63,8 @@ fn map_lookup(body: &[u8]) -> Result<Command<'_>, BadFrame>
     })
 }
 
+/// Reads the body of MAP_UPDATE, command 2: a descriptor, eight bytes of flags, then the key and the value. `Body` if it is too short for the
+/// descriptor and the flags.
 fn map_update(body: &[u8]) -> Result<Command<'_>, BadFrame>
     ensures { shown_result result ≡ command_in 2 body.now }
 {
@@ -72,6 +78,7 @@ fn map_update(body: &[u8]) -> Result<Command<'_>, BadFrame>
     })
 }
 
+/// Reads the body of MAP_DELETE, command 3: a descriptor, then the key. `Body` if it is too short for the descriptor.
 fn map_delete(body: &[u8]) -> Result<Command<'_>, BadFrame>
     ensures { shown_result result ≡ command_in 3 body.now }
 {
@@ -84,6 +91,7 @@ fn map_delete(body: &[u8]) -> Result<Command<'_>, BadFrame>
     })
 }
 
+/// Reads the body of MAP_NEXT_KEY, command 4: a descriptor, then the key. `Body` if it is too short for the descriptor.
 fn map_next_key(body: &[u8]) -> Result<Command<'_>, BadFrame>
     ensures { shown_result result ≡ command_in 4 body.now }
 {
@@ -96,6 +104,7 @@ fn map_next_key(body: &[u8]) -> Result<Command<'_>, BadFrame>
     })
 }
 
+/// Reads the body of PROG_LOAD, command 5: the type of the program, then its slots. `Body` if it is too short for the type.
 fn prog_load(body: &[u8]) -> Result<Command<'_>, BadFrame>
     ensures { shown_result result ≡ command_in 5 body.now }
 {
@@ -118,6 +127,8 @@ fn given_words(bytes: &[u8]) -> [u32; GIVEN_WORDS]
     words
 }
 
+/// Reads the body of PROG_TEST_RUN, command 10: a descriptor, the words of the context, then the packet. `Body` if it is too short for the
+/// descriptor and the context.
 fn prog_test_run(body: &[u8]) -> Result<Command<'_>, BadFrame>
     ensures { shown_result result ≡ command_in 10 body.now }
 {
@@ -131,6 +142,7 @@ fn prog_test_run(body: &[u8]) -> Result<Command<'_>, BadFrame>
     })
 }
 
+/// Reads the body of CLOSE, command 256: a descriptor of four bytes. `Body` if the body has another length.
 fn close(body: &[u8]) -> Result<Command<'_>, BadFrame>
     ensures { shown_result result ≡ command_in 256 body.now }
 {

@@ -32,7 +32,7 @@ enum Edge<'a> {
 fn edge_of<'a>(story: &Story<'_>, told: Option<&'a String>) -> Edge<'a> {
     match told {
         Some(text) => Edge::Taken(text.as_str()),
-        None if story.is_told => Edge::Dead,
+        None if story.has_pass => Edge::Dead,
         None => Edge::Untold,
     }
 }
@@ -172,7 +172,7 @@ impl<'a> Graph<'a> {
         text.push_str("\"")?;
         if self.block.is_refused {
             text.push_str(", color=red, penwidth=2")?;
-        } else if self.story.is_told && !self.block.is_reached {
+        } else if self.story.has_pass && !self.block.is_reached {
             write!(text, ", {UNREACHED}")?;
         }
         text.push_str("];\n")

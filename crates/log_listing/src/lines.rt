@@ -22,7 +22,7 @@ pub(crate) struct Story<'a> {
     /// The jumps that a run may take, by their targets.
     pub jumps: &'a [JumpEdge],
     /// Whether there was a pass over the program: not if its shape has a fault.
-    pub is_told: bool,
+    pub has_pass: bool,
 }
 
 /// How far the lines have been written.
@@ -132,7 +132,8 @@ fn write_step(
     }
 }
 
-/// Writes the notes on an instruction.
+/// Writes the notes after the instruction at `slot`: those of its step if the pass reached it (`write_step`), else `not reached`. Writes
+/// nothing if there was no pass, since the program's shape has a fault. Moves the cursor past the step.
 fn write_notes(
     text: &mut String,
     story: &Story<'_>,
@@ -149,7 +150,7 @@ fn write_notes(
         }
         _ => {
             cursor.falls_from = None;
-            if story.is_told {
+            if story.has_pass {
                 write_note(text, line, "not reached")
             } else {
                 Ok(())

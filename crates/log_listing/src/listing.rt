@@ -53,7 +53,7 @@ pub fn listing_of(
         program,
         steps: &steps,
         jumps: &jumps,
-        is_told: !verdict.is_err_and(|fault| is_of_shape(fault.reason)),
+        has_pass: !verdict.is_err_and(|fault| is_of_shape(fault.reason)),
     };
     match style {
         LogStyle::New | LogStyle::Whole => lines_of(alloc, &story, *verdict, why),

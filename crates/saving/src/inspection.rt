@@ -14,7 +14,8 @@ use tagged_model::Named;
 use tenant::{Cost, Counts, Described};
 
 impl SavableTenant {
-    /// How much the tenant has at this moment.
+    /// The tenant's counts at this moment: of its live maps, their keys and the bytes of their values, of its open programs and of all
+    /// open descriptors; and whether memory was ever refused to it. They do not depend on the bytes of its part.
     pub fn counts(&self) -> Counts
         ensures { (part : List ℕ) → result ≡ counts_of (tenant_state part self.now) }
     {

@@ -76,7 +76,8 @@ impl Tenant {
         count
     }
 
-    /// How much the tenant has at this moment.
+    /// The tenant's counts at this moment: of its live maps, their keys and the bytes of their values, of its open programs and of all
+    /// open descriptors; and whether memory was ever refused to it. They do not depend on the bytes of its part.
     pub fn counts(&self) -> Counts
         ensures { (part : List ℕ) → result ≡ counts_of (state_in part self.now) }
     {

@@ -134,6 +134,8 @@ IsAccess (access.Load size signed dst) = (dst ≤ 10) × IsTrue (not (signed && 
 IsAccess (access.Store size src) = IsSource src
 IsAccess (access.Atomic size op src) = src ≤ 10
 
+-- the registers of the form are 0 to 10, and its operation or access is one that an instruction can
+-- have; nothing is required of a jump, a call and an exit
 abbrev pub IsForm : Form → Type 0
 IsForm (form.Operation wide dst o) = (dst ≤ 10) × IsOperation wide o
 IsForm (form.Branch wide cond dst src to) = (dst ≤ 10) × IsSource src

@@ -185,7 +185,7 @@ fn value(text: &str, class: ByteClass, radix: u32) -> (Token<'_>, &str)
     (Token::Number(u64::from_str_radix(digits, radix).ok()), rest)
 }
 
-/// The longest token at the front, and the text after it.
+/// The longest token at the front of the text, and the text after it; `None` if no token begins there. Blanks are not skipped.
 #[tactic(auto, unfolding(crate::specs::inside::Tokens::token_at))]
 fn first_token(text: &str) -> Option<(Token<'_>, &str)>
     requires { IsAscii text.now }

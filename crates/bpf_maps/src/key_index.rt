@@ -10,7 +10,7 @@ ghost use Rattle.bpf_maps.specs.KeyTable.{occurrences};
 ghost use Rattle.bpf_maps.specs.Index.{entries_of, bound_of, TakesKeys};
 
 use crate::key_ref::KeyRef;
-use crate::long_index::LongIndex;
+use crate::long_index::{LONGEST_LONG, LongIndex};
 use crate::middle_index::{LONGEST_MIDDLE, MiddleIndex};
 use crate::word_index::{LONGEST_WORD, WordIndex};
 use seeded_hash::HashSeed;
@@ -44,6 +44,19 @@ impl KeyIndex {
             Ok(KeyIndex::Middle(MiddleIndex::new(alloc, bound, seed)?))
         } else {
             Ok(KeyIndex::Long(LongIndex::new(alloc, bound, seed)?))
+        }
+    }
+
+    /// The bytes in which a key of this size is kept.
+    pub(crate) fn room_of(key_size: usize) -> usize
+        ensures { result ≤ LONGEST_LONG }
+    {
+        if key_size <= LONGEST_WORD {
+            LONGEST_WORD
+        } else if key_size <= LONGEST_MIDDLE {
+            LONGEST_MIDDLE
+        } else {
+            LONGEST_LONG
         }
     }
 

@@ -91,8 +91,9 @@
 //!   `Maps` room for sixteen maps, so an update, a delete and the end of a run allocate nothing.
 //! - A hash map that is freed keeps its memory for a later one of this tenant, of the same size of keys and as many entries
 //!   (`SpareMaps`): so the last release gives no memory back, and such a new map takes none. Whenever a map takes memory, the spare maps
-//!   and the live ones have at most 32,768 entries, as many as only live ones can have. If there would be more, spare ones are freed,
-//!   those that were kept first before the others. No contract mentions the spare maps.
+//!   and the live ones have at most 32,768 entries, as many as only live ones can have. If there would be more, a spare one that
+//!   suffices is freed, the one with the least memory; if none does, those with the most entries before it. In the order in which they were
+//!   closed, a full map was freed before one that suffices. No contract mentions the spare maps.
 //! - The elements that no key has are one list: first those of keys that were deleted in this run, then the free ones. An element of
 //!   the first part counts as an entry until the run ends. The end of a run only sets the length of that part to 0, so it takes
 //!   the same time however many keys were deleted.

@@ -1,12 +1,13 @@
 //! The hash maps that a tenant no longer has, whose memory is for its next ones.
 
-ghost use Rattle.std.specs.Prelude.{◌≡◌, IfOk, IfSome, slice_get};
+ghost use Rattle.std.specs.Prelude.{◌≡◌, ◌<◌, IfOk, IfSome, slice_get, vec_len};
 ghost use Rattle.tagged_model.specs.declared.shape.MapKind.TheVariants.{Hash};
 ghost use Rattle.bpf_maps.specs.KeyTable.{new_keys};
 ghost use Rattle.bpf_maps.specs.inside.Spares.{IsLike};
 
 use crate::bpf_map::BpfMap;
 use crate::hash_map::HashMap;
+use crate::key_index::KeyIndex;
 use crate::part::{LARGEST_SUM, MAPS};
 use seeded_hash::HashSeed;
 use std::alloc::{AllocError, Global};
@@ -39,9 +40,9 @@ impl LiveHashMaps {
 }
 
 /// Hash maps that are no longer live. With the live ones they are at most `MAPS`, with at most `MOST_ENTRIES` entries, whenever a map takes
-/// memory. So a tenant takes no more memory than one whose hash maps are all live; there is room for each map that is closed, so a close
-/// frees none; and a new map frees at most two as large as the largest one, since an older one is freed only while the others and the new one are
-/// too many, or have too many entries.
+/// memory. So a tenant takes no more memory than one whose hash maps are all live, and there is room for each map that is closed: a close
+/// frees none. A new map frees a single one, if one suffices. Otherwise those that are freed before the last one have fewer entries than
+/// the new map, so it frees less than two of the largest maps.
 #[derive(Drop)]
 pub struct SpareMaps {
     maps: Vec<HashMap>,
@@ -115,12 +116,49 @@ impl SpareMaps {
             && self.entries().saturating_add(live.entries) <= MOST_ENTRIES
     }
 
-    /// Frees maps, those that were kept first, until there is room for these live ones.
+    /// How many entries of these maps are too many besides these live ones.
+    fn excess(&self, live: LiveHashMaps) -> usize {
+        let entries = self.entries().saturating_add(live.entries);
+        entries.saturating_sub(MOST_ENTRIES)
+    }
+
+    /// Frees maps until there is room for these live ones.
     fn make_room(&mut self, live: LiveHashMaps) {
         for _ in 0..self.maps.len() {
             if !self.maps.is_empty() && !self.has_room(live) {
-                let _gone = self.maps.remove(0);
+                let chosen = self.next_to_free(self.excess(live));
+                let _gone = self.maps.swap_remove(chosen);
             }
         }
     }
+
+    /// The index of the map to free if so many entries are too many: of those that suffice the one with the least memory; if none
+    /// does, the one with the most entries.
+    fn next_to_free(&self, excess: usize) -> usize
+        requires { 0 < vec_len self.now.maps }
+        ensures { result < vec_len self.now.maps }
+    {
+        let mut chosen = 0;
+        for at in 1..self.maps.len() {
+            if is_freed_before(self.maps[at].shape(), self.maps[chosen].shape(), excess) {
+                chosen = at;
+            }
+        }
+        chosen
+    }
+}
+
+/// Whether a map of a shape is freed rather than another one, if so many entries are too many.
+fn is_freed_before(shape: MapShape, other: MapShape, excess: usize) -> bool {
+    let suffices = shape.max_entries as usize >= excess;
+    if other.max_entries as usize >= excess {
+        suffices && key_memory(shape) < key_memory(other)
+    } else {
+        shape.max_entries > other.max_entries
+    }
+}
+
+/// The memory for the keys of a full map, in bytes.
+fn key_memory(shape: MapShape) -> u64 {
+    KeyIndex::room_of(shape.key_size as usize) as u64 * shape.max_entries as u64
 }

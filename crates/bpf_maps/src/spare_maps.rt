@@ -1,9 +1,9 @@
 //! The hash maps that a tenant no longer has, whose memory is for its next ones.
 
-ghost use Rattle.std.specs.Prelude.{◌≡◌, ◌<◌, IfOk, IfSome, slice_get, vec_len};
+ghost use Rattle.std.specs.Prelude.{◌≡◌, ℕ, ◌<◌, ◌≤◌, true, false, IfOk, IfSome, slice_get, vec_len};
 ghost use Rattle.tagged_model.specs.declared.shape.MapKind.TheVariants.{Hash};
 ghost use Rattle.bpf_maps.specs.KeyTable.{new_keys};
-ghost use Rattle.bpf_maps.specs.inside.Spares.{IsLike};
+ghost use Rattle.bpf_maps.specs.inside.Spares.{IsLike, HasEntries};
 
 use crate::bpf_map::BpfMap;
 use crate::hash_map::HashMap;
@@ -136,7 +136,9 @@ impl SpareMaps {
     /// does, the one with the most entries.
     fn next_to_free(&self, excess: usize) -> usize
         requires { 0 < vec_len self.now.maps }
-        ensures { result < vec_len self.now.maps }
+        ensures within { result < vec_len self.now.maps }
+        ensures suffices { (at : ℕ) → HasEntries excess (slice_get self.now.maps.items at)
+            → HasEntries excess (slice_get self.now.maps.items result) }
     {
         let mut chosen = 0;
         for at in 1..self.maps.len() {
@@ -149,7 +151,10 @@ impl SpareMaps {
 }
 
 /// Whether a map of a shape is freed rather than another one, if so many entries are too many.
-fn is_freed_before(shape: MapShape, other: MapShape, excess: usize) -> bool {
+fn is_freed_before(shape: MapShape, other: MapShape, excess: usize) -> bool
+    ensures freed { result ≡ true → excess ≤ other.max_entries → excess ≤ shape.max_entries }
+    ensures stays { result ≡ false → excess ≤ shape.max_entries → excess ≤ other.max_entries }
+{
     let suffices = shape.max_entries as usize >= excess;
     if other.max_entries as usize >= excess {
         suffices && key_memory(shape) < key_memory(other)

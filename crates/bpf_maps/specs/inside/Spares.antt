@@ -1,5 +1,5 @@
 -- Hash maps that are no longer live. This project's own.
-use Rattle.std.specs.Prelude.{◌≡◌, Option, Some, None}
+use Rattle.std.specs.Prelude.{◌≡◌, ℕ, ◌≤◌, Option, Some, None}
 use Rattle.tagged_model.specs.declared.shape.MapShape.{MapShape}
 use Rattle.bpf_maps.specs.KeyTable.{KeyTable}
 
@@ -8,3 +8,8 @@ abbrev pub IsLike : MapShape → Option KeyTable → Type 0
 IsLike shape None = ⊥
 IsLike shape (Some t) =
     (t.shape.key_size ≡ shape.key_size) × (t.shape.max_entries ≡ shape.max_entries)
+
+-- a map that can have at least so many entries
+abbrev pub HasEntries : ℕ → Option KeyTable → Type 0
+HasEntries n None = ⊥
+HasEntries n (Some t) = n ≤ t.shape.max_entries

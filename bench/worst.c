@@ -4,11 +4,14 @@
  * A script is two words of a seed and then records: a letter, three bytes of zero, u32 length, and as many bytes.
  *   f  a frame, whose status has to be at least 0            F  the step is this frame
  *   r  u32 times, and then frames, each after its u32 length: all of them so many times
- *   S  the step is a part of a save: u32 part                B  it is a batch: u32 descriptor, u32 packets, and the bytes of each packet
+ *   S  the step is a part of a save: u32 part                B  it is a batch: u32 descriptor, u32 packets, u32 the most instructions (0: any),
+ *                                                               and the bytes of each packet
+ *   I  the step is an install of a prepared program: u32 maps, for each its descriptor, type, key size, value size and entries, and the slots
  *
  * usage: worst serve           reads scripts, each after its u32 length, and writes the status of each step, or `refused` if a frame is
  *        worst rounds N FILE   carries out a script at most N times and writes, for each round, the nanoseconds of the step; those of a neighbour's
  *                              look-up that arrives together with it; the processor time of both; and how often they were interrupted
+ *        worst kept N FILE     the same; what is freed stays with the process
  *        worst longest N FILE  writes which of the repeated frames takes longest, from 0, and its least time of N rounds */
 #define _GNU_SOURCE
 #include "worst.h"
@@ -31,10 +34,11 @@ struct script {
 struct step {
     uint8_t letter;
     const uint8_t *bytes;
-    uint32_t length, fd, packets;
+    uint32_t length, fd, packets, bound;
     uint8_t *packet_bytes;
     size_t *ends;
     uint32_t *results;
+    bpfhost_prepared *prepared;
 };
 
 /* Carries out a step; its machine instructions are counted. */
@@ -42,12 +46,16 @@ int32_t measured_step(bpfhost *host, const struct step *step);
 __attribute__((noinline)) int32_t measured_step(bpfhost *host, const struct step *step)
 {
     bpfhost_bytes reply;
+    bpfhost_result result;
     int32_t status = 0;
+    size_t ran = 0;
     if (step->letter == 'S')
         return bpfhost_save_part(host, 0, step->fd, &reply);
     if (step->letter == 'B')
-        return bpfhost_run_packets(host, 0, step->fd, NULL, step->packet_bytes, step->ends[step->packets - 1], step->ends, step->packets,
-                                   step->results, &status) == BPFHOST_DONE ? status : -1;
+        return bpfhost_run_bounded(host, 0, step->fd, NULL, step->packet_bytes, step->ends[step->packets - 1], step->ends, step->packets,
+                                   step->bound, step->results, &status, &ran) == BPFHOST_DONE ? status : -1;
+    if (step->letter == 'I')
+        return bpfhost_install(host, 0, step->prepared, &result) == BPFHOST_DONE ? result.status : -1;
     if (bpfhost_handle_lent(host, step->bytes, step->length, &reply) != BPFHOST_DONE)
         return -1;
     return (int32_t)bpfhost_get32(reply.at + 8);
@@ -66,15 +74,33 @@ static void make_packets(struct step *step, const uint8_t *packet, size_t length
     }
 }
 
+/* Prepares a program that is to be installed. Without one the step is refused. */
+static void prepare_program(struct step *step, const uint8_t *bytes, uint32_t length)
+{
+    bpfhost_descriptor named[BPFHOST_MOST_DESCRIPTORS];
+    bpfhost_result result;
+    uint32_t count = bpfhost_get32(bytes), head = 4 + count * (uint32_t)sizeof *named;
+    must(count <= BPFHOST_MOST_DESCRIPTORS && head <= length, "too many descriptors");
+    for (uint32_t i = 0; i < count; i++) {
+        const uint8_t *at = bytes + 4 + i * sizeof *named;
+        named[i] = (bpfhost_descriptor){bpfhost_get32(at), bpfhost_get32(at + 4), bpfhost_get32(at + 8), bpfhost_get32(at + 12),
+                                        bpfhost_get32(at + 16)};
+    }
+    must(bpfhost_prepare(bytes + head, (length - head) / 8, named, count, &step->prepared, &result) == BPFHOST_DONE, "no preparation");
+}
+
 static struct step step_of(uint8_t letter, const uint8_t *bytes, uint32_t length)
 {
-    struct step step = {letter, bytes, length, 0, 0, NULL, NULL, NULL};
-    if (letter != 'F')
+    struct step step = {.letter = letter, .bytes = bytes, .length = length};
+    if (letter == 'S' || letter == 'B')
         step.fd = bpfhost_get32(bytes);
     if (letter == 'B') {
         step.packets = bpfhost_get32(bytes + 4);
-        make_packets(&step, bytes + 8, length - 8);
+        step.bound = bpfhost_get32(bytes + 8);
+        make_packets(&step, bytes + 12, length - 12);
     }
+    if (letter == 'I')
+        prepare_program(&step, bytes, length);
     return step;
 }
 
@@ -83,6 +109,7 @@ static void free_step(struct step *step)
     free(step->packet_bytes);
     free(step->ends);
     free(step->results);
+    bpfhost_prepared_free(step->prepared);
 }
 
 static double clock_ns(clockid_t clock)
@@ -149,7 +176,7 @@ static bool prepare(bpfhost *host, struct script script, struct step *step)
             return false;
         if (letter == 'r' && !repeat(host, bytes, length))
             return false;
-        if (letter == 'F' || letter == 'S' || letter == 'B')
+        if (letter == 'F' || letter == 'S' || letter == 'B' || letter == 'I')
             *step = step_of(letter, bytes, length);
         script.at = bytes + length;
     }
@@ -260,16 +287,26 @@ static int longest(unsigned long count, const char *file)
     return 0;
 }
 
+/* Blocks of so many bytes come from the system and go back to it, and so do free bytes at the end of the heap. */
+static void set_thresholds(int block, int end)
+{
+    must(mallopt(M_MMAP_THRESHOLD, block) && mallopt(M_TRIM_THRESHOLD, end), "malloc has no thresholds");
+}
+
 int main(int argc, char **argv)
 {
     /* What is freed goes back to the system, so each script takes new memory from it, as the first one does. */
-    must(mallopt(M_MMAP_THRESHOLD, 1 << 17) && mallopt(M_TRIM_THRESHOLD, 1 << 17), "malloc has no thresholds");
+    set_thresholds(1 << 17, 1 << 17);
     if (argc == 2 && strcmp(argv[1], "serve") == 0)
         return serve();
     if (argc == 4 && strcmp(argv[1], "rounds") == 0)
         return rounds(strtoul(argv[2], NULL, 10), argv[3]);
+    if (argc == 4 && strcmp(argv[1], "kept") == 0) {
+        set_thresholds(1 << 25, 1 << 30);
+        return rounds(strtoul(argv[2], NULL, 10), argv[3]);
+    }
     if (argc == 4 && strcmp(argv[1], "longest") == 0)
         return longest(strtoul(argv[2], NULL, 10), argv[3]);
-    fprintf(stderr, "usage: worst serve | worst rounds N FILE | worst longest N FILE\n");
+    fprintf(stderr, "usage: worst serve | worst rounds N FILE | worst kept N FILE | worst longest N FILE\n");
     return 2;
 }

@@ -25,6 +25,7 @@ def read_arguments() -> argparse.Namespace:
     parser.add_argument("--random", type=int, default=1, metavar="N", help="the seed of the search's random edits")
     parser.add_argument("--into", type=Path, default=Path("."), help="the folder for the cases that a search finds")
     parser.add_argument("--rounds", type=int, default=300, help="rounds of the times")
+    parser.add_argument("--keep", action="store_true", help="times if malloc keeps what is freed")
     parser.add_argument("scratch", type=Path)
     return parser.parse_args()
 
@@ -47,7 +48,7 @@ def main() -> None:
     if arguments.search:
         searches(arguments, kinds)
         return
-    bench = Bench(arguments.scratch / "worst", arguments.scratch, arguments.rounds)
+    bench = Bench(arguments.scratch / "worst", arguments.scratch, arguments.rounds, arguments.keep)
     cases = {name: case for name, case in all_cases().items() if case.kind in kinds}
     if arguments.check:
         sys.exit(not check(bench, cases))

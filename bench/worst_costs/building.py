@@ -11,6 +11,8 @@ from map_costs.keys import SEED, Keys, counting, crowd, ending_in, random_keys
 from worst_costs.cases import Case, Command, Part
 
 SLOTS, FIRST, DESCRIPTORS, LONGEST_PACKET = 4096, 3, 64, 65_536
+# The most instructions of a bounded batch.
+BOUND = 100_000
 MAP_CREATE, LOOK_UP, UPDATE, DELETE, NEXT_KEY, PROG_LOAD, TEST_RUN, CLOSE = 0, 1, 2, 3, 4, 5, 10, 256
 SOCKET_FILTER, CONTEXT = 1, tuple(range(1, 11))
 KEY_COMMANDS = {"look-up": LOOK_UP, "delete": DELETE, "next": NEXT_KEY}
@@ -129,13 +131,23 @@ class Builder:
         else:
             yield record("f", self.frame(command))
 
+    def named(self) -> bytes:
+        """The descriptors that a program is prepared for: those of maps."""
+        maps = [struct.pack("<5I", fd, *shape) for fd, shape in self.shapes.items() if shape]
+        return struct.pack("<I", len(maps)) + b"".join(maps)
+
     def step(self, command: Command) -> bytes:
         name, *words = command
         if name == "save":
             return record("S", struct.pack("<I", words[0]))
-        if name == "batch":
-            fd, packets, length, byte = words
-            return record("B", struct.pack("<II", fd, max(packets, 1)) + bytes([byte % 256]) * min(length, LONGEST_PACKET))
+        if name in ("batch", "bounded"):
+            fd, packets, length, byte, bound = [*words, 0][:5]
+            if name == "bounded" and not 0 < bound <= BOUND:
+                raise NoCase(f"a bound of {bound}")
+            head = struct.pack("<III", fd, max(packets, 1), bound)
+            return record("B", head + bytes([byte % 256]) * min(length, LONGEST_PACKET))
+        if name == "install":
+            return record("I", self.named() + slots_of(words[0]))
         return record("F", self.frame(command))
 
 

@@ -11,6 +11,8 @@ A case has a kind, what it is in words, the commands before the step, and the st
     ["run", descriptor, length, byte]                  on a packet of so many such bytes
     ["save", part]                                     a part of a save; only as the step
     ["batch", descriptor, packets, length, byte]       only as the step
+    ["bounded", descriptor, packets, length, byte, bound]    a batch of at most so many instructions, as far as it runs; only as the step
+    ["install", parts]                                 of a program that was prepared for the maps that are open; only as the step
 
 A part of a program is [times, slots]: the slots so many times, or with times 0 as often as a program has room. A slot is
 [opcode, dst, src, off, imm]; off and imm are a number, or [first, step, count]: in repetition i they are first + step * (i % count).
@@ -27,6 +29,7 @@ FOLDER = Path(__file__).resolve().parent / "cases"
 # The kinds of step, in the order of the table, with the most machine instructions that each should take (0: no bound).
 KINDS = {
     "load": 0,
+    "install": 400_000,
     "create": 1_200_000,
     "close": 1_200_000,
     "run": 1_200_000,
@@ -37,6 +40,7 @@ KINDS = {
     "next key": 1_200_000,
     "save part": 2_500_000,
     "batch": 0,
+    "bounded batch": 0,
 }
 # Families of keys whose author knows the seed.
 WITH_SEED = frozenset({"colliding", "crowd"})

@@ -12,7 +12,7 @@ from dataclasses import dataclass, replace
 from pathlib import Path
 
 from worst_costs.building import NoCase, packets_of, script
-from worst_costs.cases import Case
+from worst_costs.cases import Case, all_cases
 from worst_costs.counting import Counter, longest, times
 from worst_costs.edits import edited
 from worst_costs.starts import starts
@@ -104,9 +104,11 @@ def shortened(it: Search, case: Case) -> Case:
 
 
 def search(it: Search, knows_seed: bool, seconds: float) -> Iterator[Case]:
-    """The dearest case so far, whenever a dearer one is found. First all starts are counted; the dearest is climbed from first."""
+    """The dearest case so far, whenever a dearer one is found. First all starts are counted, with the cases that are kept; the dearest is climbed
+    from first."""
     until, best, dearest = time.monotonic() + seconds, 0.0, None
-    begins = [it.settled(case) for case in starts(it.kind) if case.knows_seed == knows_seed]
+    kept = [case for case in all_cases().values() if case.kind == it.kind]
+    begins = [it.settled(case) for case in (*kept, *starts(it.kind)) if case.knows_seed == knows_seed]
     order = sorted(begins, key=it.cost, reverse=True)
     while order and time.monotonic() < until:
         for start in order:

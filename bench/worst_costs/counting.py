@@ -105,8 +105,9 @@ class Times:
         return statistics.median(took), took[-1 - len(took) // 100], took[-1]
 
 
-def times(driver: Path, script: Path, rounds: int) -> Times:
-    said = subprocess.run([driver, "rounds", str(rounds), script], stdout=subprocess.PIPE, check=True, text=True).stdout
+def times(driver: Path, script: Path, rounds: int, keeps: bool = False) -> Times:
+    """With new memory of the system in each round, or, if malloc keeps what is freed, with that of the round before."""
+    said = subprocess.run([driver, "kept" if keeps else "rounds", str(rounds), script], stdout=subprocess.PIPE, check=True, text=True).stdout
     numbers = [line.split() for line in said.splitlines()]
     return Times.of([Round(float(step), float(beside), float(used), int(count)) for step, beside, used, count in numbers])
 

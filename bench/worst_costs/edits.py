@@ -54,7 +54,7 @@ def edit_commands(drawn: Random, case: Case) -> Case:
 
 
 def programs_of(case: Case) -> list[Command]:
-    return [command for command in (*case.before, case.step) if command[0] == "load"]
+    return [command for command in (*case.before, case.step) if command[0] in ("load", "install")]
 
 
 def edit_field(drawn: Random, slot: list[Any]) -> None:

@@ -6,11 +6,14 @@ from collections.abc import Iterator
 from dataclasses import replace
 
 from programs import ARRAY, DELETE, HASH, LOADED, LOOK_UP, RUN, UPDATE
-from worst_costs.calls import calls, calls_on_keys, colliding_look_ups, copies, long_values, names, new_keys, updates_and_deletes
+from worst_costs.building import BOUND, DESCRIPTORS
+from worst_costs.calls import EXITS, calls, calls_on_keys, colliding_look_ups, copies, long_values, names, new_keys, updates_and_deletes
 from worst_costs.cases import Case, Command, Part
 from worst_costs.compact import parts_of
 
 FULL, KEY, VALUE, MAPS = 4096, 512, 8, 16
+# The packets of a bounded batch.
+PACKETS = 64
 # Sizes of keys and values, and entries.
 SHAPES = ((KEY, VALUE, FULL), (KEY, 4096, 16), (64, 512, 128), (16, VALUE, FULL), (4, VALUE, FULL))
 # The pairs of a delete and an update that use up the table of a map of 4,096 keys if the keys of one group are deleted again and again.
@@ -52,14 +55,17 @@ def closes() -> Iterator[Case]:
 
 
 def creates() -> Iterator[Case]:
-    """The maps of the last two were closed, and are freed, since with the new one they would have too many entries."""
+    """The maps of the last ones were closed, and some are freed, since with the new one they would have too many entries."""
     new: Command = ["create", HASH, KEY, VALUE, FULL]
     yield Case("create", "a first map", [], new)
     yield Case("create", "a map like one that was closed", [*full_map(3), ["close", 3]], new)
     yield Case("create", "an array", [], ["create", ARRAY, 4, 4096, 16])
     large = [["create", HASH, KEY, VALUE, FULL - 1], *([new] * 7), ["create", HASH, 4, VALUE, 1]]
     fills = [["fill", fd, "counting", FULL] for fd in range(3, 11)]
-    yield Case("create", "two full maps are freed", [*large, *fills, *closed(3, 9)], ["create", HASH, KEY - 1, VALUE, FULL])
+    yield Case("create", "one full map is freed, and not two", [*large, *fills, *closed(3, 9)], ["create", HASH, KEY - 1, VALUE, FULL])
+    yield Case("create", "one full map is freed", [*([new] * 8), *fills, *closed(3, 8)], ["create", HASH, KEY - 1, VALUE, FULL])
+    odd = [["create", HASH, 4, VALUE, 8], *([["create", HASH, KEY, VALUE, FULL - 1]] * 8)]
+    yield Case("create", "two maps are freed, as none has as many entries as are too many", [*odd, *fills[1:], ["fill", 11, "counting", FULL], *closed(4, 8)], new)
     small = [*([["create", HASH, 128, VALUE, 30]] * MAPS), *(["fill", fd, "counting", 30] for fd in range(3, 3 + MAPS))]
     others = [["create", ARRAY, 4, VALUE, FULL]] * 7
     yield Case("create", "sixteen maps are freed", [*small, *closed(3, MAPS), *others], ["create", HASH, KEY - 1, VALUE, FULL])
@@ -94,6 +100,15 @@ def loads() -> Iterator[Case]:
     yield Case("load", "names of maps", [["create", HASH, 4, VALUE, 1]] * MAPS, ["load", names(MAPS)])
 
 
+def installs() -> Iterator[Case]:
+    """Prepared programs, that of the last one with as many names of maps as it has room for, in a tenant with all descriptors open."""
+    for case in loads():
+        yield replace(case, kind="install", step=["install", *case.step[1:]])
+    maps: list[Command] = [["create", HASH, 4, VALUE, 1]] * MAPS
+    small: Command = ["load", [EXITS]]
+    yield Case("install", "names of maps beside all descriptors", [*maps, *([small] * (DESCRIPTORS - MAPS - 1))], ["install", names(MAPS)])
+
+
 def sweeps() -> Iterator[Case]:
     """Deletes and updates of the keys of one group use up the room of a table of keys; the step fills it anew."""
     for key in (4, 16, 64, KEY):
@@ -119,7 +134,9 @@ def starts(kind: str) -> list[Case]:
     """Some cases of a kind."""
     if kind == "batch":
         return [Case(kind, it.what, it.before, ["batch", it.step[1], MAPS, *it.step[2:]]) for it in runs()]
-    made = {"load": loads, "create": creates, "close": closes, "run": runs, "delete, sweep": sweeps, "save part": saves}
+    if kind == "bounded batch":
+        return [Case(kind, it.what, it.before, ["bounded", it.step[1], PACKETS, *it.step[2:], BOUND]) for it in runs()]
+    made = {"load": loads, "install": installs, "create": creates, "close": closes, "run": runs, "delete, sweep": sweeps, "save part": saves}
     if kind in made:
         return list(made[kind]())
     return list(on_keys(kind, {"next key": "next"}.get(kind, kind)))

@@ -19,11 +19,12 @@ HEAD = """| Step | Machine instructions | Bound | Time | A neighbour's look-up b
 
 @dataclass(frozen=True)
 class Bench:
-    """The program of worst.c, a folder for files, and the rounds of times."""
+    """The program of worst.c, a folder for files, the rounds of times, and whether malloc keeps what is freed."""
 
     driver: Path
     folder: Path
     rounds: int
+    keeps: bool = False
 
     def instructions(self, case: Case) -> float | None:
         """Of the step, or of a packet. None without valgrind."""
@@ -38,7 +39,7 @@ class Bench:
     def times(self, case: Case, rounds: int) -> Times:
         path = self.folder / "script"
         path.write_bytes(script(case))
-        return times(self.driver, path, rounds)
+        return times(self.driver, path, rounds, self.keeps)
 
 
 def shown(nanoseconds: float) -> str:

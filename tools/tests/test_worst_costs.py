@@ -51,10 +51,10 @@ class Cases(unittest.TestCase):
     def test_each_case_ends_with_its_step(self) -> None:
         for name, case in all_cases().items():
             *before, (letter, step) = records_of(script(case))
-            self.assertIn(letter, "FSB", name)
+            self.assertIn(letter, "FSBI", name)
             self.assertLessEqual({letter for letter, _ in before}, {"f", "r"}, name)
             self.assertGreaterEqual(case.kept, 1, name)
-            self.assertEqual(letter == "B", packets_of(case) > 1, name)
+            self.assertEqual(case.kind == "batch", packets_of(case) > 1, name)
 
     def test_cases_without_the_seed_use_no_word_of_it(self) -> None:
         case = Case("look-up", "", [["create", 1, 16, 8, 4], ["fill", 3, "counting", 4]], ["look-up", 3, "counting", 1])

@@ -153,7 +153,27 @@ class Client(Blocking[AsyncClient]):
         return Customer(self.aio.customer(name, seconds, session), self.loop)
 
 
-class Customer(Blocking[AsyncCustomer]):
+class Asking:
+    """What is asked as a host is: frames are sent by `ask_bytes`, which yields the bytes of each reply in order."""
+
+    def ask_bytes(self, frames: Iterable[bytes]) -> Iterator[bytes]:
+        raise NotImplementedError
+
+    def ask(self, frame: bytes) -> Reply:
+        """Sends a frame and waits for its reply."""
+        return next(self.ask_all([frame]))
+
+    def ask_all(self, frames: Iterable[bytes]) -> Iterator[Reply]:
+        """Sends frames, many at once, and yields their replies in order."""
+        for reply in self.ask_bytes(frames):
+            yield from read_replies(reply)
+
+    def tenant(self) -> Tenant:
+        """The commands by their names, and maps as mappings."""
+        return CustomersTenant(cast(Host, self), 0)
+
+
+class Customer(Asking, Blocking[AsyncCustomer]):
     """Sends the calls of one customer (`AsyncCustomer`); only one thread may use it."""
 
     resume = waits(AsyncCustomer.resume)
@@ -181,23 +201,10 @@ class Customer(Blocking[AsyncCustomer]):
     def seconds(self, seconds: float) -> None:
         self.aio.seconds = seconds
 
-    def ask(self, frame: bytes) -> Reply:
-        """Sends a frame and waits for its reply."""
-        return next(self.ask_all([frame]))
-
-    def ask_all(self, frames: Iterable[bytes]) -> Iterator[Reply]:
-        """Sends frames, many at once, and yields their replies in order."""
-        for reply in self.ask_bytes(frames):
-            yield from read_replies(reply)
-
     def ask_bytes(self, frames: Iterable[bytes]) -> Iterator[bytes]:
-        """The same, with each reply as the bytes that the host wrote."""
+        """Sends frames, many at once, and yields their replies in order, each as the bytes that the host wrote."""
         for call in in_parts(frames, len, LONGEST_CALL, MOST_FRAMES):
             yield from self.loop.run(self.aio.ask_call(b"".join(call)))
-
-    def tenant(self) -> Tenant:
-        """The commands by their names, and maps as mappings."""
-        return CustomersTenant(cast(Host, self), 0)
 
     def send(self, stream: bytes) -> Part:
         """Adds frames to others in one call (`AsyncCustomer.send`)."""

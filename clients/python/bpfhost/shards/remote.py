@@ -16,17 +16,14 @@ from collections.abc import Iterable, Iterator, Sequence
 from dataclasses import dataclass, field
 from pathlib import Path
 from types import TracebackType
-from typing import Any, cast
+from typing import Any
 
-from bpfhost.host import Host
-from bpfhost.replies import Reply, read_replies
 from bpfhost.shards.calls import LONGEST_CALL, MOST_FRAMES, whole_frames
-from bpfhost.shards.blocking import CustomersTenant
+from bpfhost.shards.blocking import Asking
 from bpfhost.shards.client import NAMELESS, SECONDS
 from bpfhost.shards.errors import NoReply, NotDone, NotTaken, ReplyGone, SessionPassed, SetAside, ShardError
 from bpfhost.shards.gateway.protocol import GATEWAY, Why, Word, ack, hello, read_told
 from bpfhost.parts import in_parts
-from bpfhost.tenant import Tenant
 
 _READ_AT_ONCE = 1 << 18
 _PAUSE, _LONGEST_PAUSE, _SECONDS_TO_CONNECT = 0.02, 0.5, 5.0
@@ -72,7 +69,7 @@ class _Broken(Exception):
     """The connection has ended; the text is the reason."""
 
 
-class GatewayCustomer:
+class GatewayCustomer(Asking):
     """Sends the calls of one customer; only one thread may use it. It is a context manager, which closes its connection."""
 
     def __init__(
@@ -115,17 +112,8 @@ class GatewayCustomer:
 
     # As a host is asked.
 
-    def ask(self, frame: bytes) -> Reply:
-        """Sends a frame and waits for its reply."""
-        return next(read_replies(self.wait(self.post(frame))[0]))
-
-    def ask_all(self, frames: Iterable[bytes]) -> Iterator[Reply]:
-        """Sends frames, many at once, and yields their replies in order."""
-        for reply in self.ask_bytes(frames):
-            yield from read_replies(reply)
-
     def ask_bytes(self, frames: Iterable[bytes]) -> Iterator[bytes]:
-        """The same, with each reply as the bytes that the host wrote."""
+        """Sends frames, many at once, and yields their replies in order, each as the bytes that the host wrote."""
         before: Posted | None = None
         for part in in_parts(frames, len, LONGEST_CALL // 2, MOST_FRAMES // 2):
             posted = self.post(b"".join(part))
@@ -134,10 +122,6 @@ class GatewayCustomer:
             before = posted
         if before:
             yield from self.wait(before)
-
-    def tenant(self) -> Tenant:
-        """The commands by their names, and maps as mappings."""
-        return CustomersTenant(cast(Host, self), 0)
 
     # Many at once.
 

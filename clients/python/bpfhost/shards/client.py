@@ -134,9 +134,9 @@ class AsyncCustomer:
         deadline = self._deadline(None)
         seat, number, given_up, place = await self._resumed(deadline)
         self._number, self._given_up = max(self._number, number), given_up
-        return Ticket(b"", self.session, number, given_up, seat=seat, place=Place.read(place)) if place != b"-" else None
+        return Ticket(b"", self.session, number, given_up, seat=seat, place=place) if place else None
 
-    async def _resumed(self, deadline: float) -> tuple[Seat, int, int, bytes]:
+    async def _resumed(self, deadline: float) -> tuple[Seat, int, int, Place | None]:
         """The customer's seat, and the session's record there; from then on no calls of earlier processes are taken."""
         given_up = b"0"
         while True:
@@ -146,7 +146,8 @@ class AsyncCustomer:
             words = [self.session, given_up, seat.tenant, seat.owned_by(self.name), names.MOST_SESSIONS]
             what, *said = await scripts.RESUME(redis.patient(deadline), used, words)
             if what == b"resumed":
-                return seat, int(said[0]), int(said[1]), bytes(said[2])
+                number, given_up, *place = said
+                return seat, int(number), int(given_up), Place.of(*place) if place else None
             if what == b"passed":
                 given_up = bytes(said[0])
             elif what == b"sessions":
@@ -288,7 +289,7 @@ class AsyncCustomer:
         except OutOfMemory as error:
             return f"a call of customer {self.name} is not taken: {error}"
         if what == b"taken":
-            ticket.place = Place.read(said[0])
+            ticket.place = Place.of(*said)
         elif what == b"seat":
             # It was not taken there, and won't be.
             ticket.seat = self._seat = None
@@ -317,7 +318,7 @@ class AsyncCustomer:
         used = [keys.sessions(seat.generation), keys.lease]
         what, *said = await scripts.GIVE_UP(redis.patient(deadline), used, [ticket.session, ticket.number, ticket.given_up])
         if what == b"taken":
-            ticket.place = Place.read(said[0])
+            ticket.place = Place.of(*said)
         else:
             raise NotTaken(why, ticket)
 

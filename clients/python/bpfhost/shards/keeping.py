@@ -20,6 +20,7 @@ from bpfhost.shards.settings import Settings
 from bpfhost.shards.writing import Writing
 from bpfhost.shards.steps import step
 from bpfhost.shards.system import Work
+from bpfhost.shards.tickets import served_at
 
 # Replies are checked so often during the time for which they are kept.
 _LOOKS = 8
@@ -195,6 +196,13 @@ class Keeping:
             if weight != b"0" and int(tenant) not in busy:
                 await logs[int(tenant)].settle(self._writing.note)
 
+    async def memory(self) -> tuple[int, int]:
+        """The memory that the server uses, and the most that it may use (`Writing.memory`)."""
+        used, most = await self._writing.memory()
+        self._metrics.set("bpfhost_worker_redis_memory_bytes", used)
+        self._metrics.set("bpfhost_worker_redis_memory_most_bytes", most)
+        return used, most
+
     async def drop_old(self, log: Log) -> None:
         """Marks a tenant's place, and drops replies that are old and in the snapshot before the last one."""
         served = await self._writing.lease.served()
@@ -220,7 +228,6 @@ class Keeping:
             return
         name, served = self._keys.sessions(int(said)), await self._writing.lease.served()
         for session, record in (await self._redis.hgetall(name)).items():
-            then = int(record.split()[2]) / 1000
-            if session.startswith(NAMELESS.encode()) and then < served - SECONDS_OF_SESSIONS:
+            if session.startswith(NAMELESS.encode()) and served_at(record) < served - SECONDS_OF_SESSIONS:
                 await scripts.FORGET_SESSION(self._redis, [name], [session, record])
                 await step()

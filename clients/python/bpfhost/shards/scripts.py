@@ -8,45 +8,58 @@ from bpfhost.shards.names import GIVEN_UP_BY_ONE
 
 # A seat's text is its generation and a word: `name:` a customer who has it, `leaves:` or `arrives:` an entry, or `closed:`.
 
-# Takes a call: once for each number of a session, while the customer has its seat and may have more waiting. The record of a session is
-# the number of its last call, how many calls were given up, how long the shard had been served, and the shard, tenant and entry of the
-# call, or `-`. A call that is older than the last one that was given up is not taken; the script then returns how many were given up.
+# The record of a session is JSON: the number of its last call, how many calls were given up, how long the shard had been served, and the
+# shard, tenant and entry of the call, if there is one. All of it is text, since Lua has no whole numbers of 64 bits. Up to version 0.2.0 a
+# record was these words with spaces between them; such a record is read, and written as JSON. ARGV: session, ..
+_SESSION = """
+local function session_of(key)
+  local record = redis.call('HGET', key, ARGV[1])
+  if not record then return nil end
+  if string.sub(record, 1, 1) == '{' then return cjson.decode(record) end
+  local number, given_up, place = string.match(record, '^(%d+) (%d+) %d+ (.+)$')
+  local shard, tenant, entry = string.match(place, '^(%d+) (%d+) (.+)$')
+  return {number = number, given_up = given_up, shard = shard, tenant = tenant, entry = entry}
+end
+local function keep(session, key, lease)
+  session.served = redis.call('HGET', lease, 'served') or '0'
+  redis.call('HSET', key, ARGV[1], cjson.encode(session))
+end
+local function taken(session)
+  return {'taken', session.shard, session.tenant, session.entry}
+end
+"""
+
+# Takes a call: once for each number of a session, while the customer has its seat and may have more waiting. A call that is older than the
+# last one that was given up is not taken; the script then returns how many were given up.
 # KEYS: seats, frames, sessions, waiting, lease. ARGV: session, number, given up, seat, shard, tenant, frames, weight, most waiting, most
 # sessions, and the field that has the frames.
-ASK = Script("""
-local record = redis.call('HGET', KEYS[3], ARGV[1])
-if record then
-  local number, given_up, place = string.match(record, '^(%d+) (%d+) %d+ (.+)$')
-  if number == ARGV[2] then return {'taken', place} end
-  if tonumber(number) > tonumber(ARGV[2]) then return {'passed', number} end
-  if tonumber(given_up) > tonumber(ARGV[3]) then return {'given up', given_up} end
+ASK = Script(_SESSION + """
+local session = session_of(KEYS[3])
+if session then
+  if session.number == ARGV[2] then return taken(session) end
+  if tonumber(session.number) > tonumber(ARGV[2]) then return {'passed', session.number} end
+  if tonumber(session.given_up) > tonumber(ARGV[3]) then return {'given up', session.given_up} end
 end
 if redis.call('HGET', KEYS[1], ARGV[6]) ~= ARGV[4] then return {'seat'} end
 local waits = tonumber(redis.call('HGET', KEYS[4], ARGV[6]) or '0')
 if waits > 0 and waits + tonumber(ARGV[8]) > tonumber(ARGV[9]) then return {'full'} end
-if not record and redis.call('HLEN', KEYS[3]) >= tonumber(ARGV[10]) then return {'sessions'} end
+if not session and redis.call('HLEN', KEYS[3]) >= tonumber(ARGV[10]) then return {'sessions'} end
 local entry = redis.call('XADD', KEYS[2], '*', ARGV[11], ARGV[7])
-local served = redis.call('HGET', KEYS[5], 'served') or '0'
-local place = ARGV[5] .. ' ' .. ARGV[6] .. ' ' .. entry
 redis.call('HINCRBY', KEYS[4], ARGV[6], ARGV[8])
-redis.call('HSET', KEYS[3], ARGV[1], ARGV[2] .. ' ' .. ARGV[3] .. ' ' .. served .. ' ' .. place)
-return {'taken', place}
+session = {number = ARGV[2], given_up = ARGV[3], shard = ARGV[5], tenant = ARGV[6], entry = entry}
+keep(session, KEYS[3], KEYS[5])
+return taken(session)
 """)
 
 # Gives a call up, so that it is not taken later; if it was taken, returns that.
 # KEYS: sessions, lease. ARGV: session, number, given up before.
-GIVE_UP = Script("""
-local record = redis.call('HGET', KEYS[1], ARGV[1])
-local last, place = '0', '-'
-if record then
-  local number, given_up, where = string.match(record, '^(%d+) (%d+) %d+ (.+)$')
-  if number == ARGV[2] then return {'taken', where} end
-  if tonumber(number) > tonumber(ARGV[2]) then return {'passed', number} end
-  if tonumber(given_up) > tonumber(ARGV[3]) then return {'given up'} end
-  last, place = number, where
-end
-local served = redis.call('HGET', KEYS[2], 'served') or '0'
-redis.call('HSET', KEYS[1], ARGV[1], last .. ' ' .. (ARGV[3] + 1) .. ' ' .. served .. ' ' .. place)
+GIVE_UP = Script(_SESSION + """
+local session = session_of(KEYS[1]) or {number = '0', given_up = '0'}
+if session.number == ARGV[2] then return taken(session) end
+if tonumber(session.number) > tonumber(ARGV[2]) then return {'passed', session.number} end
+if tonumber(session.given_up) > tonumber(ARGV[3]) then return {'given up'} end
+session.given_up = tostring(ARGV[3] + 1)
+keep(session, KEYS[1], KEYS[2])
 return {'given up'}
 """, without_memory=True)
 
@@ -54,20 +67,15 @@ return {'given up'}
 # calls it gives up by ones, and each process starts from another million. A process that has read an old count gets the current one, and
 # asks again.
 # KEYS: seats, sessions, lease. ARGV: session, given up before, tenant, seat, most sessions.
-RESUME = Script(f"""
+RESUME = Script(_SESSION + f"""
 if redis.call('HGET', KEYS[1], ARGV[3]) ~= ARGV[4] then return {{'seat'}} end
-local record = redis.call('HGET', KEYS[2], ARGV[1])
-local last, given_up, place = '0', '0', '-'
-if record then
-  last, given_up, place = string.match(record, '^(%d+) (%d+) %d+ (.+)$')
-elseif redis.call('HLEN', KEYS[2]) >= tonumber(ARGV[5]) then
-  return {{'sessions'}}
-end
-if given_up ~= ARGV[2] then return {{'passed', given_up}} end
-local served = redis.call('HGET', KEYS[3], 'served') or '0'
-local next = string.format('%.0f', (math.floor(given_up / {GIVEN_UP_BY_ONE}) + 1) * {GIVEN_UP_BY_ONE})
-redis.call('HSET', KEYS[2], ARGV[1], last .. ' ' .. next .. ' ' .. served .. ' ' .. place)
-return {{'resumed', last, next, place}}
+local session = session_of(KEYS[2])
+if not session and redis.call('HLEN', KEYS[2]) >= tonumber(ARGV[5]) then return {{'sessions'}} end
+session = session or {{number = '0', given_up = '0'}}
+if session.given_up ~= ARGV[2] then return {{'passed', session.given_up}} end
+session.given_up = string.format('%.0f', (math.floor(session.given_up / {GIVEN_UP_BY_ONE}) + 1) * {GIVEN_UP_BY_ONE})
+keep(session, KEYS[2], KEYS[3])
+return {{'resumed', session.number, session.given_up, session.shard, session.tenant, session.entry}}
 """, without_memory=True)
 
 # Drops the record of a session, if it is still this one. KEYS: sessions. ARGV: session, record.

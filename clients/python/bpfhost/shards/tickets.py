@@ -2,6 +2,7 @@
 
 from __future__ import annotations
 
+import json
 from dataclasses import dataclass, field
 from functools import cached_property
 from typing import NamedTuple
@@ -22,10 +23,15 @@ class Place(NamedTuple):
     entry: bytes
 
     @classmethod
-    def read(cls, text: bytes) -> Place:
-        """Reads it from a session's record."""
-        shard, tenant, entry = text.split()
+    def of(cls, shard: bytes, tenant: bytes, entry: bytes) -> Place:
+        """The place that a session's record has."""
         return cls(int(shard), int(tenant), entry)
+
+
+def served_at(record: bytes) -> float:
+    """For how many seconds the shard had been served at the last call of a session, by the session's record (`scripts`)."""
+    served = json.loads(record)["served"] if record.startswith(b"{") else record.split()[2]
+    return int(served) / 1000
 
 
 @dataclass

@@ -14,6 +14,7 @@ from __future__ import annotations
 
 import argparse
 import contextlib
+import json
 import os
 import random
 import signal
@@ -268,7 +269,7 @@ class Service:
             for one in self.customers:
                 seat = seats[one.name]
                 record = shard_of(client, seat.shard)[0].hget(ShardKeys(seat.shard).sessions(seat.generation), f"gateway session of {one.name}")
-                if int((record or b"0").split()[0]) != one.frames:
+                if int(json.loads(record or b'{"number": 0}')["number"]) != one.frames:
                     raise Differs(f"{one.name} was answered {one.frames} frames, and its session has {record!r}")
 
     def _compare_shard(self, client: Client, number: int) -> None:

@@ -2,6 +2,7 @@
 
 from __future__ import annotations
 
+import json
 import signal
 import time
 from collections.abc import Awaitable, Callable, Sequence
@@ -36,6 +37,7 @@ from bpfhost.shards.connection import Script, demand_durable
 from bpfhost.shards.log import Log
 from bpfhost.shards.errors import Away
 from bpfhost.shards.names import FRAMES, after, before, order
+from bpfhost.shards.tickets import served_at
 from tests.common import LENGTH, PROGRAM
 from tests.shards.blocking_redis import connect, shard_of
 from tests.shards.common import CREATE, LOOK_UP, SECONDS, ShardTest, WorkerThread, put, did
@@ -165,6 +167,27 @@ class Calls(ShardTest):
         self.assertEqual(redis.run(scripts.CLAIM, [keys.seats], [0, 9, b"9 name:other"]), 1)
         self.assertEqual(redis.run(scripts.CLAIM, [keys.seats], [0, 1, seat.owned_by("acme")]), 0)
         self.assertEqual(ask(3), third)
+
+    def test_a_record_of_an_earlier_version(self) -> None:
+        """The record of a session was words with spaces between them: it is read, and written as JSON when it changes."""
+        redis, keys = self.empty_shard(0)
+        owner = self.client.directory.place("acme").owned_by("acme")
+        self.assertEqual(redis.run(scripts.CLAIM, [keys.seats], [0, 1, owner]), 1)
+        for session, record in (("one", b"2 1 7000 0 5 4-1"), ("two", b"0 3 7000 -")):
+            redis.hset(keys.sessions(1), session, record)
+            self.assertEqual(served_at(record), 7.0)
+        ask, gives, resume = [keys.seats, keys.frames(0), keys.sessions(1), keys.waiting, keys.lease], [keys.sessions(1), keys.lease], ["one", 1, 0, owner, 2]
+        asked = [redis.run(scripts.ASK, ask, ["one", number, 0, owner, 0, 0, CREATE, 1000, 9999, 2, FRAMES]) for number in (1, 2, 3)]
+        self.assertEqual(asked, [[b"passed", b"2"], [b"taken", b"0", b"5", b"4-1"], [b"given up", b"1"]])
+        self.assertEqual(redis.run(scripts.GIVE_UP, gives, ["two", 1, 3]), [b"given up"])
+        redis.hset(keys.lease, "served", 9000)
+        used = [keys.seats, *gives]
+        self.assertEqual(redis.run(scripts.RESUME, used, resume), [b"resumed", b"2", b"1000000", b"0", b"5", b"4-1"])
+        self.assertEqual(redis.run(scripts.RESUME, used, ["two", 4, *resume[2:]]), [b"resumed", b"0", b"1000000"])
+        records = {name: json.loads(record) for name, record in redis.hgetall(keys.sessions(1)).items()}
+        both = {"given_up": "1000000", "served": "9000"}
+        self.assertEqual(records, {b"one": {**both, "number": "2", "shard": "0", "tenant": "5", "entry": "4-1"}, b"two": {**both, "number": "0"}})
+        self.assertEqual(served_at(redis.hget(keys.sessions(1), "one") or b""), 9.0)
 
     def test_an_answer_that_is_lost(self) -> None:
         self.shard(0)

@@ -9,6 +9,7 @@ The processes do what the package does, in the same order, and call the same scr
 from __future__ import annotations
 
 import functools
+import json
 from collections.abc import Sequence
 from typing import Any
 
@@ -42,7 +43,7 @@ def client(calls: int) -> Process:
         if local[0] == "place":
             return [Step(_script(directory.PLACE, _DIRECTORY.all, NAME), lambda found: ("claim", number, found[0]))]
         if local[0] == "wait":
-            shard, tenant, entry = local[2].split()
+            shard, tenant, entry = local[2]
             return [Step(("XRANGE", _KEYS[int(shard)].replies(int(tenant)), entry, entry), lambda found: _next(number, calls) if found else None)]
         shard, tenant, generation = map(int, local[2].split())
         keys, seat = _KEYS[shard], f"{generation} name:{NAME}"
@@ -51,7 +52,7 @@ def client(calls: int) -> Process:
             return [Step(words, lambda has: ("ask", number, local[2]) if has else ("place", number))]
         used = [keys.seats, keys.frames(tenant), keys.sessions(generation), keys.waiting, keys.lease]
         words = _script(scripts.ASK, used, "s", number, 0, seat, shard, tenant, f"call {number}", 1, 1000, 10, "f")
-        return [Step(words, lambda said: ("wait", number, said[1]) if said[0] == b"taken" else ("place", number))]
+        return [Step(words, lambda said: ("wait", number, tuple(said[1:])) if said[0] == b"taken" else ("place", number))]
 
     return Process(("place", 1), steps, _is_done)
 
@@ -345,8 +346,8 @@ def calls_are_known(keys: dict[bytes, Any]) -> None:
     """
     replies_are_right(keys)
     entries = [value for field, value in keys.get(_KEYS[0].frames(0).encode(), Stream()).entries.values() if field == b"f"]
-    record = keys.get(_KEYS[0].sessions(1).encode(), {}).get(b"s", b"0").split()
-    assert int(record[0]) == sum(_MORE[value] for value in entries), f"{entries} were taken, and the session has {record[0]!r}"
+    record = keys.get(_KEYS[0].sessions(1).encode(), {}).get(b"s", b'{"number": 0}')
+    assert int(json.loads(record)["number"]) == sum(_MORE[value] for value in entries), f"{entries} were taken, and the session has {record!r}"
 
 
 # How far the calls of processes of one session are above the last number that they were given.
@@ -386,12 +387,8 @@ MISTAKES = {
         "redis.call('HSET', KEYS[1], ARGV[1], ARGV[2] .. ' leaves:' .. entry)\n",
         "",
     ),
-    "a call is not remembered": (scripts.ASK, "redis.call('HSET', KEYS[3], ARGV[1],", "redis.call('HSET', KEYS[3], 'x' .. ARGV[1],"),
-    "a session is not fenced": (
-        scripts.RESUME,
-        "redis.call('HSET', KEYS[2], ARGV[1], last .. ' ' .. next",
-        "redis.call('HSET', KEYS[2], ARGV[1], last .. ' ' .. given_up",
-    ),
+    "a call is not remembered": (scripts.ASK, "redis.call('HSET', key, ARGV[1],", "redis.call('HSET', key, 'x' .. ARGV[1],"),
+    "a session is not fenced": (scripts.RESUME, "keep(session, KEYS[2], KEYS[3])\n", ""),
     "a seat that is closed is arrived at": (scripts.ARRIVE, "if string.match(seat, '^%d+ closed:') then return false end", ""),
 }
 

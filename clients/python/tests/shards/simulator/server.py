@@ -5,6 +5,7 @@ from __future__ import annotations
 import collections
 import copy
 import hashlib
+import json
 from collections.abc import Callable, Sequence
 from typing import Any
 
@@ -245,6 +246,11 @@ def _bytes(word: object) -> bytes:
     return word if isinstance(word, bytes) else str(word).encode()
 
 
+def _encoded(table: Any) -> bytes:
+    """A Lua table with texts as JSON, as cjson writes it."""
+    return json.dumps({name.decode(): value.decode() for name, value in table.items()}, sort_keys=True).encode()
+
+
 class Scripts:
     """Runs scripts on a store, each as one step."""
 
@@ -256,6 +262,7 @@ class Scripts:
         self._store = Store()
         self._known: dict[bytes, tuple[Any, bool]] = {}
         self._lua.globals()[b"redis"] = self._lua.table_from({b"call": self._call, b"error_reply": self._error})
+        self._lua.globals()[b"cjson"] = self._lua.table_from({b"encode": _encoded, b"decode": self._decoded})
 
     def run(self, store: Store, words: Sequence[object]) -> Value:
         """The reply to EVALSHA or EVAL."""
@@ -279,6 +286,9 @@ class Scripts:
 
     def _call(self, *words: object) -> Value:
         return self._to_lua(self._store.do([b"%d" % word if isinstance(word, (int, float)) else word for word in words]))
+
+    def _decoded(self, text: bytes) -> Value:
+        return self._lua.table_from({name.encode(): value.encode() for name, value in json.loads(text).items()})
 
     def _error(self, text: bytes) -> Value:
         return self._lua.table_from({b"err": text})

@@ -17,10 +17,10 @@ from bpfhost.parts import in_parts
 from bpfhost.shards.calls import Call, NoCall
 from bpfhost.shards.connection import forgotten
 from bpfhost.shards.errors import OutOfMemory
-from bpfhost.shards.served import Served
+from bpfhost.shards.patience import Patience
 from bpfhost.shards.serving import Written
 from bpfhost.shards.system import Work
-from bpfhost.shards.writing import WRITTEN_AT_ONCE
+from bpfhost.shards.writing import WRITTEN_AT_ONCE, Writing
 
 _MOST_ON_THEIR_WAY = 2
 # If so many bytes of replies wait to be sent, the worker waits too.
@@ -41,11 +41,22 @@ class _Batch(NamedTuple):
 
 
 class Answering:
-    """Writes the replies of one shard. It calls `written` for stored replies, and `make_room` if Redis has no memory for them."""
+    """Writes the replies of one shard.
 
-    def __init__(self, shard: Served, written: Callable[[Sequence[Played]], None], make_room: Callable[[OutOfMemory], Work[None]]) -> None:
-        self._shard, self._written, self._make_room = shard, written, make_room
-        self._line = shard.redis.line()
+    It calls `written` for stored replies, `make_room` if Redis has no memory for them, and `wake` when something has come.
+    """
+
+    def __init__(
+        self,
+        writing: Writing,
+        patience: Patience,
+        written: Callable[[Sequence[Played]], None],
+        make_room: Callable[[OutOfMemory], Work[None]],
+        wake: Callable[[object], None],
+    ) -> None:
+        self._writing, self._patience = writing, patience
+        self._written, self._make_room, self._wake = written, make_room, wake
+        self._line = writing.redis.line()
         self._batches: deque[_Batch] = deque()
         # The id of each tenant's last reply that is being written.
         self._last: dict[int, bytes] = {}
@@ -66,7 +77,8 @@ class Answering:
         """Sends what waits, as far as there is room."""
         while self._waiting and len(self._batches) < _MOST_ON_THEIR_WAY:
             some = _parts(self._waiting)[0]
-            task = self._shard.wakes(self._shard.writing.begin(self._line, [one.written for one in some], self._last))
+            task = self._writing.begin(self._line, [one.written for one in some], self._last)
+            task.add_done_callback(self._wake)
             self._batches.append(_Batch(some, task))
             self._last.update((one.written.tenant, one.written.entry) for one in some)
             del self._waiting[: len(some)]
@@ -115,7 +127,7 @@ class Answering:
     async def _write(self, written: Sequence[Written]) -> None:
         while True:
             try:
-                return await self._shard.waiting(lambda: self._shard.writing.write(written))
+                return await self._patience.waiting(lambda: self._writing.write(written))
             except OutOfMemory as error:
                 await self._make_room(error)
 
@@ -123,7 +135,7 @@ class Answering:
         """Waits for the batch that was begun first."""
         is_written = False
         with contextlib.suppress(OutOfMemory):
-            is_written = await self._shard.writing.end(self._batches[0].task)
+            is_written = await self._writing.end(self._batches[0].task)
         if is_written:
             self._note(self._batches.popleft().played)
         else:
@@ -133,7 +145,7 @@ class Answering:
         """Writes all batches in progress once more."""
         for batch in list(self._batches)[1:]:
             with contextlib.suppress(OutOfMemory):
-                await self._shard.writing.end(batch.task)
+                await self._writing.end(batch.task)
         for batch in list(self._batches):
             await self._write([one.written for one in batch.played])
             self._batches.popleft()

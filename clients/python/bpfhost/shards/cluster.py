@@ -27,18 +27,23 @@ _MOST_MOVES = 4
 
 @dataclass
 class Nodes:
-    """The servers that a URL names, and what is known of them: the node of each slot, and how often a node or its history changed."""
+    """The servers that a URL names, and what is known of them: the node of each slot, and how often a node or its history changed.
+
+    A caller that watches them (`watch`) gets Away from then on if a node or a history has changed.
+    """
 
     # A server's URL, whether it is one of a cluster, and the number of replicas to wait for.
     url: str
     is_cluster: bool
     replicas: int
     seeds: list[str]
-    of_slots: dict[int, str] = field(default_factory=dict)
+    # The node of each slot, and the history that each node reports, by its replication id.
+    known: dict[int | str, str] = field(default_factory=dict)
     changes: int = 0
-    # Nodes that could not be reached the last time, and the history that each node reports, by its replication id.
+    # Nodes that could not be reached the last time.
     away: set[str] = field(default_factory=set)
-    histories: dict[str, str] = field(default_factory=dict)
+    # How often they had changed when the caller last looked, if it needs to know.
+    watched: int | None = None
 
     @classmethod
     def of(cls, url: str) -> Nodes:
@@ -63,32 +68,33 @@ class Nodes:
         user, has_user, first = found.netloc.rpartition("@")
         return found._replace(netloc=f"{user}{has_user}{node}").geturl() if node != first else self.url
 
-    def find(self, slot: int, expected: int | None) -> str:
-        """The node of a slot as far as it is known, or a node to ask; raises Away if something has changed since it was `expected`."""
-        if expected is not None and expected != self.changes:
+    def watch(self) -> None:
+        """From now on each command raises Away if another node of a cluster, or a server with another history, would do it."""
+        self.watched = None if self.is_one else self.changes
+
+    def has_changed(self) -> bool:
+        """Whether another node or history was seen since `watch`."""
+        return self.watched not in (None, self.changes)
+
+    def find(self, slot: int) -> str:
+        """The node of a slot as far as it is known, or a node to ask; raises Away if something has changed since `watch`."""
+        if self.has_changed():
             raise Away("Redis has another history since, or another node of its cluster serves a slot")
-        node = self.of_slots.get(slot, self.seeds[0])
+        node = self.known.get(slot, self.seeds[0])
         others = [one for one in self.seeds if one not in self.away]
         return others[0] if node in self.away and others else node
 
-    def learn(self, slot: int, node: str) -> bool:
-        """Notes the node of a slot; returns whether it differs from the known one."""
-        known = self.of_slots.get(slot, node)
-        self.of_slots[slot] = node
-        if node not in self.seeds:
-            self.seeds.append(node)
-        self.changes += known != node
-        return known != node
-
-    def tells(self, node: str, history: str) -> bool:
-        """Notes the history that a node reports; returns whether it differs from the one it reported before."""
-        known = self.histories.get(node, history)
-        self.histories[node] = history
-        self.changes += known != history
-        return known != history
+    def learn(self, of: int | str, now: str) -> bool:
+        """Notes the node of a slot, or the history that a node reports; returns whether it differs from what was known before."""
+        before = self.known.get(of, now)
+        self.known[of] = now
+        self.changes += before != now
+        return before != now
 
     def note(self, node: str, is_away: bool) -> None:
         """Notes whether a node could be reached. If none could, all are asked again."""
+        if node not in self.seeds:
+            self.seeds.append(node)
         (self.away.add if is_away else self.away.discard)(node)
         if len(self.away) == len(self.seeds):
             self.away.clear()
@@ -101,37 +107,32 @@ class Line:
     def __init__(self, nodes: Nodes, make: Callable[[str], Link]) -> None:
         self._nodes, self._make = nodes, make
         self._links: dict[str, Link] = {}
-        # The connections whose node's history was checked.
-        self._seen: set[Link] = set()
+        # The connections whose node's history was checked, by their nodes.
+        self._seen: dict[str, Link] = {}
 
-    def begin(self, words: Sequence[Word], seconds: float, slot: int, expected: int | None) -> asyncio.Future[Any]:
+    def begin(self, words: Sequence[Word], seconds: float, slot: int) -> asyncio.Future[Any]:
         """The reply to a command, from the node that has a slot, within so many seconds.
 
-        Raises Away also if another node has the slot than before, if too few replicas have what the command writes, and if nodes have not
-        changed as often as is `expected`.
+        Raises Away also if another node has the slot than before, if too few replicas have what the command writes, and if nodes have
+        changed since `Nodes.watch`.
         """
         if self._nodes.is_one:
-            return self.link(self._nodes.seeds[0]).begin(words, seconds)
-        return asyncio.create_task(self._called(words, seconds, slot, expected))
+            return self._link(self._nodes.seeds[0]).begin(words, seconds)
+        return asyncio.create_task(self._called(words, seconds, slot))
 
-    def link(self, node: str) -> Link:
+    def _link(self, node: str) -> Link:
         """The connection to a node."""
         link = self._links.get(node)
         if link is None or link.is_over:
-            if link:
-                self._seen.discard(link)
             link = self._links[node] = self._make(self._nodes.at(node))
         return link
 
-    async def _called(self, words: Sequence[Word], seconds: float, slot: int, expected: int | None) -> Any:
+    async def _called(self, words: Sequence[Word], seconds: float, slot: int) -> Any:
         nodes = self._nodes
-        node = nodes.find(slot, expected)
+        node = nodes.find(slot)
         for _ in range(_MOST_MOVES):
-            link = self.link(node)
             try:
-                if expected is not None and link not in self._seen:
-                    await self._look(node, link, seconds)
-                found = await self._replicated(link, words, seconds)
+                found = await self._asked(node, words, seconds)
             except Moved as moved:
                 # The caller has to know that the history of the new node of a slot may be another one.
                 if nodes.learn(slot, moved.node):
@@ -139,7 +140,7 @@ class Line:
                 node = moved.node
             except Away:
                 # It may report another history when it can be reached again.
-                self._seen.discard(link)
+                self._seen.pop(node, None)
                 nodes.note(node, is_away=True)
                 raise
             else:
@@ -147,26 +148,25 @@ class Line:
                 return found
         raise Away("the nodes of the cluster do not agree on who serves a slot")
 
-    async def _replicated(self, link: Link, words: Sequence[Word], seconds: float) -> Any:
-        """The reply of a node; if the command writes, so many replicas have it."""
-        if not self._nodes.replicas or words[0] not in _WRITES:
+    async def _asked(self, node: str, words: Sequence[Word], seconds: float) -> Any:
+        """The reply of a node, whose history is looked at first if that is watched; if the command writes, so many replicas have it."""
+        link, replicas = self._link(node), self._nodes.replicas
+        if self._nodes.watched is not None and self._seen.get(node) is not link:
+            await self._look(node, link, seconds)
+        if not replicas or words[0] not in _WRITES:
             return await link.begin(words, seconds)
         limit = max(0.001, min(seconds, _SECONDS_FOR_REPLICAS))
-        begun = link.begin(words, seconds), link.begin(["WAIT", self._nodes.replicas, int(limit * 1000)], seconds + limit)
-        found: list[Any] = await asyncio.gather(*begun, return_exceptions=True)
-        for one in found:
-            if isinstance(one, BaseException):
-                raise one
-        if found[1] < self._nodes.replicas:
-            raise Away(f"{found[1]} replicas have what was written, and {self._nodes.replicas} are to have it")
-        return found[0]
+        begun = link.begin(words, seconds), link.begin(["WAIT", replicas, int(limit * 1000)], seconds + limit)
+        found, have = await asyncio.gather(*begun)
+        if have < replicas:
+            raise Away(f"{have} replicas have what was written, and {replicas} are to have it")
+        return found
 
     async def _look(self, node: str, link: Link, seconds: float) -> None:
         """Checks which history a node reports: a node that was away may report another one."""
         said = bytes(await link.begin(["INFO", "replication"], seconds)).decode()
-        history = next((line.partition(":")[2] for line in said.splitlines() if line.startswith("master_replid:")), "")
-        self._seen.add(link)
-        if self._nodes.tells(node, history):
+        self._seen[node] = link
+        if self._nodes.learn(node, said.partition("master_replid:")[2].partition("\r\n")[0]):
             raise Away(f"{node} tells another history than before")
 
     def cut(self) -> None:

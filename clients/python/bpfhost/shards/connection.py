@@ -68,14 +68,10 @@ class _Lines:
         self.all: set[Line] = set()
         self._timer: asyncio.TimerHandle | None = None
         # A URL that is none is refused at once.
-        line = self.taken()
-        line.link(nodes.seeds[0])
-        self._idle.append((system.now(), line))
+        system.link(nodes.at(nodes.seeds[0]))
 
     def taken(self) -> Line:
-        if self._idle:
-            return self._idle.pop()[1]
-        line = Line(self._nodes, self._system.link)
+        line = self._idle.pop()[1] if self._idle else Line(self._nodes, self._system.link)
         self.all.add(line)
         return line
 
@@ -93,12 +89,11 @@ class _Lines:
         self._timer = asyncio.get_running_loop().call_later(SECONDS_IDLE, self._shrink) if self._idle else None
 
     async def close(self) -> None:
-        lines, self.all = self.all, set()
         self._idle.clear()
         if self._timer:
             self._timer.cancel()
-        for line in lines:
-            line.cut()
+        while self.all:
+            self.all.pop().cut()
         # The event loop ends them in its next round.
         await asyncio.sleep(0)
 
@@ -117,8 +112,6 @@ class Redis:
         self.url, self.system = redis_url(url), system
         self.nodes = Nodes.of(self.url)
         self.lines = _Lines(self.nodes, system)
-        # How often nodes had changed when the caller last looked, if the caller needs to know; shared with the copies of this object.
-        self._known_changes: list[int] = []
         self._slot = -1
         self._line: Line | None = None
         self._deadline, self._patience = math.inf, 0.0
@@ -145,18 +138,6 @@ class Redis:
         """The same server by a connection of its own, on which commands are sent without a wait for the reply to each (`begin`)."""
         return self._with(_line=self.lines.taken())
 
-    def watch(self) -> None:
-        """From now on each call raises Away if another node of a cluster, or a server with another history, would do it.
-
-        That lasts until this is called again.
-        """
-        if not self.nodes.is_one:
-            self._known_changes[:] = [self.nodes.changes]
-
-    def has_changed(self) -> bool:
-        """Whether another node or history was seen since `watch`."""
-        return bool(self._known_changes) and self._known_changes[0] != self.nodes.changes
-
     async def close(self) -> None:
         """Ends the connections."""
         await self.lines.close()
@@ -169,7 +150,7 @@ class Redis:
             try:
                 return await self._begun(line, words, wait)
             except Away:
-                if self.system.now() + pause > until or self.has_changed():
+                if self.system.now() + pause > until or self.nodes.has_changed():
                     raise
             except (asyncio.CancelledError, GeneratorExit):
                 # The next command does not wait for the reply to this one.
@@ -184,7 +165,7 @@ class Redis:
         seconds = wait + _SECONDS_TO_ANSWER
         if self._deadline < math.inf:
             seconds = max(_LEAST_SECONDS, min(seconds, self._deadline - self.system.now()))
-        return line.begin(words, seconds, self._slot, self._known_changes[0] if self._known_changes else None)
+        return line.begin(words, seconds, self._slot)
 
     # Of a line.
 

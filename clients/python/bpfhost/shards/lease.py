@@ -19,6 +19,8 @@ from bpfhost.shards.names import ShardKeys
 
 SECONDS = 5.0
 _LEAST_SECONDS = 0.1
+# One piece of the worker's work may take so long before the worker is taken to hang.
+_SECONDS_AT_WORK = 120.0
 _PAUSE = 0.02
 
 # What is read of a lease: its token and its count, and how long it runs.
@@ -107,9 +109,9 @@ class Lease:
         """The seconds since the last raise that succeeded began, by this worker's clock; 0 before it is held."""
         return self._system.now() - self._raised if self._raised else 0.0
 
-    def at_work(self, seconds: float) -> None:
-        """Records that the worker goes on, and may take so many seconds for its next work."""
-        self._work_until = self._system.now() + seconds
+    def at_work(self) -> None:
+        """Records that the worker goes on."""
+        self._work_until = self._system.now() + _SECONDS_AT_WORK
         if self._lost:
             raise self._lost
 

@@ -8,7 +8,7 @@ the entries that come together with it would need a second read.
 from __future__ import annotations
 
 import asyncio
-from collections.abc import Iterator, Sequence
+from collections.abc import Callable, Iterator, Sequence
 from dataclasses import dataclass
 from typing import Any
 
@@ -17,7 +17,9 @@ from bpfhost.shards.calls import Call, Item, NoCall, item_of
 from bpfhost.shards.connection import Entry, Redis, entries_of, forgotten
 from bpfhost.shards.errors import Away
 from bpfhost.shards.names import ShardKeys
-from bpfhost.shards.served import Served
+from bpfhost.shards.patience import Patience
+from bpfhost.shards.settings import Settings
+from bpfhost.shards.tenants import Tenants
 
 # In a turn each tenant has calls of so many frames and bytes at most, or one call.
 TURN_FRAMES, TURN_BYTES = 512, 1 << 18
@@ -48,10 +50,20 @@ class _Lane:
 class Reading:
     """Reads one shard."""
 
-    def __init__(self, shard: Served) -> None:
-        self._shard = shard
-        lanes = shard.settings.lanes
-        self._lanes = [_Lane(shard.redis.line(), shard.keys, range(at, MOST_TENANTS, lanes)) for at in range(lanes)]
+    def __init__(
+        self,
+        redis: Redis,
+        keys: ShardKeys,
+        tenants: Tenants,
+        busy: set[int],
+        patience: Patience,
+        settings: Settings,
+        wake: Callable[[object], None],
+    ) -> None:
+        """Tenants that are busy are not read; `wake` is called when something has come."""
+        self._tenants, self._busy, self._patience, self._settings, self._wake = tenants, busy, patience, settings, wake
+        lanes = settings.lanes
+        self._lanes = [_Lane(redis.line(), keys, range(at, MOST_TENANTS, lanes)) for at in range(lanes)]
         # The ids up to which tenants were read whose replies are not written yet.
         self._read_to: dict[int, bytes] = {}
 
@@ -94,12 +106,13 @@ class Reading:
         return [lane.asked.task for lane in self._lanes if lane.asked]
 
     def _ask(self, lane: _Lane) -> None:
-        shard, busy, read_to = self._shard, self._shard.busy, self._read_to
-        logs = [log for log in shard.logs[lane.of] if not log.aside and log.tenant not in busy]
+        busy, read_to = self._busy, self._read_to
+        logs = [log for log in self._tenants.logs[lane.of] if not log.aside and log.tenant not in busy]
         places = {lane.names[log.tenant]: read_to.get(log.tenant) or log.place for log in logs}
         if places:
-            wait = min(shard.settings.lease_seconds / 4, _SECONDS_TO_WAIT if len(places) == len(lane.names) else _SECONDS_BESIDE)
-            lane.asked = _Asked(places, shard.wakes(lane.line.begin_xread(places, lane.at_once, wait)))
+            wait = min(self._settings.lease_seconds / 4, _SECONDS_TO_WAIT if len(places) == len(lane.names) else _SECONDS_BESIDE)
+            lane.asked = _Asked(places, lane.line.begin_xread(places, lane.at_once, wait))
+            lane.asked.task.add_done_callback(self._wake)
 
     async def shares(self) -> list[list[Item]]:
         """What each tenant has in this turn: calls, or one entry that is no call."""
@@ -111,11 +124,11 @@ class Reading:
         return found
 
     def _shares(self, lane: _Lane, asked: _Asked, found: dict[str, list[Entry]]) -> Iterator[list[Item]]:
-        shard, most = self._shard, 1
+        most = 1
         for name, entries in found.items():
-            log = shard.logs[lane.tenants[name]]
+            log = self._tenants.logs[lane.tenants[name]]
             # Other work may have been done for the tenant since the read began.
-            if log.aside or log.tenant in shard.busy or (self._read_to.get(log.tenant) or log.place) != asked.places[name]:
+            if log.aside or log.tenant in self._busy or (self._read_to.get(log.tenant) or log.place) != asked.places[name]:
                 continue
             items = [item_of(log.tenant, entry) for entry in entries]
             most = max([most, *(item.count for item in items if isinstance(item, Call))])
@@ -127,7 +140,7 @@ class Reading:
         try:
             return entries_of(await asked.task)
         except Away as away:
-            await self._shard.wait_for_redis(away)
+            await self._patience.wait_for_redis(away)
             return {}
 
 

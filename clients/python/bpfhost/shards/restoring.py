@@ -2,7 +2,6 @@
 
 from __future__ import annotations
 
-from collections.abc import Callable
 from dataclasses import dataclass, field
 
 from bpfhost.shards.aside import DIFFERS, LOST, STATE, Aside
@@ -23,7 +22,7 @@ class Restored:
     aside: Aside | None = None
 
 
-async def restored(serving: Serving, log: Log, alive: Callable[[], None], accepts: bool = False) -> Restored:
+async def restored(serving: Serving, log: Log, accepts: bool = False) -> Restored:
     """Restores the state of a tenant that is empty, in steps.
 
     With `accepts`, an operator accepts what this build makes of it: programs that it refuses are closed, and replies that differ from the
@@ -33,7 +32,7 @@ async def restored(serving: Serving, log: Log, alive: Callable[[], None], accept
     await log.read_marks()
     last = await log.last()
     try:
-        await _from_best(serving, log, last, found, alive, accepts)
+        await _from_best(serving, log, last, found, accepts)
     except RepliesDiffer as error:
         found.aside = Aside(DIFFERS, after(log.place).decode(), str(error))
     except StateRefused as error:
@@ -46,9 +45,7 @@ async def restored(serving: Serving, log: Log, alive: Callable[[], None], accept
     return found
 
 
-async def _from_best(
-    serving: Serving, log: Log, last: bytes, found: Restored, alive: Callable[[], None], accepts: bool
-) -> None:
+async def _from_best(serving: Serving, log: Log, last: bytes, found: Restored, accepts: bool) -> None:
     """Restores from the last snapshot that is whole, or the whole stream."""
     kept = await log.redis.hget(log.keys.snapshots, f"{log.tenant}")
     manifests = await log.manifests()
@@ -64,12 +61,12 @@ async def _from_best(
             continue
         log.snapshot, log.before = manifest, (manifests[1] if manifest is manifests[0] and len(manifests) > 1 else None)
         await _made(serving, manifest, stream, log, accepts)
-        await _played(serving, log, manifest.place.encode(), last, alive, accepts)
+        await _played(serving, log, manifest.place.encode(), last, accepts)
         break
     else:
         if not await log.reaches(START, last):
             raise SnapshotDamaged(f"{damaged or 'there is no snapshot'}, and the stream does not reach to what came before it")
-        await _played(serving, log, START, last, alive, accepts)
+        await _played(serving, log, START, last, accepts)
     if damaged:
         found.told.append(f"{damaged}; the state was made of {'the snapshot before it' if log.snapshot else 'the stream'}")
         await _mend(log)
@@ -89,13 +86,11 @@ async def _made(serving: Serving, manifest: Manifest, stream: bytes, log: Log, a
         raise StateRefused(f"{error}; build {manifest.build or '?'} made its snapshot at entry {manifest.place}") from None
 
 
-async def _played(
-    serving: Serving, log: Log, place: bytes, last: bytes, alive: Callable[[], None], accepts: bool
-) -> None:
+async def _played(serving: Serving, log: Log, place: bytes, last: bytes, accepts: bool) -> None:
     """Plays the calls after a place that have replies, and compares the replies."""
     log.place, log.since = place, Since(changed=True)
     async for entries, replies in log.both(place, last):
-        alive()
+        serving.alive()
         for entry in entries:
             item = item_of(log.tenant, entry)
             if isinstance(item, (Leaves, Arrives)):

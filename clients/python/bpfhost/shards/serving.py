@@ -50,18 +50,23 @@ class Written(NamedTuple):
 
 
 class Serving:
-    """A host and what its tenants have open. It is a context manager, which ends the host.
+    """A host and what its tenants have open. It is a context manager, which starts the host and ends it.
 
     `alive` is called now and then while it takes long.
     """
 
     def __init__(
-        self, program: Program, system: System, alive: Callable[[], None] = lambda: None, library: Library | None = None
+        self,
+        program: Program,
+        system: System,
+        alive: Callable[[], None] = lambda: None,
+        library: Library | None = None,
+        most_asked: int = MOST_ASKED,
     ) -> None:
-        """With a library the host is in this process, otherwise it is a separate process."""
-        self._program, self._system, self._alive, self._library = program, system, alive, library
+        """With a library the host is in this process, otherwise it is a separate process. It is sent so many frames at most."""
+        self._program, self._system, self._library, self._most_asked = program, system, library, most_asked
+        self.alive = alive
         self.is_careful = False
-        self._start()
 
     def _start(self) -> None:
         self._host = self._new_host(MOST_TENANTS)
@@ -79,7 +84,13 @@ class Serving:
         """Whether the host is in this process, and ends with it."""
         return isinstance(self._host, HostHere)
 
+    @property
+    def is_used_up(self) -> bool:
+        """Whether the host was sent as many frames as it may be, and another one is to take its place."""
+        return self.asked >= self._most_asked
+
     def __enter__(self) -> Serving:
+        self._start()
         return self
 
     def __exit__(self, *_error: object) -> None:
@@ -99,7 +110,7 @@ class Serving:
         MemoryRefused if memory was refused to the next call.
         """
         if isinstance(self._host, HostHere):
-            self._alive()
+            self.alive()
             for call in calls:
                 yield self._play_here(self._host, call)
             return
@@ -114,7 +125,7 @@ class Serving:
         replies = host.answer(call)
         self.asked += call.count
         if self.asked % _ASKED_AT_ONCE < call.count:
-            self._alive()
+            self.alive()
         if host.memory_refused(call.tenant):
             raise _refused(call)
         changed = call.is_short
@@ -146,7 +157,7 @@ class Serving:
         self.is_new = False
         for call, replies in zip(real, ask_alike(cast(Host, self._host), real)):
             self.asked += call.count
-            self._alive()
+            self.alive()
             if not (size := size_of_alike(replies)) or not statuses_are_zero(replies, size):
                 # Something was refused, memory perhaps.
                 for frame, reply in zip(call.frames, split(replies), strict=True):
@@ -165,7 +176,7 @@ class Serving:
         for reply in self._host.ask_bytes(frames):
             self.asked += 1
             if self.asked % _ASKED_AT_ONCE == 0:
-                self._alive()
+                self.alive()
             yield reply
 
     # States.
@@ -208,7 +219,7 @@ class Serving:
             return list(self.ask_bytes(with_tenant(frame, tenant) for frame in made))
         self.is_new = False
         self.asked += len(made)
-        self._alive()
+        self.alive()
         return self._host.replies(made, tenant)
 
     def empty(self, tenant: int) -> None:

@@ -8,15 +8,17 @@ from bpfhost.shards.aside import ENTRY, MOST_TRIES, Aside
 from bpfhost.shards.calls import Call, NoCall
 from bpfhost.shards.errors import StateRefused
 from bpfhost.shards.log import Log
-from bpfhost.shards.served import Served
+from bpfhost.shards.patience import Patience
 from bpfhost.shards.states import States
+from bpfhost.shards.tenants import Tenants
 
 
 class Suspects:
     """The suspects of one shard."""
 
-    def __init__(self, shard: Served, states: States) -> None:
-        self._shard, self._states = shard, states
+    def __init__(self, tenants: Tenants, states: States, failed: set[int], patience: Patience) -> None:
+        """The tenants without snapshots for now are added to `failed`."""
+        self._tenants, self._states, self._failed, self._patience = tenants, states, failed, patience
         # How often each entry, or job after a place, was tried; and the entry of each tenant that has to be played by itself.
         self._tries: dict[tuple[int, bytes], int] = {}
         self._careful: dict[int, bytes] = {}
@@ -34,17 +36,17 @@ class Suspects:
             key = call.tenant, call.entry
             self._tries[key] = self._tries.get(key, 0) + 1
             self._careful.setdefault(call.tenant, call.entry)
-        self._shard.tell_of_host(error)
+        self._patience.tell_of_host(error)
         await self._states.make_all()
         if len(suspects) == 1 and self._tries[suspects[0].tenant, suspects[0].entry] >= MOST_TRIES:
             await self._give_up(suspects[0], error)
 
     async def _give_up(self, call: Call | NoCall, error: Exception) -> None:
-        log, entry = self._shard.logs[call.tenant], call.entry.decode()
+        log, entry = self._tenants.logs[call.tenant], call.entry.decode()
         self._careful.pop(call.tenant, None)
         self._tries.pop((call.tenant, call.entry), None)
-        aside = Aside(ENTRY, entry, f"entry {entry} of shard {self._shard.keys.number} ended the host {MOST_TRIES} times: {error}")
-        await self._shard.waiting(lambda: self._shard.set_aside(log, aside))
+        aside = Aside(ENTRY, entry, f"entry {entry} of shard {self._patience.shard} ended the host {MOST_TRIES} times: {error}")
+        await self._patience.waiting(lambda: self._tenants.set_aside(log, aside))
 
     def is_answered(self, tenant: int, entry: bytes) -> None:
         """Notes that an entry did not end the host."""
@@ -61,14 +63,14 @@ class Suspects:
 
         Then no snapshot is taken, or the arriving tenant is refused, or the leaving tenant is set aside.
         """
-        place = self._shard.logs[tenant].place
+        place = self._tenants.logs[tenant].place
         key = tenant, b"behind " + place
         self._tries[key] = self._tries.get(key, 0) + 1
-        self._shard.tell_of_host(error)
+        self._patience.tell_of_host(error)
         await self._states.make_all()
         if self._tries[key] >= MOST_TRIES:
             del self._tries[key]
-            self._shard.keeping.failed.add(tenant)
+            self._failed.add(tenant)
             self._given_up[tenant] = place
 
     def forgive(self, tenant: int) -> None:

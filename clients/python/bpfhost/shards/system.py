@@ -1,6 +1,6 @@
 """What shards use of the machine, besides the event loop: a clock, connections, hosts and unique names.
 
-All of the package uses a `System`, so that tests can replace the machine by a deterministic one.
+All of the package uses a `System`, so that tests can replace it by a deterministic one.
 """
 
 from __future__ import annotations
@@ -41,18 +41,8 @@ class Asked(Protocol):
     def kill(self) -> None: ...
 
 
-class System(Protocol):
-    """A machine. Its clock is monotonic, and no other machine's."""
-
-    def now(self) -> float: ...
-    def link(self, url: str) -> Link: ...
-    def host(self, program: Program, tenants: int) -> Asked: ...
-    def fresh(self) -> str:
-        """A name that was never returned before."""
-
-
-class Machine:
-    """This machine."""
+class System:
+    """This machine. Its clock is monotonic, and no other machine's."""
 
     def now(self) -> float:
         return time.monotonic()
@@ -66,7 +56,8 @@ class Machine:
         return host
 
     def fresh(self) -> str:
+        """A name that was never returned before."""
         return uuid.uuid4().hex
 
 
-MACHINE = Machine()
+MACHINE = System()

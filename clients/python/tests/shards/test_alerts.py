@@ -94,7 +94,7 @@ class Alerts(ServiceTest):
         def waits(service: Service) -> None:
             service.network.server("redis://directory").store.keys[b"bpfhost:{0}:waiting"] = {b"7": b"40000000"}
             service.workers[0][1].logs[7].aside = None
-            service.workers[0][1]._shard.busy.add(7)
+            service.workers[0][1]._agenda.busy.add(7)
 
         def hosts_end(service: Service) -> None:
             service.workers[0][1].metrics.add("bpfhost_worker_hosts_total", 4)

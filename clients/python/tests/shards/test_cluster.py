@@ -151,11 +151,13 @@ class Words(unittest.TestCase):
 
     def test_nodes(self) -> None:
         nodes = Nodes.of("redis://a:1/0?cluster=1")
-        self.assertEqual((nodes.find(5, 0), nodes.learn(5, "b:2"), nodes.find(5, 0)), ("a:1", False, "b:2"))
+        nodes.watch()
+        self.assertEqual((nodes.find(5), nodes.learn(5, "b:2"), nodes.find(5)), ("a:1", False, "b:2"))
         nodes.note("b:2", is_away=True)
-        self.assertEqual((nodes.find(5, 0), nodes.learn(5, "b:2"), nodes.changes), ("a:1", False, 0))
+        self.assertEqual((nodes.find(5), nodes.learn(5, "b:2"), nodes.changes), ("a:1", False, 0))
         self.assertEqual((nodes.learn(5, "a:1"), nodes.changes), (True, 1))
-        self.assertEqual((nodes.tells("a:1", "x"), nodes.tells("a:1", "x"), nodes.tells("a:1", "y"), nodes.changes), (False, False, True, 2))
+        self.assertEqual((nodes.learn("a:1", "x"), nodes.learn("a:1", "x"), nodes.learn("a:1", "y"), nodes.changes), (False, False, True, 2))
         with self.assertRaises(Away):
-            nodes.find(5, 0)
-        self.assertEqual(nodes.find(5, 2), "a:1")
+            nodes.find(5)
+        nodes.watch()
+        self.assertEqual(nodes.find(5), "a:1")

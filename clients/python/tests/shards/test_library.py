@@ -327,7 +327,7 @@ class Workers(ShardTest):
         thread.start()
         try:
             self.until(lambda: any("is served" in one for one in told))
-            serving = worker._shard.serving
+            serving = worker._serving
             self.assertFalse(serving.is_here)
             customer = self.client.customer("acme", 60)
             customer.ask(CREATE)

@@ -41,16 +41,16 @@ class SlotThatMoved(unittest.IsolatedAsyncioTestCase):
 
     async def test_commands_behind_one_another(self) -> None:
         """One that learns first of the new node of a slot raises Away, as the history there may be another one."""
-        sent = [line.begin(["GET", "key"], 1.0, 5, None) for line in self.lines]
+        sent = [line.begin(["GET", "key"], 1.0, 5) for line in self.lines]
         for task in sent:
             with self.assertRaises(Away):
                 await task
-        self.assertEqual(self.nodes.find(5, None), "b:1")
+        self.assertEqual(self.nodes.find(5), "b:1")
 
     async def test_calls(self) -> None:
         """A call is redirected to the node that is named, as often as nodes agree."""
         with self.assertRaisesRegex(Away, "do not agree"):
-            await self.lines[0].begin(["GET", "key"], 1.0, 5, None)
+            await self.lines[0].begin(["GET", "key"], 1.0, 5)
 
 
 if __name__ == "__main__":

@@ -17,7 +17,7 @@ from bpfhost.shards.connection import Redis
 from bpfhost.shards.names import MOST_WAITING
 from bpfhost.shards.serving import Serving
 from bpfhost.shards.link import Word
-from bpfhost.shards.system import MACHINE, Link, Machine, Work
+from bpfhost.shards.system import MACHINE, Link, System, Work
 from bpfhost.shards.reading import TURN_FRAMES, share_of
 from bpfhost.state import Steps
 from tests.common import PROGRAM, HostTest
@@ -77,7 +77,7 @@ async def nothing() -> bytes:
     return b""
 
 
-class Counting(Machine):
+class Counting(System):
     """A machine that notes the largest command that Redis receives, and its largest reply."""
 
     def __init__(self) -> None:
@@ -184,7 +184,7 @@ class SnapshotStalls(Waits):
 
     library: Library | None = None
 
-    def worker_with_snapshots(self, machine: Machine) -> None:
+    def worker_with_snapshots(self, machine: System) -> None:
         """Shard 0 is served by a worker that makes a snapshot each thirty entries."""
         stopped = threading.Event()
         redis = Redis(self.server.url, machine)

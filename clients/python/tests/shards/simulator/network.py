@@ -11,7 +11,7 @@ from typing import Any
 from bpfhost.program import Program
 from bpfhost.shards.errors import Away, RedisError
 from bpfhost.shards.link import Word
-from bpfhost.shards.system import Asked, Link
+from bpfhost.shards.system import Asked, Link, System
 from tests.shards.simulator.host import FakeHost
 from tests.shards.simulator.server import Scripts, Store
 from tests.shards.simulator.world import World
@@ -171,7 +171,7 @@ class SimulatedLink:
             await server.written(until - world.now)
 
 
-class Simulated:
+class Simulated(System):
     """The machine of a process: its clock began at another time than those of others."""
 
     def __init__(self, network: Network) -> None:

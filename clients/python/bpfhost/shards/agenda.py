@@ -1,0 +1,58 @@
+"""What a worker is to do in steps between two turns."""
+
+from __future__ import annotations
+
+from collections import deque
+from typing import Protocol
+
+from bpfhost.shards.system import Work
+
+# Work for one tenant, whose calls are not played meanwhile.
+Job = tuple[int, Work[None]]
+
+
+class UnderWay(Protocol):
+    """The calls that are read and played, and the replies that are written."""
+
+    async def settle(self) -> None:
+        """Waits until the replies to all that was played are written."""
+
+    def forget(self) -> None:
+        """Drops it: all tenants were restored."""
+
+
+class Agenda:
+    """The jobs of one shard, in order."""
+
+    under_way: UnderWay
+
+    def __init__(self) -> None:
+        self.jobs: deque[Job] = deque()
+        # Tenants with a job.
+        self.busy: set[int] = set()
+
+    async def begin(self, tenant: int, job: Work[None], first: bool = False) -> None:
+        """Does something for a tenant, in steps; before that, the replies to all that was played are written."""
+        try:
+            await self.under_way.settle()
+        except BaseException:
+            job.close()
+            raise
+        self.busy.add(tenant)
+        if first:
+            self.jobs.appendleft((tenant, job))
+        else:
+            self.jobs.append((tenant, job))
+
+    def end(self, tenant: int) -> None:
+        """Ends a job."""
+        if self.jobs and self.jobs[0][0] == tenant:
+            self.jobs.popleft()
+        self.busy.discard(tenant)
+
+    def drop(self) -> None:
+        """Drops all jobs."""
+        for _, job in self.jobs:
+            job.close()
+        self.jobs.clear()
+        self.busy.clear()

@@ -6,17 +6,16 @@ is JSON.
 
 from __future__ import annotations
 
-import functools
 import http.server
-import importlib
 import json
 import os
 import threading
 from collections.abc import Callable, Mapping
 from typing import Any, NamedTuple
 
-from bpfhost.errors import PACKAGES, MissingPackage
+from bpfhost.errors import MissingPackage
 from bpfhost.shards.errors import ShardError
+from bpfhost.shards.link import library
 
 
 class Metric(NamedTuple):
@@ -63,24 +62,16 @@ _BUCKETS = (0.001, 0.0025, 0.005, 0.01, 0.025, 0.05, 0.1, 0.25, 0.5, 1.0, 2.5, 5
 Numbers = Mapping[str, float]
 
 
-@functools.cache
-def library() -> Any:
-    """The library; None if it is missing."""
-    # The time at which each metric was made is of no use here.
-    os.environ.setdefault("PROMETHEUS_DISABLE_CREATED_SERIES", "true")
-    try:
-        return importlib.import_module("prometheus_client")
-    except ModuleNotFoundError:
-        return None
-
-
 class Told:
     """Metrics that a process counts, and those that are computed when they are read."""
 
     def __init__(self, known: Mapping[str, Metric], look: Callable[[], Numbers] = dict) -> None:
         self._look, self._made, self._registry = look, dict[str, Any](), None
-        client = library()
-        if client is None:
+        # The time at which each metric was made is of no use here.
+        os.environ.setdefault("PROMETHEUS_DISABLE_CREATED_SERIES", "true")
+        try:
+            client = library("prometheus_client")
+        except MissingPackage:
             return
         self._registry = client.CollectorRegistry()
         for name, metric in known.items():
@@ -115,11 +106,10 @@ class Told:
 
     def text(self) -> str:
         """All of them, in Prometheus's text format; raises MissingPackage without the library."""
-        if self._registry is None:
-            raise MissingPackage("prometheus_client", PACKAGES["prometheus_client"])
+        client = library("prometheus_client")
         for name, value in self._look().items():
             self.set(name, value)
-        text: bytes = library().generate_latest(self._registry)
+        text: bytes = client.generate_latest(self._registry)
         return text.decode()
 
 

@@ -27,6 +27,16 @@ START = b"0-0"
 _MOST_SEQUENCE = (1 << 64) - 1
 
 
+class _Key:
+    """A key with a name of its own, among those of a shard or of the directory."""
+
+    def __init__(self, what: str) -> None:
+        self._what = what
+
+    def __get__(self, keys: ShardKeys | DirectoryKeys, _kind: object = None) -> str:
+        return keys.key(self._what)
+
+
 @dataclass(frozen=True)
 class ShardKeys:
     """The keys of one shard."""
@@ -34,70 +44,42 @@ class ShardKeys:
     number: int
     prefix: str = PREFIX
 
-    def _key(self, what: str) -> str:
+    # A hash: the token of the worker that serves the shard, the count that it raises, and for how long the shard was served.
+    lease = _Key("lease")
+    # A hash from tenant numbers to generations, and the customer of the seat (`Seat`).
+    seats = _Key("seats")
+    # A hash from tenant numbers to the weight of calls that wait.
+    waiting = _Key("waiting")
+    # A hash from tenant numbers to the last snapshot, and the one before it (`Manifest`).
+    snapshots = _Key("snapshots")
+    # A hash with the bytes of snapshots, in pieces.
+    pieces = _Key("pieces")
+    # A hash from generations to the snapshots of customers that have left and not yet arrived.
+    left = _Key("left")
+    # A hash from tenant numbers to places, with how long the shard had been served then.
+    marks = _Key("marks")
+    # A hash from tenant numbers to what is set aside, and why.
+    aside = _Key("aside")
+    # A hash from tenant numbers to an operator's decisions on what is set aside.
+    words = _Key("words")
+    # A name that was made with the shard, which the directory knows too.
+    incarnation = _Key("incarnation")
+
+    def key(self, what: str) -> str:
+        """The key of something that the shard has."""
         return f"{self.prefix}:{{{self.number}}}:{what}"
 
     def frames(self, tenant: int) -> str:
         """The stream of a tenant's frames."""
-        return self._key(f"frames:{tenant}")
+        return self.key(f"frames:{tenant}")
 
     def replies(self, tenant: int) -> str:
         """The stream of a tenant's replies; each has the id of its entry of frames, so the last id is the tenant's place."""
-        return self._key(f"replies:{tenant}")
-
-    @property
-    def lease(self) -> str:
-        """A hash: the token of the worker that serves the shard, the count that it raises, and for how long the shard was served."""
-        return self._key("lease")
-
-    @property
-    def seats(self) -> str:
-        """A hash from tenant numbers to generations, and the customer of the seat (`Seat`)."""
-        return self._key("seats")
-
-    @property
-    def waiting(self) -> str:
-        """A hash from tenant numbers to the weight of calls that wait."""
-        return self._key("waiting")
-
-    @property
-    def snapshots(self) -> str:
-        """A hash from tenant numbers to the last snapshot, and the one before it (`Manifest`)."""
-        return self._key("snapshots")
-
-    @property
-    def pieces(self) -> str:
-        """A hash with the bytes of snapshots, in pieces."""
-        return self._key("pieces")
-
-    @property
-    def left(self) -> str:
-        """A hash from generations to the snapshots of customers that have left and not yet arrived."""
-        return self._key("left")
-
-    @property
-    def marks(self) -> str:
-        """A hash from tenant numbers to places, with how long the shard had been served then."""
-        return self._key("marks")
-
-    @property
-    def aside(self) -> str:
-        """A hash from tenant numbers to what is set aside, and why."""
-        return self._key("aside")
-
-    @property
-    def words(self) -> str:
-        """A hash from tenant numbers to an operator's decisions on what is set aside."""
-        return self._key("words")
-
-    @property
-    def incarnation(self) -> str:
-        """A name that was made with the shard, which the directory knows too."""
-        return self._key("incarnation")
+        return self.key(f"replies:{tenant}")
 
     def sessions(self, generation: int) -> str:
         """A hash from the sessions of a seat's customer to the number and the entry of the last call."""
-        return self._key(f"sessions:{generation}")
+        return self.key(f"sessions:{generation}")
 
 
 @dataclass(frozen=True)
@@ -106,53 +88,31 @@ class DirectoryKeys:
 
     prefix: str = PREFIX
 
-    def _key(self, what: str) -> str:
+    # A hash from names to seats.
+    customers = _Key("customers")
+    # A sorted set of shards by the number of their customers.
+    loads = _Key("loads")
+    # A hash from the names of customers that are moved to their next seats.
+    moves = _Key("moves")
+    # A hash from the shards that are served to a count that their workers raise.
+    beats = _Key("beats")
+    # A hash of shards that get no new customers.
+    drained = _Key("drained")
+    # A hash from gateways to what each reports of its customers (`gateway/sharing.py`).
+    gateways = _Key("gateways")
+    # A hash from shards to the URL of their Redis, if that is not the directory's.
+    servers = _Key("servers")
+    # A hash from shards to the names that were made with them.
+    incarnations = _Key("incarnations")
+
+    def key(self, what: str) -> str:
+        """The key of something that the directory has."""
         return f"{self.prefix}:{{directory}}:{what}"
 
     @property
     def all(self) -> list[str]:
         """The keys that scripts have, in their order."""
-        return [self._key(what) for what in ("customers", "loads", "numbers", "generation", "moves", "beats", "drained")]
-
-    @property
-    def customers(self) -> str:
-        """A hash from names to seats."""
-        return self.all[0]
-
-    @property
-    def loads(self) -> str:
-        """A sorted set of shards by the number of their customers."""
-        return self.all[1]
-
-    @property
-    def moves(self) -> str:
-        """A hash from the names of customers that are moved to their next seats."""
-        return self.all[4]
-
-    @property
-    def beats(self) -> str:
-        """A hash from the shards that are served to a count that their workers raise."""
-        return self.all[5]
-
-    @property
-    def drained(self) -> str:
-        """A hash of shards that get no new customers."""
-        return self.all[6]
-
-    @property
-    def gateways(self) -> str:
-        """A hash from gateways to what each reports of its customers (`gateway/sharing.py`)."""
-        return self._key("gateways")
-
-    @property
-    def servers(self) -> str:
-        """A hash from shards to the URL of their Redis, if that is not the directory's."""
-        return self._key("servers")
-
-    @property
-    def incarnations(self) -> str:
-        """A hash from shards to the names that were made with them."""
-        return self._key("incarnations")
+        return [self.key(what) for what in ("customers", "loads", "numbers", "generation", "moves", "beats", "drained")]
 
 
 def order(entry: bytes) -> tuple[int, int]:

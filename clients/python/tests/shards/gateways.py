@@ -3,6 +3,7 @@
 from __future__ import annotations
 
 import asyncio
+import importlib.util
 import socket
 import ssl
 import threading
@@ -14,11 +15,10 @@ from bpfhost.shards.gateway.customers import hash_of
 from bpfhost.shards.gateway.limits import GatewayLimits
 from bpfhost.shards.gateway.protocol import GATEWAY, Why, Word, hello, read_told
 from bpfhost.shards.gateway.server import Gateway
-from bpfhost.shards.metrics import library
 from bpfhost.state import split
 
 # Why nothing is counted, or None.
-UNCOUNTED = None if library() else "python3-prometheus-client is missing"
+UNCOUNTED = None if importlib.util.find_spec("prometheus_client") else "python3-prometheus-client is missing"
 
 
 def customers_file(folder: Path, text: str = "", **tokens: str) -> Path:

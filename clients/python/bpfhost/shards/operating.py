@@ -3,8 +3,9 @@
 from __future__ import annotations
 
 import asyncio
-from collections.abc import AsyncIterator, Iterator
+from collections.abc import AsyncIterator, Callable, Iterator
 from dataclasses import asdict, dataclass
+from typing import TypeVar
 
 from bpfhost.shards import moving, scripts
 from bpfhost.shards.aside import LOST, SKIP, Aside
@@ -14,9 +15,12 @@ from bpfhost.shards.directory import Seat
 from bpfhost.shards.errors import Away, RedisError, ShardError
 from bpfhost.shards.lease import holder_of
 from bpfhost.shards.names import CALL_WEIGHT, ShardKeys
+from bpfhost.shards.system import Answer, Work
 
 _SECONDS_TO_ANSWER = 5.0
 _PAUSE = 0.1
+
+Other = TypeVar("Other")
 
 
 async def drain(client: AsyncClient, shard: int, seconds: float) -> AsyncIterator[tuple[str, Seat]]:
@@ -104,17 +108,17 @@ class Seen:
 async def look(client: AsyncClient) -> Seen:
     """Reads the whole state; reads the leases twice, to see whether they are raised."""
     loads, drained, beats = await client.directory.loads(), await client.directory.drained(), await client.directory.beats()
-    first = {shard: await _lease_of(client, shard) for shard in loads}
+    first = {shard: await _told(client, shard, _lease, str) for shard in loads}
     held = [lease.seconds for lease in first.values() if isinstance(lease, _Lease) and lease.token]
     if held:
         await asyncio.sleep(min(_SECONDS_TO_ANSWER, max(held) * 0.7))
     customers, shards = await client.directory.customers(), []
     for shard, load in sorted(loads.items()):
-        second = await _lease_of(client, shard)
+        second = await _told(client, shard, _lease, str)
         told, raises = ("", False) if isinstance(second, str) else (holder_of(second.token), _is_raised(first[shard], second))
         seen = SeenShard(
-            shard, load, await _waiting(client, shard), told, raises, shard in beats, shard in drained,
-            second if isinstance(second, str) else "", await _durability(client, shard),
+            shard, load, await _told(client, shard, _waiting, lambda _: None), told, raises, shard in beats, shard in drained,
+            second if isinstance(second, str) else "", await _told(client, shard, _durability, _wrong),
         )  # fmt: skip
         shards.append(seen)
     return Seen(shards, await client.directory.moves(), [one async for one in _asides(client, customers)], customers)
@@ -155,19 +159,33 @@ def place(name: str, seat: Seat) -> str:
     return f"{name}: shard {seat.shard}, tenant {seat.tenant}"
 
 
-async def _near(client: AsyncClient, shard: int) -> tuple[Redis, ShardKeys]:
-    redis, keys = await client.shard(shard)
-    return redis.until(client.system.now() + _SECONDS_TO_ANSWER), keys
-
-
-async def _lease_of(client: AsyncClient, shard: int) -> _Lease | str:
-    """The lease of a shard, or why it can't be read."""
+async def _told(
+    client: AsyncClient, shard: int, ask: Callable[[Redis, ShardKeys], Work[Answer]], otherwise: Callable[[RedisError], Other]
+) -> Answer | Other:
+    """What the Redis of a shard reports, or what is taken in its place if it does not."""
     try:
-        redis, keys = await _near(client, shard)
-        said = await redis.hgetall(keys.lease)
+        redis, keys = await client.shard(shard)
+        return await ask(redis.until(client.system.now() + _SECONDS_TO_ANSWER), keys)
     except RedisError as error:
-        return str(error)
+        return otherwise(error)
+
+
+async def _lease(redis: Redis, keys: ShardKeys) -> _Lease:
+    said = await redis.hgetall(keys.lease)
     return _Lease(said.get(b"token", b""), said.get(b"count", b"0"), int(said.get(b"milliseconds", b"0")) / 1000)
+
+
+async def _waiting(redis: Redis, keys: ShardKeys) -> int:
+    return sum(map(int, (await redis.hgetall(keys.waiting)).values()))
+
+
+async def _durability(redis: Redis, _keys: ShardKeys) -> str:
+    return await demand_durable(redis)
+
+
+def _wrong(error: RedisError) -> str:
+    """What is wrong with a Redis; if it can't be reached, the shard's lease shows that."""
+    return "" if isinstance(error, Away) else str(error)
 
 
 def _is_raised(first: _Lease | str, second: _Lease) -> bool:
@@ -183,33 +201,9 @@ def _health(seen: SeenShard) -> str:
     return f"served by {seen.served_by}" if seen.raises else f"{seen.served_by} has its lease, and does not raise it"
 
 
-async def _durability(client: AsyncClient, shard: int) -> str:
-    """What is wrong with the durability of a shard's Redis; empty if it can't be reached, which the shard's lease shows."""
-    try:
-        redis, keys = await _near(client, shard)
-        return await demand_durable(redis)
-    except Away:
-        return ""
-    except RedisError as error:
-        return str(error)
-
-
-async def _waiting(client: AsyncClient, shard: int) -> int | None:
-    """The number of bytes that wait in a shard; None if its Redis does not report it."""
-    try:
-        redis, keys = await _near(client, shard)
-        return sum(int(one) for one in (await redis.hgetall(keys.waiting)).values())
-    except RedisError:
-        return None
-
-
 async def _asides(client: AsyncClient, customers: dict[str, Seat]) -> AsyncIterator[tuple[str, str]]:
     names = {(seat.shard, seat.tenant): name for name, seat in customers.items()}
     for shard in sorted(await client.directory.loads()):
-        try:
-            redis, keys = await _near(client, shard)
-            found = await redis.hgetall(keys.aside)
-        except RedisError:
-            continue
+        found = await _told(client, shard, lambda redis, keys: redis.hgetall(keys.aside), lambda _: dict[bytes, bytes]())
         for tenant, kept in sorted(found.items()):
             yield names.get((shard, int(tenant)), f"tenant {int(tenant)} of shard {shard}"), Aside.read(kept).why

@@ -84,20 +84,24 @@ if redis.call('HGET', KEYS[1], ARGV[1]) ~= ARGV[2] then return 0 end
 return redis.call('HDEL', KEYS[1], ARGV[1])
 """, without_memory=True)
 
+# A tenant's seat in a shard, and its generation, -1 if there is none. KEYS: seats, .. ARGV: tenant, generation, ..
+_SEAT = """
+local seat = redis.call('HGET', KEYS[1], ARGV[1])
+local known = seat and tonumber(string.match(seat, '^%d+')) or -1
+"""
+
 # Gives a seat to a customer, if it was never given with this generation or a later one.
 # KEYS: seats. ARGV: tenant, generation, seat.
-CLAIM = Script("""
-local seat = redis.call('HGET', KEYS[1], ARGV[1])
+CLAIM = Script(_SEAT + """
 if seat == ARGV[3] then return 1 end
-if seat and tonumber(string.match(seat, '^%d+')) >= tonumber(ARGV[2]) then return 0 end
+if known >= tonumber(ARGV[2]) then return 0 end
 redis.call('HSET', KEYS[1], ARGV[1], ARGV[3])
 return 1
 """)
 
 # Takes a seat back, and lets its tenant leave: after this entry no frame of the customer is added.
 # KEYS: seats, frames. ARGV: tenant, generation, seat.
-LEAVE = Script("""
-local seat = redis.call('HGET', KEYS[1], ARGV[1])
+LEAVE = Script(_SEAT + """
 local left = seat and string.match(seat, '^' .. ARGV[2] .. ' leaves:(.+)$')
 if left then return left end
 if seat ~= ARGV[3] then return false end
@@ -108,9 +112,8 @@ return entry
 
 # Stores a piece of a customer's state for a seat that it has to arrive at, if it has not arrived yet.
 # KEYS: seats, pieces. ARGV: tenant, generation, name of the piece, bytes.
-BRING = Script("""
-local seat = redis.call('HGET', KEYS[1], ARGV[1])
-if seat and tonumber(string.match(seat, '^%d+')) >= tonumber(ARGV[2]) then return 0 end
+BRING = Script(_SEAT + """
+if known >= tonumber(ARGV[2]) then return 0 end
 redis.call('HSET', KEYS[2], ARGV[3], ARGV[4])
 return 1
 """)
@@ -118,9 +121,7 @@ return 1
 # Lets a tenant arrive with the sessions of its customer, and reserves its seat; it is the customer's when it has arrived (CLAIM would
 # refuse it, as the generation is the same, so SEAT gives it).
 # KEYS: seats, frames, sessions. ARGV: tenant, generation, manifest of its state, then sessions and their records.
-ARRIVE = Script("""
-local seat = redis.call('HGET', KEYS[1], ARGV[1])
-local known = seat and tonumber(string.match(seat, '^%d+')) or -1
+ARRIVE = Script(_SEAT + """
 if known == tonumber(ARGV[2]) then
   if string.match(seat, '^%d+ closed:') then return false end
   return string.match(seat, '^%d+ arrives:(.+)$') or 'has'
@@ -134,8 +135,7 @@ return entry
 
 # Gives a seat to the customer that has arrived there, and has not left since.
 # KEYS: seats. ARGV: tenant, generation, seat.
-SEAT = Script("""
-local seat = redis.call('HGET', KEYS[1], ARGV[1])
+SEAT = Script(_SEAT + """
 if not seat or not string.match(seat, '^' .. ARGV[2] .. ' arrives:') then return 0 end
 redis.call('HSET', KEYS[1], ARGV[1], ARGV[3])
 return 1
@@ -143,9 +143,7 @@ return 1
 
 # Closes a seat that nobody has arrived at: nobody can arrive there with this generation any more. A seat with an arrival is closed only
 # if the entry is named, and its arrival was refused. KEYS: seats, sessions. ARGV: tenant, generation, entry or nothing.
-CLOSE_SEAT = Script("""
-local seat = redis.call('HGET', KEYS[1], ARGV[1])
-local known = seat and tonumber(string.match(seat, '^%d+')) or -1
+CLOSE_SEAT = Script(_SEAT + """
 if known > tonumber(ARGV[2]) then return 1 end
 if known == tonumber(ARGV[2]) then
   if string.match(seat, '^%d+ closed:') then return 1 end
@@ -212,24 +210,26 @@ end
 return 1
 """)
 
-# Writes that a tenant has left: its state is kept under its generation, and the tenant is empty from this entry on.
-# KEYS: lease, replies, snapshots, left. ARGV: token, entry, tenant, generation, manifest of the state, manifest of no state.
-WRITE_LEFT = Script(_UNDER_LEASE + """
+# Writes the reply to an entry with which a tenant leaves or arrives, once, and drops the snapshot before its last one.
+# KEYS: lease, replies, snapshots, .. ARGV: token, entry, tenant, ..
+_ONCE = _UNDER_LEASE + """
 if #redis.call('XRANGE', KEYS[2], ARGV[2], ARGV[2]) > 0 then return 1 end
 redis.call('XADD', KEYS[2], ARGV[2], 'r', '')
+redis.call('HDEL', KEYS[3], ARGV[3] .. ':before')
+"""
+
+# Writes that a tenant has left: its state is kept under its generation, and the tenant is empty from this entry on.
+# KEYS: lease, replies, snapshots, left. ARGV: token, entry, tenant, generation, manifest of the state, manifest of no state.
+WRITE_LEFT = Script(_ONCE + """
 redis.call('HSET', KEYS[4], ARGV[4], ARGV[5])
 redis.call('HSET', KEYS[3], ARGV[3], ARGV[6])
-redis.call('HDEL', KEYS[3], ARGV[3] .. ':before')
 return 1
 """)
 
 # Writes that a tenant has arrived: the state that it came with is its last snapshot.
 # KEYS: lease, replies, snapshots. ARGV: token, entry, tenant, manifest.
-WRITE_ARRIVED = Script(_UNDER_LEASE + """
-if #redis.call('XRANGE', KEYS[2], ARGV[2], ARGV[2]) > 0 then return 1 end
-redis.call('XADD', KEYS[2], ARGV[2], 'r', '')
+WRITE_ARRIVED = Script(_ONCE + """
 redis.call('HSET', KEYS[3], ARGV[3], ARGV[4])
-redis.call('HDEL', KEYS[3], ARGV[3] .. ':before')
 return 1
 """)
 

@@ -7,7 +7,7 @@ usage: gateway.py [BPFHOST] [--connections N] [--seconds S] [--folder FOLDER] [-
 All is on this machine, with a Redis of its own. Only figures of one run are to be compared.
 
 With --before, what a frame costs is measured with another clone of the repository too, with hosts that are processes, and by a library if
-one is named, in rounds in which the versions take turns; their medians are compared.
+one is named, in rounds in which the versions take turns; their medians are compared. Gateways up to commit 6a09426 need python3-greenlet.
 """
 
 from __future__ import annotations

@@ -40,7 +40,7 @@ KINDS = {
     "next key": 1_200_000,
     "save part": 2_500_000,
     "batch": 0,
-    "bounded batch": 0,
+    "bounded batch": 1_200_000,
 }
 # Families of keys whose author knows the seed.
 WITH_SEED = frozenset({"colliding", "crowd"})

@@ -353,7 +353,7 @@ static void refuses_bounded(bpfhost *host, uint16_t tenant, uint32_t fd, uint64_
 /* The longest path of the counter has six instructions up to its branch, and four from there on. */
 static void checks_bounds(bpfhost *host)
 {
-    const uint64_t cost = 10;
+    const uint64_t cost = 10 + BPFHOST_CALL_WEIGHT; /* ten instructions, one of them a call */
     uint32_t results[MANY];
     int32_t status = 1;
     size_t ran = 99;

@@ -425,7 +425,7 @@ static int lent_to_run_bounded_scattered(const uint8_t *at, size_t length)
     uint32_t results[3];
     int32_t status;
     size_t ran;
-    int code = bpfhost_run_bounded_scattered(LENDER, 1, 4, NULL, 0, packets, 3, NULL, 0, 29, results, &status, &ran);
+    int code = bpfhost_run_bounded_scattered(LENDER, 1, 4, NULL, 0, packets, 3, NULL, 0, 2 * (10 + BPFHOST_CALL_WEIGHT) + 9, results, &status, &ran);
     asked.calls = asked.calls != 0;
     return code;
 }

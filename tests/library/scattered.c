@@ -3,7 +3,8 @@
 #include "common.h"
 #include <string.h>
 
-enum { LONGEST_PATH = 54, MOST_PACKETS = 200, BYTES = 200000, MOST_BUFFER = 65536, COUNTER = 4, UNSET = 0x5a5a5a5a };
+/* What a run counts for in a bound: 54 instructions, and two calls. */
+enum { WEIGHT = 54 + 2 * BPFHOST_CALL_WEIGHT, MOST_PACKETS = 200, BYTES = 200000, MOST_BUFFER = 65536, COUNTER = 4, UNSET = 0x5a5a5a5a };
 
 #define SLOT(op, dst, src, off, imm)                                                                                            \
     (uint8_t)(op), (uint8_t)((dst) | (src) << 4), (uint8_t)(off), (uint8_t)((off) < 0 ? 0xff : 0), (uint8_t)(imm),              \
@@ -132,17 +133,17 @@ static void copies_to_one_piece(size_t count)
     }
 }
 
-/* Any bound: none, one that allows no packet whole, or some packets of the program, whose longest path has 54 instructions. */
+/* Any bound: none, one that allows no packet whole, or some packets of the program. */
 static uint64_t any_bound(uint64_t *state)
 {
     uint64_t which = random_number(state) % 8;
-    return which == 0 ? 0 : which == 1 ? 1 + random_number(state) % LONGEST_PATH : random_number(state) % (220 * LONGEST_PATH) + 1;
+    return which == 0 ? 0 : which == 1 ? 1 + random_number(state) % WEIGHT : random_number(state) % (220 * WEIGHT) + 1;
 }
 
 /* How many packets of so many a bound allows. */
 static size_t allowed(uint64_t bound, size_t count)
 {
-    uint64_t runs = bound < LONGEST_PATH ? 1 : bound / LONGEST_PATH;
+    uint64_t runs = bound < WEIGHT ? 1 : bound / WEIGHT;
     return bound == 0 || runs > count ? count : (size_t)runs;
 }
 

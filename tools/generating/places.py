@@ -12,7 +12,7 @@ from generating.shared import Shared, Worded
 COMMENTS = {".md": ("<!-- ", " -->"), ".h": ("/* ", " */"), ".py": ("# ", ""), ".rs": ("// ", "")}
 PYTHON, RUST, HEADER = "clients/python/bpfhost/", "clients/rust/", "clients/c/include/bpfhost.h"
 # The limits that the header and the crates for Rust have.
-OF_LIBRARY = ("MOST_TENANTS", "FIRST_DESCRIPTOR", "MOST_DESCRIPTORS", "LONGEST_PACKET", "LONGEST_FRAME", "LONGEST_REPLY", "LONGEST_PAYLOAD", "TEST_RUN_HEAD", "LONGEST_PART", "ABI")
+OF_LIBRARY = ("MOST_TENANTS", "FIRST_DESCRIPTOR", "MOST_DESCRIPTORS", "LONGEST_PACKET", "LONGEST_FRAME", "LONGEST_REPLY", "LONGEST_PAYLOAD", "TEST_RUN_HEAD", "LONGEST_PART", "CALL_WEIGHT", "ABI")
 
 
 @dataclass(frozen=True)

@@ -90,6 +90,7 @@ static inline uint32_t bpfhost_library_version(void)
 #define BPFHOST_LONGEST_PAYLOAD 4096 /* the most bytes of a reply's payload */
 #define BPFHOST_TEST_RUN_HEAD 48 /* the bytes of a PROG_TEST_RUN frame before its packet */
 #define BPFHOST_LONGEST_PART 2244648 /* the most bytes of a part of a save: a full map with the longest keys */
+#define BPFHOST_CALL_WEIGHT 128 /* what a call of a helper counts for in the bound of a batch, in instructions besides its own */
 #define BPFHOST_ABI 3 /* the number of the library's binary interface, which changes with its soname */
 /* end of limits */
 
@@ -630,11 +631,12 @@ static inline int bpfhost_run_packets(bpfhost *host, uint16_t tenant, uint32_t f
                                     status);
 }
 
-/* The same as bpfhost_run_packets_sized, but no longer than the caller allows: the batch is made shorter to as many of its first packets as
- * can be run by `bound` instructions, if each takes the longest path of the program, which no run exceeds. One packet is run in any
- * case, and 0 is no bound. `ran` gets how many packets were run, 0 if the status is not 0. `results` has room for all packets; what follows
- * the results of those that were run stays as it is. Later packets are not looked at: the next call begins with them, and with their own
- * contexts if each has one. The codes are those of bpfhost_run_packets_sized, and `ran` is not written either if it is one of them. */
+/* The same as bpfhost_run_packets_sized, but no longer than the caller allows: the batch is made shorter to as many of its first
+ * packets as can be run by `bound` instructions, if each takes the most instructions and calls of the program (bpfhost_cost), which no
+ * run exceeds, and a call counts as BPFHOST_CALL_WEIGHT instructions more. One packet is run in any case, and 0 is no bound. `ran` gets
+ * how many packets were run, 0 if the status is not 0. `results` has room for all packets; what follows the results of those that were
+ * run stays as it is. Later packets are not looked at: the next call begins with them, and with their own contexts if each has one. The
+ * codes are those of bpfhost_run_packets_sized, and `ran` is not written either if it is one of them. */
 static inline int bpfhost_run_bounded_sized(bpfhost *host, uint16_t tenant, uint32_t fd, const void *contexts, size_t context_size,
                                             size_t context_count, const void *bytes, size_t byte_count, const size_t *ends,
                                             size_t packets, uint64_t bound, uint32_t *results, int32_t *status, size_t *ran)
@@ -843,19 +845,21 @@ static inline int bpfhost_run_scattered(bpfhost *host, uint16_t tenant, uint32_t
 }
 
 /* Lowers a number of packets to what a bound allows the program at a descriptor, as the proved run of many packets does: as many as can be
- * run by `bound` instructions, if each takes the longest path of the program, but one at least. 0 is no bound; what is no program
- * allows all, and is refused when it is run. Returns the code of the proved function. */
+ * run by `bound` instructions, if each takes the most instructions and calls of the program, and a call counts as BPFHOST_CALL_WEIGHT more,
+ * but one at least. 0 is no bound; what is no program allows all, and is refused when it is run. Returns the code of the proved function. */
 static inline int bpfhost_allowed_packets(bpfhost *host, uint16_t tenant, uint32_t fd, uint64_t bound, size_t *packets)
 {
     bpfhost_cost cost = {0, 0};
+    uint64_t weight;
     int code = BPFHOST_DONE;
     if (bound == 0)
         return code;
     bpfhost_enter(host);
     code = (int)bpfhost_c_program_cost(host, tenant, fd, &cost);
     bpfhost_leave(host);
-    if (code == BPFHOST_DONE && cost.instructions != 0 && *packets > 1 && bound / cost.instructions < *packets)
-        *packets = bound < cost.instructions ? 1 : (size_t)(bound / cost.instructions);
+    weight = cost.instructions + (uint64_t)BPFHOST_CALL_WEIGHT * cost.calls;
+    if (code == BPFHOST_DONE && weight != 0 && *packets > 1 && bound / weight < *packets)
+        *packets = bound < weight ? 1 : (size_t)(bound / weight);
     return code;
 }
 

@@ -301,8 +301,8 @@ class LibraryHost(OneOwner):
     ) -> list[int]:
         """The same by one call that executes at most `bound` instructions: it returns the results of the first packets, as many as were run.
 
-        Each packet counts as the longest path of the program; one is run in any case, and 0 is no bound. Packets after those that the bound
-        allows are not looked at.
+        Each packet counts as the most instructions of the program and 128 for each of its most calls (`Cost`); one is run in any case, and 0
+        is no bound. Packets after those that the bound allows are not looked at.
         """
         data, ends = _in_one_piece(packets)
         return self._results(tenant, descriptor, _contexts_of(context, len(ends)), data, ends, bound).tolist()

@@ -20,7 +20,7 @@ const _: () = assert!(size_of::<Context>() % size_of::<u32>() == 0);
 /// The library that is linked is of another binary interface; the header for C has the same code.
 pub(crate) const ERR_VERSION: i32 = -23;
 
-/// A program of a tenant, and the most instructions that a batch of its runs may execute; 0 for no bound.
+/// A program of a tenant, and the bound on the instructions of a batch of its runs; 0 for no bound.
 #[derive(Clone, Copy)]
 pub(crate) struct Run {
     pub(crate) tenant: u16,

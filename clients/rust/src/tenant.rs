@@ -248,9 +248,9 @@ impl<'a> Tenant<'a> {
     }
 
     /// Runs a program on packets as [`run_packets`](Tenant::run_packets), but no longer than the caller allows: on as many of the first ones
-    /// as can be run by `bound` instructions, if each takes the longest path of the program, which no run exceeds. One packet is run
-    /// in any case, and 0 is no bound. Returns how many packets were run; later ones are not looked at, and the rest of `results`, which has
-    /// room for all, stays as it is.
+    /// as can be run by `bound` instructions, if each takes the most instructions and calls of the program ([`Cost`](crate::Cost)), which no
+    /// run exceeds, and a call of a helper counts as 128 instructions more. One packet is run in any case, and 0 is no bound. Returns how
+    /// many packets were run; later ones are not looked at, and the rest of `results`, which has room for all, stays as it is.
     ///
     /// ```
     /// # use bpfhost::{Context, Error, Host};

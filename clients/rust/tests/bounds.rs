@@ -8,8 +8,8 @@ use common::{host, open_counter, run};
 /// What results are before a call.
 const BEFORE: u32 = 0x5a5a_5a5a;
 
-/// The longest path of the counter of `open_counter`.
-const COST: u64 = 10;
+/// What a run of the counter of `open_counter` counts for: ten instructions, and a call of a helper.
+const COST: u64 = 10 + 128;
 
 const PACKETS: usize = 7;
 

@@ -272,7 +272,7 @@ pub extern "C" fn bpfhost_c_handle_lent(
 /// is not there counts as 0, and one that no run is given has to be 0.
 ///
 /// With a `bound` that is not 0 the batch is made shorter: it has as many of the first packets as can be run, by the cost of the program,
-/// without executing more than `bound` instructions, but at least one.
+/// without executing more than `bound` instructions, if a call of a helper counts as `CALL_WEIGHT` more, but at least one.
 ///
 /// Writes the result of each packet to the front of `results`, 0 to `status` and the number of packets to `ran`; or, if the batch is
 /// rejected, the status of the error that its frames would get, and 0 to `ran`, and then no packet was run.

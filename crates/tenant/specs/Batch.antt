@@ -1,6 +1,6 @@
 -- A program on many packets: the test runs of the packets, one after another. Packets are counted
 -- from 0. This project's own.
-use Rattle.std.specs.Prelude.{◌≡◌, ℕ, ◌/◌, ◌==◌, max, min, pos, nat_lt, List, [], ◌∷◌, ◌++◌, length, drop, Option, Some, None, option_map, Ok, if◌then◌else◌}
+use Rattle.std.specs.Prelude.{◌≡◌, ◌≢◌, ℕ, ◌+◌, ◌*◌, ◌/◌, max, min, pos, nat_lt, List, [], ◌∷◌, ◌++◌, length, drop, Option, Some, None, option_map, Ok, if◌then◌else◌}
 use Rattle.byteorder.specs.Endian.{little_bytes}
 use Rattle.command_frames.specs.Command.{prog_test_run, parsed}
 use Rattle.command_frames.specs.Frame.{reply_to}
@@ -9,7 +9,9 @@ use Rattle.flat_machine.specs.declared.packets.PacketFault.{PacketFault}
 use Rattle.flat_machine.specs.declared.packets.PacketFault.TheVariants.{Contexts, Outside, TooLong}
 use Rattle.flat_machine.specs.Packets.{batch_fault}
 pub use Rattle.flat_machine.specs.Packets.{BatchInput, packets_in, inputs_of, are_contexts}
-use Rattle.verifier.specs.Cost.{IsMostOf}
+use Rattle.verifier.specs.Cost.{IsCostOf}
+use Rattle.verifier.specs.declared.cost.Cost.{Cost}
+use Rattle.tenant.specs.declared.batch.TheConstants.{CALL_WEIGHT}
 use Rattle.tenant.specs.declared.errno.Errno.{Errno}
 use Rattle.tenant.specs.declared.errno.Errno.TheVariants.{TooBig, BadDescriptor, Invalid}
 use Rattle.tenant.specs.declared.object.OpenObject.{OpenObject}
@@ -82,19 +84,28 @@ batch_refusal o contexts many ends room =
 
 -- ---- the bound
 
--- The number of packets that a bound on executed instructions allows a batch of so many, if a run
--- executes at most `cost`: as many runs as fit, but at least one. Bound 0 allows all.
-abbrev pub allowed : ℕ → ℕ → ℕ → ℕ
-allowed bound cost packets =
-    if bound == 0 then packets else min packets (max 1 (bound / cost))
+-- what a run counts for in the bound of a batch: the most instructions, and CALL_WEIGHT more for
+-- each of the most calls of helpers
+abbrev pub run_weight : Cost → ℕ
+run_weight cost = cost.instructions + CALL_WEIGHT * cost.calls
 
--- the same for an object: a program has the cost of its longest path; a batch of anything else is
+-- The number of packets that a bound other than 0 allows a batch of so many, if a run counts for
+-- `cost`: as many runs as fit, but at least one.
+abbrev pub allowed : ℕ → ℕ → ℕ → ℕ
+allowed bound cost packets = min packets (max 1 (bound / cost))
+
+-- the same for an object: a run of a program counts for its cost; a batch of anything else is
 -- rejected as a whole
+abbrev pub IsWithinBound : Option OpenObject → ℕ → ℕ → ℕ → Type 0
+IsWithinBound None bound packets n = n ≡ packets
+IsWithinBound (Some (object.Map handle)) bound packets n = n ≡ packets
+IsWithinBound (Some (object.Program l)) bound packets n =
+    (cost : Cost) × IsCostOf cost l.insns × (n ≡ allowed bound (run_weight cost) packets)
+
+-- n packets of a batch of an object are allowed by a bound, which allows all if it is 0
 abbrev pub IsAllowed : Option OpenObject → ℕ → ℕ → ℕ → Type 0
-IsAllowed None bound packets n = n ≡ packets
-IsAllowed (Some (object.Map handle)) bound packets n = n ≡ packets
-IsAllowed (Some (object.Program l)) bound packets n =
-    (cost : ℕ) × IsMostOf length l.insns cost × (n ≡ allowed bound cost packets)
+IsAllowed o bound packets n =
+    (bound ≡ 0 → n ≡ packets) × (bound ≢ 0 → IsWithinBound o bound packets n)
 
 -- ---- laws
 

@@ -5,7 +5,7 @@ ghost use Rattle.std.specs.Result.{result_err};
 ghost use Rattle.arena.specs.Memory.{part_bytes};
 ghost use Rattle.bpf_helpers.specs.Parts.{IsPartOf};
 ghost use Rattle.fd_table.specs.Table.{named};
-ghost use Rattle.tenant.specs.Batch.{packets_in, inputs_of, RunsBatch, batch_refusal, IsAllowed, allowed};
+ghost use Rattle.tenant.specs.Batch.{packets_in, inputs_of, RunsBatch, batch_refusal, IsAllowed, allowed, run_weight};
 ghost use Rattle.tenant.specs.Kept.{state_in};
 
 use crate::errno::Errno;
@@ -13,32 +13,43 @@ use crate::object::program_at;
 use crate::tenant::Tenant;
 use arena::{Arena, Trace};
 use flat_machine::{GIVEN_WORDS, Packets, run_packets};
-use verifier::laws;
+use verifier::{Cost, laws};
 
-/// The number of packets that a bound on executed instructions allows a batch, if a run executes at most `cost`.
-fn allowed(bound: u64, cost: u32, packets: usize) -> usize
+/// What a call of a helper counts for in the bound of a batch, in instructions besides its own. The dearest calls copy a value of 4,095
+/// bytes or add a key of 512, and take as long as some 128 instructions.
+pub const CALL_WEIGHT: u32 = 128;
+
+/// What a run counts for in the bound of a batch: the most instructions, and `CALL_WEIGHT` more for each of the most calls of helpers.
+fn run_weight(cost: Cost) -> u64
+    ensures { result ≡ run_weight cost }
+{
+    u64::from(cost.instructions) + u64::from(CALL_WEIGHT) * u64::from(cost.calls)
+}
+
+/// The number of packets that a bound other than 0 allows a batch, if a run counts for `cost`.
+fn allowed(bound: u64, cost: u64, packets: usize) -> usize
     requires { 1 ≤ cost }
     ensures allowed { result ≡ allowed bound cost packets }
     ensures few { result ≤ packets }
 {
-    if bound == 0 {
-        return packets;
-    }
-    let runs = (bound / u64::from(cost)).max(1) as usize;
+    let runs = (bound / cost).max(1) as usize;
     packets.min(runs)
 }
 
 impl Tenant {
     /// The number of packets that a batch of `packets` may have, of the program at a descriptor, so that its runs execute at most `bound`
-    /// instructions by the cost of the program: at least one, and all if the bound is 0. All if the descriptor names no program: such a
-    /// batch is rejected.
-    #[tactic(auto, using(crate::proofs::Bounds::costs_are_positive, crate::proofs::Bounds::allowed_of_program, crate::proofs::Bounds::allowed_otherwise))]
+    /// instructions by the cost of the program, if a call of a helper counts as `CALL_WEIGHT` more: at least one, and all if the bound is
+    /// 0. All if the descriptor names no program: such a batch is rejected.
+    #[tactic(auto, using(crate::proofs::Bounds::weights_are_positive, crate::proofs::Bounds::all_allowed, crate::proofs::Bounds::allowed_of_program, crate::proofs::Bounds::allowed_otherwise))]
     pub fn allowed_packets(&self, fd: u32, bound: u64, packets: usize) -> usize
         ensures allowed { IsAllowed (named self.now.objects fd) bound packets result }
         ensures few { result ≤ packets }
     {
+        if bound == 0 {
+            return packets;
+        }
         match program_at(&self.objects, fd) {
-            Ok(program) => allowed(bound, program.program().cost().instructions, packets),
+            Ok(program) => allowed(bound, run_weight(program.program().cost()), packets),
             Err(_) => packets,
         }
     }

@@ -18,14 +18,7 @@ use crate::reply::Reply;
 use crate::tenant::Tenant;
 use std::alloc::{AllocError, Global};
 use tagged_model::{MapShape, Target};
-use verifier::Verified;
-
-/// Whether two shapes are the same, or both are none.
-fn is_same(one: Option<MapShape>, other: Option<MapShape>) -> bool
-    ensures { IsTrue result ↔ one ≡ other }
-{
-    one == other
-}
+use verifier::{ReplaceFault, Verified};
 
 impl Tenant {
     /// The shape of the map that a descriptor names; `None` if it names none.
@@ -47,7 +40,7 @@ impl Tenant {
             IsTrue result ↔ Fits program.now (targets (state_in part self.now)) }
     {
         for fd in program.maps() {
-            if !is_same(self.shape_at(*fd), program.shape(*fd)) {
+            if !program.has_shape(*fd, self.shape_at(*fd)) {
                 return false;
             }
         }
@@ -69,8 +62,11 @@ impl Tenant {
         ensures there { IfOk result (λ l. AreLive self.now.live (map_handles l)) }
     {
         let descriptors = self.targets(alloc)?;
-        program.replace_objects(alloc, &descriptors)?;
-        self.with_maps(alloc, program)
+        match program.replace_objects(alloc, &descriptors) {
+            Ok(()) => self.with_maps(alloc, program),
+            Err(ReplaceFault::Memory) => Err(AllocError),
+            Err(ReplaceFault::OtherShapes) => unreachable!(),
+        }
     }
 
     /// Opens a program that was verified elsewhere, as PROG_LOAD of its slots does. With which objects it was accepted does not matter,

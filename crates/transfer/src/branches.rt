@@ -80,6 +80,7 @@ fn compared(
 }
 
 /// The edges of a comparison of two numbers.
+#[inline(always)]
 fn compare_numbers(
     wide: bool,
     condition: Condition,
@@ -125,6 +126,7 @@ fn is_null_test(wide: bool, condition: Condition, src: Operand) -> bool
 }
 
 /// The edges of a conditional jump. `PointerComparison` if the operands are not both numbers, and it is not a null test.
+#[inline(always)]
 pub(crate) fn branch(
     wide: bool,
     condition: Condition,

@@ -90,6 +90,7 @@ fn stack_offset(from: i32, offset: i16) -> Result<i32, Reason>
 }
 
 /// The kind of a loaded value.
+#[inline(always)]
 fn load(
     facts: &Facts,
     named: &[Named],
@@ -128,6 +129,7 @@ fn store_outside(value: Kind) -> Result<(), Reason>
 }
 
 /// Updates the facts for a store. Returns the slot of the stack that it may change, if any.
+#[inline(always)]
 fn store(
     facts: &mut Facts,
     named: &[Named],
@@ -394,6 +396,7 @@ fn exit(facts: &Facts) -> Result<(), Reason>
 ///
 /// Why the instruction may not be run: the first of its conditions that fails, in the order of the definition of `effect`. Then
 /// `facts` are unchanged.
+#[inline(always)]
 pub fn apply(facts: &mut Facts, named: &[Named], slot: usize, insn: &Insn) -> Result<Flow, Reason>
     ensures ok { IfOk result (λ flow. effect (shapes_named named.now) slot insn.now facts.old
         ≡ Ok (edges_of flow facts.new)) }

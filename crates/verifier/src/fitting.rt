@@ -1,11 +1,12 @@
 //! An accepted program, with other objects than those with which it was accepted.
 
-ghost use Rattle.std.specs.Prelude.{◌≡◌, Ok, OnOk, OnErr};
+ghost use Rattle.std.specs.Prelude.{◌≡◌, Ok, IsTrue, IfErr, OnOk, OnErr, ◌↔◌};
 ghost use Rattle.insn_set.specs.Program.{program_bytes};
 ghost use Rattle.verifier.specs.Fits.{Fits};
 ghost use Rattle.verifier.specs.Judgement.{Judges};
 ghost use Rattle.verifier.specs.Maps.{maps_of, entries_of};
 ghost use Rattle.verifier.specs.Verified.{shapes_in};
+ghost use Rattle.verifier.specs.declared.fitting.ReplaceFault.TheVariants.{OtherShapes, Memory};
 
 use crate::laws;
 use crate::maps::entries_of;
@@ -13,12 +14,50 @@ use crate::verified::Verified;
 use std::alloc::{AllocError, Global};
 use tagged_model::{MapShape, Named, shape_of};
 
+/// Why objects do not replace those with which a program was accepted.
+#[derive(Clone, Copy, Debug, PartialEq, Eq)]
+pub enum ReplaceFault {
+    /// A descriptor of the program's maps names no map of the same shape.
+    OtherShapes,
+    /// Out of memory.
+    Memory,
+}
+
+impl From<AllocError> for ReplaceFault {
+    ghost from_gives = { λ _ fault. fault ≡ Memory };
+
+    fn from(_error: AllocError) -> ReplaceFault {
+        ReplaceFault::Memory
+    }
+}
+
+/// Whether two shapes are the same, or both are none.
+fn is_same(one: Option<MapShape>, other: Option<MapShape>) -> bool
+    ensures { IsTrue result ↔ one ≡ other }
+{
+    one == other
+}
+
 impl Verified {
-    /// The shape of the map that a descriptor named when the program was accepted; `None` if the program loads no map by it.
-    pub fn shape(&self, fd: u32) -> Option<MapShape>
-        ensures { result ≡ shapes_in self.now fd }
+    /// Whether this is the shape of the map that a descriptor named when the program was accepted: `None` if the program loads no
+    /// map by it.
+    pub fn has_shape(&self, fd: u32, shape: Option<MapShape>) -> bool
+        ensures { IsTrue result ↔ shape ≡ shapes_in self.now fd }
     {
-        shape_of(&self.found.entries, fd)
+        is_same(shape, shape_of(&self.found.entries, fd))
+    }
+
+    /// Whether each descriptor of the program's maps names, among these objects, a map of the shape with which the program was
+    /// accepted. It ends at the first that does not.
+    fn fits(&self, named: &[Named]) -> bool
+        ensures { IsTrue result ↔ Fits self.now named.now }
+    {
+        for fd in self.maps() {
+            if !self.has_shape(*fd, shape_of(named, *fd)) {
+                return false;
+            }
+        }
+        true
     }
 
     /// Replaces the objects with which the program was accepted by others, in which its maps have the same shapes. It is accepted with
@@ -26,15 +65,22 @@ impl Verified {
     ///
     /// # Errors
     ///
-    /// `AllocError`: out of memory. Then nothing has changed.
-    pub fn replace_objects(&mut self, alloc: Global, named: &[Named]) -> Result<(), AllocError>
-        requires { Fits self.old named.now }
+    /// `OtherShapes` if a descriptor of its maps names no map of the same shape; else `Memory` if out of memory. Then nothing has
+    /// changed.
+    pub fn replace_objects(&mut self, alloc: Global, named: &[Named]) -> Result<(), ReplaceFault>
+        ensures fits { OnOk result (Fits self.old named.now) }
         ensures code { self.new.code ≡ self.old.code }
-        ensures judged { Judges named.now (program_bytes self.old.code) (Ok self.old.code) }
+        ensures judged { OnOk result
+            (Judges named.now (program_bytes self.old.code) (Ok self.old.code)) }
         ensures entries { OnOk result
             (self.new.entries ≡ entries_of (maps_of self.old.code) named.now) }
+        ensures shapes { IfErr result (λ fault. fault ≡ OtherShapes → ¬ Fits self.old named.now) }
+        ensures memory { IfErr result (λ fault. fault ≡ Memory → Fits self.old named.now) }
         ensures err { OnErr result (self.new ≡ self.old) }
     {
+        if !self.fits(named) {
+            return Err(ReplaceFault::OtherShapes);
+        }
         laws::same_shapes_are_accepted();
         self.program.code();
         self.found.entries = entries_of(alloc, named, &self.found.maps)?;

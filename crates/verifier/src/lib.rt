@@ -24,9 +24,9 @@
 //!   `verify_watched`.
 //! - A `Verified` is an accepted program, the one that was passed in, with the shapes that its descriptors named: `accepted` of
 //!   `verify`; `accepted`, `entries` of `verify_slots`; `verified` of `Verified::program`.
-//! - It can be used with other objects, if each descriptor of its maps names a map of the same shape among them (`Fits`): it is
-//!   accepted with these too, and is then what `verify_slots` gives for its slots and these objects: `judged`, `entries` of
-//!   `Verified::replace_objects`; `same_shapes_are_accepted`.
+//! - It can be used with other objects exactly if each descriptor of its maps names a map of the same shape among them (`Fits`): it
+//!   is accepted with these too, and is then what `verify_slots` gives for its slots and these objects: `fits`, `judged`, `entries`,
+//!   `shapes` of `Verified::replace_objects`; `same_shapes_are_accepted`.
 //! - It lists the descriptors of its loads of maps and of values of maps, in the order of first use, each once:
 //!   `Verified::maps`.
 //! - A program has at most one rejection, an accepted program has none, and no rule has out of memory as its reason:
@@ -72,6 +72,9 @@
 //!   needed. bench/FIGURES.md has the costs. With one number for the whole stack, a byte stored before each jump cost a join of
 //!   all slots (1,075 machine instructions a slot, now 700). Not used: copying and joining the stack only from its lowest written
 //!   slot on (half the cost with few slots written, 3 to 15% more with all 64).
+//! - What most instructions pass through is inlined by attributes (`apply` and four functions of `transfer`, `leave_by`): LLVM inlines a
+//!   large function by itself only if it has one caller, and in the library the log calls these too. Without the attributes a load there
+//!   takes half as many machine instructions again.
 //! - The list of entries ends with the last target so far, so a program without jumps has none.
 //! - A caller that verifies many programs, as a host does, lends the memory for it (`WorkingMemory`), which it keeps from one program to
 //!   the next. Without it a program with 1,900 targets that wait had 1,060 page faults, and took five times as long. What a rejected program
@@ -113,6 +116,7 @@ mod working_memory;
 
 pub use cost::Cost;
 pub use fault::VerifyFault;
+pub use fitting::ReplaceFault;
 pub use refusal::{Cause, Refusal};
 pub use reg_kinds::Reason;
 pub use tagged_model::Named;

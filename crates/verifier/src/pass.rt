@@ -115,6 +115,7 @@ fn leave_null_test(
 }
 
 /// Sends the facts after an instruction along the edges of this flow, of which the jumping one leads to `target`.
+#[inline(always)]
 fn leave_by(
     hand: &mut NumberedFacts,
     entries: &mut TargetFacts,

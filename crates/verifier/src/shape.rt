@@ -141,6 +141,7 @@ fn other_reason(
 }
 
 /// Adds the instruction at `slot` to the paths, or finds its first fault. It may be of any kind.
+#[inline(always)]
 fn pass_other(
     program: &Program,
     named: &[Named],

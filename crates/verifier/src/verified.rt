@@ -126,6 +126,7 @@ pub fn verify(alloc: Global, program: &Program, named: &[Named]) -> Result<Verif
 /// # Errors
 ///
 /// `AllocError`: out of memory for the program or for the verdict.
+#[inline(never)]
 pub fn verify_slots(
     alloc: Global,
     slots: &[u8],

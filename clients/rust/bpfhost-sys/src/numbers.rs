@@ -19,6 +19,8 @@ pub const LONGEST_PAYLOAD: usize = 4096;
 pub const TEST_RUN_HEAD: usize = 48;
 /// The most bytes of a part of a save: a full map with the longest keys.
 pub const LONGEST_PART: usize = 2_244_648;
+/// What a call of a helper counts for in the bound of a batch, in instructions besides its own.
+pub const CALL_WEIGHT: usize = 128;
 /// The number of the library's binary interface, which changes with its soname.
 pub const ABI: usize = 3;
 // end of limits

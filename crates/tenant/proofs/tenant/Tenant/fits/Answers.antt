@@ -11,7 +11,7 @@ use Rattle.tenant.proofs.tenant.Tenant.fits.Goals as goal
 pub loop-fd-preserved : goal.loop-fd-preserved
 loop-fd-preserved c = λ part.
     All-more (λ fd. shapes_named (targets (state_in part c.args.self.now)) fd ≡ shapes_in c.args.program.now fd) c.maps-fd-items.result.now c.loop-fd.fd-index 0 c.loop-fd-test.true (c.loop-fd.invariant part)
-    (sym (c.shape_at.ensures part) ∙ c.is_same.ensures.0 c.if-not-is_same.false ∙ c.shape.ensures)
+    (sym (c.shape_at.ensures part) ∙ c.has_shape.ensures.0 c.if-not-has_shape.false)
 
 pub returns : goal.returns
 returns c = λ part. (

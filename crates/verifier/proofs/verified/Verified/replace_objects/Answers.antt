@@ -14,7 +14,7 @@ invariant_of-self c =
     let a = as_accepted c.self.inside in (
       record {
         named = named;
-        accepted = fits_accepted a named c.self.invariant.0 (subst (λ (x : Accepted). Fits x named) (sym c.self.view_is) c.requires);
+        accepted = fits_accepted a named c.self.invariant.0 (subst (λ (x : Accepted). Fits x named) (sym c.self.view_is) (c.fits.ensures.0 c.if-not-fits.false));
         shaped = c.in_ok-self-inside.ensures ∙ ap (λ (fds : List ℕ). entries_of fds named) (c.deref.ensures.value ∙ c.self.invariant.1);
       },
       c.self.invariant.1,
@@ -25,10 +25,4 @@ pub returns-clause-judged : goal.returns-clause-judged
 returns-clause-judged c =
     let named = c.args.named.now in
     subst (λ (a : Accepted). Fits a named → Judges named (program_bytes a.code) (Ok a.code)) c.self.view_is
-    (fits_judged (as_accepted c.self.inside) named c.code.ensures.program c.self.invariant.0) c.requires
-
-pub returns-in_err-self-inside-clause-judged : goal.returns-in_err-self-inside-clause-judged
-returns-in_err-self-inside-clause-judged c =
-    let named = c.args.named.now in
-    subst (λ (a : Accepted). Fits a named → Judges named (program_bytes a.code) (Ok a.code)) c.self.view_is
-    (fits_judged (as_accepted c.self.inside) named c.code.ensures.program c.self.invariant.0) c.requires
+    (fits_judged (as_accepted c.self.inside) named c.code.ensures.program c.self.invariant.0) (c.fits.ensures.0 c.if-not-fits.false)

@@ -8,7 +8,7 @@ use Rattle.tagged_model.specs.declared.shape.MapKind.TheVariants.{Hash, Array}
 use Rattle.tagged_model.specs.declared.shape.MapShape.{MapShape}
 use Rattle.tagged_model.specs.contracts.shape.MapKindPartialEq.TheImpl as kind
 use Rattle.tagged_model.specs.contracts.shape.MapShapePartialEq.TheImpl as shape
-use Rattle.tenant.proofs.installing.is_same.Goals as goal
+use Rattle.verifier.proofs.fitting.is_same.Goals as goal
 
 IsTrue-prop : (b : Bool) → IsProp (IsTrue b)
 IsTrue-prop b = hlevel props

@@ -74,7 +74,7 @@
 //!   slot on (half the cost with few slots written, 3 to 15% more with all 64).
 //! - What most instructions pass through is inlined by attributes (`apply` and four functions of `transfer`, `leave_by`): LLVM inlines a
 //!   large function by itself only if it has one caller, and in the library the log calls these too. Without the attributes a load there
-//!   takes half as many machine instructions again.
+//!   takes a fifth to a third more machine instructions.
 //! - The list of entries ends with the last target so far, so a program without jumps has none.
 //! - A caller that verifies many programs, as a host does, lends the memory for it (`WorkingMemory`), which it keeps from one program to
 //!   the next. Without it a program with 1,900 targets that wait had 1,060 page faults, and took five times as long. What a rejected program

@@ -22,8 +22,9 @@ struct bpf_insn {
 };
 extern unsigned bpf_filter(const struct bpf_insn *program, const uint8_t *packet, unsigned wire_length, unsigned length);
 
+/* Of each packet its first byte, its length, and its end, counted from the begin of its batch: what each way is called with. */
 static uint8_t *bytes;
-static size_t *ends, count;
+static size_t *begins, *lengths, *ends, count;
 static uint32_t *results;
 static struct bpf_insn classic[MOST_SLOTS];
 static bpfhost *host;
@@ -51,10 +52,16 @@ static void read_packets(const char *path)
     size_t size = 0;
     while (fread(&length, sizeof length, 1, file) == 1) {
         bytes = realloc(bytes, size + length + 1);
+        begins = realloc(begins, (count + 1) * sizeof *begins);
+        lengths = realloc(lengths, (count + 1) * sizeof *lengths);
         ends = realloc(ends, (count + 1) * sizeof *ends);
-        must(bytes != NULL && ends != NULL, "there is no memory");
+        must(bytes != NULL && begins != NULL && lengths != NULL && ends != NULL, "there is no memory");
         must(fread(bytes + size, 1, length, file) == length, "a packet is cut off");
-        ends[count++] = size += length;
+        begins[count] = size;
+        lengths[count] = length;
+        size += length;
+        ends[count] = size - begins[count - count % BATCH];
+        count++;
     }
     fclose(file);
     results = calloc(count, sizeof *results);
@@ -90,20 +97,13 @@ static void load(const char *path)
     program = (uint32_t)reply.status;
 }
 
-static size_t begin_of(size_t packet)
-{
-    return packet == 0 ? 0 : ends[packet - 1];
-}
-
 static void by_batch(void)
 {
-    static size_t own[BATCH];
     for (size_t first = 0; first < count; first += BATCH) {
-        size_t many = count - first < BATCH ? count - first : BATCH, begin = begin_of(first);
+        size_t many = count - first < BATCH ? count - first : BATCH;
+        const uint8_t *batch = bytes + begins[first];
         int32_t status = -1;
-        for (size_t i = 0; i < many; i++)
-            own[i] = ends[first + i] - begin;
-        int code = bpfhost_run_packets(host, 0, program, NULL, bytes + begin, own[many - 1], own, many, results + first, &status);
+        int code = bpfhost_run_packets(host, 0, program, NULL, batch, ends[first + many - 1], ends + first, many, results + first, &status);
         must(code == BPFHOST_DONE && status == 0, "a batch is refused");
     }
 }
@@ -111,8 +111,8 @@ static void by_batch(void)
 static void by_libpcap(void)
 {
     for (size_t i = 0; i < count; i++) {
-        unsigned length = (unsigned)(ends[i] - begin_of(i));
-        results[i] = bpf_filter(classic, bytes + begin_of(i), length, length);
+        unsigned length = (unsigned)lengths[i];
+        results[i] = bpf_filter(classic, bytes + begins[i], length, length);
     }
 }
 

@@ -13,12 +13,16 @@ from collections.abc import Callable, Iterable, Sequence
 from functools import partial
 from pathlib import Path
 
-from parts import ATOMIC_ADD, BE16, LDDW_MAP, LDDW_VALUE, MOV32, MOV64, SECOND, Parts, ahead, is_last, names, parts_of, table
+from parts import (
+    ALSO, ATOMIC_ADD, BE16, LDDW_MAP, LDDW_VALUE, LOAD_BYTES, MOV32, MOV64, SECOND, Parts, ahead, begins, is_last, names, parts_of, table,
+)
 from sequence_sources import TOP, Source, of_expressions, of_filters
 
 TABLE = TOP / "crates/insn_codec/src/sequences.rt"
 # About how many machine instructions a dispatch takes, and the tests of an instruction whose form its opcode does not determine.
 DISPATCH, TESTS = 5, {MOV64: 2, MOV32: 2, BE16: 3, LDDW_VALUE: 4, LDDW_MAP: 4, ATOMIC_ADD: 4}
+# The most instructions of a sequence that is chosen.
+LONGEST = 6
 # A turn: the sequence, or no parts, and its first part.
 Turn = tuple[Parts, int | None]
 
@@ -31,7 +35,7 @@ def turns(rows: Sequence[Parts], slots: bytes) -> Counter[Turn]:
         at = open_slots.pop()
         if at not in seen:
             seen.add(at)
-            row = next((row for row in rows if tuple(parts[at : at + len(row)]) == row), ())
+            row = next((row for row in rows if begins(parts[at : at + len(row)], row)), ())
             found[row, parts[at]] += 1
             open_slots += ahead(slots, at, max(1, len(row)))
     return found
@@ -47,8 +51,9 @@ def marked(rows: Sequence[Parts], slots: bytes) -> Counter[Parts]:
 
 def neighbours(slots: bytes, count: int) -> Counter[Parts]:
     """The instructions that follow one another, so many each time, of which only the last may jump, call or exit."""
-    places = [at for at, part in enumerate(parts_of(slots)) if part != SECOND] + [len(slots) // 8]
-    parts, found = parts_of(slots), Counter[Parts]()
+    parts = [part if part is None or part == LOAD_BYTES else ALSO.get(part, part) for part in parts_of(slots)]
+    found = Counter[Parts]()
+    places = [at for at, part in enumerate(parts) if part != SECOND] + [len(slots) // 8]
     for first, end in zip(places, places[count:]):
         few = tuple(part for part in parts[first:end] if part is not None)
         if len(few) == end - first and not any(is_last(part) for part in few[:-1]):
@@ -99,7 +104,7 @@ def cost(rows: Sequence[Parts], sources: Sequence[Source]) -> float:
 
     def of(source: Source) -> float:
         found = sum((turns(rows, slots) for slots in source), Counter[Turn]())
-        each = (count * (DISPATCH + (0 if row or part is None else TESTS.get(part, 0))) for (row, part), count in found.items())
+        each = (count * (DISPATCH + (0 if row or part is None else TESTS.get(ALSO.get(part, part), 0))) for (row, part), count in found.items())
         return sum(each) / instructions(source)
 
     return sum(map(of, sources)) / len(sources)
@@ -114,7 +119,7 @@ def choose(title: str, sources: Sequence[Source], rows: list[Parts], count: int)
     """These sequences and so many more, which it prints: each time the one with which the sources cost least."""
     frequent = Counter[Parts]()
     for source in sources:
-        for size in (2, 3):
+        for size in range(2, LONGEST + 1):
             for parts, number in sum((neighbours(slots, size) for slots in source), Counter[Parts]()).items():
                 frequent[parts] += round(1e6 * (size - 1) * number / instructions(source))
     wide = {LDDW_VALUE, LDDW_MAP}

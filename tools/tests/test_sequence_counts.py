@@ -11,10 +11,12 @@ from pathlib import Path
 TOP = Path(__file__).resolve().parents[2]
 sys.path.insert(0, str(TOP / "bench"))
 
-from parts import LDDW_MAP, LDDW_VALUE, SECOND, ahead, names, parts_of, table  # noqa: E402
+from parts import (  # noqa: E402
+    CALL, LDDW_MAP, LDDW_VALUE, LOAD_BYTES, R2_K, R3_ADD_K, R3_FRAME, R4_K, SECOND, ahead, begins, names, parts_of, table,
+)
 from sequence_counts import marked, neighbours  # noqa: E402
 
-ADD64_K, MOV64, JEQ64_K, JA, EXIT = 0x07, 0xBF, 0x15, 0x05, 0x95
+ADD64_K, MOV64, MOV64_K, JEQ64_K, JA, EXIT = 0x07, 0xBF, 0xB7, 0x15, 0x05, 0x95
 
 
 def slots(*rows: tuple[int, int, int, int]) -> bytes:
@@ -30,6 +32,14 @@ class Parts(unittest.TestCase):
     def test_wide_loads_are_told_apart(self) -> None:
         code = slots((0x18, 0x10, 0, 3), (0, 0, 0, 0), (0x18, 0x20, 0, 3), (0, 0, 0, 0), (0x18, 0, 0, 3), (0, 0, 0, 0))
         self.assertEqual(parts_of(code), [LDDW_MAP, SECOND, LDDW_VALUE, SECOND, None, SECOND])
+
+    def test_a_load_of_bytes_and_its_arguments_are_told_apart(self) -> None:
+        code = slots((MOV64, 0xA3, 0, 0), (ADD64_K, 3, 0, -8), (MOV64_K, 2, 0, 12), (MOV64_K, 4, 0, 2), (CALL, 0, 0, 26), (CALL, 0, 0, 1))
+        self.assertEqual(parts_of(code), [R3_FRAME, R3_ADD_K, R2_K, R4_K, LOAD_BYTES, CALL])
+        self.assertTrue(begins(parts_of(code), (MOV64, ADD64_K)))
+        self.assertTrue(begins(parts_of(code), (R3_FRAME, R3_ADD_K, R2_K, R4_K, LOAD_BYTES)))
+        self.assertFalse(begins(parts_of(code)[5:], (LOAD_BYTES,)))
+        self.assertEqual(neighbours(code, 2)[MOV64_K, LOAD_BYTES], 1)
 
     def test_a_turn_leads_to_the_next_slot_and_to_its_target(self) -> None:
         code = slots((ADD64_K, 1, 0, 1), (JEQ64_K, 1, 2, 0), (JA, 0, 1, 0), (0x18, 0, 0, 3), (0, 0, 0, 0), (EXIT, 0, 0, 0))

@@ -3,3 +3,4 @@ pub mod Parts
 pub mod Apart
 pub mod Within
 pub mod Asked
+mod Pieces

@@ -8,7 +8,7 @@
 //! - A store and a copy change only the bytes of their range, and nothing if a range is not in the memory: `found`, `bytes` of
 //!   `store`, `copy`.
 //! - If the bytes are known to be in the memory, a load and a store do the same without a bounds check: `value` of
-//!   `load_inside`, `bytes` of `store_inside`.
+//!   `load_inside`, `bytes` of `store_inside`. So any bytes are written: `bytes` of `write_inside`.
 //! - A memory that is taken is the one that was there, and an empty one is left: `taken`, `left` of `take`.
 //! - The bytes of a part are lent, and only its range can change: `bytes` of `part`; `bytes`, `lends` of `part_mut`.
 //! - Each requested range is recorded, also if it is not in the memory: `ranges` of `load`, `store`, `load_inside`,
@@ -21,6 +21,7 @@
 #![tactic(auto)]
 
 mod contract_clients;
+mod copying;
 mod known_answers;
 pub mod laws;
 mod memory;

@@ -1,10 +1,11 @@
 //! The arena: the memory of all tenants, with its loads, stores and copies.
 
-ghost use Rattle.std.specs.Prelude.{◌≡◌, ◌+◌, ◌*◌, ◌^◌, ◌<◌, ◌≤◌, ◌++◌, ◌∷◌, [], length, replicate, Some, IfOk, IsSome, is_some, ◌&&◌};
+ghost use Rattle.std.specs.Prelude.{◌≡◌, ◌+◌, ◌-◌, ◌*◌, ◌^◌, ◌<◌, ◌≤◌, ◌++◌, ◌∷◌, [], length, replicate, Some, IfOk, IsSome, is_some, ◌&&◌};
 ghost use Rattle.std.specs.Borrow.{sem};
 ghost use Rattle.arena.specs.Bytes.{IsSize};
-ghost use Rattle.arena.specs.Memory.{base, offset_of, loaded, stored, copied, part_start, part_bytes, size_of};
+ghost use Rattle.arena.specs.Memory.{base, offset_of, loaded, stored, copied, with_bytes, part_start, part_bytes, size_of};
 
+use crate::copying;
 use crate::numbers::{copy_bytes, read, write};
 use crate::trace::Trace;
 use std::alloc::{AllocError, Global};
@@ -192,6 +193,20 @@ impl Arena {
         trace.range(address, size as u64);
         let start = offset_inside(self.bytes.len(), size, address);
         write(&mut self.bytes, start, size, value);
+    }
+
+    /// Writes bytes at `address`, of which there are so many in the memory, as is known.
+    #[inline(always)]
+    pub fn write_inside(&mut self, address: u64, bytes: &[u8], trace: &mut Trace)
+        requires { IsSome (offset_of (size_of self.old) (length bytes.now) address) }
+        ensures bytes { self.new ≡ with_bytes self.old (address - base) bytes.now }
+        ensures steps { trace.new.steps ≡ trace.old.steps }
+        ensures ranges { trace.new.ranges
+            ≡ trace.old.ranges ++ (address, length bytes.now) ∷ [] }
+    {
+        trace.range(address, bytes.len() as u64);
+        let start = offset_inside(self.bytes.len(), bytes.len(), address);
+        copying::copy_bytes(&mut self.bytes, start, bytes);
     }
 
     /// Copies `length` bytes, at least one, from address `from` to `to` like memmove: the ranges may overlap. `None`, and nothing

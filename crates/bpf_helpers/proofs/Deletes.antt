@@ -24,18 +24,35 @@ use Rattle.bpf_helpers.proofs.Moved.{maps_moved, maps_again, map_replaced, maps_
 use Rattle.bpf_helpers.specs.States.{Environment, FlatState, with_held}
 
 table_kept : (t : KeyTable) (key : List ℕ) (p : ℕ) → table_of (with_kept t key p) ≡ with_deleted (table_of t) key
-table_kept t key p = ap (λ (n : ℕ). let m : Table ℕ = record { shape = t.shape; entries = without key t.entries; deleted = n } in m) (length-append t.kept (p ∷ []))
+table_kept t key p =
+    ap (λ (n : ℕ). let m : Table ℕ = record { shape = t.shape; entries = without key t.entries; deleted = n } in m)
+    (length-append t.kept (p ∷ []))
 
 -- ---- the map without the key
 
-module _ (below : LawsBelow) (l : Layout) (start : ℕ) (memory : List ℕ) (old new : LiveMaps) (k m : ℕ) (t : RunMap) (key : List ℕ) (p : ℕ) (h : HasMap l (stored_maps start memory old) k m t) (found : look_up (table_of (keys_at old k)) key ≡ Some p) (key_table : keys_at new k ≡ with_kept (keys_at old k) key p) (rest : OnlyKeysChange k old new) where
-  uses : (q : ℕ) → occurrences q (values_of (keys_at new k).entries) + occurrences q (keys_at new k).kept ≡ occurrences q (values_of (keys_at old k).entries) + occurrences q (keys_at old k).kept
-  uses q = ap (λ (x : KeyTable). occurrences q (values_of x.entries) + occurrences q x.kept) key_table ∙ below.deletes (keys_at old k) key p q found
+module _ (below : LawsBelow) (l : Layout) (start : ℕ) (memory : List ℕ) (old new : LiveMaps)
+    (k m : ℕ) (t : RunMap) (key : List ℕ) (p : ℕ)
+    (h : HasMap l (stored_maps start memory old) k m t)
+    (found : look_up (table_of (keys_at old k)) key ≡ Some p)
+    (key_table : keys_at new k ≡ with_kept (keys_at old k) key p)
+    (rest : OnlyKeysChange k old new) where
+  uses : (q : ℕ)
+      → occurrences q (values_of (keys_at new k).entries) + occurrences q (keys_at new k).kept
+      ≡ occurrences q (values_of (keys_at old k).entries) + occurrences q (keys_at old k).kept
+  uses q =
+      ap (λ (x : KeyTable). occurrences q (values_of x.entries) + occurrences q x.kept) key_table
+      ∙ below.deletes (keys_at old k) key p q found
 
   table_after : table_of (keys_at new k) ≡ with_values h.element (with_deleted t.table key)
-  table_after = ap table_of key_table ∙ table_kept (keys_at old k) key p ∙ ap (λ (x : Table ℕ). with_deleted x key) h.table ∙ sym (below.along.delete h.element t.table key)
+  table_after =
+      ap table_of key_table
+      ∙ table_kept (keys_at old k) key p
+      ∙ ap (λ (x : Table ℕ). with_deleted x key) h.table
+      ∙ sym (below.along.delete h.element t.table key)
 
-  object_after : (number : ℕ) → number < t.count → HasObject (stored_maps start memory new) k (h.element number) (l.object_at m number) (t.values number)
+  object_after : (number : ℕ)
+      → number < t.count
+      → HasObject (stored_maps start memory new) k (h.element number) (l.object_at m number) (t.values number)
   object_after number lt =
       let o = h.objects number lt in
       let off = below.areas old new k (h.element number) rest.areas rest.live in
@@ -43,7 +60,11 @@ module _ (below : LawsBelow) (l : Layout) (start : ℕ) (memory : List ℕ) (old
         within = subst (λ (s : MapShape). h.element number < s.max_entries) (sym rest.shape) o.within;
         in_use = let used = o.in_use in let same = uses (h.element number) in omega arith;
         address = o.address ∙ ap (λ (a : ℕ). base + (start + a)) (sym off);
-        bytes = ap (λ (a : ℕ). bytes_at memory (start + a) (shape_at new k).value_size) off ∙ ap (λ (s : MapShape). bytes_at memory (start + offset_at old k (h.element number)) s.value_size) rest.shape ∙ o.bytes;
+        bytes =
+            ap (λ (a : ℕ). bytes_at memory (start + a) (shape_at new k).value_size) off
+            ∙ ap (λ (s : MapShape). bytes_at memory (start + offset_at old k (h.element number)) s.value_size)
+            rest.shape
+            ∙ o.bytes;
       }
 
   pub map_without : HasMap l (stored_maps start memory new) k m (without_key t key)
@@ -59,23 +80,37 @@ module _ (below : LawsBelow) (l : Layout) (start : ℕ) (memory : List ℕ) (old
 
 -- ---- by the result
 
-module _ (below : LawsBelow) (env : Environment) (l : Layout) (flat : FlatState) (s : RunState) (i m : ℕ) (map : RunMap) (key : List ℕ) (word : ℕ) (new : LiveMaps)
-    (stands : Simulates env l flat s) (named : slice_get env.descriptors i ≡ Some m) (is : s.maps m ≡ Some map) (d : Deletes flat.maps (record { map = slice_index env.bind i; key = key }) word new) where
+module _ (below : LawsBelow) (env : Environment) (l : Layout) (flat : FlatState) (s : RunState)
+    (i m : ℕ) (map : RunMap) (key : List ℕ) (word : ℕ) (new : LiveMaps)
+    (stands : Simulates env l flat s)
+    (named : slice_get env.descriptors i ≡ Some m)
+    (is : s.maps m ≡ Some map)
+    (d : Deletes flat.maps (record { map = slice_index env.bind i; key = key }) word new) where
   abbrev k : ℕ
   k = slice_index env.bind i
 
   Done : Result ℕ MapFault → Type 0
-  Done r = (word ≡ (taken_out map key r).answer) × Simulates env l (with_held flat flat.memory new) (with_map s m (taken_out map key r).map)
+  Done r =
+      (word ≡ (taken_out map key r).answer)
+      × Simulates env l (with_held flat flat.memory new) (with_map s m (taken_out map key r).map)
 
   has : HasMap l (stored_maps (part_start env.memory env.tenant) flat.memory.bytes flat.maps) k m map
   has =
       let g = stands.maps.each i m named in
-      subst (HasMap l (stored_maps (part_start env.memory env.tenant) flat.memory.bytes flat.maps) k m) (same_Some g.0 map (sym g.1 ∙ is)) g.2
+      subst (HasMap l (stored_maps (part_start env.memory env.tenant) flat.memory.bytes flat.maps) k m)
+      (same_Some g.0 map (sym g.1 ∙ is)) g.2
 
-  with_maps : (u : RunMap) → MapsStandFor env l (stored_maps (part_start env.memory env.tenant) flat.memory.bytes new) (set_at s.maps m (Some u)) → Simulates env l (with_held flat flat.memory new) (with_map s m u)
+  with_maps : (u : RunMap)
+      → MapsStandFor env l
+      (stored_maps (part_start env.memory env.tenant) flat.memory.bytes new)
+      (set_at s.maps m (Some u))
+      → Simulates env l (with_held flat flat.memory new) (with_map s m u)
   with_maps u maps = maps_stand stands i m named new d.rest (set_at s.maps m (Some u)) maps
 
-  done : (r : Result ℕ MapFault) → removal map.table key ≡ r → Removes (result_map_both has.element (λ fault. fault) r) key (keys_at flat.maps k) d.outcome (keys_at new k) → Done r
+  done : (r : Result ℕ MapFault)
+      → removal map.table key ≡ r
+      → Removes (result_map_both has.element (λ fault. fault) r) key (keys_at flat.maps k) d.outcome (keys_at new k)
+      → Done r
   unfolding Done
   done (Err fault) e c = (
     d.word_is ∙ ap removal_word c.0,
@@ -83,19 +118,28 @@ module _ (below : LawsBelow) (env : Environment) (l : Layout) (flat : FlatState)
   )
   done (Ok number) e c =
       let there : look_up (table_of (keys_at flat.maps k)) key ≡ Some (has.element number) =
-      removal_found (table_of (keys_at flat.maps k)).shape.kind (look_up (table_of (keys_at flat.maps k)) key) (has.element number)
-      (ap (λ (x : Table ℕ). removal x key) has.table ∙ below.along.removal has.element map.table key ∙ ap (result_map_both has.element (λ fault. fault)) e) in (
+      removal_found (table_of (keys_at flat.maps k)).shape.kind
+      (look_up (table_of (keys_at flat.maps k)) key) (has.element number)
+      (ap (λ (x : Table ℕ). removal x key) has.table
+      ∙ below.along.removal has.element map.table key
+      ∙ ap (result_map_both has.element (λ fault. fault)) e) in (
         d.word_is ∙ ap removal_word c.0,
         with_maps (without_key map key)
             (map_replaced i m stands.maps named d.rest
-            (map_without below l (part_start env.memory env.tenant) flat.memory.bytes flat.maps new k m map key (has.element number) has there c.1 d.rest)),
+            (map_without below l (part_start env.memory env.tenant) flat.memory.bytes flat.maps new
+            k m map key (has.element number) has there c.1 d.rest)),
       )
 
-  pub delete_stands : (word ≡ (removed map key).answer) × Simulates env l (with_held flat flat.memory new) (with_map s m (removed map key).map)
+  pub delete_stands : (word ≡ (removed map key).answer)
+      × Simulates env l (with_held flat flat.memory new) (with_map s m (removed map key).map)
   unfolding Done
   delete_stands =
-      let same : removal (table_of (keys_at flat.maps k)) key ≡ result_map_both has.element (λ fault. fault) (removal map.table key) = ap (λ (x : Table ℕ). removal x key) has.table ∙ below.along.removal has.element map.table key in
-      done (removal map.table key) refl (subst (λ r. Removes r key (keys_at flat.maps k) d.outcome (keys_at new k)) same d.removed)
+      let same : removal (table_of (keys_at flat.maps k)) key
+      ≡ result_map_both has.element (λ fault. fault) (removal map.table key) =
+      ap (λ (x : Table ℕ). removal x key) has.table ∙ below.along.removal has.element map.table key in
+      done (removal map.table key) refl
+      (subst (λ r. Removes r key (keys_at flat.maps k) d.outcome (keys_at new k)) same d.removed)
 
 pub deletes_keep_simulation : LawsBelow → DeletesKeepSimulation
-deletes_keep_simulation below env l flat s i m map key word new stands named is d = delete_stands below env l flat s i m map key word new stands named is d
+deletes_keep_simulation below env l flat s i m map key word new stands named is d =
+    delete_stands below env l flat s i m map key word new stands named is d

@@ -39,27 +39,38 @@ use Rattle.bpf_helpers.specs.States.{CallSite, CallAnswer, Environment, FlatStat
 same_holds : (old new : LiveMaps) (k : ℕ) → OnlyKeysChange k old new → (key : ℕ) → holds_at new key ≡ holds_at old key
 same_holds old new k rest key =
     ⊎_elim
-    (λ b. let same : k ≡ key = sym (eqb-true key k b) in subst (λ (x : ℕ). holds_at new x ≡ holds_at old x) same rest.holds)
+    (λ b.
+    let same : k ≡ key = sym (eqb-true key k b) in subst (λ (x : ℕ). holds_at new x ≡ holds_at old x) same rest.holds)
     (λ b. ap (λ (o : Option LiveMap). (live_or o).holds) (rest.others key (eqb-false key k b)))
     (cases_Bool (eqb key k))
 
 -- the input has as many bytes as were requested
-input_long : (memory : Memory) (t n w : ℕ) (bs : List ℕ) → part_start memory t + memory.part ≤ length memory.bytes → part_input memory t n w ≡ Some bs → length bs ≡ n
+input_long : (memory : Memory) (t n w : ℕ) (bs : List ℕ)
+    → part_start memory t + memory.part ≤ length memory.bytes
+    → part_input memory t n w ≡ Some bs
+    → length bs ≡ n
 input_long memory t n w bs fits e =
-    let a = also_some (part_offset (part_start memory t) memory.part n w) (λ p. Some (bytes_at memory.bytes (part_start memory t + p) n)) bs e in
+    let a =
+    also_some (part_offset (part_start memory t) memory.part n w)
+    (λ p. Some (bytes_at memory.bytes (part_start memory t + p) n))
+    bs e in
     let start = part_start memory t in
     let c = cond_some (leb (base + start) w && leb (w + n) (base + start + memory.part)) (w - (base + start)) a.0 a.1 in
     let p = and_parts (leb (base + start) w) (leb (w + n) (base + start + memory.part)) c.0 in
     let from : base + start ≤ w = leb-true (base + start) w p.0 in
     let to : w + n ≤ base + start + memory.part = leb-true (w + n) (base + start + memory.part) p.1 in
     let offset : w - (base + start) ≡ a.0 = c.1 in
-    ap length (sym (same_Some (bytes_at memory.bytes (part_start memory t + a.0) n) bs a.2)) ∙ length-bytes_at memory.bytes (part_start memory t + a.0) n (omega arith)
+    ap length (sym (same_Some (bytes_at memory.bytes (part_start memory t + a.0) n) bs a.2))
+    ∙ length-bytes_at memory.bytes (part_start memory t + a.0) n (omega arith)
 
-module _ (env : Environment) (l : Layout) (flat : FlatState) (s : RunState) (room : IsRoom env.memory env.tenant) (stands : Simulates env l flat s) (words : List ℕ) (args : AreArguments words flat.registers) where
+module _ (env : Environment) (l : Layout) (flat : FlatState) (s : RunState)
+    (room : IsRoom env.memory env.tenant) (stands : Simulates env l flat s) (words : List ℕ)
+    (args : AreArguments words flat.registers) where
   part_fits : part_start flat.memory env.tenant + flat.memory.part ≤ length flat.memory.bytes
   part_fits =
       let within = part_within env.memory env.tenant room.is_part in
-      let begin : part_start flat.memory env.tenant ≡ part_start env.memory env.tenant = ap (λ (n : ℕ). env.tenant * n) stands.changed.part in
+      let begin : part_start flat.memory env.tenant ≡ part_start env.memory env.tenant =
+      ap (λ (n : ℕ). env.tenant * n) stands.changed.part in
       let size = stands.changed.size in
       let part = stands.changed.part in
       omega arith
@@ -71,31 +82,53 @@ module _ (env : Environment) (l : Layout) (flat : FlatState) (s : RunState) (roo
   map_there : (g : GivenMap) → map_argument s 1 ≡ Some g → IsMap g
   map_there g e =
       let given = is_given s 1 g e in
-      let word : IsWord env l (Map g.descriptor) (slice_index words 0) = subst (IsWord env l (Map g.descriptor)) (sym (args 0 (omega arith))) (stands.values 1 (Map g.descriptor) (omega arith) given.register) in
+      let word : IsWord env l (Map g.descriptor) (slice_index words 0) =
+      subst (IsWord env l (Map g.descriptor)) (sym (args 0 (omega arith)))
+      (stands.values 1 (Map g.descriptor) (omega arith) given.register) in
       map_bound env l flat s room stands (slice_index words 0) g.descriptor g.map word given.there
 
   map_shape : {g : GivenMap} (m : IsMap g) → shape_at flat.maps (slice_index env.bind m.index) ≡ g.map.table.shape
   map_shape m = ap (λ (x : Table ℕ). x.shape) m.has.table
 
   -- the bytes at the address in another register
-  bytes_there : (i n size : ℕ) (bs : List ℕ) → i < 5 → size ≡ n → argument s (i + 1) (λ p. input s p n) ≡ Some bs → (part_input flat.memory env.tenant size (slice_index words i) ≡ Some bs) × (length bs ≡ n)
+  bytes_there : (i n size : ℕ) (bs : List ℕ)
+      → i < 5 → size ≡ n
+      → argument s (i + 1) (λ p. input s p n) ≡ Some bs
+      → (part_input flat.memory env.tenant size (slice_index words i) ≡ Some bs) × (length bs ≡ n)
   bytes_there i n size bs lt same e =
       let a = also_some (s.registers (i + 1)) (λ p. input s p n) bs e in
-      let read = input_there env l flat s room stands a.0 (slice_index flat.registers (i + 1)) n bs (stands.values (i + 1) a.0 (omega arith) a.1) a.2 in (
-        ap (λ (k : ℕ). part_input flat.memory env.tenant k (slice_index words i)) same ∙ ap (λ (w : ℕ). part_input flat.memory env.tenant n w) (args i lt) ∙ read,
+      let read =
+      input_there env l flat s room stands a.0 (slice_index flat.registers (i + 1)) n bs
+      (stands.values (i + 1) a.0 (omega arith) a.1) a.2 in (
+        ap (λ (k : ℕ). part_input flat.memory env.tenant k (slice_index words i)) same
+            ∙ ap (λ (w : ℕ). part_input flat.memory env.tenant n w) (args i lt)
+            ∙ read,
         input_long flat.memory env.tenant n (slice_index flat.registers (i + 1)) bs part_fits read,
       )
 
   -- a key of the map in register 1, at the address in register 2
-  key_is_named : {g : GivenMap} (m : IsMap g) (key : List ℕ) → part_input flat.memory env.tenant (shape_at flat.maps (slice_index env.bind m.index)).key_size (slice_index words 1) ≡ Some key
-      → key_named (site_in env flat) (slice_index words 0) (slice_index words 1) ≡ Some (record { map = slice_index env.bind m.index; key = key })
+  key_is_named : {g : GivenMap} (m : IsMap g) (key : List ℕ)
+      → part_input flat.memory env.tenant
+      (shape_at flat.maps (slice_index env.bind m.index)).key_size
+      (slice_index words 1)
+      ≡ Some key
+      → key_named (site_in env flat) (slice_index words 0) (slice_index words 1)
+      ≡ Some (record { map = slice_index env.bind m.index; key = key })
   key_is_named m key e = key_is (site_in env flat) (slice_index words 0) (slice_index words 1) m.bound key e
 
-  other_key : (index key : ℕ) → index < length env.bind → ((i : ℕ) → i < length env.bind → slice_index env.bind i ≢ key) → key ≢ slice_index env.bind index
+  other_key : (index key : ℕ)
+      → index < length env.bind
+      → ((i : ℕ) → i < length env.bind → slice_index env.bind i ≢ key)
+      → key ≢ slice_index env.bind index
   other_key index key lt away same = away index lt (sym same)
 
   -- a call that changes only the keys of one bound map
-  changes_keys : (m : ℕ) → m < length env.bind → (answer : CallAnswer) → OnlyKeysChange (slice_index env.bind m) flat.maps answer.maps → (layout : Layout) → Extends l layout → (u : RunState) → Simulates env layout (with_answer flat answer) u → ResultFollows env l flat u answer
+  changes_keys : (m : ℕ)
+      → m < length env.bind
+      → (answer : CallAnswer) → OnlyKeysChange (slice_index env.bind m) flat.maps answer.maps
+      → (layout : Layout) → Extends l layout
+      → (u : RunState) → Simulates env layout (with_answer flat answer) u
+      → ResultFollows env l flat u answer
   changes_keys m within answer rest layout more u after = record {
     layout = layout;
     extends = more;
@@ -107,34 +140,93 @@ module _ (env : Environment) (l : Layout) (flat : FlatState) (s : RunState) (roo
   }
 
   -- a call that does not change the maps
-  leaves_maps : (word : ℕ) (after : Memory) (u : RunState) → Simulates env l (with_answer flat (answers word after flat.maps)) u → ResultFollows env l flat u (answers word after flat.maps)
-  leaves_maps word after u stands = record { layout = l; extends = extends_itself l; stands = stands; others = λ key away. refl; areas = same_areas flat.maps; holds = λ key. refl; flag = refl }
+  leaves_maps : (word : ℕ) (after : Memory) (u : RunState)
+      → Simulates env l (with_answer flat (answers word after flat.maps)) u
+      → ResultFollows env l flat u (answers word after flat.maps)
+  leaves_maps word after u stands = record {
+    layout = l;
+    extends = extends_itself l;
+    stands = stands;
+    others = λ key away. refl;
+    areas = same_areas flat.maps;
+    holds = λ key. refl;
+    flag = refl;
+  }
 
   module _ (returned : ReturnsKeepSimulation) (below : LawsBelow) where
-    look_up_followed : (word : ℕ) (u : RunState) → word ≡ unwrap_or (flat_look_up (site_in env flat) (slice_index words 0) (slice_index words 1)) 0 → called LookUp s ≡ Some u → ResultFollows env l flat u (answers word flat.memory flat.maps)
+    look_up_followed : (word : ℕ) (u : RunState)
+        → word ≡ unwrap_or (flat_look_up (site_in env flat) (slice_index words 0) (slice_index words 1)) 0
+        → called LookUp s ≡ Some u
+        → ResultFollows env l flat u (answers word flat.memory flat.maps)
     look_up_followed word u told e =
         let f = look_ups_follow below.along env l flat s u room stands e in
-        let same : flat_look_up (site_in env flat) (slice_index words 0) (slice_index words 1) ≡ flat_look_up (site_in env flat) (slice_index flat.registers 1) (slice_index flat.registers 2) =
-        ap (λ (w : ℕ). flat_look_up (site_in env flat) w (slice_index words 1)) (args 0 (omega arith)) ∙ ap (λ (w : ℕ). flat_look_up (site_in env flat) (slice_index flat.registers 1) w) (args 1 (omega arith)) in
-        by f.0 f.1 (flat_look_up (site_in env flat) (slice_index words 0) (slice_index words 1)) told (subst (λ x. GivesWord env l x (Some f.0)) (sym same) f.2)
+        let same : flat_look_up (site_in env flat) (slice_index words 0) (slice_index words 1)
+        ≡ flat_look_up (site_in env flat) (slice_index flat.registers 1) (slice_index flat.registers 2) =
+        ap (λ (w : ℕ). flat_look_up (site_in env flat) w (slice_index words 1)) (args 0 (omega arith))
+        ∙ ap (λ (w : ℕ). flat_look_up (site_in env flat) (slice_index flat.registers 1) w) (args 1 (omega arith)) in
+        by f.0 f.1
+        (flat_look_up (site_in env flat) (slice_index words 0) (slice_index words 1))
+        told
+        (subst (λ x. GivesWord env l x (Some f.0)) (sym same) f.2)
       where
-        by : (v : Tagged) → u ≡ returns s v → (x : Option ℕ) → word ≡ unwrap_or x 0 → GivesWord env l x (Some v) → ResultFollows env l flat u (answers word flat.memory flat.maps)
+        by : (v : Tagged)
+            → u ≡ returns s v → (x : Option ℕ) → word ≡ unwrap_or x 0
+            → GivesWord env l x (Some v)
+            → ResultFollows env l flat u (answers word flat.memory flat.maps)
         by v after None f g = absurd g
         by v after (Some w) f g =
             leaves_maps word flat.memory u
-            (subst (λ (x : RunState). Simulates env l (with_answer flat (answers word flat.memory flat.maps)) x) (sym after) (returned env l flat s v word stands (subst (IsWord env l v) (sym f) g)))
+            (subst (λ (x : RunState). Simulates env l (with_answer flat (answers word flat.memory flat.maps)) x)
+            (sym after)
+            (returned env l flat s v word stands (subst (IsWord env l v) (sym f) g)))
 
-    update_followed : (reply : CallAnswer) (u : RunState) → UpdatesNamed (site_in env flat) (pair_named (site_in env flat) (slice_index words 0) (slice_index words 1) (slice_index words 2)) (slice_index words 3) reply → called Update s ≡ Some u → ResultFollows env l flat u reply
+    update_followed : (reply : CallAnswer) (u : RunState)
+        → UpdatesNamed (site_in env flat)
+        (pair_named (site_in env flat) (slice_index words 0) (slice_index words 1) (slice_index words 2))
+        (slice_index words 3) reply
+        → called Update s ≡ Some u
+        → ResultFollows env l flat u reply
     update_followed reply u told e =
-        let a = also_some (map_argument s 1) (λ g. and_then (argument s 2 (λ p. input s p g.map.table.shape.key_size)) (λ key. and_then (argument s 3 (λ p. input s p g.map.table.shape.value_size)) (λ value. and_then (argument s 4 number_given) (λ flags. Some (replies s g.descriptor (updated g.map key value flags)))))) u e in
+        let a =
+        also_some (map_argument s 1)
+        (λ g.
+        and_then (argument s 2 (λ p. input s p g.map.table.shape.key_size))
+        (λ key.
+        and_then (argument s 3 (λ p. input s p g.map.table.shape.value_size))
+        (λ value.
+        and_then (argument s 4 number_given) (λ flags. Some (replies s g.descriptor (updated g.map key value flags))))))
+        u e in
         let g = a.0 in
-        let b = also_some (argument s 2 (λ p. input s p g.map.table.shape.key_size)) (λ key. and_then (argument s 3 (λ p. input s p g.map.table.shape.value_size)) (λ value. and_then (argument s 4 number_given) (λ flags. Some (replies s g.descriptor (updated g.map key value flags))))) u a.2 in
-        let c = also_some (argument s 3 (λ p. input s p g.map.table.shape.value_size)) (λ value. and_then (argument s 4 number_given) (λ flags. Some (replies s g.descriptor (updated g.map b.0 value flags)))) u b.2 in
-        let d = also_some (argument s 4 number_given) (λ flags. Some (replies s g.descriptor (updated g.map b.0 c.0 flags))) u c.2 in
-        subst (λ (x : RunState). ResultFollows env l flat x reply) (same_Some _ u d.2) (update_by reply told (record { given = g; key = b.0; value = c.0; flags = d.0 }) a.1 b.1 c.1 d.1 (map_there g a.1))
+        let b =
+        also_some (argument s 2 (λ p. input s p g.map.table.shape.key_size))
+        (λ key.
+        and_then (argument s 3 (λ p. input s p g.map.table.shape.value_size))
+        (λ value.
+        and_then (argument s 4 number_given) (λ flags. Some (replies s g.descriptor (updated g.map key value flags)))))
+        u a.2 in
+        let c =
+        also_some (argument s 3 (λ p. input s p g.map.table.shape.value_size))
+        (λ value.
+        and_then (argument s 4 number_given) (λ flags. Some (replies s g.descriptor (updated g.map b.0 value flags))))
+        u b.2 in
+        let d =
+        also_some (argument s 4 number_given)
+        (λ flags. Some (replies s g.descriptor (updated g.map b.0 c.0 flags)))
+        u c.2 in
+        subst (λ (x : RunState). ResultFollows env l flat x reply) (same_Some _ u d.2)
+        (update_by reply told
+        (record { given = g; key = b.0; value = c.0; flags = d.0 })
+        a.1 b.1 c.1 d.1 (map_there g a.1))
       where
-        update_by : (reply : CallAnswer) → UpdatesNamed (site_in env flat) (pair_named (site_in env flat) (slice_index words 0) (slice_index words 1) (slice_index words 2)) (slice_index words 3) reply → (asked : TaggedUpdate)
-            → map_argument s 1 ≡ Some asked.given → argument s 2 (λ p. input s p asked.given.map.table.shape.key_size) ≡ Some asked.key → argument s 3 (λ p. input s p asked.given.map.table.shape.value_size) ≡ Some asked.value → argument s 4 number_given ≡ Some asked.flags → IsMap asked.given
+        update_by : (reply : CallAnswer)
+            → UpdatesNamed (site_in env flat)
+            (pair_named (site_in env flat) (slice_index words 0) (slice_index words 1) (slice_index words 2))
+            (slice_index words 3) reply
+            → (asked : TaggedUpdate) → map_argument s 1 ≡ Some asked.given
+            → argument s 2 (λ p. input s p asked.given.map.table.shape.key_size) ≡ Some asked.key
+            → argument s 3 (λ p. input s p asked.given.map.table.shape.value_size) ≡ Some asked.value
+            → argument s 4 number_given ≡ Some asked.flags
+            → IsMap asked.given
             → ResultFollows env l flat (replies s asked.given.descriptor (update_reply asked)) reply
         update_by reply told asked first second third fourth m =
             let g = asked.given in
@@ -142,33 +234,72 @@ module _ (env : Environment) (l : Layout) (flat : FlatState) (s : RunState) (roo
             let value = asked.value in
             let flags = asked.flags in
             let k = slice_index env.bind m.index in
-            let keys = bytes_there 1 g.map.table.shape.key_size (shape_at flat.maps k).key_size key (omega arith) (ap (λ (x : MapShape). x.key_size) (map_shape m)) second in
-            let values = bytes_there 2 g.map.table.shape.value_size (shape_at flat.maps k).value_size value (omega arith) (ap (λ (x : MapShape). x.value_size) (map_shape m)) third in
+            let keys =
+            bytes_there 1 g.map.table.shape.key_size (shape_at flat.maps k).key_size key
+            (omega arith) (ap (λ (x : MapShape). x.key_size) (map_shape m))
+            second in
+            let values =
+            bytes_there 2 g.map.table.shape.value_size (shape_at flat.maps k).value_size value
+            (omega arith)
+            (ap (λ (x : MapShape). x.value_size) (map_shape m))
+            third in
             let pair : NamedPair = record { map = k; key = key; value = value } in
-            let is = pair_is (site_in env flat) (slice_index words 0) (slice_index words 1) (slice_index words 2) (key_is_named m key keys.0) value values.0 in
-            let r : Updates (site_in env flat) pair (slice_index words 3) reply = subst (λ o. UpdatesNamed (site_in env flat) o (slice_index words 3) reply) is told in
-            let flags_are : slice_index words 3 ≡ flags = args 3 (omega arith) ∙ number_word env l flat s room stands 4 flags (omega arith) fourth in
-            let st = updates_keep_simulation below env l flat s m.index asked reply room stands m.named (is_given s 1 g first).there values.1 (subst (λ (f : ℕ). Updates (site_in env flat) pair f reply) flags_are r) in
+            let is =
+            pair_is (site_in env flat) (slice_index words 0) (slice_index words 1)
+            (slice_index words 2) (key_is_named m key keys.0) value
+            values.0 in
+            let r : Updates (site_in env flat) pair (slice_index words 3) reply =
+            subst (λ o. UpdatesNamed (site_in env flat) o (slice_index words 3) reply) is told in
+            let flags_are : slice_index words 3 ≡ flags =
+            args 3 (omega arith) ∙ number_word env l flat s room stands 4 flags (omega arith) fourth in
+            let st =
+            updates_keep_simulation below env l flat s m.index asked reply room stands m.named
+            (is_given s 1 g first).there values.1
+            (subst (λ (f : ℕ). Updates (site_in env flat) pair f reply) flags_are r) in
             let gave = update_reply asked in
             changes_keys m.index m.within reply r.rest st.layout st.extends (replies s g.descriptor gave)
-            (returned env st.layout (with_held flat reply.memory reply.maps) (with_map s g.descriptor gave.map) (Scalar gave.answer) reply.word st.stands st.answer_is)
+            (returned env st.layout (with_held flat reply.memory reply.maps)
+            (with_map s g.descriptor gave.map) (Scalar gave.answer)
+            reply.word st.stands st.answer_is)
 
-    delete_followed : (word : ℕ) (new : LiveMaps) (u : RunState) → DeletesNamed flat.maps (key_named (site_in env flat) (slice_index words 0) (slice_index words 1)) word new → called Delete s ≡ Some u → ResultFollows env l flat u (answers word flat.memory new)
+    delete_followed : (word : ℕ) (new : LiveMaps) (u : RunState)
+        → DeletesNamed flat.maps (key_named (site_in env flat) (slice_index words 0) (slice_index words 1)) word new
+        → called Delete s ≡ Some u
+        → ResultFollows env l flat u (answers word flat.memory new)
     delete_followed word new u told e =
-        let a = also_some (map_argument s 1) (λ g. and_then (argument s 2 (λ p. input s p g.map.table.shape.key_size)) (λ key. Some (replies s g.descriptor (removed g.map key)))) u e in
+        let a =
+        also_some (map_argument s 1)
+        (λ g.
+        and_then (argument s 2 (λ p. input s p g.map.table.shape.key_size))
+        (λ key. Some (replies s g.descriptor (removed g.map key))))
+        u e in
         let g = a.0 in
-        let b = also_some (argument s 2 (λ p. input s p g.map.table.shape.key_size)) (λ key. Some (replies s g.descriptor (removed g.map key))) u a.2 in
+        let b =
+        also_some (argument s 2 (λ p. input s p g.map.table.shape.key_size))
+        (λ key. Some (replies s g.descriptor (removed g.map key)))
+        u a.2 in
         let m = map_there g a.1 in
         let k = slice_index env.bind m.index in
-        let keys = bytes_there 1 g.map.table.shape.key_size (shape_at flat.maps k).key_size b.0 (omega arith) (ap (λ (x : MapShape). x.key_size) (map_shape m)) b.1 in
-        let r : Deletes flat.maps (record { map = k; key = b.0 }) word new = subst (λ o. DeletesNamed flat.maps o word new) (key_is_named m b.0 keys.0) told in
-        let st = deletes_keep_simulation below env l flat s m.index g.descriptor g.map b.0 word new stands m.named (is_given s 1 g a.1).there r in
+        let keys =
+        bytes_there 1 g.map.table.shape.key_size (shape_at flat.maps k).key_size b.0 (omega arith)
+        (ap (λ (x : MapShape). x.key_size) (map_shape m)) b.1 in
+        let r : Deletes flat.maps (record { map = k; key = b.0 }) word new =
+        subst (λ o. DeletesNamed flat.maps o word new) (key_is_named m b.0 keys.0) told in
+        let st =
+        deletes_keep_simulation below env l flat s m.index g.descriptor g.map b.0 word new stands
+        m.named (is_given s 1 g a.1).there r in
         let gave = removed g.map b.0 in
         changes_keys m.index m.within (answers word flat.memory new) r.rest l (extends_itself l) u
-        (subst (λ (x : RunState). Simulates env l (with_answer flat (answers word flat.memory new)) x) (same_Some (replies s g.descriptor gave) u b.2)
-        (returned env l (with_held flat flat.memory new) (with_map s g.descriptor gave.map) (Scalar gave.answer) word st.1 st.0))
+        (subst (λ (x : RunState). Simulates env l (with_answer flat (answers word flat.memory new)) x)
+        (same_Some (replies s g.descriptor gave) u b.2)
+        (returned env l (with_held flat flat.memory new) (with_map s g.descriptor gave.map)
+        (Scalar gave.answer) word st.1 st.0))
 
-    load_followed : (word : ℕ) (after : Memory) (u : RunState) → LoadsAt (site_in env flat) (slice_index words 1) (slice_index words 3) (named_offset flat.memory env.tenant (slice_index words 3) (slice_index words 2)) word after → called LoadBytes s ≡ Some u
+    load_followed : (word : ℕ) (after : Memory) (u : RunState)
+        → LoadsAt (site_in env flat) (slice_index words 1) (slice_index words 3)
+        (named_offset flat.memory env.tenant (slice_index words 3) (slice_index words 2))
+        word after
+        → called LoadBytes s ≡ Some u
         → ResultFollows env l flat u (answers word after flat.maps)
     load_followed word after u told e =
         let st = load_stands env l flat s room stands below.writes u e in
@@ -177,46 +308,96 @@ module _ (env : Environment) (l : Layout) (flat : FlatState) (s : RunState) (roo
         let count = args 3 (omega arith) in
         let same = stands.packet in
         let offset_is : named_offset flat.memory env.tenant (slice_index words 3) (slice_index words 2) ≡ Some st.offset =
-        ap (λ (n : ℕ). named_offset flat.memory env.tenant n (slice_index words 2)) count ∙ ap (λ (w : ℕ). named_offset flat.memory env.tenant (slice_index flat.registers 4) w) to ∙ st.offset_is in
-        let r : (word ≡ packet_answer env.packet (slice_index words 1) (slice_index words 3)) × (after ≡ with_bytes flat.memory (part_start flat.memory env.tenant + st.offset) (packet_bytes env.packet (slice_index words 1) (slice_index words 3))) =
-        subst (λ o. LoadsAt (site_in env flat) (slice_index words 1) (slice_index words 3) o word after) offset_is told in
-        let bytes : packet_bytes env.packet (slice_index words 1) (slice_index words 3) ≡ packet_bytes s.packet (slice_index flat.registers 2) (slice_index flat.registers 4) =
-        ap (λ (x : List ℕ). packet_bytes x (slice_index words 1) (slice_index words 3)) (sym same) ∙ ap (λ (x : ℕ). packet_bytes s.packet x (slice_index words 3)) offset ∙ ap (λ (x : ℕ). packet_bytes s.packet (slice_index flat.registers 2) x) count in
-        let gives : packet_answer env.packet (slice_index words 1) (slice_index words 3) ≡ packet_answer s.packet (slice_index flat.registers 2) (slice_index flat.registers 4) =
-        ap (λ (x : List ℕ). packet_answer x (slice_index words 1) (slice_index words 3)) (sym same) ∙ ap (λ (x : ℕ). packet_answer s.packet x (slice_index words 3)) offset ∙ ap (λ (x : ℕ). packet_answer s.packet (slice_index flat.registers 2) x) count in
+        ap (λ (n : ℕ). named_offset flat.memory env.tenant n (slice_index words 2)) count
+        ∙ ap (λ (w : ℕ). named_offset flat.memory env.tenant (slice_index flat.registers 4) w) to
+        ∙ st.offset_is in
+        let r : (word ≡ packet_answer env.packet (slice_index words 1) (slice_index words 3))
+        × (after
+        ≡ with_bytes flat.memory (part_start flat.memory env.tenant + st.offset)
+        (packet_bytes env.packet (slice_index words 1) (slice_index words 3))) =
+        subst (λ o. LoadsAt (site_in env flat) (slice_index words 1) (slice_index words 3) o word after)
+        offset_is told in
+        let bytes : packet_bytes env.packet (slice_index words 1) (slice_index words 3)
+        ≡ packet_bytes s.packet (slice_index flat.registers 2) (slice_index flat.registers 4) =
+        ap (λ (x : List ℕ). packet_bytes x (slice_index words 1) (slice_index words 3)) (sym same)
+        ∙ ap (λ (x : ℕ). packet_bytes s.packet x (slice_index words 3)) offset
+        ∙ ap (λ (x : ℕ). packet_bytes s.packet (slice_index flat.registers 2) x) count in
+        let gives : packet_answer env.packet (slice_index words 1) (slice_index words 3)
+        ≡ packet_answer s.packet (slice_index flat.registers 2) (slice_index flat.registers 4) =
+        ap (λ (x : List ℕ). packet_answer x (slice_index words 1) (slice_index words 3)) (sym same)
+        ∙ ap (λ (x : ℕ). packet_answer s.packet x (slice_index words 3)) offset
+        ∙ ap (λ (x : ℕ). packet_answer s.packet (slice_index flat.registers 2) x) count in
         let answer = packet_answer s.packet (slice_index flat.registers 2) (slice_index flat.registers 4) in
-        let written = with_bytes flat.memory (part_start flat.memory env.tenant + st.offset) (packet_bytes s.packet (slice_index flat.registers 2) (slice_index flat.registers 4)) in
-        let memory_is : after ≡ written = r.1 ∙ ap (λ (x : List ℕ). with_bytes flat.memory (part_start flat.memory env.tenant + st.offset) x) bytes in
+        let written =
+        with_bytes flat.memory (part_start flat.memory env.tenant + st.offset)
+        (packet_bytes s.packet (slice_index flat.registers 2) (slice_index flat.registers 4)) in
+        let memory_is : after ≡ written =
+        r.1 ∙ ap (λ (x : List ℕ). with_bytes flat.memory (part_start flat.memory env.tenant + st.offset) x) bytes in
         leaves_maps word after u
         (subst (λ (x : RunState). Simulates env l (with_answer flat (answers word after flat.maps)) x) (sym st.is)
-        (subst (λ (n : Memory). Simulates env l (with_answer flat (answers word n flat.maps)) (returns st.written (Scalar answer))) (sym memory_is)
+        (subst (λ (n : Memory).
+        Simulates env l (with_answer flat (answers word n flat.maps)) (returns st.written (Scalar answer)))
+        (sym memory_is)
         (returned env l (with_memory flat written) st.written (Scalar answer) word st.stands (r.0 ∙ gives))))
 
 -- ---- the site of a call
 
 -- a law of calls in an environment and a state holds at each site that is the site of such an environment and state
-module _ (Told : CallSite → Type 0) (reply : CallSite → CallAnswer) (words : List ℕ) (helper : Helper)
-    (follows : (env : Environment) (l : Layout) (flat : FlatState) (s : RunState) → IsRoom env.memory env.tenant → Simulates env l flat s → AreArguments words flat.registers → (u : RunState) → Told (site_in env flat) → called helper s ≡ Some u → ResultFollows env l flat u (reply (site_in env flat))) where
+module _ (Told : CallSite → Type 0) (reply : CallSite → CallAnswer) (words : List ℕ)
+    (helper : Helper)
+    (follows : (env : Environment) (l : Layout) (flat : FlatState) (s : RunState)
+    → IsRoom env.memory env.tenant → Simulates env l flat s
+    → AreArguments words flat.registers → (u : RunState) → Told (site_in env flat)
+    → called helper s ≡ Some u
+    → ResultFollows env l flat u (reply (site_in env flat))) where
   follows_at : (site : CallSite) → Told site → CallFollows site words helper (reply site)
-  follows_at site told env l flat s u found room stands args goes = subst (λ (x : CallSite). ResultFollows env l flat u (reply x)) found (follows env l flat s room stands args u (subst Told (sym found) told) goes)
+  follows_at site told env l flat s u found room stands args goes =
+      subst (λ (x : CallSite). ResultFollows env l flat u (reply x)) found
+      (follows env l flat s room stands args u (subst Told (sym found) told) goes)
 
 module _ (returned : ReturnsKeepSimulation) (below : LawsBelow) (words : List ℕ) where
-  pub look_up_follows : (word : ℕ) (site : CallSite) → word ≡ unwrap_or (flat_look_up site (slice_index words 0) (slice_index words 1)) 0 → CallFollows site words LookUp (answers word site.memory site.maps)
+  pub look_up_follows : (word : ℕ) (site : CallSite)
+      → word ≡ unwrap_or (flat_look_up site (slice_index words 0) (slice_index words 1)) 0
+      → CallFollows site words LookUp (answers word site.memory site.maps)
   look_up_follows word =
-      follows_at (λ x. word ≡ unwrap_or (flat_look_up x (slice_index words 0) (slice_index words 1)) 0) (λ x. answers word x.memory x.maps) words LookUp
-      (λ env l flat s room stands args u told goes. look_up_followed env l flat s room stands words args returned below word u told goes)
+      follows_at (λ x. word ≡ unwrap_or (flat_look_up x (slice_index words 0) (slice_index words 1)) 0)
+      (λ x. answers word x.memory x.maps) words LookUp
+      (λ env l flat s room stands args u told goes.
+      look_up_followed env l flat s room stands words args returned below word u told goes)
 
-  pub update_follows : (reply : CallAnswer) (site : CallSite) → UpdatesNamed site (pair_named site (slice_index words 0) (slice_index words 1) (slice_index words 2)) (slice_index words 3) reply → CallFollows site words Update reply
+  pub update_follows : (reply : CallAnswer) (site : CallSite)
+      → UpdatesNamed site
+      (pair_named site (slice_index words 0) (slice_index words 1) (slice_index words 2))
+      (slice_index words 3) reply
+      → CallFollows site words Update reply
   update_follows reply =
-      follows_at (λ x. UpdatesNamed x (pair_named x (slice_index words 0) (slice_index words 1) (slice_index words 2)) (slice_index words 3) reply) (λ _. reply) words Update
-      (λ env l flat s room stands args u told goes. update_followed env l flat s room stands words args returned below reply u told goes)
+      follows_at (λ x.
+      UpdatesNamed x
+      (pair_named x (slice_index words 0) (slice_index words 1) (slice_index words 2))
+      (slice_index words 3) reply)
+      (λ _. reply) words Update
+      (λ env l flat s room stands args u told goes.
+      update_followed env l flat s room stands words args returned below reply u told goes)
 
-  pub delete_follows : (word : ℕ) (new : LiveMaps) (site : CallSite) → DeletesNamed site.maps (key_named site (slice_index words 0) (slice_index words 1)) word new → CallFollows site words Delete (answers word site.memory new)
+  pub delete_follows : (word : ℕ) (new : LiveMaps) (site : CallSite)
+      → DeletesNamed site.maps (key_named site (slice_index words 0) (slice_index words 1)) word new
+      → CallFollows site words Delete (answers word site.memory new)
   delete_follows word new =
-      follows_at (λ x. DeletesNamed x.maps (key_named x (slice_index words 0) (slice_index words 1)) word new) (λ x. answers word x.memory new) words Delete
-      (λ env l flat s room stands args u told goes. delete_followed env l flat s room stands words args returned below word new u told goes)
+      follows_at (λ x. DeletesNamed x.maps (key_named x (slice_index words 0) (slice_index words 1)) word new)
+      (λ x. answers word x.memory new) words Delete
+      (λ env l flat s room stands args u told goes.
+      delete_followed env l flat s room stands words args returned below word new u told goes)
 
-  pub load_follows : (word : ℕ) (after : Memory) (site : CallSite) → LoadsAt site (slice_index words 1) (slice_index words 3) (named_offset site.memory site.tenant (slice_index words 3) (slice_index words 2)) word after → CallFollows site words LoadBytes (answers word after site.maps)
+  pub load_follows : (word : ℕ) (after : Memory) (site : CallSite)
+      → LoadsAt site (slice_index words 1) (slice_index words 3)
+      (named_offset site.memory site.tenant (slice_index words 3) (slice_index words 2))
+      word after
+      → CallFollows site words LoadBytes (answers word after site.maps)
   load_follows word after =
-      follows_at (λ x. LoadsAt x (slice_index words 1) (slice_index words 3) (named_offset x.memory x.tenant (slice_index words 3) (slice_index words 2)) word after) (λ x. answers word after x.maps) words LoadBytes
-      (λ env l flat s room stands args u told goes. load_followed env l flat s room stands words args returned below word after u told goes)
+      follows_at (λ x.
+      LoadsAt x (slice_index words 1) (slice_index words 3)
+      (named_offset x.memory x.tenant (slice_index words 3) (slice_index words 2))
+      word after)
+      (λ x. answers word after x.maps) words LoadBytes
+      (λ env l flat s room stands args u told goes.
+      load_followed env l flat s room stands words args returned below word after u told goes)

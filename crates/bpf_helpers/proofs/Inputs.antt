@@ -28,18 +28,25 @@ use Rattle.bpf_helpers.specs.States.{Environment, FlatState}
 
 -- ---- parts
 
-pub part_offset_is : (start part n address at : ℕ) → address ≡ base + (start + at) → at + n ≤ part → part_offset start part n address ≡ Some at
+pub part_offset_is : (start part n address at : ℕ)
+    → address ≡ base + (start + at) → at + n ≤ part
+    → part_offset start part n address ≡ Some at
 part_offset_is start part n address at e h =
     let from : base + start ≤ address = omega arith in
     let to : address + n ≤ base + start + part = omega arith in
-    let t = and_from (leb (base + start) address) (leb (address + n) (base + start + part)) (le-leb (base + start) address from) (le-leb (address + n) (base + start + part) to) in
+    let t =
+    and_from (leb (base + start) address) (leb (address + n) (base + start + part))
+    (le-leb (base + start) address from) (le-leb (address + n) (base + start + part) to) in
     let offset : address - (base + start) ≡ at = omega arith in
-    cond-true (leb (base + start) address && leb (address + n) (base + start + part)) (Some (address - (base + start))) None t ∙ ap (λ (q : ℕ). Some q) offset
+    cond-true (leb (base + start) address && leb (address + n) (base + start + part))
+    (Some (address - (base + start))) None t
+    ∙ ap (λ (q : ℕ). Some q) offset
 
 -- ---- maps
 
 -- an object that has an element
-pub record Found (l : Layout) (start : ℕ) (memory : List ℕ) (tenant : LiveMaps) (maps : ℕ → Option RunMap) (m number : ℕ) : Type 0 where
+pub record Found (l : Layout) (start : ℕ) (memory : List ℕ) (tenant : LiveMaps)
+    (maps : ℕ → Option RunMap) (m number : ℕ) : Type 0 where
   pub map : RunMap
   pub there : maps m ≡ Some map
   pub key : ℕ
@@ -47,7 +54,11 @@ pub record Found (l : Layout) (start : ℕ) (memory : List ℕ) (tenant : LiveMa
   pub element : ℕ
   pub has : HasObject (stored_maps start memory tenant) key element (l.object_at m number) (map.values number)
 
-pub placed_object : (env : Environment) (l : Layout) (start : ℕ) (memory : List ℕ) (tenant : LiveMaps) (maps : ℕ → Option RunMap) (m number : ℕ) → MapsStandFor env l (stored_maps start memory tenant) maps → number < l.counts m → Found l start memory tenant maps m number
+pub placed_object : (env : Environment) (l : Layout) (start : ℕ) (memory : List ℕ)
+    (tenant : LiveMaps) (maps : ℕ → Option RunMap) (m number : ℕ)
+    → MapsStandFor env l (stored_maps start memory tenant) maps
+    → number < l.counts m
+    → Found l start memory tenant maps m number
 placed_object env l start memory tenant maps m number has lt =
     let at = has.listed m number lt in
     let g = has.each at.0 m at.1 in
@@ -63,7 +74,8 @@ placed_object env l start memory tenant maps m number has lt =
 
 -- ---- inputs
 
-module _ (env : Environment) (l : Layout) (flat : FlatState) (s : RunState) (room : IsRoom env.memory env.tenant) (stands : Simulates env l flat s) where
+module _ (env : Environment) (l : Layout) (flat : FlatState) (s : RunState)
+    (room : IsRoom env.memory env.tenant) (stands : Simulates env l flat s) where
   start : ℕ
   start = part_start env.memory env.tenant
 
@@ -74,17 +86,30 @@ module _ (env : Environment) (l : Layout) (flat : FlatState) (s : RunState) (roo
   part_same = stands.changed.part ∙ room.room
 
   -- n bytes that are in the part
-  there : (w n q : ℕ) (bs : List ℕ) → w ≡ base + (part_start env.memory env.tenant + q) → q + n ≤ PART → bytes_at flat.memory.bytes (part_start env.memory env.tenant + q) n ≡ bs → part_input flat.memory env.tenant n w ≡ Some bs
+  there : (w n q : ℕ) (bs : List ℕ)
+      → w ≡ base + (part_start env.memory env.tenant + q)
+      → q + n ≤ PART
+      → bytes_at flat.memory.bytes (part_start env.memory env.tenant + q) n ≡ bs
+      → part_input flat.memory env.tenant n w ≡ Some bs
   there w n q bs e fits same =
       let begin = start_same in
       let part = part_same in
-      ap (λ o. and_then o (λ p. Some (bytes_at flat.memory.bytes (part_start flat.memory env.tenant + p) n))) (part_offset_is (part_start flat.memory env.tenant) flat.memory.part n w q (e ∙ ap (λ (a : ℕ). base + (a + q)) (sym start_same)) (omega arith))
+      ap (λ o. and_then o (λ p. Some (bytes_at flat.memory.bytes (part_start flat.memory env.tenant + p) n)))
+      (part_offset_is (part_start flat.memory env.tenant) flat.memory.part n w q
+      (e ∙ ap (λ (a : ℕ). base + (a + q)) (sym start_same))
+      (omega arith))
       ∙ ap (λ (a : ℕ). Some (bytes_at flat.memory.bytes (a + q) n)) start_same ∙ ap (λ (x : List ℕ). Some x) same
 
   pub memory_long : part_start env.memory env.tenant + PART ≤ length flat.memory.bytes
-  memory_long = let within = part_within env.memory env.tenant room.is_part in let size = stands.changed.size in let part = room.room in omega arith
+  memory_long =
+      let within = part_within env.memory env.tenant room.is_part in
+      let size = stands.changed.size in
+      let part = room.room in
+      omega arith
 
-  stack_there : (x : ℤ) (w n : ℕ) (bs : List ℕ) → pos w ≡ pos l.front +ℤ x → stack_bytes s x n ≡ Some bs → part_input flat.memory env.tenant n w ≡ Some bs
+  stack_there : (x : ℤ) (w n : ℕ) (bs : List ℕ)
+      → pos w ≡ pos l.front +ℤ x → stack_bytes s x n ≡ Some bs
+      → part_input flat.memory env.tenant n w ≡ Some bs
   stack_there x w n bs h e =
       let c = chosen (is_in_stack x n) (gathered (stack_byte s) (byte_index x) n) e in
       let is = in_stack n x c in
@@ -92,36 +117,51 @@ module _ (env : Environment) (l : Layout) (flat : FlatState) (s : RunState) (roo
       let within = is.1 in
       let front = stands.front in
       let long = memory_long in
-      there w n (byte_index x) bs (omega (arith, ints)) (omega arith) (bytes_there env l flat.memory.bytes (part_start env.memory env.tenant) s x n bs stands.stack (omega arith) e)
+      there w n (byte_index x) bs (omega (arith, ints)) (omega arith)
+      (bytes_there env l flat.memory.bytes (part_start env.memory env.tenant) s x n bs stands.stack (omega arith) e)
     where
       chosen : (b : Bool) (o : Option (List ℕ)) → (if b then o else None) ≡ Some bs → b ≡ true
       chosen true o e = refl
       chosen false o e = absurd (none-some bs e)
 
-  pub object_there : (m number : ℕ) (x : ℤ) (w n : ℕ) (bs : List ℕ) → pos w ≡ pos (l.object_at m number) +ℤ x → number < l.counts m → object_bytes s m number x n ≡ Some bs → part_input flat.memory env.tenant n w ≡ Some bs
+  pub object_there : (m number : ℕ) (x : ℤ) (w n : ℕ) (bs : List ℕ)
+      → pos w ≡ pos (l.object_at m number) +ℤ x → number < l.counts m
+      → object_bytes s m number x n ≡ Some bs
+      → part_input flat.memory env.tenant n w ≡ Some bs
   object_there m number (negsuc y) w n bs h placed e =
-      let a = also_some (s.maps m) (λ map. value_bytes (map.values number) (negsuc y) n) bs e in absurd (none-some bs a.2)
+      let a = also_some (s.maps m) (λ map. value_bytes (map.values number) (negsuc y) n) bs e in
+      absurd (none-some bs a.2)
   object_there m number (pos y) w n bs h placed e =
-      let f = placed_object env l (part_start env.memory env.tenant) flat.memory.bytes flat.maps s.maps m number stands.maps placed in
+      let f =
+      placed_object env l (part_start env.memory env.tenant) flat.memory.bytes flat.maps s.maps m
+      number stands.maps placed in
       let a = also_some (s.maps m) (λ map. value_bytes (map.values number) (pos y) n) bs e in
       let same : a.0 ≡ f.map = same_Some a.0 f.map (sym a.1 ∙ f.there) in
       let off = offset_at flat.maps f.key f.element in
       let size = (shape_at flat.maps f.key).value_size in
       let value = f.map.values number in
-      let got : value_bytes value (pos y) n ≡ Some bs = ap (λ (map : RunMap). value_bytes (map.values number) (pos y) n) (sym same) ∙ a.2 in
+      let got : value_bytes value (pos y) n ≡ Some bs =
+      ap (λ (map : RunMap). value_bytes (map.values number) (pos y) n) (sym same) ∙ a.2 in
       let c = cond_some (leb (y + n) (length value)) (bytes_at value y n) bs got in
       let few : y + n ≤ length value = leb-true (y + n) (length value) c.0 in
       let is : bytes_at flat.memory.bytes (part_start env.memory env.tenant + off) size ≡ value = f.has.bytes in
-      let long : length (bytes_at flat.memory.bytes (part_start env.memory env.tenant + off) size) ≡ length value = ap length is in
+      let long : length (bytes_at flat.memory.bytes (part_start env.memory env.tenant + off) size) ≡ length value =
+      ap length is in
       let least = length-take size (drop (part_start env.memory env.tenant + off) flat.memory.bytes) in
       let inside = (laid_inside flat.maps stands.maps.laid f.key f.element f.live f.has.within).within in
       let address = f.has.address in
       let whole = memory_long in
-      let here : part_start env.memory env.tenant + off + y ≡ part_start env.memory env.tenant + (off + y) = omega arith in
+      let here : part_start env.memory env.tenant + off + y ≡ part_start env.memory env.tenant + (off + y) =
+      omega arith in
       there w n (off + y) bs (omega (arith, ints)) (omega arith)
-      (ap (λ (p : ℕ). bytes_at flat.memory.bytes p n) (sym here) ∙ sym (bytes_within flat.memory.bytes (part_start env.memory env.tenant + off) size y n (omega arith)) ∙ ap (λ (v : List ℕ). bytes_at v y n) is ∙ c.1)
+      (ap (λ (p : ℕ). bytes_at flat.memory.bytes p n) (sym here)
+      ∙ sym (bytes_within flat.memory.bytes (part_start env.memory env.tenant + off) size y n (omega arith))
+      ∙ ap (λ (v : List ℕ). bytes_at v y n) is
+      ∙ c.1)
 
-  pub input_there : (p : Tagged) (w n : ℕ) (bs : List ℕ) → IsWord env l p w → input s p n ≡ Some bs → part_input flat.memory env.tenant n w ≡ Some bs
+  pub input_there : (p : Tagged) (w n : ℕ) (bs : List ℕ)
+      → IsWord env l p w → input s p n ≡ Some bs
+      → part_input flat.memory env.tenant n w ≡ Some bs
   input_there (Pointer object.Stack x) w n bs h e = stack_there x w n bs h.0 e
   input_there (Pointer (object.Value m number) x) w n bs h e = object_there m number x w n bs h.0 h.2 e
   input_there p w n bs h e = absurd (none-some bs e)

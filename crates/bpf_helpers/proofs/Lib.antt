@@ -14,10 +14,10 @@ pub mod Parts
 pub mod Deletes
 pub mod Loads
 pub mod Words
+pub mod Named
 pub mod Followed
 pub mod Cells
 pub mod Addresses
 pub mod SingleLoads
 pub mod SingleStores
 pub mod Runs
-mod Pieces

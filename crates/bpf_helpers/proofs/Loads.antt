@@ -1,6 +1,7 @@
 -- Bytes of the packet that are written through a pointer.
-use Rattle.std.proofs.Common.{◌≡◌, ℕ, ◌+◌, ◌%◌, ◌^◌, ◌-◌, ◌<◌, ◌==◌, leb, Bool, true, false, if◌then◌else◌, List, length, replicate, Some, None, sym, ap, subst, ◌∙◌, arith}
+use Rattle.std.proofs.Common.{◌≡◌, ℕ, ◌+◌, ◌%◌, ◌^◌, ◌-◌, ◌<◌, ◌==◌, leb, Bool, true, false, if◌then◌else◌, List, length, replicate, Some, None, refl, sym, ap, subst, ◌∙◌, arith}
 use Rattle.std.specs.Prelude.{slice_index}
+use Rattle.std.specs.Option.{IsSome}
 use Rattle.std.proofs.lemmas.Bool.{cond_both, and_parts, leb-true}
 use Rattle.std.proofs.lemmas.Option.{none-some, same_Some}
 use Rattle.std.proofs.lemmas.List.{length-replicate}
@@ -16,6 +17,7 @@ use Rattle.arena.specs.Memory.{part_start, with_bytes}
 use Rattle.arena.specs.Apart.{WritesStayInside}
 use Rattle.bpf_helpers.specs.Layout.{Layout, IsWord}
 use Rattle.bpf_helpers.specs.Stands.{IsRoom, Simulates}
+use Rattle.bpf_helpers.specs.Calls.{LoadsNameBytes}
 use Rattle.bpf_helpers.specs.Named.{named_offset}
 use Rattle.bpf_helpers.specs.inside.Laws.{LoadKeepsSimulation}
 use Rattle.bpf_helpers.proofs.Many.{also_some}
@@ -38,11 +40,16 @@ is_length (Pointer o x) n e = absurd (none-some n e)
 
 length-packet_bytes : (packet : List ℕ) (offset n : ℕ) → length (packet_bytes packet offset n) ≡ n
 length-packet_bytes packet offset n =
-    cond_both (is_in_packet packet offset n) (bytes_at packet (offset % 2 ^ 32) n) (replicate n 0) (λ (x : List ℕ). length x ≡ n)
-    (λ b. length-bytes_at packet (offset % 2 ^ 32) n (leb-true (offset % 2 ^ 32 + n) (length packet) (and_parts (leb (offset % 2 ^ 32) (2 ^ 31 - 1)) (leb (offset % 2 ^ 32 + n) (length packet)) b).1))
+    cond_both (is_in_packet packet offset n) (bytes_at packet (offset % 2 ^ 32) n) (replicate n 0)
+    (λ (x : List ℕ). length x ≡ n)
+    (λ b.
+    length-bytes_at packet (offset % 2 ^ 32) n
+    (leb-true (offset % 2 ^ 32 + n) (length packet)
+    (and_parts (leb (offset % 2 ^ 32) (2 ^ 31 - 1)) (leb (offset % 2 ^ 32 + n) (length packet)) b).1))
     (λ b. length-replicate n 0)
 
-module _ (env : Environment) (l : Layout) (flat : FlatState) (s : RunState) (room : IsRoom env.memory env.tenant) (stands : Simulates env l flat s) where
+module _ (env : Environment) (l : Layout) (flat : FlatState) (s : RunState)
+    (room : IsRoom env.memory env.tenant) (stands : Simulates env l flat s) where
   -- the word of a register that holds a number is this number
   pub number_word : (r n : ℕ) → r < 11 → argument s r number_given ≡ Some n → slice_index flat.registers r ≡ n
   number_word r n lt e =
@@ -55,23 +62,77 @@ module _ (env : Environment) (l : Layout) (flat : FlatState) (s : RunState) (roo
       subst (λ v. IsWord env l v (slice_index flat.registers r)) (is_length a.0 n a.2) (stands.values r a.0 lt a.1)
 
   module _ (writes : WritesStayInside) where
-    written : (offset n : ℕ) (u v : RunState) → slice_index flat.registers 2 ≡ offset → slice_index flat.registers 4 ≡ n → argument s 3 (λ p. output s p (packet_bytes s.packet offset n)) ≡ Some v → Some (returns v (Scalar (packet_answer s.packet offset n))) ≡ Some u → LoadKeepsSimulation env l flat s u
+    written : (offset n : ℕ) (u v : RunState)
+        → slice_index flat.registers 2 ≡ offset → slice_index flat.registers 4 ≡ n
+        → argument s 3 (λ p. output s p (packet_bytes s.packet offset n)) ≡ Some v
+        → Some (returns v (Scalar (packet_answer s.packet offset n))) ≡ Some u
+        → LoadKeepsSimulation env l flat s u
     written offset n u v first last e f =
         let d = also_some (s.registers 3) (λ p. output s p (packet_bytes s.packet offset n)) v e in
-        let r = outputs_keep_simulation writes env l flat s v d.0 (slice_index flat.registers 3) (packet_bytes s.packet offset n) room stands (stands.values 3 d.0 (omega arith) d.1) d.2 in
+        let r =
+        outputs_keep_simulation writes env l flat s v d.0 (slice_index flat.registers 3)
+        (packet_bytes s.packet offset n) room stands (stands.values 3 d.0 (omega arith) d.1)
+        d.2 in
         record {
           offset = r.0;
-          offset_is = ap (λ (x : ℕ). named_offset flat.memory env.tenant x (slice_index flat.registers 3)) (last ∙ sym (length-packet_bytes s.packet offset n)) ∙ r.1;
+          offset_is =
+              ap (λ (x : ℕ). named_offset flat.memory env.tenant x (slice_index flat.registers 3))
+              (last ∙ sym (length-packet_bytes s.packet offset n))
+              ∙ r.1;
           written = v;
-          stands = subst (λ (x : ℕ). Simulates env l (with_memory flat (with_bytes flat.memory (part_start flat.memory env.tenant + r.0) (packet_bytes s.packet (slice_index flat.registers 2) x))) v) (sym last)
-              (subst (λ (x : ℕ). Simulates env l (with_memory flat (with_bytes flat.memory (part_start flat.memory env.tenant + r.0) (packet_bytes s.packet x n))) v) (sym first) r.2);
-          is = sym (same_Some (returns v (Scalar (packet_answer s.packet offset n))) u f) ∙ ap (λ (x : ℕ). returns v (Scalar (packet_answer s.packet x n))) (sym first) ∙ ap (λ (x : ℕ). returns v (Scalar (packet_answer s.packet (slice_index flat.registers 2) x))) (sym last);
+          stands =
+              subst (λ (x : ℕ).
+              Simulates env l
+              (with_memory flat
+              (with_bytes flat.memory (part_start flat.memory env.tenant + r.0)
+              (packet_bytes s.packet (slice_index flat.registers 2) x)))
+              v)
+              (sym last)
+              (subst (λ (x : ℕ).
+              Simulates env l
+              (with_memory flat
+              (with_bytes flat.memory (part_start flat.memory env.tenant + r.0) (packet_bytes s.packet x n)))
+              v)
+              (sym first) r.2);
+          is =
+              sym (same_Some (returns v (Scalar (packet_answer s.packet offset n))) u f)
+              ∙ ap (λ (x : ℕ). returns v (Scalar (packet_answer s.packet x n))) (sym first)
+              ∙ ap (λ (x : ℕ). returns v (Scalar (packet_answer s.packet (slice_index flat.registers 2) x))) (sym last);
         }
 
     pub load_stands : (u : RunState) → called LoadBytes s ≡ Some u → LoadKeepsSimulation env l flat s u
     load_stands u e =
-        let a = also_some (argument s 1 context_given) (λ c. and_then (argument s 2 number_given) (λ offset. and_then (argument s 4 length_given) (λ n. and_then (argument s 3 (λ p. output s p (packet_bytes s.packet offset n))) (λ t. Some (returns t (Scalar (packet_answer s.packet offset n))))))) u e in
-        let b = also_some (argument s 2 number_given) (λ offset. and_then (argument s 4 length_given) (λ n. and_then (argument s 3 (λ p. output s p (packet_bytes s.packet offset n))) (λ t. Some (returns t (Scalar (packet_answer s.packet offset n)))))) u a.2 in
-        let c = also_some (argument s 4 length_given) (λ n. and_then (argument s 3 (λ p. output s p (packet_bytes s.packet b.0 n))) (λ t. Some (returns t (Scalar (packet_answer s.packet b.0 n))))) u b.2 in
-        let d = also_some (argument s 3 (λ p. output s p (packet_bytes s.packet b.0 c.0))) (λ t. Some (returns t (Scalar (packet_answer s.packet b.0 c.0)))) u c.2 in
+        let a =
+        also_some (argument s 1 context_given)
+        (λ c.
+        and_then (argument s 2 number_given)
+        (λ offset.
+        and_then (argument s 4 length_given)
+        (λ n.
+        and_then (argument s 3 (λ p. output s p (packet_bytes s.packet offset n)))
+        (λ t. Some (returns t (Scalar (packet_answer s.packet offset n)))))))
+        u e in
+        let b =
+        also_some (argument s 2 number_given)
+        (λ offset.
+        and_then (argument s 4 length_given)
+        (λ n.
+        and_then (argument s 3 (λ p. output s p (packet_bytes s.packet offset n)))
+        (λ t. Some (returns t (Scalar (packet_answer s.packet offset n))))))
+        u a.2 in
+        let c =
+        also_some (argument s 4 length_given)
+        (λ n.
+        and_then (argument s 3 (λ p. output s p (packet_bytes s.packet b.0 n)))
+        (λ t. Some (returns t (Scalar (packet_answer s.packet b.0 n)))))
+        u b.2 in
+        let d =
+        also_some (argument s 3 (λ p. output s p (packet_bytes s.packet b.0 c.0)))
+        (λ t. Some (returns t (Scalar (packet_answer s.packet b.0 c.0))))
+        u c.2 in
         written b.0 c.0 u d.0 (number_word 2 b.0 (omega arith) b.1) (length_word 4 c.0 (omega arith) c.1) d.1 d.2
+
+-- the bytes that a load writes are in the part
+pub loads_name_bytes : WritesStayInside → LoadsNameBytes
+loads_name_bytes writes env l flat s u room stands e =
+    subst IsSome (sym (load_stands env l flat s room stands writes u e).offset_is) refl

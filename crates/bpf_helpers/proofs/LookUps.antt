@@ -41,20 +41,26 @@ pub record IsGiven (s : RunState) (r : ℕ) (g : GivenMap) : Type 0 where
 
 pub is_given : (s : RunState) (r : ℕ) (g : GivenMap) → map_argument s r ≡ Some g → IsGiven s r g
 is_given s r g e =
-    let a = also_some (argument s r map_given) (λ m. and_then (s.maps m) (λ map. Some (record { descriptor = m; map = map }))) g e in
+    let a =
+    also_some (argument s r map_given)
+    (λ m. and_then (s.maps m) (λ map. Some (record { descriptor = m; map = map })))
+    g e in
     let b = also_some (s.registers r) map_given a.0 a.1 in
     let c = also_some (s.maps a.0) (λ map. Some (record { descriptor = a.0; map = map })) g a.2 in
     let same = same_Some (record { descriptor = a.0; map = c.0 }) g c.2 in
     subst (IsGiven s r) same (record { register = b.1 ∙ ap (λ (v : Tagged). Some v) (is_map b.0 a.0 b.2); there = c.1 })
 
-module _ (env : Environment) (l : Layout) (flat : FlatState) (s : RunState) (room : IsRoom env.memory env.tenant) (stands : Simulates env l flat s) where
+module _ (env : Environment) (l : Layout) (flat : FlatState) (s : RunState)
+    (room : IsRoom env.memory env.tenant) (stands : Simulates env l flat s) where
   -- the map that a word names, and the live map that represents it
   pub record IsBound (w m : ℕ) (map : RunMap) : Type 0 where
     pub index : ℕ
     pub within : index < length env.bind
     pub named : slice_get env.descriptors index ≡ Some m
     pub bound : bound_map env.bind w ≡ Some (slice_index env.bind index)
-    pub has : HasMap l (stored_maps (part_start env.memory env.tenant) flat.memory.bytes flat.maps) (slice_index env.bind index) m map
+    pub has : HasMap l
+        (stored_maps (part_start env.memory env.tenant) flat.memory.bytes flat.maps)
+        (slice_index env.bind index) m map
 
   pub map_bound : (w m : ℕ) (map : RunMap) → IsWord env l (Map m) w → s.maps m ≡ Some map → IsBound w m map
   map_bound w m map h e =
@@ -68,52 +74,97 @@ module _ (env : Environment) (l : Layout) (flat : FlatState) (s : RunState) (roo
         index = i;
         within = omega arith;
         named = h.1;
-        bound = cond-false (w == 0) None (slice_get env.bind i) (ne_eqb w 0 (λ z. omega arith)) ∙ slice_get-get_or env.bind i 0 (omega arith);
-        has = subst (HasMap l (stored_maps (part_start env.memory env.tenant) flat.memory.bytes flat.maps) (slice_index env.bind i) m) same g.2;
+        bound =
+            cond-false (w == 0) None (slice_get env.bind i) (ne_eqb w 0 (λ z. omega arith))
+            ∙ slice_get-get_or env.bind i 0 (omega arith);
+        has =
+            subst (HasMap l
+            (stored_maps (part_start env.memory env.tenant) flat.memory.bytes flat.maps)
+            (slice_index env.bind i) m)
+            same g.2;
       }
 
   -- ---- the result
 
-  module _ (along : CallsRefineValues ℕ ℕ) (m key : ℕ) (map : RunMap) (has : HasMap l (stored_maps (part_start env.memory env.tenant) flat.memory.bytes flat.maps) key m map) where
+  module _ (along : CallsRefineValues ℕ ℕ) (m key : ℕ) (map : RunMap)
+      (has : HasMap l (stored_maps (part_start env.memory env.tenant) flat.memory.bytes flat.maps) key m map) where
     shape_same : shape_at flat.maps key ≡ map.table.shape
     shape_same = ap (λ (x : Table ℕ). x.shape) has.table
 
-    found_element : (bytes : List ℕ) → look_up (table_of (keys_at flat.maps key)) bytes ≡ option_map has.element (look_up map.table bytes)
+    found_element : (bytes : List ℕ)
+        → look_up (table_of (keys_at flat.maps key)) bytes ≡ option_map has.element (look_up map.table bytes)
     found_element bytes = ap (λ (x : Table ℕ). look_up x bytes) has.table ∙ along.found has.element map.table bytes
 
-    found_word : (o : Option ℕ) → ((number : ℕ) → o ≡ Some number → number < map.count) → IsWord env l (looked_up m o) (value_word (site_in env flat) key (option_map has.element o))
+    found_word : (o : Option ℕ)
+        → ((number : ℕ) → o ≡ Some number → number < map.count)
+        → IsWord env l (looked_up m o) (value_word (site_in env flat) key (option_map has.element o))
     found_word None owned = refl
     found_word (Some number) owned =
         let lt = owned number refl in
         let address = (has.objects number lt).address in
         let counted = has.counted in
-        let begin : part_start flat.memory env.tenant ≡ part_start env.memory env.tenant = ap (λ (n : ℕ). env.tenant * n) stands.changed.part in
+        let begin : part_start flat.memory env.tenant ≡ part_start env.memory env.tenant =
+        ap (λ (n : ℕ). env.tenant * n) stands.changed.part in
         (omega (arith, ints), refl, omega arith)
 
-    pub look_up_follows : (bytes : List ℕ) → IsWord env l (looked_up m (look_up map.table bytes)) (value_word (site_in env flat) key (look_up (table_of (keys_at flat.maps key)) bytes))
+    pub look_up_follows : (bytes : List ℕ)
+        → IsWord env l (looked_up m (look_up map.table bytes))
+        (value_word (site_in env flat) key (look_up (table_of (keys_at flat.maps key)) bytes))
     look_up_follows bytes =
-        subst (λ (o : Option ℕ). IsWord env l (looked_up m (look_up map.table bytes)) (value_word (site_in env flat) key o)) (sym (found_element bytes))
-        (found_word (look_up map.table bytes) (λ number e. found_owned map.count bytes map.table.entries number has.owns e))
+        subst (λ (o : Option ℕ).
+        IsWord env l (looked_up m (look_up map.table bytes)) (value_word (site_in env flat) key o))
+        (sym (found_element bytes))
+        (found_word (look_up map.table bytes)
+        (λ number e. found_owned map.count bytes map.table.entries number has.owns e))
 
-  given_word : (map key : ℕ) (v : Tagged) {n : NamedKey} → key_named (site_in env flat) map key ≡ Some n → IsWord env l v (key_word (site_in env flat) n) → GivesWord env l (flat_look_up (site_in env flat) map key) (Some v)
-  given_word map key v named is = subst (λ o. GivesWord env l (option_map (key_word (site_in env flat)) o) (Some v)) (sym named) is
+  given_word : (map key : ℕ) (v : Tagged) {n : NamedKey}
+      → key_named (site_in env flat) map key ≡ Some n
+      → IsWord env l v (key_word (site_in env flat) n)
+      → GivesWord env l (flat_look_up (site_in env flat) map key) (Some v)
+  given_word map key v named is =
+      subst (λ o. GivesWord env l (option_map (key_word (site_in env flat)) o) (Some v)) (sym named) is
 
-  pub follows : CallsRefineValues ℕ ℕ → (u : RunState) → called LookUp s ≡ Some u
-      → (v : Tagged) × (u ≡ returns s v) × GivesWord env l (flat_look_up (site_in env flat) (slice_index flat.registers 1) (slice_index flat.registers 2)) (Some v)
+  pub follows : CallsRefineValues ℕ ℕ
+      → (u : RunState) → called LookUp s ≡ Some u
+      → (v : Tagged)
+      × (u ≡ returns s v)
+      × GivesWord env l
+      (flat_look_up (site_in env flat) (slice_index flat.registers 1) (slice_index flat.registers 2))
+      (Some v)
   follows along u e =
-      let a = also_some (map_argument s 1) (λ g. and_then (argument s 2 (λ p. input s p g.map.table.shape.key_size)) (λ key. Some (returns s (looked_up g.descriptor (look_up g.map.table key))))) u e in
+      let a =
+      also_some (map_argument s 1)
+      (λ g.
+      and_then (argument s 2 (λ p. input s p g.map.table.shape.key_size))
+      (λ key. Some (returns s (looked_up g.descriptor (look_up g.map.table key)))))
+      u e in
       let g = a.0 in
       let given = is_given s 1 g a.1 in
-      let b = also_some (argument s 2 (λ p. input s p g.map.table.shape.key_size)) (λ key. Some (returns s (looked_up g.descriptor (look_up g.map.table key)))) u a.2 in
+      let b =
+      also_some (argument s 2 (λ p. input s p g.map.table.shape.key_size))
+      (λ key. Some (returns s (looked_up g.descriptor (look_up g.map.table key))))
+      u a.2 in
       let c = also_some (s.registers 2) (λ p. input s p g.map.table.shape.key_size) b.0 b.1 in
-      let bound = map_bound (slice_index flat.registers 1) g.descriptor g.map (stands.values 1 (Map g.descriptor) (omega arith) given.register) given.there in
+      let bound =
+      map_bound (slice_index flat.registers 1) g.descriptor g.map
+      (stands.values 1 (Map g.descriptor) (omega arith) given.register)
+      given.there in
       let key = slice_index env.bind bound.index in
-      let size : (shape_at flat.maps key).key_size ≡ g.map.table.shape.key_size = ap (λ (x : MapShape). x.key_size) (shape_same along g.descriptor key g.map bound.has) in
-      let read = input_there env l flat s room stands c.0 (slice_index flat.registers 2) g.map.table.shape.key_size b.0 (stands.values 2 c.0 (omega arith) c.1) c.2 in
-      let named = key_is (site_in env flat) (slice_index flat.registers 1) (slice_index flat.registers 2) bound.bound b.0 (ap (λ (n : ℕ). part_input flat.memory env.tenant n (slice_index flat.registers 2)) size ∙ read) in (
+      let size : (shape_at flat.maps key).key_size ≡ g.map.table.shape.key_size =
+      ap (λ (x : MapShape). x.key_size) (shape_same along g.descriptor key g.map bound.has) in
+      let read =
+      input_there env l flat s room stands c.0 (slice_index flat.registers 2)
+      g.map.table.shape.key_size b.0 (stands.values 2 c.0 (omega arith) c.1)
+      c.2 in
+      let named =
+      key_is (site_in env flat) (slice_index flat.registers 1) (slice_index flat.registers 2)
+      bound.bound b.0
+      (ap (λ (n : ℕ). part_input flat.memory env.tenant n (slice_index flat.registers 2)) size ∙ read) in (
         looked_up g.descriptor (look_up g.map.table b.0),
         sym (same_Some _ u b.2),
-        given_word (slice_index flat.registers 1) (slice_index flat.registers 2) (looked_up g.descriptor (look_up g.map.table b.0)) named (look_up_follows along g.descriptor key g.map bound.has b.0),
+        given_word (slice_index flat.registers 1) (slice_index flat.registers 2)
+            (looked_up g.descriptor (look_up g.map.table b.0)) named
+            (look_up_follows along g.descriptor key g.map bound.has b.0),
       )
 
 pub look_ups_follow : CallsRefineValues ℕ ℕ → LookUpsFollow

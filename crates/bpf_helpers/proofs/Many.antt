@@ -13,7 +13,8 @@ use Rattle.bpf_helpers.specs.Layout.{Layout, IsWord, HasCell, HasStack}
 use Rattle.bpf_helpers.specs.inside.Laws.{StackBytesAreThere, StackBytesAreWritten}
 use Rattle.bpf_helpers.specs.States.{Environment}
 
-pub also_some : {A B : Type 0} (o : Option A) (f : A → Option B) (y : B) → and_then o f ≡ Some y → (x : A) × (o ≡ Some x) × (f x ≡ Some y)
+pub also_some : {A B : Type 0} (o : Option A) (f : A → Option B) (y : B)
+    → and_then o f ≡ Some y → (x : A) × (o ≡ Some x) × (f x ≡ Some y)
 also_some None f y e = absurd (none-some y e)
 also_some (Some x) f y e = (x, refl, e)
 
@@ -24,7 +25,9 @@ pub record AreFrom (byte : ℕ → Option ℕ) (p n : ℕ) (list : List ℕ) : T
   pub count : length list ≡ n
   pub each : (k : ℕ) → k < n → byte (p + k) ≡ Some (get_or list k 0)
 
-one_more : (byte : ℕ → Option ℕ) (p n b : ℕ) (list : List ℕ) → byte p ≡ Some b → AreFrom byte (suc p) n list → AreFrom byte p (suc n) (b ∷ list)
+one_more : (byte : ℕ → Option ℕ) (p n b : ℕ) (list : List ℕ)
+    → byte p ≡ Some b → AreFrom byte (suc p) n list
+    → AreFrom byte p (suc n) (b ∷ list)
 one_more byte p n b list e rest = record { count = ap suc rest.count; each = each }
   where
     each : (k : ℕ) → k < suc n → byte (p + k) ≡ Some (get_or (b ∷ list) k 0)
@@ -33,16 +36,21 @@ one_more byte p n b list e rest = record { count = ap suc rest.count; each = eac
 
 pub are_from : (byte : ℕ → Option ℕ) (n p : ℕ) (list : List ℕ) → gathered byte p n ≡ Some list → AreFrom byte p n list
 unfolding gathered
-are_from byte zero p list e = subst (AreFrom byte p 0) (same_Some [] list e) (record { count = refl; each = λ k lt. absurd (omega arith) })
+are_from byte zero p list e =
+    subst (AreFrom byte p 0) (same_Some [] list e) (record { count = refl; each = λ k lt. absurd (omega arith) })
 are_from byte (suc n) p list e =
     let a = also_some (byte p) (λ b. and_then (gathered byte (suc p) n) (λ bs. Some (b ∷ bs))) list e in
     let r = also_some (gathered byte (suc p) n) (λ bs. Some (a.0 ∷ bs)) list a.2 in
-    subst (AreFrom byte p (suc n)) (same_Some (a.0 ∷ r.0) list r.2) (one_more byte p n a.0 r.0 a.1 (are_from byte n (suc p) r.0 r.1))
+    subst (AreFrom byte p (suc n)) (same_Some (a.0 ∷ r.0) list r.2)
+    (one_more byte p n a.0 r.0 a.1 (are_from byte n (suc p) r.0 r.1))
 
 -- ---- reading
 
 -- a byte of the stack is the byte in the memory
-stack_byte_there : (env : Environment) (l : Layout) (memory : List ℕ) (start : ℕ) (s : RunState) (q b : ℕ) → HasStack env l memory start s.cells → q < 512 → stack_byte s q ≡ Some b → get_or memory (start + q) 0 ≡ b
+stack_byte_there : (env : Environment) (l : Layout) (memory : List ℕ) (start : ℕ) (s : RunState) (q b : ℕ)
+    → HasStack env l memory start s.cells → q < 512
+    → stack_byte s q ≡ Some b
+    → get_or memory (start + q) 0 ≡ b
 stack_byte_there env l memory start s q b has lt e =
     let at : start + q ≡ start + 8 * (q / 8) + q % 8 = omega arith in
     ap (λ (a : ℕ). get_or memory a 0) at ∙ (has (q / 8) (omega arith)).present (q % 8) b (omega arith) e
@@ -54,55 +62,91 @@ bytes_there env l memory start s y n bs has fits e =
     let from = are_from (stack_byte s) n (byte_index y) bs i.1 in
     bytes_are memory bs (start + byte_index y) n from.count (omega arith)
     (λ k lt. let at : start + byte_index y + k ≡ start + (byte_index y + k) = omega arith in
-    ap (λ (a : ℕ). get_or memory a 0) at ∙ stack_byte_there env l memory start s (byte_index y + k) (get_or bs k 0) has (omega arith) (from.each k lt))
+    ap (λ (a : ℕ). get_or memory a 0) at
+    ∙ stack_byte_there env l memory start s (byte_index y + k) (get_or bs k 0) has (omega arith) (from.each k lt))
   where
-    chosen : {A : Type 0} (b : Bool) (o : Option A) (y : A) → (if b then o else None) ≡ Some y → (b ≡ true) × (o ≡ Some y)
+    chosen : {A : Type 0} (b : Bool) (o : Option A) (y : A)
+        → (if b then o else None) ≡ Some y → (b ≡ true) × (o ≡ Some y)
     chosen true o y e = (refl, e)
     chosen false o y e = absurd (none-some y e)
 
 -- ---- writing
 
-module _ (env : Environment) (l : Layout) (memory : List ℕ) (start : ℕ) (fits : start + 512 ≤ length memory) (p : ℕ) (new : List ℕ) (room : p + length new ≤ 512) where
+module _ (env : Environment) (l : Layout) (memory : List ℕ) (start : ℕ)
+    (fits : start + 512 ≤ length memory) (p : ℕ) (new : List ℕ) (room : p + length new ≤ 512) where
   -- a cell that is not written
-  cell_stays : (i : ℕ) (c : Cell) → i < 64 → (8 * i + 8 ≤ p) ⊎ (p + length new ≤ 8 * i) → HasCell env l memory (start + 8 * i) c → HasCell env l (written_at memory (start + p) new) (start + 8 * i) c
+  cell_stays : (i : ℕ) (c : Cell)
+      → i < 64 → (8 * i + 8 ≤ p) ⊎ (p + length new ≤ 8 * i)
+      → HasCell env l memory (start + 8 * i) c
+      → HasCell env l (written_at memory (start + p) new) (start + 8 * i) c
   cell_stays i c lt away has =
       record {
-        present = λ j b few e. written_out memory new (start + p) (start + 8 * i + j) (omega arith) (apart j few away) ∙ has.present j b few e;
-        whole = λ v e. subst (λ (list : List ℕ). IsWord env l v (number_of list)) (sym (bytes_stay memory new (start + p) (start + 8 * i) 8 (omega arith) (beside away))) (has.whole v e);
+        present = λ j b few e.
+            written_out memory new (start + p) (start + 8 * i + j) (omega arith) (apart j few away)
+            ∙ has.present j b few e;
+        whole = λ v e.
+            subst (λ (list : List ℕ). IsWord env l v (number_of list))
+            (sym (bytes_stay memory new (start + p) (start + 8 * i) 8 (omega arith) (beside away)))
+            (has.whole v e);
       }
     where
-      apart : (j : ℕ) → j < 8 → (8 * i + 8 ≤ p) ⊎ (p + length new ≤ 8 * i) → (start + 8 * i + j < start + p) ⊎ (start + p + length new ≤ start + 8 * i + j)
+      apart : (j : ℕ)
+          → j < 8 → (8 * i + 8 ≤ p) ⊎ (p + length new ≤ 8 * i)
+          → (start + 8 * i + j < start + p) ⊎ (start + p + length new ≤ start + 8 * i + j)
       apart j few (inl below) = inl (omega arith)
       apart j few (inr above) = inr (omega arith)
 
-      beside : (8 * i + 8 ≤ p) ⊎ (p + length new ≤ 8 * i) → (start + 8 * i + 8 ≤ start + p) ⊎ (start + p + length new ≤ start + 8 * i)
+      beside : (8 * i + 8 ≤ p) ⊎ (p + length new ≤ 8 * i)
+          → (start + 8 * i + 8 ≤ start + p) ⊎ (start + p + length new ≤ start + 8 * i)
       beside (inl below) = inl (omega arith)
       beside (inr above) = inr (omega arith)
 
   -- a byte of a cell that is written
-  over_byte : (i : ℕ) (c : Cell) (j b : ℕ) → i < 64 → j < 8 → HasCell env l memory (start + 8 * i) c
-      → (if leb p (8 * i + j) && ltb (8 * i + j) (p + length new) then slice_get new (8 * i + j - p) else byte_at c j) ≡ Some b → get_or (written_at memory (start + p) new) (start + 8 * i + j) 0 ≡ b
+  over_byte : (i : ℕ) (c : Cell) (j b : ℕ)
+      → i < 64 → j < 8
+      → HasCell env l memory (start + 8 * i) c
+      → (if leb p (8 * i + j) && ltb (8 * i + j) (p + length new) then slice_get new (8 * i + j - p) else byte_at c j)
+      ≡ Some b
+      → get_or (written_at memory (start + p) new) (start + 8 * i + j) 0 ≡ b
   over_byte i c j b lt few has =
-      cond_both (leb p (8 * i + j) && ltb (8 * i + j) (p + length new)) (slice_get new (8 * i + j - p)) (byte_at c j) (λ (o : Option ℕ). o ≡ Some b → get_or (written_at memory (start + p) new) (start + 8 * i + j) 0 ≡ b)
-      (λ t e. let h = and_parts (leb p (8 * i + j)) (ltb (8 * i + j) (p + length new)) t in let from = leb-true p (8 * i + j) h.0 in let to = ltb-true (8 * i + j) (p + length new) h.1 in
+      cond_both (leb p (8 * i + j) && ltb (8 * i + j) (p + length new))
+      (slice_get new (8 * i + j - p)) (byte_at c j)
+      (λ (o : Option ℕ). o ≡ Some b → get_or (written_at memory (start + p) new) (start + 8 * i + j) 0 ≡ b)
+      (λ t e.
+      let h = and_parts (leb p (8 * i + j)) (ltb (8 * i + j) (p + length new)) t in
+      let from = leb-true p (8 * i + j) h.0 in
+      let to = ltb-true (8 * i + j) (p + length new) h.1 in
       let at : start + 8 * i + j ≡ start + p + (8 * i + j - p) = omega arith in
-      ap (λ (q : ℕ). get_or (written_at memory (start + p) new) q 0) at ∙ written_in memory new (start + p) (8 * i + j - p) (omega arith) (omega arith) ∙ get_or_from_slice_get new (8 * i + j - p) b 0 e)
-      (λ t e. written_out memory new (start + p) (start + 8 * i + j) (omega arith) (outside (and_cases (leb p (8 * i + j)) (ltb (8 * i + j) (p + length new)) t)) ∙ has.present j b few e)
+      ap (λ (q : ℕ). get_or (written_at memory (start + p) new) q 0) at
+      ∙ written_in memory new (start + p) (8 * i + j - p) (omega arith) (omega arith)
+      ∙ get_or_from_slice_get new (8 * i + j - p) b 0 e)
+      (λ t e.
+      written_out memory new (start + p) (start + 8 * i + j) (omega arith)
+      (outside (and_cases (leb p (8 * i + j)) (ltb (8 * i + j) (p + length new)) t))
+      ∙ has.present j b few e)
     where
-      outside : (leb p (8 * i + j) ≡ false) ⊎ (ltb (8 * i + j) (p + length new) ≡ false) → (start + 8 * i + j < start + p) ⊎ (start + p + length new ≤ start + 8 * i + j)
+      outside : (leb p (8 * i + j) ≡ false) ⊎ (ltb (8 * i + j) (p + length new) ≡ false)
+          → (start + 8 * i + j < start + p) ⊎ (start + p + length new ≤ start + 8 * i + j)
       outside (inl f) = let h = leb-false p (8 * i + j) f in inl (omega arith)
       outside (inr f) = let h = ltb-false (8 * i + j) (p + length new) f in inr (omega arith)
 
   not_whole : (b : ℕ → Option ℕ) (v : Tagged) → bytes b ≡ holds v → ⊥
   not_whole b v e = cc
 
-  pub cell_after : (i : ℕ) (c : Cell) → i < 64 → HasCell env l memory (start + 8 * i) c → HasCell env l (written_at memory (start + p) new) (start + 8 * i) (cell_over i c p new)
+  pub cell_after : (i : ℕ) (c : Cell)
+      → i < 64 → HasCell env l memory (start + 8 * i) c
+      → HasCell env l (written_at memory (start + p) new) (start + 8 * i) (cell_over i c p new)
   cell_after i c lt has =
-      cond_both (touches p (length new) i) (bytes (λ j. if leb p (8 * i + j) && ltb (8 * i + j) (p + length new) then slice_get new (8 * i + j - p) else byte_at c j)) c (λ (d : Cell). HasCell env l (written_at memory (start + p) new) (start + 8 * i) d)
+      cond_both (touches p (length new) i)
+      (bytes (λ j.
+      if leb p (8 * i + j) && ltb (8 * i + j) (p + length new) then slice_get new (8 * i + j - p) else byte_at c j))
+      c
+      (λ (d : Cell). HasCell env l (written_at memory (start + p) new) (start + 8 * i) d)
       (λ t. record { present = λ j b few e. over_byte i c j b lt few has e; whole = λ v e. absurd (not_whole _ v e) })
       (λ t. cell_stays i c lt (beside (and_cases (ltb p (8 * i + 8)) (ltb (8 * i) (p + length new)) t)) has)
     where
-      beside : (ltb p (8 * i + 8) ≡ false) ⊎ (ltb (8 * i) (p + length new) ≡ false) → (8 * i + 8 ≤ p) ⊎ (p + length new ≤ 8 * i)
+      beside : (ltb p (8 * i + 8) ≡ false) ⊎ (ltb (8 * i) (p + length new) ≡ false)
+          → (8 * i + 8 ≤ p) ⊎ (p + length new ≤ 8 * i)
       beside (inl f) = inl (ltb-false p (8 * i + 8) f)
       beside (inr f) = inr (ltb-false (8 * i) (p + length new) f)
 

@@ -16,7 +16,11 @@ use Rattle.bpf_helpers.specs.Stands.{HasObject, HasMap, MapsStandFor, StoredMaps
 use Rattle.bpf_helpers.specs.States.{Environment, FlatState, with_held}
 
 -- the maps of other descriptors have other keys
-pub other_key : {env : Environment} {l : Layout} {stored : StoredMaps} {maps : ℕ → Option RunMap} → MapsStandFor env l stored maps → (i m j n : ℕ) → slice_get env.descriptors i ≡ Some m → slice_get env.descriptors j ≡ Some n → n ≢ m → slice_index env.bind j ≢ slice_index env.bind i
+pub other_key : {env : Environment} {l : Layout} {stored : StoredMaps} {maps : ℕ → Option RunMap}
+    → MapsStandFor env l stored maps
+    → (i m j n : ℕ) → slice_get env.descriptors i ≡ Some m
+    → slice_get env.descriptors j ≡ Some n → n ≢ m
+    → slice_index env.bind j ≢ slice_index env.bind i
 other_key {env} has i m j n named e differ same =
     let count = has.count in
     let a = slice_get_within env.descriptors j n e in
@@ -25,7 +29,12 @@ other_key {env} has i m j n named e differ same =
     differ (same_Some n m (sym e ∙ ap (λ (x : ℕ). slice_get env.descriptors x) one ∙ named))
 
 -- the map has the same elements, at the same addresses
-map_moved : {l : Layout} {start : ℕ} {memory : List ℕ} {old new : LiveMaps} {k m : ℕ} {t : RunMap} → keys_at new k ≡ keys_at old k → ((p : ℕ) → offset_at new k p ≡ offset_at old k p) → IsSome (live_at new k) → HasMap l (stored_maps start memory old) k m t → HasMap l (stored_maps start memory new) k m t
+map_moved : {l : Layout} {start : ℕ} {memory : List ℕ} {old new : LiveMaps} {k m : ℕ} {t : RunMap}
+    → keys_at new k ≡ keys_at old k
+    → ((p : ℕ) → offset_at new k p ≡ offset_at old k p)
+    → IsSome (live_at new k)
+    → HasMap l (stored_maps start memory old) k m t
+    → HasMap l (stored_maps start memory new) k m t
 map_moved {start = start} {memory = memory} {old = old} {new = new} {k = k} key_table offsets live h = record {
   live = live;
   element = h.element;
@@ -36,9 +45,16 @@ map_moved {start = start} {memory = memory} {old = old} {new = new} {k = k} key_
       let o = h.objects number lt in
       record {
         within = subst (λ (x : KeyTable). h.element number < x.shape.max_entries) (sym key_table) o.within;
-        in_use = subst (λ (x : KeyTable). 1 ≤ occurrences (h.element number) (values_of x.entries) + occurrences (h.element number) x.kept) (sym key_table) o.in_use;
+        in_use =
+            subst (λ (x : KeyTable).
+            1 ≤ occurrences (h.element number) (values_of x.entries) + occurrences (h.element number) x.kept)
+            (sym key_table) o.in_use;
         address = o.address ∙ ap (λ (a : ℕ). base + (start + a)) (sym (offsets (h.element number)));
-        bytes = ap (λ (a : ℕ). bytes_at memory (start + a) (shape_at new k).value_size) (offsets (h.element number)) ∙ ap (λ (x : KeyTable). bytes_at memory (start + offset_at old k (h.element number)) x.shape.value_size) key_table ∙ o.bytes;
+        bytes =
+            ap (λ (a : ℕ). bytes_at memory (start + a) (shape_at new k).value_size) (offsets (h.element number))
+            ∙ ap (λ (x : KeyTable). bytes_at memory (start + offset_at old k (h.element number)) x.shape.value_size)
+            key_table
+            ∙ o.bytes;
       };
   apart = h.apart;
 }
@@ -50,16 +66,37 @@ live_offsets : (old new : LiveMaps) (k p : ℕ) → live_at new k ≡ live_at ol
 live_offsets old new k p e = ap (λ (o : Option LiveMap). offset (live_or o) p) e
 
 -- the bytes, and possibly the values, are different; the keys and their elements are the same
-pub other_bytes : {l : Layout} {start : ℕ} {before after : List ℕ} {tenant : LiveMaps} {k m : ℕ} {t : RunMap} {values : ℕ → List ℕ} (h : HasMap l (stored_maps start before tenant) k m t) → ((number : ℕ) → number < t.count → HasObject (stored_maps start after tenant) k (h.element number) (l.object_at m number) (values number))
+pub other_bytes : {l : Layout} {start : ℕ} {before after : List ℕ} {tenant : LiveMaps} {k m : ℕ}
+    {t : RunMap} {values : ℕ → List ℕ} (h : HasMap l (stored_maps start before tenant) k m t)
+    → ((number : ℕ) → number < t.count
+    → HasObject (stored_maps start after tenant) k (h.element number) (l.object_at m number) (values number))
     → HasMap l (stored_maps start after tenant) k m (record t { values = values })
-other_bytes h objects = record { live = h.live; element = h.element; table = h.table; owns = h.owns; counted = h.counted; objects = objects; apart = h.apart }
+other_bytes h objects = record {
+  live = h.live;
+  element = h.element;
+  table = h.table;
+  owns = h.owns;
+  counted = h.counted;
+  objects = objects;
+  apart = h.apart;
+}
 
 -- only the map of handle k changes, and its elements have the same addresses
 module _ {old new : LiveMaps} {k : ℕ} (rest : OnlyKeysChange k old new) where
-  pub other_moved : {l : Layout} {start : ℕ} {memory : List ℕ} {j n : ℕ} {u : RunMap} → j ≢ k → HasMap l (stored_maps start memory old) j n u → HasMap l (stored_maps start memory new) j n u
-  other_moved {j = j} differ h = map_moved (live_keys old new j (rest.others j differ)) (λ p. live_offsets old new j p (rest.others j differ)) (subst IsSome (sym (rest.others j differ)) h.live) h
+  pub other_moved : {l : Layout} {start : ℕ} {memory : List ℕ} {j n : ℕ} {u : RunMap}
+      → j ≢ k
+      → HasMap l (stored_maps start memory old) j n u
+      → HasMap l (stored_maps start memory new) j n u
+  other_moved {j = j} differ h =
+      map_moved (live_keys old new j (rest.others j differ))
+      (λ p. live_offsets old new j p (rest.others j differ))
+      (subst IsSome (sym (rest.others j differ)) h.live) h
 
-  pub maps_moved : AreasKeepElements → keys_at new k ≡ keys_at old k → {env : Environment} {l : Layout} {start : ℕ} {memory : List ℕ} {maps : ℕ → Option RunMap} → MapsStandFor env l (stored_maps start memory old) maps → MapsStandFor env l (stored_maps start memory new) maps
+  pub maps_moved : AreasKeepElements
+      → keys_at new k ≡ keys_at old k
+      → {env : Environment} {l : Layout} {start : ℕ} {memory : List ℕ} {maps : ℕ → Option RunMap}
+      → MapsStandFor env l (stored_maps start memory old) maps
+      → MapsStandFor env l (stored_maps start memory new) maps
   maps_moved keep key_table {env} {l} {start} {memory} has = record {
     count = has.count;
     each = λ i m e. let g = has.each i m e in (
@@ -67,7 +104,9 @@ module _ {old new : LiveMaps} {k : ℕ} (rest : OnlyKeysChange k old new) where
       g.1,
       ⊎_elim
           (λ b. let same : slice_index env.bind i ≡ k = eqb-true (slice_index env.bind i) k b in
-          subst (λ (j : ℕ). HasMap l (stored_maps start memory new) j m g.0) (sym same) (map_moved key_table (λ p. keep old new k p rest.areas rest.live) rest.live (subst (λ (j : ℕ). HasMap l (stored_maps start memory old) j m g.0) same g.2)))
+          subst (λ (j : ℕ). HasMap l (stored_maps start memory new) j m g.0) (sym same)
+          (map_moved key_table (λ p. keep old new k p rest.areas rest.live) rest.live
+          (subst (λ (j : ℕ). HasMap l (stored_maps start memory old) j m g.0) same g.2)))
           (λ b. other_moved (eqb-false (slice_index env.bind i) k b) g.2)
           (cases_Bool (eqb (slice_index env.bind i) k)),
     );
@@ -78,11 +117,15 @@ module _ {old new : LiveMaps} {k : ℕ} (rest : OnlyKeysChange k old new) where
   }
 
 -- the same map is set again
-pub maps_again : {env : Environment} {l : Layout} {stored : StoredMaps} {maps : ℕ → Option RunMap} (m : ℕ) {t : RunMap} → maps m ≡ Some t → MapsStandFor env l stored maps → MapsStandFor env l stored (set_at maps m (Some t))
+pub maps_again : {env : Environment} {l : Layout} {stored : StoredMaps} {maps : ℕ → Option RunMap}
+    (m : ℕ) {t : RunMap}
+    → maps m ≡ Some t → MapsStandFor env l stored maps
+    → MapsStandFor env l stored (set_at maps m (Some t))
 maps_again {env} {l} {stored} {maps} m {t} is has = record {
   count = has.count;
   each = λ i n e. let g = has.each i n e in
-      cond_both (n == m) (Some t) (maps n) (λ o. (u : RunMap) × (o ≡ Some u) × HasMap l stored (slice_index env.bind i) n u)
+      cond_both (n == m) (Some t) (maps n)
+      (λ o. (u : RunMap) × (o ≡ Some u) × HasMap l stored (slice_index env.bind i) n u)
       (λ b. (g.0, sym is ∙ ap maps (sym (eqb-true n m b)) ∙ g.1, g.2))
       (λ _. g);
   listed = has.listed;
@@ -92,15 +135,26 @@ maps_again {env} {l} {stored} {maps} m {t} is has = record {
 }
 
 -- one map is replaced
-module _ {env : Environment} {l : Layout} {start : ℕ} {memory : List ℕ} {old new : LiveMaps} {maps : ℕ → Option RunMap} (i m : ℕ) {t : RunMap} (has : MapsStandFor env l (stored_maps start memory old) maps) (named : slice_get env.descriptors i ≡ Some m)
-    (rest : OnlyKeysChange (slice_index env.bind i) old new) (own : HasMap l (stored_maps start memory new) (slice_index env.bind i) m t) where
+module _ {env : Environment} {l : Layout} {start : ℕ} {memory : List ℕ} {old new : LiveMaps}
+    {maps : ℕ → Option RunMap} (i m : ℕ) {t : RunMap}
+    (has : MapsStandFor env l (stored_maps start memory old) maps)
+    (named : slice_get env.descriptors i ≡ Some m)
+    (rest : OnlyKeysChange (slice_index env.bind i) old new)
+    (own : HasMap l (stored_maps start memory new) (slice_index env.bind i) m t) where
   pub map_replaced : MapsStandFor env l (stored_maps start memory new) (set_at maps m (Some t))
   map_replaced = record {
     count = has.count;
     each = λ j n e. let g = has.each j n e in
-        cond_both (n == m) (Some t) (maps n) (λ o. (v : RunMap) × (o ≡ Some v) × HasMap l (stored_maps start memory new) (slice_index env.bind j) n v)
-        (λ b. let same : m ≡ n = sym (eqb-true n m b) in let one : i ≡ j = has.names i j m named (e ∙ ap (λ (x : ℕ). Some x) (sym same)) in
-        (t, refl, subst (λ (x : ℕ). HasMap l (stored_maps start memory new) (slice_index env.bind x) n t) one (subst (λ (x : ℕ). HasMap l (stored_maps start memory new) (slice_index env.bind i) x t) same own)))
+        cond_both (n == m) (Some t) (maps n)
+        (λ o. (v : RunMap) × (o ≡ Some v) × HasMap l (stored_maps start memory new) (slice_index env.bind j) n v)
+        (λ b.
+        let same : m ≡ n = sym (eqb-true n m b) in
+        let one : i ≡ j = has.names i j m named (e ∙ ap (λ (x : ℕ). Some x) (sym same)) in (
+          t,
+          refl,
+          subst (λ (x : ℕ). HasMap l (stored_maps start memory new) (slice_index env.bind x) n t) one
+              (subst (λ (x : ℕ). HasMap l (stored_maps start memory new) (slice_index env.bind i) x t) same own),
+        ))
         (λ b. (g.0, g.1, other_moved rest (other_key has i m j n named e (eqb-false n m b)) g.2));
     listed = has.listed;
     keys = has.keys;
@@ -111,15 +165,28 @@ module _ {env : Environment} {l : Layout} {start : ℕ} {memory : List ℕ} {old
 -- ---- a call that changes one map of the run
 
 -- the maps that the run does not name are not changed
-pub others_moved : (bind : List ℕ) (start : ℕ) (old memory : List ℕ) (tenant new : LiveMaps) (i : ℕ) → i < length bind → ((other : ℕ) → other ≢ slice_index bind i → live_at new other ≡ live_at tenant other) → KeepsUnboundValues bind old (stored_maps start memory tenant) → KeepsUnboundValues bind old (stored_maps start memory new)
+pub others_moved : (bind : List ℕ) (start : ℕ) (old memory : List ℕ) (tenant new : LiveMaps) (i : ℕ)
+    → i < length bind
+    → ((other : ℕ) → other ≢ slice_index bind i → live_at new other ≡ live_at tenant other)
+    → KeepsUnboundValues bind old (stored_maps start memory tenant)
+    → KeepsUnboundValues bind old (stored_maps start memory new)
 others_moved bind start old memory tenant new i within others has key p away =
-    subst (λ (o : Option LiveMap). IsSome o → p < (live_or o).keys.shape.max_entries → bytes_at memory (start + offset (live_or o) p) (live_or o).keys.shape.value_size ≡ bytes_at old (start + offset (live_or o) p) (live_or o).keys.shape.value_size)
+    subst (λ (o : Option LiveMap).
+    IsSome o
+    → p < (live_or o).keys.shape.max_entries
+    → bytes_at memory (start + offset (live_or o) p) (live_or o).keys.shape.value_size
+    ≡ bytes_at old (start + offset (live_or o) p) (live_or o).keys.shape.value_size)
     (sym (others key (λ same. away i within (sym same))))
     (λ live lt. has key p away live lt)
 
 -- words and bytes represent a state with other maps, if the call writes no value
-pub maps_stand : {env : Environment} {l : Layout} {flat : FlatState} {s : RunState} → Simulates env l flat s → (i m : ℕ) → slice_get env.descriptors i ≡ Some m → (new : LiveMaps) → OnlyKeysChange (slice_index env.bind i) flat.maps new → (maps : ℕ → Option RunMap)
-    → MapsStandFor env l (stored_maps (part_start env.memory env.tenant) flat.memory.bytes new) maps → Simulates env l (with_held flat flat.memory new) (record s { maps = maps })
+pub maps_stand : {env : Environment} {l : Layout} {flat : FlatState} {s : RunState}
+    → Simulates env l flat s
+    → (i m : ℕ) → slice_get env.descriptors i ≡ Some m
+    → (new : LiveMaps) → OnlyKeysChange (slice_index env.bind i) flat.maps new
+    → (maps : ℕ → Option RunMap)
+    → MapsStandFor env l (stored_maps (part_start env.memory env.tenant) flat.memory.bytes new) maps
+    → Simulates env l (with_held flat flat.memory new) (record s { maps = maps })
 maps_stand {env} {flat = flat} stands i m named new rest maps stand = record {
   slot = stands.slot;
   count = stands.count;
@@ -134,5 +201,6 @@ maps_stand {env} {flat = flat} stands i m named new rest maps stand = record {
   elsewhere =
       let count = stands.maps.count in
       let fits = slice_get_within env.descriptors i m named in
-      others_moved env.bind (part_start env.memory env.tenant) env.memory.bytes flat.memory.bytes flat.maps new i (omega arith) rest.others stands.elsewhere;
+      others_moved env.bind (part_start env.memory env.tenant) env.memory.bytes flat.memory.bytes
+      flat.maps new i (omega arith) rest.others stands.elsewhere;
 }

@@ -13,8 +13,13 @@ part_fits m t parts lt =
     omega arith
 
 -- a borrowed part after some of its bytes are written
-pub lent_written : WritesAreInParts → (m : Memory) (t at n : ℕ) (part new written : List ℕ) → part ≡ part_bytes m t → written ≡ new → length new ≡ n → size_of m ≡ m.parts * m.part → t < m.parts → at + n ≤ m.part
-    → with_part m t (take at part ++ (written ++ drop (at + n - at) (drop at part))) ≡ with_bytes m (part_start m t + at) new
+pub lent_written : WritesAreInParts
+    → (m : Memory) (t at n : ℕ) (part new written : List ℕ) → part ≡ part_bytes m t
+    → written ≡ new → length new ≡ n
+    → size_of m ≡ m.parts * m.part → t < m.parts
+    → at + n ≤ m.part
+    → with_part m t (take at part ++ (written ++ drop (at + n - at) (drop at part)))
+    ≡ with_bytes m (part_start m t + at) new
 lent_written law m t at n part new written is same count parts lt room =
     let few : at + n - at ≡ length new = omega (arith, count) in
     ap (λ (w : List ℕ). with_part m t (take at part ++ (w ++ drop (at + n - at) (drop at part)))) same
@@ -23,12 +28,11 @@ lent_written law m t at n part new written is same count parts lt room =
     ∙ ap (λ (x : List ℕ). with_part m t (written_at x at new)) is
     ∙ law.memory m t at new (parts, lt) (omega (arith, count))
 
--- the same for a part that was given by its bytes
-pub lent_over : WritesAreInParts → (m : Memory) (t at : ℕ) (part new : List ℕ) → part ≡ part_bytes m t → size_of m ≡ m.parts * m.part → t < m.parts → at + length new ≤ m.part
-    → with_part m t (written_at part at new) ≡ with_bytes m (part_start m t + at) new
-lent_over law m t at part new is parts lt room = ap (λ (x : List ℕ). with_part m t (written_at x at new)) is ∙ law.memory m t at new (parts, lt) room
-
-pub lent_long : (m : Memory) (t : ℕ) (part : List ℕ) → part ≡ part_bytes m t → size_of m ≡ m.parts * m.part → t < m.parts → length part ≡ m.part
+pub lent_long : (m : Memory) (t : ℕ) (part : List ℕ)
+    → part ≡ part_bytes m t → size_of m ≡ m.parts * m.part
+    → t < m.parts
+    → length part ≡ m.part
 lent_long m t part is parts lt =
     let fits = part_fits m t parts lt in
-    ap length is ∙ omega (arith, length-take m.part (drop (part_start m t) m.bytes), length-drop (part_start m t) m.bytes)
+    ap length is
+    ∙ omega (arith, length-take m.part (drop (part_start m t) m.bytes), length-drop (part_start m t) m.bytes)

@@ -44,7 +44,10 @@ unfolding index_in
 index_is_there [] m i e = absurd (none-some i e)
 index_is_there (x ∷ xs) m i e = by (index_is_there xs m) (eqb x m) refl e
   where
-    by : ((j : ℕ) → index_in xs m ≡ Some j → slice_get xs j ≡ Some m) → (b : Bool) → eqb x m ≡ b → cond b (Some 0) (option_map suc (index_in xs m)) ≡ Some i → slice_get (x ∷ xs) i ≡ Some m
+    by : ((j : ℕ) → index_in xs m ≡ Some j → slice_get xs j ≡ Some m)
+        → (b : Bool) → eqb x m ≡ b
+        → cond b (Some 0) (option_map suc (index_in xs m)) ≡ Some i
+        → slice_get (x ∷ xs) i ≡ Some m
     by rest true t e = ap (slice_get (x ∷ xs)) (sym (same_Some 0 i e)) ∙ ap (λ (y : ℕ). Some y) (eqb-true x m t)
     by rest false t e = let r = some_suc (index_in xs m) i e in ap (slice_get (x ∷ xs)) (sym r.2) ∙ rest r.0 r.1
 
@@ -53,25 +56,37 @@ unfolding index_in
 has_index [] m i e = absurd (none-some m e)
 has_index (x ∷ xs) m i e = by (has_index xs m) (eqb x m) refl i e
   where
-    by : ((i : ℕ) → slice_get xs i ≡ Some m → (j : ℕ) × (index_in xs m ≡ Some j)) → (b : Bool) → eqb x m ≡ b → (i : ℕ) → slice_get (x ∷ xs) i ≡ Some m → (j : ℕ) × (cond b (Some 0) (option_map suc (index_in xs m)) ≡ Some j)
+    by : ((i : ℕ) → slice_get xs i ≡ Some m → (j : ℕ) × (index_in xs m ≡ Some j))
+        → (b : Bool) → eqb x m ≡ b → (i : ℕ) → slice_get (x ∷ xs) i ≡ Some m
+        → (j : ℕ) × (cond b (Some 0) (option_map suc (index_in xs m)) ≡ Some j)
     by rest true t i e = (0, refl)
     by rest false t zero e = absurd (eqb-false x m t (same_Some x m e))
     by rest false t (suc i) e = let r = rest i e in (suc r.0, ap (option_map suc) r.1)
 
 -- ---- the values of a part
 
-module _ (old : Memory) (t : ℕ) (room : IsRoom old t) (memory : Memory) (size : size_of memory ≡ size_of old) (parts : memory.part ≡ old.part) where
+module _ (old : Memory) (t : ℕ) (room : IsRoom old t) (memory : Memory)
+    (size : size_of memory ≡ size_of old) (parts : memory.part ≡ old.part) where
   -- n bytes of a part are bytes of the memory
-  pub in_part : (off n : ℕ) → off + n ≤ PART → bytes_at (part_bytes memory t) off n ≡ bytes_at memory.bytes (part_start old t + off) n
+  pub in_part : (off n : ℕ)
+      → off + n ≤ PART
+      → bytes_at (part_bytes memory t) off n ≡ bytes_at memory.bytes (part_start old t + off) n
   in_part off n fits =
       let large = room.room in
       let start : part_start memory t ≡ part_start old t = ap (λ (k : ℕ). t * k) parts in
-      bytes_within memory.bytes (part_start memory t) memory.part off n (omega arith) ∙ ap (λ (p : ℕ). bytes_at memory.bytes (p + off) n) start
+      bytes_within memory.bytes (part_start memory t) memory.part off n (omega arith)
+      ∙ ap (λ (p : ℕ). bytes_at memory.bytes (p + off) n) start
 
 -- ---- the beginning
 
-module _ (env : Environment) (memory : Memory) (registers : List ℕ) (maps : MapsByDescriptor) (words : List ℕ) (room : IsRoom env.memory env.tenant) (context : HasContext env.memory env.tenant words memory) (first : AreFirst env.memory env.tenant registers) (ready : AreReady env)
-    (given : (i m : ℕ) → slice_get env.descriptors i ≡ Some m → maps m ≡ Some (map_in (part_bytes env.memory env.tenant) env.maps (slice_index env.bind i))) where
+module _ (env : Environment) (memory : Memory) (registers : List ℕ) (maps : MapsByDescriptor)
+    (words : List ℕ) (room : IsRoom env.memory env.tenant)
+    (context : HasContext env.memory env.tenant words memory)
+    (first : AreFirst env.memory env.tenant registers)
+    (ready : AreReady env)
+    (given : (i m : ℕ)
+    → slice_get env.descriptors i ≡ Some m
+    → maps m ≡ Some (map_in (part_bytes env.memory env.tenant) env.maps (slice_index env.bind i))) where
   -- the number of objects of a map is the number of its keys
   count_at : Option ℕ → ℕ
   count_at None = 0
@@ -79,7 +94,11 @@ module _ (env : Environment) (memory : Memory) (registers : List ℕ) (maps : Ma
 
   object_at : Option ℕ → ℕ → ℕ
   object_at None number = 0
-  object_at (Some i) number = base + (part_start env.memory env.tenant + offset_at env.maps (slice_index env.bind i) (slice_index (values_of (keys_at env.maps (slice_index env.bind i)).entries) number))
+  object_at (Some i) number =
+      base
+      + (part_start env.memory env.tenant
+      + offset_at env.maps (slice_index env.bind i)
+      (slice_index (values_of (keys_at env.maps (slice_index env.bind i)).entries) number))
 
   layout : Layout
   layout = record {
@@ -89,20 +108,34 @@ module _ (env : Environment) (memory : Memory) (registers : List ℕ) (maps : Ma
   }
 
   -- a value lies after the context, and is not changed
-  value_stays : (k p : ℕ) → IsSome (live_at env.maps k) → p < (shape_at env.maps k).max_entries
-      → bytes_at memory.bytes (part_start env.memory env.tenant + offset_at env.maps k p) (shape_at env.maps k).value_size ≡ bytes_at env.memory.bytes (part_start env.memory env.tenant + offset_at env.maps k p) (shape_at env.maps k).value_size
+  value_stays : (k p : ℕ)
+      → IsSome (live_at env.maps k) → p < (shape_at env.maps k).max_entries
+      → bytes_at memory.bytes
+      (part_start env.memory env.tenant + offset_at env.maps k p)
+      (shape_at env.maps k).value_size
+      ≡ bytes_at env.memory.bytes
+      (part_start env.memory env.tenant + offset_at env.maps k p)
+      (shape_at env.maps k).value_size
   value_stays k p live lt =
       let is = laid_inside env.maps ready.laid k p live lt in
       let behind = is.behind in
       let within = is.within in
       let fits = part_within env.memory env.tenant room.is_part in
       let large = room.room in
-      context.behind (part_start env.memory env.tenant + offset_at env.maps k p) (shape_at env.maps k).value_size (omega arith) (omega arith)
+      context.behind (part_start env.memory env.tenant + offset_at env.maps k p)
+      (shape_at env.maps k).value_size (omega arith) (omega arith)
 
-  value_there : (k p : ℕ) → IsSome (live_at env.maps k) → p < (shape_at env.maps k).max_entries → bytes_at memory.bytes (part_start env.memory env.tenant + offset_at env.maps k p) (shape_at env.maps k).value_size ≡ value_in (part_bytes env.memory env.tenant) env.maps k p
+  value_there : (k p : ℕ)
+      → IsSome (live_at env.maps k) → p < (shape_at env.maps k).max_entries
+      → bytes_at memory.bytes
+      (part_start env.memory env.tenant + offset_at env.maps k p)
+      (shape_at env.maps k).value_size
+      ≡ value_in (part_bytes env.memory env.tenant) env.maps k p
   value_there k p live lt =
       let within = (laid_inside env.maps ready.laid k p live lt).within in
-      value_stays k p live lt ∙ sym (in_part env.memory env.tenant room env.memory refl refl (offset_at env.maps k p) (shape_at env.maps k).value_size (omega arith))
+      value_stays k p live lt
+      ∙ sym (in_part env.memory env.tenant room env.memory refl refl (offset_at env.maps k p)
+      (shape_at env.maps k).value_size (omega arith))
 
   index_within : (i m : ℕ) → slice_get env.descriptors i ≡ Some m → i < length env.bind
   index_within i m e = let fits = slice_get_within env.descriptors i m e in let count = ready.count in omega arith
@@ -114,12 +147,20 @@ module _ (env : Environment) (memory : Memory) (registers : List ℕ) (maps : Ma
       let same : r.0 ≡ i = ready.names r.0 i m (index_is_there env.descriptors m r.0 r.1) e in
       r.1 ∙ ap (λ (x : ℕ). Some x) same
 
-  map_begins : (i m : ℕ) → slice_get env.descriptors i ≡ Some m → HasMap layout (stored_maps (part_start env.memory env.tenant) memory.bytes env.maps) (slice_index env.bind i) m (first_map (map_in (part_bytes env.memory env.tenant) env.maps (slice_index env.bind i)))
+  map_begins : (i m : ℕ)
+      → slice_get env.descriptors i ≡ Some m
+      → HasMap layout
+      (stored_maps (part_start env.memory env.tenant) memory.bytes env.maps)
+      (slice_index env.bind i) m
+      (first_map (map_in (part_bytes env.memory env.tenant) env.maps (slice_index env.bind i)))
   unfolding layout count_at object_at
   map_begins i m e =
       let lt = index_within i m e in
       let k = slice_index env.bind i in
-      maps_begin layout (part_start env.memory env.tenant) memory.bytes env.maps k m (value_in (part_bytes env.memory env.tenant) env.maps k) (ready.live i lt) (ready.sound i lt) (ready.free i lt) (λ p few. value_there k p (ready.live i lt) few)
+      maps_begin layout (part_start env.memory env.tenant) memory.bytes env.maps k m
+      (value_in (part_bytes env.memory env.tenant) env.maps k)
+      (ready.live i lt) (ready.sound i lt) (ready.free i lt)
+      (λ p few. value_there k p (ready.live i lt) few)
       (ap count_at (index_is i m e))
       (λ number few. ap (λ (o : Option ℕ). object_at o number) (index_is i m e))
 
@@ -127,7 +168,9 @@ module _ (env : Environment) (memory : Memory) (registers : List ℕ) (maps : Ma
   unfolding layout count_at
   listed m number = by (index_in env.descriptors m) refl
     where
-      by : (o : Option ℕ) → index_in env.descriptors m ≡ o → number < count_at o → (i : ℕ) × (slice_get env.descriptors i ≡ Some m)
+      by : (o : Option ℕ)
+          → index_in env.descriptors m ≡ o → number < count_at o
+          → (i : ℕ) × (slice_get env.descriptors i ≡ Some m)
       by None e lt = absurd (omega arith)
       by (Some i) e lt = (i, index_is_there env.descriptors m i e)
 
@@ -142,15 +185,27 @@ module _ (env : Environment) (memory : Memory) (registers : List ℕ) (maps : Ma
   first_words : (r : ℕ) (v : Tagged) → r < 11 → begins_with r ≡ Some v → IsWord env layout v (slice_index registers r)
   first_words r v lt e = context_word context_first stack_first (eqb r 1) refl e
     where
-      stack_word : IsWord env layout (Pointer object.Stack (pos 0)) (base + stack_top env.memory env.tenant) → (b : Bool) → eqb r 10 ≡ b → cond b (Some (Pointer object.Stack (pos 0))) None ≡ Some v → IsWord env layout v (slice_index registers r)
+      stack_word : IsWord env layout (Pointer object.Stack (pos 0)) (base + stack_top env.memory env.tenant)
+          → (b : Bool) → eqb r 10 ≡ b
+          → cond b (Some (Pointer object.Stack (pos 0))) None ≡ Some v
+          → IsWord env layout v (slice_index registers r)
       stack_word h true k e = subst (λ (x : ℕ). IsWord env layout v (slice_index registers x)) (sym (eqb-true r 10 k))
-          (subst (λ (x : Tagged). IsWord env layout x (slice_index registers 10)) (same_Some (Pointer object.Stack (pos 0)) v e) (subst (IsWord env layout (Pointer object.Stack (pos 0))) (sym first.frame) h))
+          (subst (λ (x : Tagged). IsWord env layout x (slice_index registers 10))
+          (same_Some (Pointer object.Stack (pos 0)) v e)
+          (subst (IsWord env layout (Pointer object.Stack (pos 0))) (sym first.frame) h))
       stack_word h false k e = absurd (none-some v e)
 
-      context_word : IsWord env layout (Pointer object.Context (pos 0)) (base + stack_top env.memory env.tenant) → IsWord env layout (Pointer object.Stack (pos 0)) (base + stack_top env.memory env.tenant) → (b : Bool) → eqb r 1 ≡ b
-          → cond b (Some (Pointer object.Context (pos 0))) (cond (eqb r 10) (Some (Pointer object.Stack (pos 0))) None) ≡ Some v → IsWord env layout v (slice_index registers r)
-      context_word h g true k e = subst (λ (x : ℕ). IsWord env layout v (slice_index registers x)) (sym (eqb-true r 1 k))
-          (subst (λ (x : Tagged). IsWord env layout x (slice_index registers 1)) (same_Some (Pointer object.Context (pos 0)) v e) (subst (IsWord env layout (Pointer object.Context (pos 0))) (sym first.context) h))
+      context_word : IsWord env layout (Pointer object.Context (pos 0)) (base + stack_top env.memory env.tenant)
+          → IsWord env layout (Pointer object.Stack (pos 0)) (base + stack_top env.memory env.tenant)
+          → (b : Bool) → eqb r 1 ≡ b
+          → cond b (Some (Pointer object.Context (pos 0))) (cond (eqb r 10) (Some (Pointer object.Stack (pos 0))) None)
+          ≡ Some v
+          → IsWord env layout v (slice_index registers r)
+      context_word h g true k e =
+          subst (λ (x : ℕ). IsWord env layout v (slice_index registers x)) (sym (eqb-true r 1 k))
+          (subst (λ (x : Tagged). IsWord env layout x (slice_index registers 1))
+          (same_Some (Pointer object.Context (pos 0)) v e)
+          (subst (IsWord env layout (Pointer object.Context (pos 0))) (sym first.context) h))
       context_word h g false k e = stack_word g (eqb r 10) refl e
 
   not_whole : (b : ℕ → Option ℕ) (v : Tagged) → bytes b ≡ holds v → ⊥
@@ -170,7 +225,11 @@ module _ (env : Environment) (memory : Memory) (registers : List ℕ) (maps : Ma
     context = context.words_are;
     maps = record {
       count = ready.count;
-      each = λ i m e. (first_map (map_in (part_bytes env.memory env.tenant) env.maps (slice_index env.bind i)), ap (option_map first_map) (given i m e), map_begins i m e);
+      each = λ i m e. (
+        first_map (map_in (part_bytes env.memory env.tenant) env.maps (slice_index env.bind i)),
+        ap (option_map first_map) (given i m e),
+        map_begins i m e,
+      );
       listed = listed;
       keys = ready.keys;
       names = ready.names;
@@ -180,34 +239,56 @@ module _ (env : Environment) (memory : Memory) (registers : List ℕ) (maps : Ma
   }
 
 pub runs_begin : RunsBegin
-runs_begin env memory registers maps words room context first ready given = (layout env memory registers maps words room context first ready given, begins env memory registers maps words room context first ready given)
+runs_begin env memory registers maps words room context first ready given = (
+  layout env memory
+      registers maps words room context first ready given,
+  begins env memory registers maps words room context first ready given,
+)
 
 -- ---- the end
 
-module _ (env : Environment) (l : Layout) (flat : FlatState) (s : RunState) (room : IsRoom env.memory env.tenant) (stands : Simulates env l flat s) where
-  map_ends : AreasKeepElements → (new : LiveMaps) (i m : ℕ) → slice_get env.descriptors i ≡ Some m → IsSome (live_at new (slice_index env.bind i)) → keys_at new (slice_index env.bind i) ≡ after_run (keys_at flat.maps (slice_index env.bind i)) → SameAreas flat.maps new
+module _ (env : Environment) (l : Layout) (flat : FlatState) (s : RunState)
+    (room : IsRoom env.memory env.tenant) (stands : Simulates env l flat s) where
+  map_ends : AreasKeepElements
+      → (new : LiveMaps) (i m : ℕ) → slice_get env.descriptors i ≡ Some m
+      → IsSome (live_at new (slice_index env.bind i))
+      → keys_at new (slice_index env.bind i) ≡ after_run (keys_at flat.maps (slice_index env.bind i))
+      → SameAreas flat.maps new
       → option_map last_map (s.maps m) ≡ Some (map_in (part_bytes flat.memory env.tenant) new (slice_index env.bind i))
   map_ends keep new i m named live ended areas =
       let g = stands.maps.each i m named in
       let k = slice_index env.bind i in
       let shape : shape_at new k ≡ shape_at flat.maps k = ap (λ (x : KeyTable). x.shape) ended in
       ap (option_map last_map) g.1
-      ∙ ap (λ x. Some x) (sym (maps_end l (part_start env.memory env.tenant) flat.memory.bytes flat.maps new k m g.0 (value_in (part_bytes flat.memory env.tenant) new k) g.2 ended
+      ∙ ap (λ x. Some x) (sym (maps_end l (part_start env.memory env.tenant) flat.memory.bytes flat.maps new k m g.0
+      (value_in (part_bytes flat.memory env.tenant) new k)
+      g.2 ended
       (λ p lt.
       let within = (laid_inside flat.maps stands.maps.laid k p g.2.live lt).within in
       ap (λ (x : MapShape). bytes_at (part_bytes flat.memory env.tenant) (offset_at new k p) x.value_size) shape
-      ∙ ap (λ (x : ℕ). bytes_at (part_bytes flat.memory env.tenant) x (shape_at flat.maps k).value_size) (keep flat.maps new k p areas live)
-      ∙ in_part env.memory env.tenant room flat.memory stands.changed.size stands.changed.part (offset_at flat.maps k p) (shape_at flat.maps k).value_size (omega arith))))
+      ∙ ap (λ (x : ℕ). bytes_at (part_bytes flat.memory env.tenant) x (shape_at flat.maps k).value_size)
+      (keep flat.maps new k p areas live)
+      ∙ in_part env.memory env.tenant room flat.memory stands.changed.size stands.changed.part
+      (offset_at flat.maps k p) (shape_at flat.maps k).value_size
+      (omega arith))))
 
-  other_stays : (key p : ℕ) → ((i : ℕ) → i < length env.bind → slice_index env.bind i ≡ key → ⊥) → IsSome (live_at flat.maps key) → p < (shape_at flat.maps key).max_entries → value_in (part_bytes flat.memory env.tenant) flat.maps key p ≡ value_in (part_bytes env.memory env.tenant) flat.maps key p
+  other_stays : (key p : ℕ)
+      → ((i : ℕ) → i < length env.bind → slice_index env.bind i ≡ key → ⊥)
+      → IsSome (live_at flat.maps key) → p < (shape_at flat.maps key).max_entries
+      → value_in (part_bytes flat.memory env.tenant) flat.maps key p
+      ≡ value_in (part_bytes env.memory env.tenant) flat.maps key p
   other_stays key p away live lt =
       let within = (laid_inside flat.maps stands.maps.laid key p live lt).within in
-      in_part env.memory env.tenant room flat.memory stands.changed.size stands.changed.part (offset_at flat.maps key p) (shape_at flat.maps key).value_size (omega arith)
+      in_part env.memory env.tenant room flat.memory stands.changed.size stands.changed.part
+      (offset_at flat.maps key p) (shape_at flat.maps key).value_size
+      (omega arith)
       ∙ stands.elsewhere key p away live lt
-      ∙ sym (in_part env.memory env.tenant room env.memory refl refl (offset_at flat.maps key p) (shape_at flat.maps key).value_size (omega arith))
+      ∙ sym (in_part env.memory env.tenant room env.memory refl refl (offset_at flat.maps key p)
+      (shape_at flat.maps key).value_size (omega arith))
 
 pub runs_end : AreasKeepElements → RunsEnd
-runs_end keep env l flat s new i m room stands named live ended areas = map_ends env l flat s room stands keep new i m named live ended areas
+runs_end keep env l flat s new i m room stands named live ended areas =
+    map_ends env l flat s room stands keep new i m named live ended areas
 
 pub others_stay : OthersStay
 others_stay env l flat s key p room stands away live lt = other_stays env l flat s room stands key p away live lt

@@ -13,7 +13,10 @@ Tells found (Present number) = found ≡ Some number
 Tells found New = Unit {0}
 
 verdict_tells : (t : Table ℕ) (key : List ℕ) (flags : ℕ) → Tells (look_up t key) (verdict t key flags)
-verdict_tells t key flags = cond_both (nat_le flags exist) (of_found t flags (look_up t key)) (Refused Invalid) (Tells (look_up t key)) (λ _. of_object (look_up t key)) (λ _. tt)
+verdict_tells t key flags =
+    cond_both (nat_le flags exist) (of_found t flags (look_up t key)) (Refused Invalid)
+    (Tells (look_up t key)) (λ _. of_object (look_up t key))
+    (λ _. tt)
   where
     of_kind : (k : MapKind) → Tells None (of_absent {A = ℕ} k (is_full t) flags)
     of_kind Array = tt
@@ -23,9 +26,11 @@ verdict_tells t key flags = cond_both (nat_le flags exist) (of_found t flags (lo
 
     of_object : (o : Option ℕ) → Tells o (of_found t flags o)
     of_object None = of_kind t.shape.kind
-    of_object (Some a) = cond_both (flags == no_exist) (Refused Exists) (Present a) (Tells (Some a)) (λ _. tt) (λ _. refl)
+    of_object (Some a) =
+        cond_both (flags == no_exist) (Refused Exists) (Present a) (Tells (Some a)) (λ _. tt) (λ _. refl)
 
-pub present_found : (t : Table ℕ) (key : List ℕ) (flags number : ℕ) → verdict t key flags ≡ Present number → look_up t key ≡ Some number
+pub present_found : (t : Table ℕ) (key : List ℕ) (flags number : ℕ)
+    → verdict t key flags ≡ Present number → look_up t key ≡ Some number
 present_found t key flags number e = subst (Tells (look_up t key)) e (verdict_tells t key flags)
 
 pub removal_found : (kind : MapKind) (o : Option ℕ) (p : ℕ) → removal_of kind o ≡ Ok p → o ≡ Some p

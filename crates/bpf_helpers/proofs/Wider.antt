@@ -25,9 +25,11 @@ module _ (l m : Layout) (e : Extends l m) where
   pub word_more : (env : Environment) (v : Tagged) (w : ℕ) → IsWord env l v w → IsWord env m v w
   word_more env (Scalar n) w h = h
   word_more env (Map k) w h = h
-  word_more env (Pointer o x) w h = let p = placed_more o h.2 in (subst (λ (a : ℕ). pos w ≡ pos a +ℤ x) (sym p.1) h.0, h.1, p.0)
+  word_more env (Pointer o x) w h =
+      let p = placed_more o h.2 in (subst (λ (a : ℕ). pos w ≡ pos a +ℤ x) (sym p.1) h.0, h.1, p.0)
 
-  pub cell_more : (env : Environment) (memory : List ℕ) (offset : ℕ) (c : Cell) → HasCell env l memory offset c → HasCell env m memory offset c
+  pub cell_more : (env : Environment) (memory : List ℕ) (offset : ℕ) (c : Cell)
+      → HasCell env l memory offset c → HasCell env m memory offset c
   cell_more env memory offset c h = record { present = h.present; whole = λ v k. word_more env v _ (h.whole v k) }
 
 -- object `l.counts m` of map m is at this address
@@ -41,15 +43,24 @@ extended l m a = record {
 module _ (l : Layout) (m a : ℕ) where
   extended_counts : (k : ℕ) → l.counts k ≤ set_at l.counts m (l.counts m + 1) k
   extended_counts k =
-      cond_both (k == m) (l.counts m + 1) (l.counts k) (λ n. l.counts k ≤ n) (λ b. let same = ap l.counts (eqb-true k m b) in omega arith) (λ _. omega arith)
+      cond_both (k == m) (l.counts m + 1) (l.counts k) (λ n. l.counts k ≤ n)
+      (λ b. let same = ap l.counts (eqb-true k m b) in omega arith)
+      (λ _. omega arith)
 
-  pub extended_same : (k number : ℕ) → (k ≡ m → number ≡ l.counts m → ⊥) → (extended l m a).object_at k number ≡ l.object_at k number
+  pub extended_same : (k number : ℕ)
+      → (k ≡ m → number ≡ l.counts m → ⊥)
+      → (extended l m a).object_at k number ≡ l.object_at k number
   extended_same k number other =
       cond-false ((k == m) && (number == l.counts m)) a (l.object_at k number)
-      (⊎_elim (λ t. absurd (let h = and_parts (k == m) (number == l.counts m) t in other (eqb-true k m h.0) (eqb-true number (l.counts m) h.1))) (λ f. f) (cases_Bool ((k == m) && (number == l.counts m))))
+      (⊎_elim (λ t.
+      absurd (let h = and_parts (k == m) (number == l.counts m) t in
+      other (eqb-true k m h.0) (eqb-true number (l.counts m) h.1)))
+      (λ f. f) (cases_Bool ((k == m) && (number == l.counts m))))
 
   pub extended_here : (extended l m a).object_at m (l.counts m) ≡ a
-  extended_here = cond-true ((m == m) && (l.counts m == l.counts m)) a (l.object_at m (l.counts m)) (and_from (m == m) (l.counts m == l.counts m) (eq-eqb m m refl) (eq-eqb (l.counts m) (l.counts m) refl))
+  extended_here =
+      cond-true ((m == m) && (l.counts m == l.counts m)) a (l.object_at m (l.counts m))
+      (and_from (m == m) (l.counts m == l.counts m) (eq-eqb m m refl) (eq-eqb (l.counts m) (l.counts m) refl))
 
   pub extends : Extends l (extended l m a)
   extends = record {
@@ -59,13 +70,24 @@ module _ (l : Layout) (m a : ℕ) where
   }
 
 -- a map that is not written, in a layout with more objects
-pub map_extended : (l : Layout) (start : ℕ) (memory : List ℕ) (tenant : LiveMaps) (m a key n : ℕ) (u : RunMap) → n ≢ m → HasMap l (stored_maps start memory tenant) key n u → HasMap (extended l m a) (stored_maps start memory tenant) key n u
+pub map_extended : (l : Layout) (start : ℕ) (memory : List ℕ) (tenant : LiveMaps) (m a key n : ℕ)
+    (u : RunMap)
+    → n ≢ m
+    → HasMap l (stored_maps start memory tenant) key n u
+    → HasMap (extended l m a) (stored_maps start memory tenant) key n u
 map_extended l start memory tenant m a key n u differ h = record {
   live = h.live;
   element = h.element;
   table = h.table;
   owns = h.owns;
   counted = cond-false (n == m) (l.counts m + 1) (l.counts n) (ne_eqb n m differ) ∙ h.counted;
-  objects = λ number lt. let o = h.objects number lt in record { within = o.within; in_use = o.in_use; address = extended_same l m a n number (λ e _. differ e) ∙ o.address; bytes = o.bytes };
+  objects = λ number lt.
+      let o = h.objects number lt in
+      record {
+        within = o.within;
+        in_use = o.in_use;
+        address = extended_same l m a n number (λ e _. differ e) ∙ o.address;
+        bytes = o.bytes;
+      };
   apart = h.apart;
 }

@@ -15,16 +15,24 @@ module _ (memory : Memory) (t size n address : ℕ) (same : n ≡ size) where
   offset_is : (o : Option ℕ) → o ≡ named_offset memory t n address → named_offset memory t size address ≡ o
   offset_is o e = ap (λ (k : ℕ). named_offset memory t k address) (sym same) ∙ sym e
 
-  input_is : (at : ℕ) → Some at ≡ named_offset memory t n address → part_input memory t size address ≡ Some (bytes_at memory.bytes (part_start memory t + at) size)
-  input_is at e = ap (λ o. and_then o (λ p. Some (bytes_at memory.bytes (part_start memory t + p) size))) (offset_is (Some at) e)
+  input_is : (at : ℕ)
+      → Some at ≡ named_offset memory t n address
+      → part_input memory t size address ≡ Some (bytes_at memory.bytes (part_start memory t + at) size)
+  input_is at e =
+      ap (λ o. and_then o (λ p. Some (bytes_at memory.bytes (part_start memory t + p) size))) (offset_is (Some at) e)
 
   no_input : None ≡ named_offset memory t n address → part_input memory t size address ≡ None
-  no_input e = ap (λ o. and_then o (λ p. Some (bytes_at memory.bytes (part_start memory t + p) size))) (offset_is None e)
+  no_input e =
+      ap (λ o. and_then o (λ p. Some (bytes_at memory.bytes (part_start memory t + p) size))) (offset_is None e)
 
 -- a range of a part
-pub part_range : (memory : Memory) (t at n : ℕ) (part : List ℕ) → part ≡ part_bytes memory t → at + n ≤ memory.part → slice_range part at (at + n) ≡ bytes_at memory.bytes (part_start memory t + at) n
+pub part_range : (memory : Memory) (t at n : ℕ) (part : List ℕ)
+    → part ≡ part_bytes memory t → at + n ≤ memory.part
+    → slice_range part at (at + n) ≡ bytes_at memory.bytes (part_start memory t + at) n
 part_range memory t at n part is fits =
-    range_is_bytes part at n ∙ ap (λ (x : List ℕ). bytes_at x at n) is ∙ bytes_within memory.bytes (part_start memory t) memory.part at n fits
+    range_is_bytes part at n
+    ∙ ap (λ (x : List ℕ). bytes_at x at n) is
+    ∙ bytes_within memory.bytes (part_start memory t) memory.part at n fits
 
 -- ---- a map with a key, and with a value
 
@@ -33,10 +41,16 @@ module _ (site : CallSite) (map key : ℕ) where
   no_map e = ap (λ o. and_then o (key_at site key)) e
 
   module _ {k : ℕ} (bound : bound_map site.bind map ≡ Some k) where
-    by_map : (o : Option (List ℕ)) → key_input site k key ≡ o → key_named site map key ≡ option_map (λ bs. let n : NamedKey = record { map = k; key = bs } in n) o
-    by_map o e = ap (λ o. and_then o (key_at site key)) bound ∙ ap (option_map (λ bs. let n : NamedKey = record { map = k; key = bs } in n)) e
+    by_map : (o : Option (List ℕ))
+        → key_input site k key ≡ o
+        → key_named site map key ≡ option_map (λ bs. let n : NamedKey = record { map = k; key = bs } in n) o
+    by_map o e =
+        ap (λ o. and_then o (key_at site key)) bound
+        ∙ ap (option_map (λ bs. let n : NamedKey = record { map = k; key = bs } in n)) e
 
-    pub key_is : (bs : List ℕ) → key_input site k key ≡ Some bs → key_named site map key ≡ Some (record { map = k; key = bs })
+    pub key_is : (bs : List ℕ)
+        → key_input site k key ≡ Some bs
+        → key_named site map key ≡ Some (record { map = k; key = bs })
     key_is bs e = by_map (Some bs) e
 
     -- the size that the code has requested is the map's key size
@@ -44,30 +58,50 @@ module _ (site : CallSite) (map key : ℕ) where
       pub no_key : None ≡ named_offset site.memory site.tenant n key → key_named site map key ≡ None
       no_key e = by_map None (no_input site.memory site.tenant (shape_at site.maps k).key_size n key size e)
 
-      pub key_found : {at : ℕ} → Some at ≡ named_offset site.memory site.tenant n key → key_named site map key ≡ Some (record { map = k; key = key_bytes site k at })
-      key_found {at} e = key_is (key_bytes site k at) (input_is site.memory site.tenant (shape_at site.maps k).key_size n key size at e)
+      pub key_found : {at : ℕ}
+          → Some at ≡ named_offset site.memory site.tenant n key
+          → key_named site map key ≡ Some (record { map = k; key = key_bytes site k at })
+      key_found {at} e =
+          key_is (key_bytes site k at)
+          (input_is site.memory site.tenant (shape_at site.maps k).key_size n key size at e)
 
       -- the bytes of the part are the key
-      pub key_there : (at : ℕ) {part : List ℕ} → Some at ≡ named_offset site.memory site.tenant n key → part ≡ part_bytes site.memory site.tenant → at + n ≤ site.memory.part
+      pub key_there : (at : ℕ) {part : List ℕ}
+          → Some at ≡ named_offset site.memory site.tenant n key
+          → part ≡ part_bytes site.memory site.tenant → at + n ≤ site.memory.part
           → key_named site map key ≡ Some (record { map = k; key = slice_range part at (at + n) })
       key_there at {part} offset is fits =
           let there : key_bytes site k at ≡ slice_range part at (at + n) =
-          ap (λ (m : ℕ). bytes_at site.memory.bytes (part_start site.memory site.tenant + at) m) (sym size) ∙ sym (part_range site.memory site.tenant at n part is fits) in
-          key_found offset ∙ ap (λ (bs : List ℕ). let o : Option NamedKey = Some (record { map = k; key = bs }) in o) there
+          ap (λ (m : ℕ). bytes_at site.memory.bytes (part_start site.memory site.tenant + at) m) (sym size)
+          ∙ sym (part_range site.memory site.tenant at n part is fits) in
+          key_found offset
+          ∙ ap (λ (bs : List ℕ). let o : Option NamedKey = Some (record { map = k; key = bs }) in o) there
 
   pub no_pair : (value : ℕ) → key_named site map key ≡ None → pair_named site map key value ≡ None
   no_pair value e = ap (λ o. and_then o (pair_at site value)) e
 
   module _ (value : ℕ) {k : NamedKey} (named : key_named site map key ≡ Some k) where
-    by_key : (o : Option (List ℕ)) → value_input site k.map value ≡ o → pair_named site map key value ≡ option_map (λ vs. let p : NamedPair = record { map = k.map; key = k.key; value = vs } in p) o
-    by_key o e = ap (λ o. and_then o (pair_at site value)) named ∙ ap (option_map (λ vs. let p : NamedPair = record { map = k.map; key = k.key; value = vs } in p)) e
+    by_key : (o : Option (List ℕ))
+        → value_input site k.map value ≡ o
+        → pair_named site map key value
+        ≡ option_map (λ vs. let p : NamedPair = record { map = k.map; key = k.key; value = vs } in p) o
+    by_key o e =
+        ap (λ o. and_then o (pair_at site value)) named
+        ∙ ap (option_map (λ vs. let p : NamedPair = record { map = k.map; key = k.key; value = vs } in p)) e
 
-    pub pair_is : (vs : List ℕ) → value_input site k.map value ≡ Some vs → pair_named site map key value ≡ Some (record { map = k.map; key = k.key; value = vs })
+    pub pair_is : (vs : List ℕ)
+        → value_input site k.map value ≡ Some vs
+        → pair_named site map key value ≡ Some (record { map = k.map; key = k.key; value = vs })
     pair_is vs e = by_key (Some vs) e
 
     module _ {n : ℕ} (size : n ≡ (shape_at site.maps k.map).value_size) where
       pub no_value : None ≡ named_offset site.memory site.tenant n value → pair_named site map key value ≡ None
       no_value e = by_key None (no_input site.memory site.tenant (shape_at site.maps k.map).value_size n value size e)
 
-      pub pair_found : {at : ℕ} → Some at ≡ named_offset site.memory site.tenant n value → pair_named site map key value ≡ Some (record { map = k.map; key = k.key; value = value_bytes site k.map at })
-      pair_found {at} e = pair_is (value_bytes site k.map at) (input_is site.memory site.tenant (shape_at site.maps k.map).value_size n value size at e)
+      pub pair_found : {at : ℕ}
+          → Some at ≡ named_offset site.memory site.tenant n value
+          → pair_named site map key value
+          ≡ Some (record { map = k.map; key = k.key; value = value_bytes site k.map at })
+      pair_found {at} e =
+          pair_is (value_bytes site k.map at)
+          (input_is site.memory site.tenant (shape_at site.maps k.map).value_size n value size at e)

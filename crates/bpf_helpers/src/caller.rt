@@ -1,5 +1,6 @@
 //! The caller of a helper.
 
+use crate::arrays::Arrays;
 use bpf_maps::MapKey;
 
 /// The inputs of a call from the run that makes it, besides the words of its arguments.
@@ -9,6 +10,19 @@ pub(crate) struct Caller<'a> {
     pub tenant: usize,
     /// The handles of the bound live maps, in the order of the program's descriptors.
     pub bind: &'a [MapKey],
+    /// The packet.
+    pub packet: &'a [u8],
+}
+
+/// The inputs of a call from a run that knows which of its maps are arrays.
+#[derive(Clone, Copy)]
+pub struct RunCaller<'a> {
+    /// The tenant to whose part of the memory the run belongs.
+    pub tenant: usize,
+    /// The handles of the bound live maps, in the order of the program's descriptors.
+    pub bind: &'a [MapKey],
+    /// What it knows of the arrays among them.
+    pub arrays: Arrays<'a>,
     /// The packet.
     pub packet: &'a [u8],
 }

@@ -1,6 +1,7 @@
 //! Laws of the words and bytes that represent a state. Each law is the contract of a function that does nothing.
 
 ghost use Rattle.bpf_helpers.specs.Accesses.{LoadsGiveWords, StoresKeepSimulation, PointersAreLow};
+ghost use Rattle.bpf_helpers.specs.Calls.{LoadsNameBytes};
 ghost use Rattle.bpf_helpers.specs.Runs.{RunsBegin, RunsEnd, OthersStay};
 ghost use Rattle.bpf_helpers.specs.inside.Below.{LawsBelow};
 ghost use Rattle.bpf_helpers.specs.inside.Laws.{ReturnsKeepSimulation};
@@ -24,6 +25,13 @@ pub fn loads_give_words()
 /// represent the state after the store.
 pub fn stores_keep_simulation()
     ensures { StoresKeepSimulation }
+{
+    arena::laws::writes_stay_inside();
+}
+
+/// If the machine has a load of bytes, the words of its arguments name bytes of the part.
+pub fn loads_name_bytes()
+    ensures { LoadsNameBytes }
 {
     arena::laws::writes_stay_inside();
 }

@@ -13,8 +13,9 @@
 //!   of refused memory stays: `follows` of `call`.
 //! - If a word names no map of the run, or bytes that are not in the tenant's part, a look-up returns null, an update and a
 //!   delete EINVAL, a load of bytes EFAULT, and nothing changes: `unnamed` of `call`.
-//! - A run that knows which of its maps are arrays, and the addresses of their elements, looks keys up like `call`: `follows`, `unnamed`
-//!   of `call_look_up`.
+//! - A run that knows which of its maps are arrays, and the addresses of their elements, looks keys up like `call`, and so it loads
+//!   bytes of the packet without a test of the address, which is in its part: `follows`, `unnamed`, `kept` of `call_in_run`. If the
+//!   machine has a load of bytes, its words name bytes of the part: `loads_name_bytes`.
 //! - Each range that a call requests is in the tenant's part: `asks` of `call`.
 //! - When the machine loads or stores a value, the address of the access is in the part; the bytes there are a word that
 //!   simulates the loaded value, and with the word of the stored value they simulate the next state: `loads_give_words`,
@@ -35,6 +36,8 @@
 //!   which does not happen in an accepted program (`NamesNothing`, `unnamed_answer`); then nothing changes. The tests of the
 //!   words remain, but no `Option` or `Result` is built and taken apart for the result, and a run has no arm for a call that
 //!   faults. A look-up returns its address at once (`address_of`). bench/FIGURES.md has the cost of calls.
+//! - A load of bytes by a run tests neither the address nor the number of bytes, since the verifier has: that they name bytes of the
+//!   part is the condition of `call_in_run`, as it is that of a load or a store of a program.
 //! - A call tests a word and an address once: the number of the map and the offset in the tenant's part are each one wrapping
 //!   difference and one comparison, since a key and a value of a map are never longer than a part (`sizes_fit_in_parts`).
 //!   What `put` copies is known to be in the part (`copy_inside` of `arena`), and eight bytes are one number.
@@ -43,7 +46,6 @@
 mod arrays;
 mod caller;
 mod calls;
-mod copying;
 mod delete;
 mod known_answers;
 pub mod laws;
@@ -52,4 +54,5 @@ mod output;
 mod update;
 
 pub use arrays::Arrays;
-pub use calls::{call, call_look_up};
+pub use caller::RunCaller;
+pub use calls::{call, call_in_run};

@@ -1,6 +1,7 @@
 //! The look-up of a key, on words and bytes.
 
-ghost use Rattle.std.specs.Prelude.{◌≡◌, ◌+◌, ◌-◌, ◌<◌, ◌≤◌, length, slice_index, unwrap_or, IfSome};
+ghost use Rattle.std.specs.Prelude.{◌≡◌, ◌+◌, ◌-◌, ◌<◌, ◌≤◌, length, slice_index, unwrap_or, Some, IsSome, IfSome};
+ghost use Rattle.arena.specs.Memory.{base, part_start};
 ghost use Rattle.arena.specs.Ranges.{IsInside};
 ghost use Rattle.bpf_maps.specs.declared.part.TheConstants.{MAPS, PART};
 ghost use Rattle.bpf_helpers.specs.Named.{bound_map, named_offset};
@@ -63,6 +64,40 @@ pub(crate) fn traced_offset(
     let at = offset_in(arena, tenant, size, address)?;
     trace.range(address, size as u64);
     Some(at)
+}
+
+/// Bytes that have an offset in the part of `tenant` lie in it. It does nothing when it runs.
+#[inline(always)]
+pub(crate) fn named_bytes_lie_inside(arena: &Arena, tenant: usize, size: usize, address: u64)
+    requires { IsSome (named_offset arena.now tenant size address) }
+    ensures from { base + part_start arena.now tenant ≤ address }
+    ensures to { address + size ≤ base + part_start arena.now tenant + arena.now.part }
+    ensures value { named_offset arena.now tenant size address
+        ≡ Some (address - (base + part_start arena.now tenant)) }
+{
+    let _ = arena;
+    let _ = (tenant, size, address);
+}
+
+/// The offset of requested bytes that are known to lie in the part of `tenant`, without a test; appends their range to the trace.
+#[inline(always)]
+pub(crate) fn traced_offset_inside(
+    arena: &Arena,
+    tenant: usize,
+    size: usize,
+    address: u64,
+    trace: &mut Trace,
+) -> usize
+    requires part { IsPartOf tenant arena.now }
+    requires named { IsSome (named_offset arena.now tenant size address) }
+    ensures value { named_offset arena.now tenant size address ≡ Some result }
+    ensures within { result + size ≤ arena.now.part }
+    ensures asks { AsksInside arena.now tenant trace.old trace.new }
+{
+    arena.memory_is_its_parts();
+    named_bytes_lie_inside(arena, tenant, size, address);
+    trace.range(address, size as u64);
+    (address - arena.address(tenant)) as usize
 }
 
 /// bpf_map_lookup_elem (1): returns the address of the value of a key, or 0. `map` names the map, and `key` is the address of the

@@ -1,6 +1,6 @@
 //! Bytes that a helper writes to a tenant's part.
 
-ghost use Rattle.std.specs.Prelude.{◌≡◌, ◌+◌, ◌<◌, ◌≤◌, length, replicate};
+ghost use Rattle.std.specs.Prelude.{◌≡◌, ◌+◌, ◌<◌, ◌≤◌, ℕ, length, replicate, Some, IsSome};
 ghost use Rattle.arena.specs.Memory.{part_start, with_bytes};
 ghost use Rattle.bpf_maps.specs.declared.part.TheConstants.{PART};
 ghost use Rattle.bpf_maps.specs.Live.{LiveMaps};
@@ -9,8 +9,7 @@ ghost use Rattle.bpf_helpers.specs.Parts.{IsPartOf, AsksInside};
 ghost use Rattle.bpf_helpers.specs.inside.Flat.{site_of, LoadsAt};
 
 use crate::caller::Caller;
-use crate::copying::copy_bytes;
-use crate::look_up::traced_offset;
+use crate::look_up::{named_bytes_lie_inside, offset_in, traced_offset_inside};
 use arena::{Arena, Trace, laws};
 use bpf_maps::PART;
 
@@ -21,19 +20,6 @@ const LAST_OFFSET: u64 = 0x7fff_ffff;
 
 /// The negated error for an offset or a length outside the packet (EFAULT).
 pub(crate) const OUTSIDE: u64 = 0xffff_ffff_ffff_fff2;
-
-/// Writes bytes at an offset of a tenant's part.
-#[inline(always)]
-pub(crate) fn write_bytes(arena: &mut Arena, tenant: usize, at: usize, bytes: &[u8])
-    requires tenant { tenant < arena.old.parts }
-    requires room { at + length bytes.now ≤ arena.old.part }
-    ensures { arena.new ≡ with_bytes arena.old (part_start arena.old tenant + at) bytes.now }
-{
-    arena.memory_is_its_parts();
-    laws::writes_are_in_parts();
-    let part = arena.part_mut(tenant);
-    copy_bytes(part, at, bytes);
-}
 
 /// Writes `count` zeros at an offset of a tenant's part.
 #[inline(always)]
@@ -47,6 +33,51 @@ pub(crate) fn write_zeros(arena: &mut Arena, tenant: usize, at: usize, count: us
     laws::writes_are_in_parts();
     let part = arena.part_mut(tenant);
     part[at..at + count].fill(0);
+}
+
+/// Writes bytes at an address that is known to be that of so many bytes in the part of `tenant`.
+#[inline(always)]
+fn write_named(arena: &mut Arena, tenant: usize, address: u64, bytes: &[u8], trace: &mut Trace)
+    requires part { IsPartOf tenant arena.old }
+    requires named { IsSome (named_offset arena.old tenant (length bytes.now) address) }
+    ensures bytes { (at : ℕ) → named_offset arena.old tenant (length bytes.now) address ≡ Some at
+        → arena.new ≡ with_bytes arena.old (part_start arena.old tenant + at) bytes.now }
+    ensures asks { AsksInside arena.old tenant trace.old trace.new }
+{
+    arena.memory_is_its_parts();
+    named_bytes_lie_inside(arena, tenant, bytes.len(), address);
+    let _ = arena.address(tenant);
+    arena.write_inside(address, bytes, trace);
+}
+
+/// Loads bytes of the packet like `load_bytes`, to an address that is known to be one in the tenant's part.
+#[inline(always)]
+pub(crate) fn load_bytes_inside(
+    offset: u64,
+    to: u64,
+    count: u64,
+    caller: Caller<'_>,
+    arena: &mut Arena,
+    trace: &mut Trace,
+) -> u64
+    requires part { IsPartOf caller.tenant arena.old }
+    requires named { IsSome (named_offset arena.old caller.tenant count to) }
+    ensures loaded { (maps : LiveMaps) → LoadsAt (site_of caller.entry arena.old maps) offset count
+        (named_offset arena.old caller.entry.tenant count to) result arena.new }
+    ensures asks { AsksInside arena.old caller.entry.tenant trace.old trace.new }
+{
+    let count = count as usize;
+    let from = offset % OFFSETS;
+    if from <= LAST_OFFSET && from as usize + count <= caller.packet.len() {
+        let from = from as usize;
+        let bytes = &caller.packet[from..from + count];
+        write_named(arena, caller.tenant, to, bytes, trace);
+        0
+    } else {
+        let at = traced_offset_inside(arena, caller.tenant, count, to, trace);
+        write_zeros(arena, caller.tenant, at, count);
+        OUTSIDE
+    }
 }
 
 /// bpf_skb_load_bytes (26): copies `count` bytes of the packet at `offset` to an address, and returns 0. If they don't
@@ -66,20 +97,8 @@ pub(crate) fn load_bytes(
         (named_offset arena.old caller.entry.tenant count to) result arena.new }
     ensures asks { AsksInside arena.old caller.entry.tenant trace.old trace.new }
 {
-    if count > PART as u64 {
+    if count > PART as u64 || offset_in(arena, caller.tenant, count as usize, to).is_none() {
         return OUTSIDE;
     }
-    let count = count as usize;
-    let Some(at) = traced_offset(arena, caller.tenant, count, to, trace) else {
-        return OUTSIDE;
-    };
-    let from = offset % OFFSETS;
-    if from <= LAST_OFFSET && from as usize + count <= caller.packet.len() {
-        let from = from as usize;
-        write_bytes(arena, caller.tenant, at, &caller.packet[from..from + count]);
-        0
-    } else {
-        write_zeros(arena, caller.tenant, at, count);
-        OUTSIDE
-    }
+    load_bytes_inside(offset, to, count, caller, arena, trace)
 }

@@ -64,6 +64,7 @@ pub(crate) fn run_premises()
 {
     steps_follow();
     steps_stay_inside();
+    bpf_helpers::laws::loads_name_bytes();
     bpf_helpers::laws::runs_begin();
     bpf_helpers::laws::runs_end();
     bpf_helpers::laws::others_stay();

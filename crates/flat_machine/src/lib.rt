@@ -60,9 +60,9 @@
 //! - Compared with plain C, the programs of the bench need 0 to 4.4 machine instructions more for each instruction, "parser" 2.4
 //!   (11.7 and 9.3), since registers and constant are decoded from the slot each time; the plain interpreter keeps decoded
 //!   entries of sixteen bytes. On average they take 1.01 times as long (bench/FIGURES.md). Decoded entries would be a second
-//!   form of each program, kept next to the slots and proved to be the same. A load of bytes or a look-up costs at most 1.5
-//!   times that of plain C: a load of bytes has the two tests of its offset and its length, the overlap test of a copy
-//!   between slices, and a call of `memmove`; a look-up in a hash map has the multiplications of the hasher.
+//!   form of each program, kept next to the slots and proved to be the same. A look-up costs at most 1.5 times that of plain C: one in a
+//!   hash map has the multiplications of the hasher. A load of bytes has the two tests of its offset, and up to four comparisons of its
+//!   length for a copy by its ends; its address and its length are not tested.
 #![tactic(auto)]
 
 mod batch;

@@ -72,7 +72,7 @@ pub use opcode::SourceBit;
 pub use program::{Program, read_program, write_program};
 pub use reading::decode;
 pub use sequences::{
-    ADD64_K, ATOMIC_ADD, BE16, CALL, LDDW_MAP, LDDW_VALUE, LDXDW, LDXH, LSH64_K, MOV32_K, MOV64,
-    MOV64_K, RSH64_K, STXDW,
+    ADD64_K, ATOMIC_ADD, BE16, CALL, EXIT, LDDW_MAP, LDDW_VALUE, LDXDW, LDXH, LOAD_BYTES, MOV32_K,
+    MOV64, MOV64_K, R0_MOV32_K, R2_K, R3_ADD_K, R3_FRAME, R4_K, R7_JEQ32_K, R7_LDXH, STXDW,
 };
 pub use writing::encode;

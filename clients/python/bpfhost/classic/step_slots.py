@@ -36,7 +36,7 @@ class Context(Enum):
     """The place of the run's context at a step: the register in which it is passed, which a call changes, or another one in which it is saved."""
 
     PASSED = auto()
-    # It is passed to a call that a later step needs it after, so the call's arguments save it.
+    # It is passed to a call, whose arguments save it.
     TO_SAVE = auto()
     SAVED = auto()
 
@@ -163,10 +163,10 @@ class StepSlots:
         self._writer.put(op.ADD_K, op.R3, number=place)
 
     def _move_context(self, context: Context) -> None:
-        """Passes the context, which the program begins with in the argument's register, or saves it there."""
+        """Passes the saved context, or saves it: a program begins with it in the register of the argument."""
         if context is Context.SAVED:
             self._writer.put(op.MOVE_X, op.R1, CONTEXT)
-        elif context is Context.TO_SAVE:
+        else:
             self._writer.put(op.MOVE_X, CONTEXT, op.R1)
 
     def _size_and_call(self, size: int) -> None:

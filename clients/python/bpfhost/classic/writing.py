@@ -92,12 +92,10 @@ class _Writing:
                 self._steps.number(NUMBERS[register], 0)
 
     def _context(self, place: Place) -> Context:
-        """The place of the context at a step. The first call on a path saves it, if a later step needs it."""
-        if place in self._after_calls:
+        """The place of the context at a step. The first call on a path saves it: a call that does is one turn of the host's interpreter."""
+        if self._saves_first or place in self._after_calls:
             return Context.SAVED
-        is_call = isinstance(self._graph.steps[place], Fetch | LoadPacket)
-        is_needed = CONTEXT_VALUE in self._live.after[place]
-        return Context.TO_SAVE if is_call and is_needed and not self._saves_first else Context.PASSED
+        return Context.TO_SAVE if isinstance(self._graph.steps[place], Fetch | LoadPacket) else Context.PASSED
 
     def _meets_without_call(self, place: Place) -> bool:
         """Whether this step goes on without a call to one that needs the context, and that other paths lead to with a call."""

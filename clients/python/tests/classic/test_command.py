@@ -285,7 +285,7 @@ class Texts(FilterTest):
         ended = self.command("check", "--filter", "tcp port 443", "--filter", "ip")
         lines = ended.stdout.decode().splitlines()
         self.assertRegex(lines[0], r"\Athe expression 'tcp port 443' is accepted: 20 instructions of classic BPF, \d+ slots\Z")
-        self.assertEqual(lines[1], "the expression 'ip' is accepted: 4 instructions of classic BPF, 11 slots, with a call for each load")
+        self.assertEqual(lines[1], "the expression 'ip' is accepted: 4 instructions of classic BPF, 12 slots, with a call for each load")
         self.assertEqual((len(lines), ended.stderr, ended.returncode), (2, b"", 0))
 
     def test_check_tells_each(self) -> None:

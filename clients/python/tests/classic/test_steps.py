@@ -83,12 +83,14 @@ class Failures(StepsTest):
 
 
 class Context(TranslationTest):
-    """The first call saves the context if a later step needs it."""
+    """The first call on a path saves the context, and the others pass the saved one."""
 
     @needs_libpcap
     def test_who_saves_it(self) -> None:
-        self.assertNotIn("r6", self.text("ip"))
-        self.assertEqual(self.text("tcp port 443").count("r6 = r1"), 1)
+        for expression in ("ip", "tcp port 443"):
+            self.assertEqual(self.text(expression).count("r6 = r1"), 1)
+        self.assertNotIn("r1 = r6", self.text("ip"))
+        self.assertIn("r1 = r6", self.text("tcp port 443"))
         self.assertLess(self.text("tcp port 443").index("r6 = r1"), self.text("tcp port 443").index("call 26"))
 
     def test_paths_with_and_without_a_call_meet(self) -> None:
@@ -101,7 +103,7 @@ class Context(TranslationTest):
     def test_arguments_are_sequences(self) -> None:
         """The arguments are in the order in which the host's interpreter executes several of them at once."""
         program = ClassicProgram((Instruction(0x30, 0, 0, 5), Instruction(0x16, 0, 0, 0)))
-        self.assertTrue(self.text(program).startswith("r3 = r10\nr3 += -8\nr2 = 5\nr4 = 1\ncall 26\n"))
+        self.assertTrue(self.text(program).startswith("r3 = r10\nr3 += -8\nr6 = r1\nr2 = 5\nr4 = 1\ncall 26\n"))
 
 
 class Folding(TranslationTest):

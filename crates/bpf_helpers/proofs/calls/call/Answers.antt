@@ -19,30 +19,43 @@ use Rattle.bpf_helpers.specs.States.{CallSite, CallAnswer, answers, site}
 
 -- an update keeps no element apart
 
-claims_apart : (v : Verdict ℕ) (key : List ℕ) (old : KeyTable) (answer : Result ℕ MapFault) (new : KeyTable) → Claims v key old answer new → new.kept ≡ old.kept
+claims_apart : (v : Verdict ℕ) (key : List ℕ) (old : KeyTable) (answer : Result ℕ MapFault) (new : KeyTable)
+    → Claims v key old answer new → new.kept ≡ old.kept
 claims_apart (Refused fault) key old answer new claims = ap (λ (t : KeyTable). t.kept) claims.1
 claims_apart (Present p) key old answer new claims = ap (λ (t : KeyTable). t.kept) claims.1
 claims_apart New key old (Ok p) new claims = ap (λ (t : KeyTable). t.kept) claims.1
 claims_apart New key old (Err fault) new claims = absurd claims
 
-updates_apart : (here : CallSite) (pair : Option NamedPair) (flags : ℕ) (answer : CallAnswer) → UpdatesNamed here pair flags answer → SameApart here.maps answer.maps
+updates_apart : (here : CallSite) (pair : Option NamedPair) (flags : ℕ) (answer : CallAnswer)
+    → UpdatesNamed here pair flags answer → SameApart here.maps answer.maps
 updates_apart here None flags answer nothing key = ap (λ (maps : LiveMaps). (keys_at maps key).kept) nothing.2
 updates_apart here (Some pair) flags answer updates key =
     ⊎_elim
     (λ b.
-    let claimed = claims_apart (verdict (table_of (keys_at here.maps pair.map)) pair.key flags) pair.key (keys_at here.maps pair.map) updates.claim (keys_at answer.maps pair.map) updates.claimed in
-    subst (λ (k : ℕ). (keys_at answer.maps k).kept ≡ (keys_at here.maps k).kept) (sym (eqb-true key pair.map b)) claimed)
+    let claimed =
+    claims_apart (verdict (table_of (keys_at here.maps pair.map)) pair.key flags) pair.key
+    (keys_at here.maps pair.map) updates.claim (keys_at answer.maps pair.map)
+    updates.claimed in
+    subst (λ (k : ℕ). (keys_at answer.maps k).kept ≡ (keys_at here.maps k).kept)
+    (sym (eqb-true key pair.map b)) claimed)
     (λ b. ap (λ (o : Option LiveMap). (live_or o).keys.kept) (updates.rest.others key (eqb-false key pair.map b)))
     (cases_Bool (eqb key pair.map))
 
 -- a number names one function
-of_helper : (P : Helper → Type 0) (h : Helper) {id : ℤ} {found : Option Helper} {field : Helper} → SFits w32 id → found ≡ helper_of (to_z w32 (of_z w32 id)) → found ≡ Some field → field ≡ h → P h → (helper : Helper) → helper_of id ≡ Some helper → P helper
-of_helper P h {id} {field = field} fits by is told holds helper known = subst P (sym told ∙ same_Some field helper (sym is ∙ by ∙ ap helper_of (to_z-of_z w32 id fits) ∙ known)) holds
+of_helper : (P : Helper → Type 0) (h : Helper) {id : ℤ} {found : Option Helper} {field : Helper}
+    → SFits w32 id → found ≡ helper_of (to_z w32 (of_z w32 id))
+    → found ≡ Some field → field ≡ h
+    → P h
+    → (helper : Helper) → helper_of id ≡ Some helper
+    → P helper
+of_helper P h {id} {field = field} fits by is told holds helper known =
+    subst P (sym told ∙ same_Some field helper (sym is ∙ by ∙ ap helper_of (to_z-of_z w32 id fits) ∙ known)) holds
 
 pub returns-in-Some-LookUp-clause-follows : goal.returns-in-Some-LookUp-clause-follows
 returns-in-Some-LookUp-clause-follows c =
     of_helper _ LookUp c.ranges.id c.known_helper.ensures c.in-Some-LookUp.is c.in-Some-LookUp.field-0-is
-    (look_up_follows c.returns_keep_simulation.ensures c.call_premises.ensures c.args.words.now c.look_up.result _ c.look_up.ensures.value)
+    (look_up_follows c.returns_keep_simulation.ensures c.call_premises.ensures c.args.words.now
+    c.look_up.result _ c.look_up.ensures.value)
 
 pub returns-in-Some-LookUp-clause-unnamed : goal.returns-in-Some-LookUp-clause-unnamed
 returns-in-Some-LookUp-clause-unnamed c =
@@ -53,34 +66,50 @@ returns-in-Some-LookUp-clause-unnamed c =
 pub returns-in-Some-Update-clause-follows : goal.returns-in-Some-Update-clause-follows
 returns-in-Some-Update-clause-follows c =
     of_helper _ Update c.ranges.id c.known_helper.ensures c.in-Some-Update.is c.in-Some-Update.field-0-is
-    (update_follows c.returns_keep_simulation.ensures c.call_premises.ensures c.args.words.now (answers c.update.result c.update.new.arena c.update.new.maps) _ c.update.ensures.updated)
+    (update_follows c.returns_keep_simulation.ensures c.call_premises.ensures c.args.words.now
+    (answers c.update.result c.update.new.arena c.update.new.maps)
+    _ c.update.ensures.updated)
 
 pub returns-in-Some-Update-clause-unnamed : goal.returns-in-Some-Update-clause-unnamed
 returns-in-Some-Update-clause-unnamed c =
     let here = site c.args.tenant c.args.bind.now c.args.packet.now c.args.arena.now c.args.maps.now in
     of_helper _ Update c.ranges.id c.known_helper.ensures c.in-Some-Update.is c.in-Some-Update.field-0-is
-    (λ nothing. subst (λ o. UpdatesNamed here o (slice_index c.args.words.now 3) (answers c.update.result c.update.new.arena c.update.new.maps)) nothing c.update.ensures.updated)
+    (λ nothing.
+    subst (λ o.
+    UpdatesNamed here o (slice_index c.args.words.now 3) (answers c.update.result c.update.new.arena c.update.new.maps))
+    nothing c.update.ensures.updated)
 
 pub returns-in-Some-Delete-clause-follows : goal.returns-in-Some-Delete-clause-follows
 returns-in-Some-Delete-clause-follows c =
     of_helper _ Delete c.ranges.id c.known_helper.ensures c.in-Some-Delete.is c.in-Some-Delete.field-0-is
-    (delete_follows c.returns_keep_simulation.ensures c.call_premises.ensures c.args.words.now c.delete.result c.delete.new.maps _ c.delete.ensures.deleted)
+    (delete_follows c.returns_keep_simulation.ensures c.call_premises.ensures c.args.words.now
+    c.delete.result c.delete.new.maps _ c.delete.ensures.deleted)
 
 pub returns-in-Some-Delete-clause-unnamed : goal.returns-in-Some-Delete-clause-unnamed
 returns-in-Some-Delete-clause-unnamed c =
     of_helper _ Delete c.ranges.id c.known_helper.ensures c.in-Some-Delete.is c.in-Some-Delete.field-0-is
-    (λ nothing. let deleted = subst (λ o. DeletesNamed c.args.maps.now o c.delete.result c.delete.new.maps) nothing c.delete.ensures.deleted in (deleted.0, refl, deleted.1))
+    (λ nothing.
+    let deleted =
+    subst (λ o. DeletesNamed c.args.maps.now o c.delete.result c.delete.new.maps) nothing c.delete.ensures.deleted in
+    (deleted.0, refl, deleted.1))
 
 pub returns-in-Some-LoadBytes-clause-follows : goal.returns-in-Some-LoadBytes-clause-follows
 returns-in-Some-LoadBytes-clause-follows c =
     of_helper _ LoadBytes c.ranges.id c.known_helper.ensures c.in-Some-LoadBytes.is c.in-Some-LoadBytes.field-0-is
-    (load_follows c.returns_keep_simulation.ensures c.call_premises.ensures c.args.words.now c.load_bytes.result c.load_bytes.new.arena _ (c.load_bytes.ensures.loaded c.args.maps.now))
+    (load_follows c.returns_keep_simulation.ensures c.call_premises.ensures c.args.words.now
+    c.load_bytes.result c.load_bytes.new.arena _ (c.load_bytes.ensures.loaded c.args.maps.now))
 
 pub returns-in-Some-LoadBytes-clause-unnamed : goal.returns-in-Some-LoadBytes-clause-unnamed
 returns-in-Some-LoadBytes-clause-unnamed c =
     let here = site c.args.tenant c.args.bind.now c.args.packet.now c.args.arena.now c.args.maps.now in
     of_helper _ LoadBytes c.ranges.id c.known_helper.ensures c.in-Some-LoadBytes.is c.in-Some-LoadBytes.field-0-is
-    (λ nothing. let loaded = subst (λ o. LoadsAt here (slice_index c.args.words.now 1) (slice_index c.args.words.now 3) o c.load_bytes.result c.load_bytes.new.arena) nothing (c.load_bytes.ensures.loaded c.args.maps.now) in (loaded.0, loaded.1, refl))
+    (λ nothing.
+    let loaded =
+    subst (λ o.
+    LoadsAt here (slice_index c.args.words.now 1) (slice_index c.args.words.now 3) o
+    c.load_bytes.result c.load_bytes.new.arena)
+    nothing (c.load_bytes.ensures.loaded c.args.maps.now) in
+    (loaded.0, loaded.1, refl))
 
 pub returns-in-Some-LookUp-clause-apart : goal.returns-in-Some-LookUp-clause-apart
 returns-in-Some-LookUp-clause-apart c =
@@ -90,7 +119,11 @@ returns-in-Some-LookUp-clause-apart c =
 pub returns-in-Some-Update-clause-apart : goal.returns-in-Some-Update-clause-apart
 returns-in-Some-Update-clause-apart c =
     of_helper _ Update c.ranges.id c.known_helper.ensures c.in-Some-Update.is c.in-Some-Update.field-0-is
-    (λ kept. updates_apart (site c.args.tenant c.args.bind.now c.args.packet.now c.args.arena.now c.args.maps.now) _ _ (answers c.update.result c.update.new.arena c.update.new.maps) c.update.ensures.updated)
+    (λ kept.
+    updates_apart (site c.args.tenant c.args.bind.now c.args.packet.now c.args.arena.now c.args.maps.now)
+    _ _
+    (answers c.update.result c.update.new.arena c.update.new.maps)
+    c.update.ensures.updated)
 
 pub returns-in-Some-Delete-clause-apart : goal.returns-in-Some-Delete-clause-apart
 returns-in-Some-Delete-clause-apart c =

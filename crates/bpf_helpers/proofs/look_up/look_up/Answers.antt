@@ -12,7 +12,8 @@ use Rattle.bpf_helpers.proofs.look_up.look_up.Goals as goal
 pub returns-in_default-clause-value : goal.returns-in_default-clause-value
 returns-in_default-clause-value c =
     let site = site_of c.args.caller c.args.arena.now c.args.maps.now in
-    sym (ap (λ o. unwrap_or (option_map (key_word site) o) 0) (no_map site c.args.map c.args.key (sym c.bound.ensures.value ∙ c.in_default.is)))
+    sym (ap (λ o. unwrap_or (option_map (key_word site) o) 0)
+    (no_map site c.args.map c.args.key (sym c.bound.ensures.value ∙ c.in_default.is)))
 
 pub returns-clause-value : goal.returns-clause-value
 returns-clause-value c =
@@ -23,7 +24,10 @@ returns-clause-value c =
     let part = c.part-part.result.now in
     let size = ap (λ (s : MapShape). s.key_size) c.shape-size.ensures in
     let o = look_up (table_of (keys_at site.maps k)) (slice_range part at (at + n)) in
-    let there = key_there site c.args.map c.args.key (sym c.in-Some.ensures.value) size at c.in-Some-traced_offset.ensures.value c.part-part.ensures.bytes c.in-Some-traced_offset.ensures.within in
+    let there =
+    key_there site c.args.map c.args.key (sym c.in-Some.ensures.value) size at
+    c.in-Some-traced_offset.ensures.value c.part-part.ensures.bytes
+    c.in-Some-traced_offset.ensures.within in
     let low = c.address.ensures.room in
     let bound = c.memory_is_its_parts.ensures.bound in
     c.address_of.ensures.address
@@ -34,4 +38,6 @@ pub returns-in_default-traced_offset-clause-value : goal.returns-in_default-trac
 returns-in_default-traced_offset-clause-value c =
     let site = site_of c.args.caller c.args.arena.now c.args.maps.now in
     let size = ap (λ (s : MapShape). s.key_size) c.shape-size.ensures in
-    sym (ap (λ o. unwrap_or (option_map (key_word site) o) 0) (no_key site c.args.map c.args.key (sym c.in-Some.ensures.value) size (sym c.in_default-traced_offset.is ∙ c.traced_offset.ensures.value)))
+    sym (ap (λ o. unwrap_or (option_map (key_word site) o) 0)
+    (no_key site c.args.map c.args.key (sym c.in-Some.ensures.value) size
+    (sym c.in_default-traced_offset.is ∙ c.traced_offset.ensures.value)))

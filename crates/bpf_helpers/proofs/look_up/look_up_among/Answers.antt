@@ -19,7 +19,10 @@ some_word bind zero k e = absurd (none-some k (sym e))
 some_word bind (suc w) k e = omega arith
 
 -- what is listed for the map that a word names
-listed_at : (list bind : List ℕ) (w k : ℕ) (of : ℕ → ℕ) → w < 2 ^ 64 → 1 ≤ w → k ≡ slice_index bind (w - 1) → slice_index list (w - 1) ≡ of (slice_index bind (w - 1))
+listed_at : (list bind : List ℕ) (w k : ℕ) (of : ℕ → ℕ)
+    → w < 2 ^ 64 → 1 ≤ w
+    → k ≡ slice_index bind (w - 1)
+    → slice_index list (w - 1) ≡ of (slice_index bind (w - 1))
     → get_or list ((w + 18446744073709551615) % 18446744073709551616) 0 ≡ of k
 listed_at list bind w k of small some is there =
     let index : (w + 18446744073709551615) % 18446744073709551616 ≡ w - 1 = omega arith in
@@ -37,14 +40,29 @@ returns-clause-value c =
     let bound = c.memory_is_its_parts.ensures.bound in
     let (within, handle_is) = c.in-Some.ensures.listed in
     let some = some_word bind c.args.map k c.in-Some.ensures.value in
-    let live : IsSome (live_at site.maps k) = subst (λ (key : ℕ). IsSome (live_at site.maps key)) (sym handle_is) (c.requires.live (c.args.map - 1) within) in
-    let word = listed_at c.args.arrays.elements.now bind c.args.map k (λ key. word_of (elements_at site.maps key)) c.ranges.map.fits some handle_is (c.requires.arrays.elements (c.args.map - 1) within) in
-    let first = listed_at c.args.arrays.values.now bind c.args.map k (λ key. start + offset_at site.maps key 0) c.ranges.map.fits some handle_is (c.requires.arrays.values (c.args.map - 1) within ∙ omega arith) in
+    let live : IsSome (live_at site.maps k) =
+    subst (λ (key : ℕ). IsSome (live_at site.maps key)) (sym handle_is) (c.requires.live (c.args.map - 1) within) in
+    let word =
+    listed_at c.args.arrays.elements.now bind c.args.map k
+    (λ key. word_of (elements_at site.maps key)) c.ranges.map.fits
+    some handle_is
+    (c.requires.arrays.elements (c.args.map - 1) within) in
+    let first =
+    listed_at c.args.arrays.values.now bind c.args.map k (λ key. start + offset_at site.maps key 0)
+    c.ranges.map.fits some handle_is
+    (c.requires.arrays.values (c.args.map - 1) within ∙ omega arith) in
     let any = c.if-array-eq0.false in
-    let array : AreOfArray c.of_word-array.result site.maps k = (live, c.of_word-array.ensures.elements (shape_at site.maps k) word, any) in
+    let array : AreOfArray c.of_word-array.result site.maps k = (
+      live,
+      c.of_word-array.ensures.elements (shape_at site.maps k) word,
+      any,
+    ) in
     let size = sym (c.of_word-array.ensures.size (shape_at site.maps k) word any) in
     let o = look_up (table_of (keys_at site.maps k)) (slice_range part at (at + 4)) in
-    let there = key_there site c.args.map c.args.key (sym c.in-Some.ensures.value) size at c.in-Some-traced_offset.ensures.value c.part-part.ensures.bytes c.in-Some-traced_offset.ensures.within in
+    let there =
+    key_there site c.args.map c.args.key (sym c.in-Some.ensures.value) size at
+    c.in-Some-traced_offset.ensures.value c.part-part.ensures.bytes
+    c.in-Some-traced_offset.ensures.within in
     c.address_of.ensures.address array start first
     ∙ address_word site k start o refl (omega arith) (c.address_of.ensures.inside array)
     ∙ sym (ap (λ o. unwrap_or (option_map (key_word site) o) 0) there)

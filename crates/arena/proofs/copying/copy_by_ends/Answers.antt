@@ -1,8 +1,8 @@
 use Rattle.std.proofs.Common.{List, ℕ, ◌+◌, ◌-◌, length, drop, ap, ◌∙◌, arith, length-drop}
 use Rattle.std.proofs.lemmas.List.{take_all}
 use Rattle.words.specs.Bytes.{written_at}
-use Rattle.bpf_helpers.proofs.Pieces.{ends_written}
-use Rattle.bpf_helpers.proofs.copying.copy_by_ends.Goals as goal
+use Rattle.arena.proofs.Pieces.{ends_written}
+use Rattle.arena.proofs.copying.copy_by_ends.Goals as goal
 
 pub returns : goal.returns
 returns g c =

@@ -23,9 +23,9 @@ ends_written to bytes offset n last all low room =
     let kept : take (offset + last) mid ≡ front ++ take last bytes =
     ap (λ (k : ℕ). take (k + last) mid) (sym front_long) ∙ take-append-add front (first ++ back) last
     ∙ ap (λ (l : List ℕ). front ++ l) (take-append-le last first back (omega arith) ∙ front_kept bytes n last low (omega arith)) in
-    let behind : (offset + last) + length (drop last bytes) ≡ length front + (length first + more) = omega (arith, length-drop last bytes, front_long, first_long) in
+    let end : (offset + last) + length (drop last bytes) ≡ length front + (length first + more) = omega (arith, length-drop last bytes, front_long, first_long) in
     let left : drop ((offset + last) + length (drop last bytes)) mid ≡ tail =
-    ap (λ (k : ℕ). drop k mid) behind ∙ drop-append-add front (first ++ back) (length first + more) ∙ drop-append-add first back more ∙ drop-drop more (offset + length first) to
+    ap (λ (k : ℕ). drop k mid) end ∙ drop-append-add front (first ++ back) (length first + more) ∙ drop-append-add first back more ∙ drop-drop more (offset + length first) to
     ∙ ap (λ (k : ℕ). drop k to) (omega (arith, first_long)) in
     ap₂ (λ (x y : List ℕ). x ++ (drop last bytes ++ y)) kept left
     ∙ append_assoc front (take last bytes) (drop last bytes ++ tail)

@@ -41,12 +41,17 @@ use Rattle.bpf_text.proofs.LabelLines.{slots_on-append}
 -- ---- the labels that are kept
 
 abbrev pub Finds : List (Option Line) → Labels → Type 0
-Finds lines labels = (name : List ℕ) → definition_of labels name ≡ option_map (definition_at lines) (label_line name lines)
+Finds lines labels =
+    (name : List ℕ) → definition_of labels name ≡ option_map (definition_at lines) (label_line name lines)
 
-pub finds_all : (lines : List (Option Line)) (labels : Labels) (n : ℕ) → length lines ≤ n → FindsLabels lines labels n → Finds lines labels
-finds_all lines labels n past finds = λ name. finds name ∙ ap (λ (ls : List (Option Line)). option_map (definition_at lines) (label_line name ls)) (take_all n lines past)
+pub finds_all : (lines : List (Option Line)) (labels : Labels) (n : ℕ)
+    → length lines ≤ n → FindsLabels lines labels n → Finds lines labels
+finds_all lines labels n past finds = λ name.
+    finds name
+    ∙ ap (λ (ls : List (Option Line)). option_map (definition_at lines) (label_line name ls)) (take_all n lines past)
 
-kept_line_is : (lines : List (Option Line)) (o : Option ℕ) (i : ℕ) → kept_line (option_map (definition_at lines) o) i ≡ unwrap_or o i
+kept_line_is : (lines : List (Option Line)) (o : Option ℕ) (i : ℕ)
+    → kept_line (option_map (definition_at lines) o) i ≡ unwrap_or o i
 kept_line_is lines None i = refl
 kept_line_is lines (Some k) i = refl
 
@@ -54,7 +59,8 @@ no_slots_on : slots_on [] ≡ 0
 unfolding slots_on
 no_slots_on = refl
 
-kept_slot_is : (lines : List (Option Line)) (o : Option ℕ) → kept_slot (option_map (definition_at lines) o) ≡ slots_on (take (unwrap_or o 0) lines)
+kept_slot_is : (lines : List (Option Line)) (o : Option ℕ)
+    → kept_slot (option_map (definition_at lines) o) ≡ slots_on (take (unwrap_or o 0) lines)
 kept_slot_is lines None = sym no_slots_on
 kept_slot_is lines (Some k) = refl
 
@@ -65,7 +71,9 @@ is_kept lines (Some k) = refl
 -- ---- faults
 
 -- the fault of a line by the labels that are kept is the fault by its definition
-pub fault_is : (lines : List (Option Line)) (labels : Labels) (i before : ℕ) (line : Option Line) → Finds lines labels → kept_fault labels (record { line = i; slot = before }) line ≡ line_fault lines i before line
+pub fault_is : (lines : List (Option Line)) (labels : Labels) (i before : ℕ) (line : Option Line)
+    → Finds lines labels
+    → kept_fault labels (record { line = i; slot = before }) line ≡ line_fault lines i before line
 fault_is lines labels i before None finds = refl
 fault_is lines labels i before (Some blank) finds = refl
 fault_is lines labels i before (Some (label name)) finds =
@@ -73,9 +81,15 @@ fault_is lines labels i before (Some (label name)) finds =
     ∙ ap (λ (k : ℕ). cond (ltb k i) (Some LabelTwice) None) (kept_line_is lines (label_line name lines) i)
 fault_is lines labels i before (Some (code form name)) finds =
     ap (λ (o : Option Definition). code_fault form o before) (finds name)
-    ∙ ap (λ (b : Bool). cond (form_fits form) (cond (not (names_label form) || b) (cond (passes before (form_slots form)) (Some TooLong) None) (Some UnknownLabel)) (Some Range)) (is_kept lines (label_line name lines))
+    ∙ ap (λ (b : Bool).
+    cond (form_fits form)
+    (cond (not (names_label form) || b) (cond (passes before (form_slots form)) (Some TooLong) None) (Some UnknownLabel))
+    (Some Range))
+    (is_kept lines (label_line name lines))
 
-code_fault_kind : (fits known long : Bool) (kind : TextFaultKind) → cond fits (cond known (cond long (Some TooLong) None) (Some UnknownLabel)) (Some Range) ≡ Some kind → kind ≢ Memory
+code_fault_kind : (fits known long : Bool) (kind : TextFaultKind)
+    → cond fits (cond known (cond long (Some TooLong) None) (Some UnknownLabel)) (Some Range) ≡ Some kind
+    → kind ≢ Memory
 code_fault_kind true true true kind e = λ m. cc
 code_fault_kind true true false kind e = λ m. cc
 code_fault_kind true false long kind e = λ m. cc
@@ -86,17 +100,22 @@ label_fault_kind true kind e = λ m. cc
 label_fault_kind false kind e = λ m. cc
 
 -- no line has the fault Memory
-pub fault_kind : (lines : List (Option Line)) (i before : ℕ) (line : Option Line) (kind : TextFaultKind) → line_fault lines i before line ≡ Some kind → kind ≢ Memory
+pub fault_kind : (lines : List (Option Line)) (i before : ℕ) (line : Option Line) (kind : TextFaultKind)
+    → line_fault lines i before line ≡ Some kind → kind ≢ Memory
 fault_kind lines i before (Some (label name)) kind e = label_fault_kind (is_twice lines i name) kind e
-fault_kind lines i before (Some (code form name)) kind e = code_fault_kind (form_fits form) (is_known lines form name) (passes before (form_slots form)) kind e
+fault_kind lines i before (Some (code form name)) kind e =
+    code_fault_kind (form_fits form) (is_known lines form name) (passes before (form_slots form)) kind e
 fault_kind lines i before _ kind e = λ m. cc
 
-pub fault_here : (lines : List (Option Line)) (i : ℕ) (d : Option Line) → i < length lines → fault_at lines i ≡ line_fault lines i (slots_on (take i lines)) (get_or lines i d)
+pub fault_here : (lines : List (Option Line)) (i : ℕ) (d : Option Line)
+    → i < length lines
+    → fault_at lines i ≡ line_fault lines i (slots_on (take i lines)) (get_or lines i d)
 unfolding fault_at
 fault_here lines i d h = ap (line_fault_of lines i) (slice_get-get_or lines i d h)
 
 -- after the last line there is no fault
-pub no_fault_past : (lines : List (Option Line)) → NoneBelow (fault_at lines) (length lines) → (i : ℕ) → fault_at lines i ≡ None
+pub no_fault_past : (lines : List (Option Line))
+    → NoneBelow (fault_at lines) (length lines) → (i : ℕ) → fault_at lines i ≡ None
 unfolding fault_at
 no_fault_past lines below i =
     elim (cases_lt i (length lines)) [
@@ -107,7 +126,11 @@ no_fault_past lines below i =
 -- ---- instructions
 
 -- the instruction of a line is its form with the labels that are kept
-pub form_kept : (labels : Labels) (slot : ℕ) (line : Option CodeLine) (form : Form) (name : Bor (List ℕ)) (definition : Option Definition) (insn : Insn) → line ≡ Some (Code form name) → definition ≡ definition_of labels name.now → written insn ≡ resolved (kept_distance definition slot) form → written insn ∷ [] ≡ kept_form labels slot (seen_option line)
+pub form_kept : (labels : Labels) (slot : ℕ) (line : Option CodeLine) (form : Form)
+    (name : Bor (List ℕ)) (definition : Option Definition) (insn : Insn)
+    → line ≡ Some (Code form name) → definition ≡ definition_of labels name.now
+    → written insn ≡ resolved (kept_distance definition slot) form
+    → written insn ∷ [] ≡ kept_form labels slot (seen_option line)
 form_kept labels slot line form name definition insn is found e =
     ap (λ (f : Form). f ∷ []) (e ∙ ap (λ (o : Option Definition). resolved (kept_distance o slot) form) found)
     ∙ sym (ap (λ (o : Option CodeLine). kept_form labels slot (seen_option o)) is)
@@ -117,15 +140,22 @@ unfolding kept_forms
 no_forms labels slot = refl
 
 -- the forms after one more line
-pub kept_forms-append : (labels : Labels) (slot : ℕ) (lines : List (Option Line)) (line : Option Line) → kept_forms labels slot (lines ++ line ∷ []) ≡ kept_forms labels slot lines ++ kept_form labels (slot + slots_on lines) line
+pub kept_forms-append : (labels : Labels) (slot : ℕ) (lines : List (Option Line)) (line : Option Line)
+    → kept_forms labels slot (lines ++ line ∷ [])
+    ≡ kept_forms labels slot lines ++ kept_form labels (slot + slots_on lines) line
 unfolding kept_forms slots_on
-kept_forms-append labels slot [] line = append-nil (kept_form labels slot line) ∙ ap (λ (n : ℕ). kept_form labels n line) (plus_none slot)
+kept_forms-append labels slot [] line =
+    append-nil (kept_form labels slot line) ∙ ap (λ (n : ℕ). kept_form labels n line) (plus_none slot)
   where
     plus_none : (n : ℕ) → n ≡ n + 0
     plus_none n = omega arith
 kept_forms-append labels slot (l ∷ lines) line =
-    ap (λ (fs : List Form). kept_form labels slot l ++ fs) (kept_forms-append labels (slot + line_slots l) lines line ∙ ap (λ (n : ℕ). kept_forms labels (slot + line_slots l) lines ++ kept_form labels n line) (moved slot (line_slots l) (slots_on lines)))
-    ∙ sym (append_assoc (kept_form labels slot l) (kept_forms labels (slot + line_slots l) lines) (kept_form labels (slot + (line_slots l + slots_on lines)) line))
+    ap (λ (fs : List Form). kept_form labels slot l ++ fs)
+    (kept_forms-append labels (slot + line_slots l) lines line
+    ∙ ap (λ (n : ℕ). kept_forms labels (slot + line_slots l) lines ++ kept_form labels n line)
+    (moved slot (line_slots l) (slots_on lines)))
+    ∙ sym (append_assoc (kept_form labels slot l) (kept_forms labels (slot + line_slots l) lines)
+    (kept_form labels (slot + (line_slots l + slots_on lines)) line))
   where
     moved : (a b c : ℕ) → (a + b) + c ≡ a + (b + c)
     moved a b c = omega arith
@@ -135,23 +165,33 @@ pub slots_on-take : (k : ℕ) (lines : List (Option Line)) → slots_on (take k 
 unfolding slots_on
 slots_on-take zero lines = omega arith
 slots_on-take (suc k) [] = omega arith
-slots_on-take (suc k) (l ∷ lines) = let more : slots_on (take k lines) ≤ slots_on lines = slots_on-take k lines in omega arith
+slots_on-take (suc k) (l ∷ lines) =
+    let more : slots_on (take k lines) ≤ slots_on lines = slots_on-take k lines in omega arith
 
 -- if the lines have at most as many slots as a program may have, the distance by the labels that are kept is the label's distance
-distance_is : (lines : List (Option Line)) (labels : Labels) (slot : ℕ) (name : List ℕ) → Finds lines labels → slots_on lines ≤ MAX_SLOTS → kept_distance (definition_of labels name) slot ≡ distance lines slot name
+distance_is : (lines : List (Option Line)) (labels : Labels) (slot : ℕ) (name : List ℕ)
+    → Finds lines labels → slots_on lines ≤ MAX_SLOTS
+    → kept_distance (definition_of labels name) slot ≡ distance lines slot name
 distance_is lines labels slot name finds room =
-    let at : kept_slot (definition_of labels name) ≡ label_slot lines name = ap kept_slot (finds name) ∙ kept_slot_is lines (label_line name lines) in
-    let inside : label_slot lines name ≤ MAX_SLOTS = omega (arith, slots_on-take (unwrap_or (label_line name lines) 0) lines) in
+    let at : kept_slot (definition_of labels name) ≡ label_slot lines name =
+    ap kept_slot (finds name) ∙ kept_slot_is lines (label_line name lines) in
+    let inside : label_slot lines name ≤ MAX_SLOTS =
+    omega (arith, slots_on-take (unwrap_or (label_line name lines) 0) lines) in
     let same : min (kept_slot (definition_of labels name)) MAX_SLOTS ≡ label_slot lines name = omega arith in
     ap (λ (n : ℕ). pos n -ℤ pos (slot + 1)) same
 
-pub forms_are : (all : List (Option Line)) (labels : Labels) (slot : ℕ) (lines : List (Option Line)) → Finds all labels → slots_on all ≤ MAX_SLOTS → kept_forms labels slot lines ≡ forms_from all slot lines
+pub forms_are : (all : List (Option Line)) (labels : Labels) (slot : ℕ) (lines : List (Option Line))
+    → Finds all labels → slots_on all ≤ MAX_SLOTS
+    → kept_forms labels slot lines ≡ forms_from all slot lines
 unfolding kept_forms forms_from
 forms_are all labels slot [] finds room = refl
 forms_are all labels slot (Some (code form name) ∷ lines) finds room =
-    ap (λ (z : ℤ). resolved z form ∷ kept_forms labels (slot + form_slots form) lines) (distance_is all labels slot name finds room)
-    ∙ ap (λ (fs : List Form). resolved (distance all slot name) form ∷ fs) (forms_are all labels (slot + form_slots form) lines finds room)
-forms_are all labels slot (_ ∷ lines) finds room = ap (λ (n : ℕ). kept_forms labels n lines) (none slot) ∙ forms_are all labels slot lines finds room
+    ap (λ (z : ℤ). resolved z form ∷ kept_forms labels (slot + form_slots form) lines)
+    (distance_is all labels slot name finds room)
+    ∙ ap (λ (fs : List Form). resolved (distance all slot name) form ∷ fs)
+    (forms_are all labels (slot + form_slots form) lines finds room)
+forms_are all labels slot (_ ∷ lines) finds room =
+    ap (λ (n : ℕ). kept_forms labels n lines) (none slot) ∙ forms_are all labels slot lines finds room
   where
     none : (n : ℕ) → n + 0 ≡ n
     none n = omega arith
@@ -168,24 +208,30 @@ pub written_slots : (insn : Insn) → form_slots (written insn) ≡ length (slot
 written_slots (Alu wide op dst src) = refl
 written_slots _ = refl
 
-forms_slots : (all : List (Option Line)) (slot : ℕ) (lines : List (Option Line)) → sum_by form_slots (forms_from all slot lines) ≡ slots_on lines
+forms_slots : (all : List (Option Line)) (slot : ℕ) (lines : List (Option Line))
+    → sum_by form_slots (forms_from all slot lines) ≡ slots_on lines
 unfolding forms_from slots_on
 forms_slots all slot [] = refl
 forms_slots all slot (Some (code form name) ∷ lines) =
     let here : Form = resolved (distance all slot name) form in
     let rest : List Form = forms_from all (slot + form_slots form) lines in
-    let parts : sum_by form_slots (here ∷ rest) ≡ form_slots here + sum_by form_slots rest = sum_by-cons form_slots here rest in
+    let parts : sum_by form_slots (here ∷ rest) ≡ form_slots here + sum_by form_slots rest =
+    sum_by-cons form_slots here rest in
     omega (arith, parts, forms_slots all (slot + form_slots form) lines, resolved_slots (distance all slot name) form)
 forms_slots all slot (_ ∷ lines) = let more = forms_slots all slot lines in omega arith
 
 insns_slots : (insns : List Insn) → sum_by form_slots (map written insns) ≡ slot_count insns
 insns_slots [] = refl
 insns_slots (insn ∷ insns) =
-    let parts : sum_by form_slots (written insn ∷ map written insns) ≡ form_slots (written insn) + sum_by form_slots (map written insns) = sum_by-cons form_slots (written insn) (map written insns) in
-    let count : slot_count (insn ∷ insns) ≡ length (slots insn) + slot_count insns = sum_by-cons (λ (i : Insn). length (slots i)) insn insns in
+    let parts : sum_by form_slots (written insn ∷ map written insns)
+    ≡ form_slots (written insn) + sum_by form_slots (map written insns) =
+    sum_by-cons form_slots (written insn) (map written insns) in
+    let count : slot_count (insn ∷ insns) ≡ length (slots insn) + slot_count insns =
+    sum_by-cons (λ (i : Insn). length (slots i)) insn insns in
     omega (arith, parts, count, insns_slots insns, written_slots insn)
 
-pub count_is : (insns : List Insn) (all : List (Option Line)) → map written insns ≡ forms_from all 0 all → slot_count insns ≡ slots_on all
+pub count_is : (insns : List Insn) (all : List (Option Line))
+    → map written insns ≡ forms_from all 0 all → slot_count insns ≡ slots_on all
 count_is insns all e = sym (insns_slots insns) ∙ ap (λ (fs : List Form). sum_by form_slots fs) e ∙ forms_slots all 0 all
 
 -- ---- the loop
@@ -205,43 +251,80 @@ begins labels lines = record {
   forms = sym (no_forms labels 0);
 }
 
-code_room : (fits known : Bool) (before slots : ℕ) → before ≤ MAX_SLOTS → cond fits (cond known (cond (passes before slots) (Some TooLong) None) (Some UnknownLabel)) (Some Range) ≡ None → before + slots ≤ MAX_SLOTS
+code_room : (fits known : Bool) (before slots : ℕ)
+    → before ≤ MAX_SLOTS
+    → cond fits (cond known (cond (passes before slots) (Some TooLong) None) (Some UnknownLabel)) (Some Range) ≡ None
+    → before + slots ≤ MAX_SLOTS
 code_room true true before slots h e = grind (arith, nat_tests)
 code_room true false before slots h e = absurd (let no : Some UnknownLabel ≡ None = e in cc no)
 code_room false known before slots h e = absurd (let no : Some Range ≡ None = e in cc no)
 
-line_room : (labels : Labels) (here : Definition) (line : Option Line) → here.slot ≤ MAX_SLOTS → kept_fault labels here line ≡ None → here.slot + line_slots line ≤ MAX_SLOTS
-line_room labels here (Some (code form name)) h e = code_room (form_fits form) (not (names_label form) || is_some (definition_of labels name)) here.slot (form_slots form) h e
+line_room : (labels : Labels) (here : Definition) (line : Option Line)
+    → here.slot ≤ MAX_SLOTS → kept_fault labels here line ≡ None
+    → here.slot + line_slots line ≤ MAX_SLOTS
+line_room labels here (Some (code form name)) h e =
+    code_room (form_fits form)
+    (not (names_label form) || is_some (definition_of labels name))
+    here.slot (form_slots form) h e
 line_room labels here _ h e = omega arith
 
-pub goes_on : (labels : Labels) (lines : List (Option Line)) (i slot more_slots : ℕ) (line : Option Line) (insns new : List Insn) (one : Option Insn) → Finds lines labels → i < length lines → line ≡ get_or lines i line → more_slots ≡ line_slots line
-    → new ≡ insns ++ option_to_list one → map written (option_to_list one) ≡ kept_form labels slot line → kept_fault labels (record { line = i; slot = slot }) line ≡ None
-    → Goes labels lines i slot insns → Goes labels lines (i + 1) (slot + more_slots) new
+pub goes_on : (labels : Labels) (lines : List (Option Line)) (i slot more_slots : ℕ)
+    (line : Option Line) (insns new : List Insn) (one : Option Insn)
+    → Finds lines labels → i < length lines
+    → line ≡ get_or lines i line → more_slots ≡ line_slots line
+    → new ≡ insns ++ option_to_list one
+    → map written (option_to_list one) ≡ kept_form labels slot line
+    → kept_fault labels (record { line = i; slot = slot }) line ≡ None
+    → Goes labels lines i slot insns
+    → Goes labels lines (i + 1) (slot + more_slots) new
 goes_on labels lines i slot more_slots line insns new one finds inside at more pushed found none so =
-    let taken : take (i + 1) lines ≡ take i lines ++ line ∷ [] = take_more lines i line inside ∙ ap (λ (l : Option Line). take i lines ++ l ∷ []) (sym at) in
+    let taken : take (i + 1) lines ≡ take i lines ++ line ∷ [] =
+    take_more lines i line inside ∙ ap (λ (l : Option Line). take i lines ++ l ∷ []) (sym at) in
     let definition : Definition = record { line = i; slot = slot } in
     record {
-      below = below_more _ _ so.below (fault_here lines i line inside ∙ ap (line_fault lines i (slots_on (take i lines))) (sym at) ∙ ap (λ (n : ℕ). line_fault lines i n line) (sym so.slot_is) ∙ sym (fault_is lines labels i slot line finds) ∙ none);
-      slot_is = ap (λ (n : ℕ). n + more_slots) so.slot_is ∙ ap (λ (n : ℕ). slots_on (take i lines) + n) more ∙ sym (slots_on-append (take i lines) line) ∙ ap slots_on (sym taken);
+      below =
+          below_more _ _ so.below
+          (fault_here lines i line inside
+          ∙ ap (line_fault lines i (slots_on (take i lines))) (sym at)
+          ∙ ap (λ (n : ℕ). line_fault lines i n line) (sym so.slot_is)
+          ∙ sym (fault_is lines labels i slot line finds)
+          ∙ none);
+      slot_is =
+          ap (λ (n : ℕ). n + more_slots) so.slot_is
+          ∙ ap (λ (n : ℕ). slots_on (take i lines) + n) more
+          ∙ sym (slots_on-append (take i lines) line)
+          ∙ ap slots_on (sym taken);
       room = let fits = line_room labels definition line so.room none in omega arith;
       forms = ap (map written) pushed ∙ map-append written insns (option_to_list one)
           ∙ ap (λ (fs : List Form). fs ++ map written (option_to_list one)) so.forms
-          ∙ ap (λ (fs : List Form). kept_forms labels 0 (take i lines) ++ fs) (found ∙ ap (λ (n : ℕ). kept_form labels n line) (so.slot_is ∙ from_none (slots_on (take i lines))))
+          ∙ ap (λ (fs : List Form). kept_forms labels 0 (take i lines) ++ fs)
+          (found ∙ ap (λ (n : ℕ). kept_form labels n line) (so.slot_is ∙ from_none (slots_on (take i lines))))
           ∙ sym (kept_forms-append labels 0 (take i lines) line) ∙ ap (kept_forms labels 0) (sym taken);
     }
   where
     from_none : (n : ℕ) → n ≡ 0 + n
     from_none n = omega arith
 
-pub stops : (labels : Labels) (lines : List (Option Line)) (i slot : ℕ) (line : Option Line) (insns : List Insn) (kind : TextFaultKind) (fault : TextFault) → Finds lines labels → i < length lines → line ≡ get_or lines i line
-    → kept_fault labels (record { line = i; slot = slot }) line ≡ Some kind → fault ≡ fault_on i kind → Goes labels lines i slot insns → IsFirstFaultyLine (fault_at lines) fault
+pub stops : (labels : Labels) (lines : List (Option Line)) (i slot : ℕ) (line : Option Line)
+    (insns : List Insn) (kind : TextFaultKind) (fault : TextFault)
+    → Finds lines labels → i < length lines
+    → line ≡ get_or lines i line
+    → kept_fault labels (record { line = i; slot = slot }) line ≡ Some kind
+    → fault ≡ fault_on i kind → Goes labels lines i slot insns
+    → IsFirstFaultyLine (fault_at lines) fault
 stops labels lines i slot line insns kind fault finds inside at here is so =
     let told : line_fault lines i slot line ≡ Some kind = sym (fault_is lines labels i slot line finds) ∙ here in
-    let it : fault ≡ record { line = i + 1; kind = kind } = is ∙ fault_on_line i kind (fault_kind lines i slot line kind told) in
+    let it : fault ≡ record { line = i + 1; kind = kind } =
+    is ∙ fault_on_line i kind (fault_kind lines i slot line kind told) in
     record {
       index = i;
       line = ap (λ (f : TextFault). f.line) it;
-      here = fault_here lines i line inside ∙ ap (line_fault lines i (slots_on (take i lines))) (sym at) ∙ ap (λ (n : ℕ). line_fault lines i n line) (sym so.slot_is) ∙ told ∙ ap (λ (f : TextFault). Some f.kind) (sym it);
+      here =
+          fault_here lines i line inside
+          ∙ ap (line_fault lines i (slots_on (take i lines))) (sym at)
+          ∙ ap (λ (n : ℕ). line_fault lines i n line) (sym so.slot_is)
+          ∙ told
+          ∙ ap (λ (f : TextFault). Some f.kind) (sym it);
       below = so.below;
     }
 
@@ -252,11 +335,15 @@ pub record Ends (lines : List (Option Line)) (insns : List Insn) : Type 0 where
   pub count : slot_count insns ≡ slots_on lines
   pub room : slot_count insns ≤ MAX_SLOTS
 
-pub ends : (labels : Labels) (lines : List (Option Line)) (i slot : ℕ) (insns : List Insn) → Finds lines labels → length lines ≤ i → Goes labels lines i slot insns → Ends lines insns
+pub ends : (labels : Labels) (lines : List (Option Line)) (i slot : ℕ) (insns : List Insn)
+    → Finds lines labels → length lines ≤ i
+    → Goes labels lines i slot insns
+    → Ends lines insns
 ends labels lines i slot insns finds past so =
     let all : take i lines ≡ lines = take_all i lines past in
     let room : slots_on lines ≤ MAX_SLOTS = omega (arith, so.room, so.slot_is, ap slots_on all) in
-    let forms : map written insns ≡ forms_from lines 0 lines = so.forms ∙ ap (kept_forms labels 0) all ∙ forms_are lines labels 0 lines finds room in
+    let forms : map written insns ≡ forms_from lines 0 lines =
+    so.forms ∙ ap (kept_forms labels 0) all ∙ forms_are lines labels 0 lines finds room in
     let count : slot_count insns ≡ slots_on lines = count_is insns lines forms in
     record {
       none = no_fault_past lines (λ k h. so.below k (omega arith));
@@ -271,31 +358,41 @@ read_formed : (bytes : List ℕ) (line : Option Line) → ReadAs bytes line → 
 read_formed bytes None h = tt
 read_formed bytes (Some line) h = h.0
 
-pub all_formed : (text : List (List ℕ)) (lines : List (Option Line)) → AreRead text lines → AllByRecursion IsFormed lines
+pub all_formed : (text : List (List ℕ)) (lines : List (Option Line))
+    → AreRead text lines → AllByRecursion IsFormed lines
 all_formed [] [] h = tt
 all_formed [] (line ∷ lines) h = absurd h
 all_formed (bytes ∷ text) [] h = absurd h
 all_formed (bytes ∷ text) (line ∷ lines) h = (read_formed bytes line h.0, all_formed text lines h.1)
 
-pub formed_at : (lines : List (Option Line)) (i : ℕ) (d : Option Line) → i < length lines → AllByRecursion IsFormed lines → IsFormed (get_or lines i d)
+pub formed_at : (lines : List (Option Line)) (i : ℕ) (d : Option Line)
+    → i < length lines → AllByRecursion IsFormed lines → IsFormed (get_or lines i d)
 formed_at [] i d h all = absurd (omega arith)
 formed_at (line ∷ lines) zero d h all = all.0
 formed_at (line ∷ lines) (suc i) d h all = formed_at lines i d (omega arith) all.1
 
 -- the next line
-pub seen_at : (lines : List (Option CodeLine)) (i : ℕ) (line : Option CodeLine) → i < length lines → line ≡ get_or lines i line → seen_option line ≡ get_or (seen_lines lines) i (seen_option line)
+pub seen_at : (lines : List (Option CodeLine)) (i : ℕ) (line : Option CodeLine)
+    → i < length lines → line ≡ get_or lines i line
+    → seen_option line ≡ get_or (seen_lines lines) i (seen_option line)
 seen_at lines i line h e = ap seen_option e ∙ sym (get_or-map seen_option lines i line (seen_option line) h)
 
 pub length-seen_lines : (lines : List (Option CodeLine)) → length (seen_lines lines) ≡ length lines
 length-seen_lines lines = length-map lines seen_option
 
-pub one_or_none : (one : Option Insn) (slice : List Insn) → MatchOption one (slice ≡ []) (λ x. slice ≡ x ∷ []) → slice ≡ option_to_list one
+pub one_or_none : (one : Option Insn) (slice : List Insn)
+    → MatchOption one (slice ≡ []) (λ x. slice ≡ x ∷ []) → slice ≡ option_to_list one
 one_or_none None slice h = h
 one_or_none (Some insn) slice h = h
 
 -- ---- the result
 
-pub assembled : (text : List ℕ) (read : List (List ℕ)) (lines : List (Option Line)) (insns : List Insn) → read ≡ text_lines text → AreRead read lines → ((i : ℕ) → fault_at lines i ≡ None) → map written insns ≡ forms_from lines 0 lines → slot_count insns ≡ slots_on lines → 0 < slot_count insns → IsAssembled text insns
+pub assembled : (text : List ℕ) (read : List (List ℕ)) (lines : List (Option Line)) (insns : List Insn)
+    → read ≡ text_lines text → AreRead read lines
+    → ((i : ℕ) → fault_at lines i ≡ None)
+    → map written insns ≡ forms_from lines 0 lines
+    → slot_count insns ≡ slots_on lines → 0 < slot_count insns
+    → IsAssembled text insns
 assembled text read lines insns e are none forms count some = record {
   lines = lines;
   read = subst (λ (ls : List (List ℕ)). AreRead ls lines) e are;
@@ -304,7 +401,12 @@ assembled text read lines insns e are none forms count some = record {
   some = omega arith;
 }
 
-pub no_slot_fault : (text : List ℕ) (read : List (List ℕ)) (lines : List (Option Line)) (insns : List Insn) (fault : TextFault) → read ≡ text_lines text → AreRead read lines → ((i : ℕ) → fault_at lines i ≡ None) → slot_count insns ≡ slots_on lines → (fault ≡ memory_fault) ⊎ ((fault ≡ empty_fault) × (slot_count insns ≡ 0)) → (fault ≡ memory_fault) ⊎ IsOwnFault text fault
+pub no_slot_fault : (text : List ℕ) (read : List (List ℕ)) (lines : List (Option Line))
+    (insns : List Insn) (fault : TextFault)
+    → read ≡ text_lines text → AreRead read lines
+    → ((i : ℕ) → fault_at lines i ≡ None) → slot_count insns ≡ slots_on lines
+    → (fault ≡ memory_fault) ⊎ ((fault ≡ empty_fault) × (slot_count insns ≡ 0))
+    → (fault ≡ memory_fault) ⊎ IsOwnFault text fault
 no_slot_fault text read lines insns fault e are none count (inl memory) = inl memory
 no_slot_fault text read lines insns fault e are none count (inr empty) = inr (record {
   lines = lines;

@@ -19,25 +19,45 @@ use Rattle.bpf_text.specs.HexText.{hex_text, hex_digits, hex_line, hex_fault, he
 
 -- ---- the bytes of a line
 
-pub empty_line : (line digits : List ℕ) → digits ≡ stripped line → eqb (length digits) 0 ≡ true → hex_line line ≡ Some []
+pub empty_line : (line digits : List ℕ)
+    → digits ≡ stripped line → eqb (length digits) 0 ≡ true
+    → hex_line line ≡ Some []
 unfolding hex_line
-empty_line line digits e h = ap hex_digits (sym e) ∙ ap (λ (b : Bool). cond b (Some []) (result_ok (decode_sized digits 8))) h
+empty_line line digits e h =
+    ap hex_digits (sym e) ∙ ap (λ (b : Bool). cond b (Some []) (result_ok (decode_sized digits 8))) h
 
-pub slot_line : (line digits slot : List ℕ) → digits ≡ stripped line → eqb (length digits) 0 ≡ false → Ok slot ≡ decode_sized digits 8 → hex_line line ≡ Some slot
+pub slot_line : (line digits slot : List ℕ)
+    → digits ≡ stripped line → eqb (length digits) 0 ≡ false
+    → Ok slot ≡ decode_sized digits 8
+    → hex_line line ≡ Some slot
 unfolding hex_line
-slot_line line digits slot e h d = ap hex_digits (sym e) ∙ ap (λ (b : Bool). cond b (Some []) (result_ok (decode_sized digits 8))) h ∙ ap result_ok (sym d)
+slot_line line digits slot e h d =
+    ap hex_digits (sym e)
+    ∙ ap (λ (b : Bool). cond b (Some []) (result_ok (decode_sized digits 8))) h
+    ∙ ap result_ok (sym d)
 
-pub bad_line : (line digits : List ℕ) (error : FromHexError) → digits ≡ stripped line → eqb (length digits) 0 ≡ false → Err error ≡ decode_sized digits 8 → hex_line line ≡ None
+pub bad_line : (line digits : List ℕ) (error : FromHexError)
+    → digits ≡ stripped line → eqb (length digits) 0 ≡ false
+    → Err error ≡ decode_sized digits 8
+    → hex_line line ≡ None
 unfolding hex_line
-bad_line line digits error e h d = ap hex_digits (sym e) ∙ ap (λ (b : Bool). cond b (Some []) (result_ok (decode_sized digits 8))) h ∙ ap result_ok (sym d)
+bad_line line digits error e h d =
+    ap hex_digits (sym e)
+    ∙ ap (λ (b : Bool). cond b (Some []) (result_ok (decode_sized digits 8))) h
+    ∙ ap result_ok (sym d)
 
-pub fits : (before : ℕ) (line : Option (List ℕ)) (bytes : List ℕ) → line ≡ Some bytes → before + length bytes ≤ 8 * MAX_SLOTS → hex_fault before line ≡ None
+pub fits : (before : ℕ) (line : Option (List ℕ)) (bytes : List ℕ)
+    → line ≡ Some bytes → before + length bytes ≤ 8 * MAX_SLOTS
+    → hex_fault before line ≡ None
 fits before line bytes e h =
     let room : ltb (8 * MAX_SLOTS) (before + length bytes) ≡ false = le-ltb _ _ h in
     let inside : leb before (8 * MAX_SLOTS) ≡ true = le-leb _ _ (omega arith) in
     ap (hex_fault before) e ∙ rw (room, inside) refl
 
-pub passes : (before : ℕ) (line : Option (List ℕ)) (bytes : List ℕ) → line ≡ Some bytes → before ≤ 8 * MAX_SLOTS → 8 * MAX_SLOTS < before + length bytes → hex_fault before line ≡ Some TooLong
+pub passes : (before : ℕ) (line : Option (List ℕ)) (bytes : List ℕ)
+    → line ≡ Some bytes → before ≤ 8 * MAX_SLOTS
+    → 8 * MAX_SLOTS < before + length bytes
+    → hex_fault before line ≡ Some TooLong
 passes before line bytes e low h =
     let past : ltb (8 * MAX_SLOTS) (before + length bytes) ≡ true = lt-ltb _ _ h in
     let inside : leb before (8 * MAX_SLOTS) ≡ true = le-leb _ _ low in
@@ -45,7 +65,8 @@ passes before line bytes e low h =
 
 -- ---- the text of slots
 
-pub hex_text-append : (front rest : List ℕ) → length front ≡ 8 → hex_text (front ++ rest) ≡ encode_lower front ++ 10 ∷ hex_text rest
+pub hex_text-append : (front rest : List ℕ)
+    → length front ≡ 8 → hex_text (front ++ rest) ≡ encode_lower front ++ 10 ∷ hex_text rest
 unfolding hex_text
 hex_text-append (a ∷ b ∷ c ∷ d ∷ e ∷ f ∷ g ∷ h ∷ []) rest long = refl
 hex_text-append _ rest long = absurd (omega arith)
@@ -60,16 +81,29 @@ hex_text_short _ short = refl
 abbrev texts : List (Bor (List ℕ)) → List (List ℕ)
 texts xs = map (λ line. line.now) xs
 
-fault_here : (xs : List (Bor (List ℕ))) (i : ℕ) (d : Bor (List ℕ)) → i < length xs → hex_fault_at (texts xs) i ≡ hex_fault (length (hex_bytes (take i (texts xs)))) (hex_line (get_or xs i d).now)
+fault_here : (xs : List (Bor (List ℕ))) (i : ℕ) (d : Bor (List ℕ))
+    → i < length xs
+    → hex_fault_at (texts xs) i ≡ hex_fault (length (hex_bytes (take i (texts xs)))) (hex_line (get_or xs i d).now)
 unfolding hex_fault_at
 fault_here xs i d h =
-    ap (hex_fault_of (length (hex_bytes (take i (texts xs))))) (slice_get-map (λ (line : Bor (List ℕ)). line.now) xs i ∙ ap (option_map (λ (line : Bor (List ℕ)). line.now)) (slice_get-get_or xs i d h))
+    ap (hex_fault_of (length (hex_bytes (take i (texts xs)))))
+    (slice_get-map (λ (line : Bor (List ℕ)). line.now) xs i
+    ∙ ap (option_map (λ (line : Bor (List ℕ)). line.now)) (slice_get-get_or xs i d h))
 
 -- the lines after one more line without a fault
-pub none_more : (xs : List (Bor (List ℕ))) (i : ℕ) (d : Bor (List ℕ)) (bytes : List ℕ) → i < length xs → bytes ≡ hex_bytes (take i (texts xs)) → NoneBelow (hex_fault_at (texts xs)) i → hex_fault (length bytes) (hex_line (get_or xs i d).now) ≡ None → NoneBelow (hex_fault_at (texts xs)) (i + 1)
-none_more xs i d bytes h e below none = below_more _ _ below (fault_here xs i d h ∙ ap (λ (b : List ℕ). hex_fault (length b) (hex_line (get_or xs i d).now)) (sym e) ∙ none)
+pub none_more : (xs : List (Bor (List ℕ))) (i : ℕ) (d : Bor (List ℕ)) (bytes : List ℕ)
+    → i < length xs → bytes ≡ hex_bytes (take i (texts xs))
+    → NoneBelow (hex_fault_at (texts xs)) i
+    → hex_fault (length bytes) (hex_line (get_or xs i d).now) ≡ None
+    → NoneBelow (hex_fault_at (texts xs)) (i + 1)
+none_more xs i d bytes h e below none =
+    below_more _ _ below
+    (fault_here xs i d h ∙ ap (λ (b : List ℕ). hex_fault (length b) (hex_line (get_or xs i d).now)) (sym e) ∙ none)
 
-pub bytes_more : (xs : List (Bor (List ℕ))) (i : ℕ) (d : Bor (List ℕ)) (bytes new : List ℕ) → i < length xs → bytes ≡ hex_bytes (take i (texts xs)) → new ≡ bytes ++ unwrap_or (hex_line (get_or xs i d).now) [] → new ≡ hex_bytes (take (i + 1) (texts xs))
+pub bytes_more : (xs : List (Bor (List ℕ))) (i : ℕ) (d : Bor (List ℕ)) (bytes new : List ℕ)
+    → i < length xs → bytes ≡ hex_bytes (take i (texts xs))
+    → new ≡ bytes ++ unwrap_or (hex_line (get_or xs i d).now) []
+    → new ≡ hex_bytes (take (i + 1) (texts xs))
 bytes_more xs i d bytes new h e n =
     let line : List ℕ = (get_or xs i d).now in
     let more = take_more (texts xs) i [] (omega (arith, length-map xs (λ (line : Bor (List ℕ)). line.now))) in
@@ -81,7 +115,10 @@ bytes_more xs i d bytes new h e n =
     ∙ ap hex_bytes (sym more)
 
 -- the first line with a fault
-pub first_here : (xs : List (Bor (List ℕ))) (i : ℕ) (d : Bor (List ℕ)) (bytes : List ℕ) (kind : TextFaultKind) (fault : TextFault) → i < length xs → bytes ≡ hex_bytes (take i (texts xs)) → NoneBelow (hex_fault_at (texts xs)) i → fault ≡ fault_on i kind
+pub first_here : (xs : List (Bor (List ℕ))) (i : ℕ) (d : Bor (List ℕ)) (bytes : List ℕ)
+    (kind : TextFaultKind) (fault : TextFault)
+    → i < length xs → bytes ≡ hex_bytes (take i (texts xs))
+    → NoneBelow (hex_fault_at (texts xs)) i → fault ≡ fault_on i kind
     → (kind ≡ Memory) ⊎ ((kind ≢ Memory) × (hex_fault (length bytes) (hex_line (get_or xs i d).now) ≡ Some kind))
     → (fault ≡ memory_fault) ⊎ IsFirstFaultyLine (hex_fault_at (texts xs)) fault
 first_here xs i d bytes kind fault h e below at (inl memory) = inl (at ∙ ap (fault_on i) memory)
@@ -90,15 +127,23 @@ first_here xs i d bytes kind fault h e below at (inr here) =
     inr (record {
       index = i;
       line = ap (λ (f : TextFault). f.line) is;
-      here = fault_here xs i d h ∙ ap (λ (b : List ℕ). hex_fault (length b) (hex_line (get_or xs i d).now)) (sym e) ∙ here.1 ∙ ap (λ (f : TextFault). Some f.kind) (sym is);
+      here =
+          fault_here xs i d h
+          ∙ ap (λ (b : List ℕ). hex_fault (length b) (hex_line (get_or xs i d).now)) (sym e)
+          ∙ here.1
+          ∙ ap (λ (f : TextFault). Some f.kind) (sym is);
       below = below;
     })
 
 -- after the last line there is no fault
-pub none_at_all : (xs : List (Bor (List ℕ))) → NoneBelow (hex_fault_at (texts xs)) (length xs) → (i : ℕ) → hex_fault_at (texts xs) i ≡ None
+pub none_at_all : (xs : List (Bor (List ℕ)))
+    → NoneBelow (hex_fault_at (texts xs)) (length xs)
+    → (i : ℕ) → hex_fault_at (texts xs) i ≡ None
 unfolding hex_fault_at
 none_at_all xs below i =
     elim (cases_lt i (length xs)) [
       | inl inside ↦ below i inside
-      | inr past ↦ ap (hex_fault_of (length (hex_bytes (take i (texts xs))))) (slice_get_past (texts xs) i (omega (arith, length-map xs (λ (line : Bor (List ℕ)). line.now))))
+      | inr past ↦ ap
+          (hex_fault_of (length (hex_bytes (take i (texts xs)))))
+          (slice_get_past (texts xs) i (omega (arith, length-map xs (λ (line : Bor (List ℕ)). line.now))))
     ]

@@ -51,8 +51,19 @@ record IsSmall (s : SlotFields) : Type 0 where
 
 slot_are_bytes : (s : SlotFields) → IsSmall s → AreBytes (slot_bytes s)
 slot_are_bytes s small =
-    let registers : 16 * s.src + s.dst < 256 = omega (arith, small.dst, small.src) in
-    (small.opcode, (registers, (byte_small 0 s.offset, (byte_small 1 s.offset, (byte_small 0 s.imm, (byte_small 1 s.imm, (byte_small 2 s.imm, (byte_small 3 s.imm, tt))))))))
+    let registers : 16 * s.src + s.dst < 256 = omega (arith, small.dst, small.src) in (
+      small.opcode,
+      (
+        registers,
+        (
+          byte_small 0 s.offset,
+          (
+            byte_small 1 s.offset,
+            (byte_small 0 s.imm, (byte_small 1 s.imm, (byte_small 2 s.imm, (byte_small 3 s.imm, tt)))),
+          ),
+        ),
+      ),
+    )
 
 opcode_small : (code source class : ℕ) → code ≤ 13 → source ≤ 1 → class ≤ 7 → opcode code source class < 256
 opcode_small code source class a b c = omega arith
@@ -85,14 +96,42 @@ memory_small : (mode class : ℕ) (s : AccessSize) → mode ≤ 6 → class ≤ 
 memory_small mode class s a b = omega (arith, size_small s)
 
 first_small : (i : Insn) → IsInsn i → IsSmall (first i)
-first_small (Alu wide op dst src) h = record { opcode = opcode_small _ _ _ (alu_code op) (source_small src) (alu_class_le wide); dst = h.0; src = src_small src h.1 }
-first_small (Movsx m) h = record { opcode = opcode_small 11 1 (alu_class m.wide) (lit≤ tt) (lit≤ tt) (alu_class_le m.wide); dst = h.0; src = h.1 }
-first_small (Neg wide dst) h = record { opcode = opcode_small 8 0 (alu_class wide) (lit≤ tt) (lit≤ tt) (alu_class_le wide); dst = h; src = lit≤ tt }
+first_small (Alu wide op dst src) h = record {
+  opcode = opcode_small _ _ _ (alu_code op) (source_small src) (alu_class_le wide);
+  dst = h.0;
+  src = src_small src h.1;
+}
+first_small (Movsx m) h = record {
+  opcode = opcode_small 11 1 (alu_class m.wide) (lit≤ tt) (lit≤ tt) (alu_class_le m.wide);
+  dst = h.0;
+  src = h.1;
+}
+first_small (Neg wide dst) h = record {
+  opcode = opcode_small 8 0 (alu_class wide) (lit≤ tt) (lit≤ tt) (alu_class_le wide);
+  dst = h;
+  src = lit≤ tt;
+}
 first_small (End how width dst) h = record { opcode = end_small how; dst = h; src = lit≤ tt }
-first_small (Jump wide cond dst src off) h = record { opcode = opcode_small _ _ _ (condition_number_le cond) (source_small src) (jump_class_le wide); dst = h.0; src = src_small src h.1 }
-first_small (Load l) h = record { opcode = memory_small (load_mode l.signed) 1 l.size (mode_small l.signed) (lit≤ tt); dst = h.0; src = h.1 }
-first_small (Store s dst src off) h = record { opcode = memory_small 3 (2 + source_bit src) s (lit≤ tt) (omega (arith, source_small src)); dst = h.0; src = src_small src h.1 }
-first_small (Atomic size op dst src off) h = record { opcode = memory_small 6 3 (access_size size) (lit≤ tt) (lit≤ tt); dst = h.0; src = h.1 }
+first_small (Jump wide cond dst src off) h = record {
+  opcode = opcode_small _ _ _ (condition_number_le cond) (source_small src) (jump_class_le wide);
+  dst = h.0;
+  src = src_small src h.1;
+}
+first_small (Load l) h = record {
+  opcode = memory_small (load_mode l.signed) 1 l.size (mode_small l.signed) (lit≤ tt);
+  dst = h.0;
+  src = h.1;
+}
+first_small (Store s dst src off) h = record {
+  opcode = memory_small 3 (2 + source_bit src) s (lit≤ tt) (omega (arith, source_small src));
+  dst = h.0;
+  src = src_small src h.1;
+}
+first_small (Atomic size op dst src off) h = record {
+  opcode = memory_small 6 3 (access_size size) (lit≤ tt) (lit≤ tt);
+  dst = h.0;
+  src = h.1;
+}
 first_small (Const dst value) h = record { opcode = lit< tt; dst = h.0; src = lit≤ tt }
 first_small (MapFd dst fd) h = record { opcode = lit< tt; dst = h.0; src = lit≤ tt }
 first_small (MapValue dst fd off) h = record { opcode = lit< tt; dst = h.0; src = lit≤ tt }
@@ -104,11 +143,18 @@ none_small imm = record { opcode = lit< tt; dst = lit≤ tt; src = lit≤ tt }
 spelling_are_bytes : (i : Insn) → IsInsn i → AreBytes (spelling i)
 unfolding spelling
 spelling_are_bytes (Const dst value) h =
-    are_bytes-append (slot_bytes (first (Const dst value))) (slot_bytes (slot 0 0 0 0 (value / 2 ^ 32))) (slot_are_bytes (first (Const dst value)) (first_small (Const dst value) h)) (slot_are_bytes (slot 0 0 0 0 (value / 2 ^ 32)) (none_small (value / 2 ^ 32)))
+    are_bytes-append (slot_bytes (first (Const dst value)))
+    (slot_bytes (slot 0 0 0 0 (value / 2 ^ 32)))
+    (slot_are_bytes (first (Const dst value)) (first_small (Const dst value) h))
+    (slot_are_bytes (slot 0 0 0 0 (value / 2 ^ 32)) (none_small (value / 2 ^ 32)))
 spelling_are_bytes (MapFd dst fd) h =
-    are_bytes-append (slot_bytes (first (MapFd dst fd))) (slot_bytes (slot 0 0 0 0 0)) (slot_are_bytes (first (MapFd dst fd)) (first_small (MapFd dst fd) h)) (slot_are_bytes (slot 0 0 0 0 0) (none_small 0))
+    are_bytes-append (slot_bytes (first (MapFd dst fd))) (slot_bytes (slot 0 0 0 0 0))
+    (slot_are_bytes (first (MapFd dst fd)) (first_small (MapFd dst fd) h))
+    (slot_are_bytes (slot 0 0 0 0 0) (none_small 0))
 spelling_are_bytes (MapValue dst fd off) h =
-    are_bytes-append (slot_bytes (first (MapValue dst fd off))) (slot_bytes (slot 0 0 0 0 off)) (slot_are_bytes (first (MapValue dst fd off)) (first_small (MapValue dst fd off) h)) (slot_are_bytes (slot 0 0 0 0 off) (none_small off))
+    are_bytes-append (slot_bytes (first (MapValue dst fd off))) (slot_bytes (slot 0 0 0 0 off))
+    (slot_are_bytes (first (MapValue dst fd off)) (first_small (MapValue dst fd off) h))
+    (slot_are_bytes (slot 0 0 0 0 off) (none_small off))
 spelling_are_bytes i h = slot_are_bytes (first i) (first_small i h)
 
 program_are_bytes : (insns : List Insn) → AllByRecursion IsInsn insns → IsBytes (program_bytes insns)
@@ -116,7 +162,11 @@ program_are_bytes insns each = is_bytes (program_bytes insns) (bytes_of insns ea
   where
     bytes_of : (insns : List Insn) → AllByRecursion IsInsn insns → AreBytes (program_bytes insns)
     bytes_of [] each = tt
-    bytes_of (i ∷ insns) each = are_bytes-append (spelling i) (program_bytes insns) (spelling_are_bytes i each.0) (bytes_of insns each.1)
+    bytes_of (i ∷ insns) each =
+        are_bytes-append (spelling i) (program_bytes insns) (spelling_are_bytes i each.0) (bytes_of insns each.1)
 
-pub hex_lines_is : (insns : List Insn) → IsProgram insns → IsHexText (hex_text (program_bytes insns)) (program_bytes insns)
-hex_lines_is insns program = hex_text_is_read (slot_count insns) (program_bytes insns) (program_are_bytes insns program.each) (length-program_bytes insns) program.some program.room
+pub hex_lines_is : (insns : List Insn)
+    → IsProgram insns → IsHexText (hex_text (program_bytes insns)) (program_bytes insns)
+hex_lines_is insns program =
+    hex_text_is_read (slot_count insns) (program_bytes insns) (program_are_bytes insns program.each)
+    (length-program_bytes insns) program.some program.room

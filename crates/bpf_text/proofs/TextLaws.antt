@@ -36,7 +36,9 @@ lines_same one [] [] (y ∷ b) h k = absurd k
 lines_same one [] (x ∷ a) b h k = absurd h
 lines_same one (bytes ∷ text) [] b h k = absurd h
 lines_same one (bytes ∷ text) (x ∷ a) [] h k = absurd k
-lines_same one (bytes ∷ text) (x ∷ a) (y ∷ b) h k = ap (λ (l : Option Line). l ∷ a) (one bytes x y h.0 k.0) ∙ ap (λ (ls : List (Option Line)). y ∷ ls) (lines_same one text a b h.1 k.1)
+lines_same one (bytes ∷ text) (x ∷ a) (y ∷ b) h k =
+    ap (λ (l : Option Line). l ∷ a) (one bytes x y h.0 k.0)
+    ∙ ap (λ (ls : List (Option Line)). y ∷ ls) (lines_same one text a b h.1 k.1)
 
 insns_same : OneInsn → (a b : List Insn) → map written a ≡ map written b → a ≡ b
 insns_same one [] [] e = refl
@@ -53,11 +55,17 @@ one_program_is reading insn text a b h k =
     let same : h.lines ≡ k.lines = lines_same reading (text_lines text) h.lines k.lines h.read k.read in
     insns_same insn a b (h.forms ∙ ap (λ (ls : List (Option Line)). forms_from ls 0 ls) same ∙ sym k.forms)
 
-no_own_fault : OneReading → (text : List ℕ) (insns : List Insn) (fault : TextFault) → IsAssembled text insns → IsOwnFault text fault → ⊥
+no_own_fault : OneReading
+    → (text : List ℕ) (insns : List Insn) (fault : TextFault) → IsAssembled text insns
+    → IsOwnFault text fault
+    → ⊥
 no_own_fault reading text insns fault h own =
     let same : h.lines ≡ own.lines = lines_same reading (text_lines text) h.lines own.lines h.read own.read in
     elim own.first [
-      | inl first ↦ let no : Some fault.kind ≡ None = sym first.here ∙ ap (λ (ls : List (Option Line)). fault_at ls first.index) (sym same) ∙ h.none first.index in cc no
+      | inl first ↦ let no : Some fault.kind ≡ None =
+          sym first.here
+          ∙ ap (λ (ls : List (Option Line)). fault_at ls first.index) (sym same)
+          ∙ h.none first.index in cc no
       | inr empty ↦ omega (arith, h.some, ap slots_on same, empty.slots_is)
     ]
 
@@ -67,16 +75,30 @@ no_fault_is reading text insns fault h own = no_own_fault reading text insns fau
 pub one_fault_is : OneReading → OneFault
 one_fault_is reading text a b h k =
     let same : h.lines ≡ k.lines = lines_same reading (text_lines text) h.lines k.lines h.read k.read in
-    one_fault (fault_at k.lines) (slots_on k.lines) a b (subst (λ (ls : List (Option Line)). IsFaultBy (fault_at ls) (slots_on ls) a) same h.first) k.first
+    one_fault (fault_at k.lines) (slots_on k.lines) a b
+    (subst (λ (ls : List (Option Line)). IsFaultBy (fault_at ls) (slots_on ls) a) same h.first)
+    k.first
 
 -- if the text has a fault, it is returned
-pub faulty_is : ProgramHasNoFault → OneFault → (text : List ℕ) (answer : Result (List Insn) TextFault) → IfOk answer (λ program. IsAssembled text program) → IfErr answer (λ e. (e ≡ memory_fault) ⊎ IsOwnFault text e) → (fault : TextFault) → IsOwnFault text fault → IsErrAnd answer (λ e. (e ≡ fault) ⊎ (e ≡ memory_fault))
+pub faulty_is : ProgramHasNoFault
+    → OneFault
+    → (text : List ℕ) (answer : Result (List Insn) TextFault)
+    → IfOk answer (λ program. IsAssembled text program)
+    → IfErr answer (λ e. (e ≡ memory_fault) ⊎ IsOwnFault text e)
+    → (fault : TextFault) → IsOwnFault text fault
+    → IsErrAnd answer (λ e. (e ≡ fault) ⊎ (e ≡ memory_fault))
 faulty_is none one text (Ok program) ok told fault own = absurd (none text program fault ok own)
 faulty_is none one text (Err e) ok (inl memory) fault own = inr memory
 faulty_is none one text (Err e) ok (inr told) fault own = inl (one text e fault told own)
 
 -- if the text has a program, it is returned
-pub only_is : OneProgram → ProgramHasNoFault → (text : List ℕ) (answer : Result (List Insn) TextFault) → IfOk answer (λ program. IsAssembled text program) → IfErr answer (λ e. (e ≡ memory_fault) ⊎ IsOwnFault text e) → (insns : List Insn) → IsAssembled text insns → MatchResult answer (λ program. program ≡ insns) (λ e. e ≡ memory_fault)
+pub only_is : OneProgram
+    → ProgramHasNoFault
+    → (text : List ℕ) (answer : Result (List Insn) TextFault)
+    → IfOk answer (λ program. IsAssembled text program)
+    → IfErr answer (λ e. (e ≡ memory_fault) ⊎ IsOwnFault text e)
+    → (insns : List Insn) → IsAssembled text insns
+    → MatchResult answer (λ program. program ≡ insns) (λ e. e ≡ memory_fault)
 only_is one none text (Ok program) ok told insns h = one text program insns ok h
 only_is one none text (Err e) ok (inl memory) insns h = memory
 only_is one none text (Err e) ok (inr told) insns h = absurd (none text insns e h told)
@@ -108,17 +130,24 @@ lines_read [] each = (blank_read, tt)
 lines_read (insn ∷ insns) each =
     let line : List ℕ = printed_insn insn in
     let front : printed (insn ∷ insns) ≡ line ++ 10 ∷ printed insns = append_assoc line (10 ∷ []) (printed insns) in
-    let cut : text_lines (printed (insn ∷ insns)) ≡ line ∷ text_lines (printed insns) = ap text_lines front ∙ slice_split_at (λ b. eqb b 10) line 10 (printed insns) (no_feed line each.0.one_line) refl in
-    subst (λ (ls : List (List ℕ)). AreRead ls (Some (code (written insn) []) ∷ lines_of insns)) (sym cut) (each.0.read, lines_read insns each.1)
+    let cut : text_lines (printed (insn ∷ insns)) ≡ line ∷ text_lines (printed insns) =
+    ap text_lines front ∙ slice_split_at (λ b. eqb b 10) line 10 (printed insns) (no_feed line each.0.one_line) refl in
+    subst (λ (ls : List (List ℕ)). AreRead ls (Some (code (written insn) []) ∷ lines_of insns))
+    (sym cut) (each.0.read, lines_read insns each.1)
 
-forms_of : (all : List (Option Line)) (slot : ℕ) (insns : List Insn) → EachWritten insns → map written insns ≡ forms_from all slot (lines_of insns)
+forms_of : (all : List (Option Line)) (slot : ℕ) (insns : List Insn)
+    → EachWritten insns → map written insns ≡ forms_from all slot (lines_of insns)
 unfolding lines_of forms_from
 forms_of all slot [] each = refl
 forms_of all slot (insn ∷ insns) each =
     ap (λ (fs : List Form). written insn ∷ fs) (forms_of all (slot + form_slots (written insn)) insns each.1)
-    ∙ ap (λ (f : Form). f ∷ forms_from all (slot + form_slots (written insn)) (lines_of insns)) (sym (each.0.resolved_is (distance all slot [])))
+    ∙ ap (λ (f : Form). f ∷ forms_from all (slot + form_slots (written insn)) (lines_of insns))
+    (sym (each.0.resolved_is (distance all slot [])))
 
-none_by : (fits named known long : Bool) → fits ≡ true → named ≡ false → long ≡ false → cond fits (cond (not named || known) (cond long (Some TooLong) None) (Some UnknownLabel)) (Some Range) ≡ None
+none_by : (fits named known long : Bool)
+    → fits ≡ true → named ≡ false
+    → long ≡ false
+    → cond fits (cond (not named || known) (cond long (Some TooLong) None) (Some UnknownLabel)) (Some Range) ≡ None
 none_by true false known false e f g = refl
 none_by true false known true e f g = absurd (let no : true ≡ false = g in cc no)
 none_by true true known long e f g = absurd (let no : true ≡ false = f in cc no)
@@ -128,11 +157,16 @@ and_false : (b : Bool) → (b && false) ≡ false
 and_false true = refl
 and_false false = refl
 
-line_none : (all : List (Option Line)) (i before : ℕ) (insn : Insn) → IsWrittenInRange insn → before + length (slots insn) ≤ MAX_SLOTS → line_fault all i before (Some (code (written insn) [])) ≡ None
+line_none : (all : List (Option Line)) (i before : ℕ) (insn : Insn)
+    → IsWrittenInRange insn → before + length (slots insn) ≤ MAX_SLOTS
+    → line_fault all i before (Some (code (written insn) [])) ≡ None
 line_none all i before insn w room =
     let inside : ltb MAX_SLOTS (before + form_slots (written insn)) ≡ false = le-ltb _ _ (omega (arith, w.slots_are)) in
-    let short : passes before (form_slots (written insn)) ≡ false = ap (λ (b : Bool). leb before MAX_SLOTS && b) inside ∙ and_false (leb before MAX_SLOTS) in
-    none_by (form_fits (written insn)) (names_label (written insn)) (is_some (label_line [] all)) (passes before (form_slots (written insn))) w.fits w.no_label short
+    let short : passes before (form_slots (written insn)) ≡ false =
+    ap (λ (b : Bool). leb before MAX_SLOTS && b) inside ∙ and_false (leb before MAX_SLOTS) in
+    none_by (form_fits (written insn)) (names_label (written insn)) (is_some (label_line [] all))
+    (passes before (form_slots (written insn))) w.fits w.no_label
+    short
 
 told : List (Option Line) → ℕ → ℕ → Option (Option Line) → Option TextFaultKind
 told all i before None = None
@@ -141,43 +175,60 @@ told all i before (Some line) = line_fault all i before line
 from_none : (n : ℕ) → n ≡ 0 + n
 from_none n = omega arith
 
-fault_told : (all : List (Option Line)) (i : ℕ) (o : Option (Option Line)) → line_fault_of all i o ≡ told all i (0 + slots_on (take i all)) o
+fault_told : (all : List (Option Line)) (i : ℕ) (o : Option (Option Line))
+    → line_fault_of all i o ≡ told all i (0 + slots_on (take i all)) o
 unfolding told
 fault_told all i None = refl
 fault_told all i (Some line) = ap (λ (n : ℕ). line_fault all i n line) (from_none (slots_on (take i all)))
 
-none_told : (all : List (Option Line)) (at before i : ℕ) (insns : List Insn) → EachWritten insns → before + slot_count insns ≤ MAX_SLOTS → told all at (before + slots_on (take i (lines_of insns))) (slice_get (lines_of insns) i) ≡ None
+none_told : (all : List (Option Line)) (at before i : ℕ) (insns : List Insn)
+    → EachWritten insns → before + slot_count insns ≤ MAX_SLOTS
+    → told all at (before + slots_on (take i (lines_of insns))) (slice_get (lines_of insns) i) ≡ None
 unfolding lines_of told slots_on
 none_told all at before zero [] each room = refl
 none_told all at before (suc i) [] each room = refl
 none_told all at before zero (insn ∷ insns) each room =
-    let count : slot_count (insn ∷ insns) ≡ length (slots insn) + slot_count insns = sum_by-cons (λ (j : Insn). length (slots j)) insn insns in
+    let count : slot_count (insn ∷ insns) ≡ length (slots insn) + slot_count insns =
+    sum_by-cons (λ (j : Insn). length (slots j)) insn insns in
     let fits : before + length (slots insn) ≤ MAX_SLOTS = omega (arith, count) in
-    ap (λ (n : ℕ). line_fault all at n (Some (code (written insn) []))) (plus_none before) ∙ line_none all at before insn each.0 fits
+    ap (λ (n : ℕ). line_fault all at n (Some (code (written insn) []))) (plus_none before)
+    ∙ line_none all at before insn each.0 fits
   where
     plus_none : (n : ℕ) → n + 0 ≡ n
     plus_none n = omega arith
 none_told all at before (suc i) (insn ∷ insns) each room =
-    let count : slot_count (insn ∷ insns) ≡ length (slots insn) + slot_count insns = sum_by-cons (λ (j : Insn). length (slots j)) insn insns in
-    let fits : (before + form_slots (written insn)) + slot_count insns ≤ MAX_SLOTS = omega (arith, count, each.0.slots_are) in
-    ap (λ (n : ℕ). told all at n (slice_get (lines_of insns) i)) (moved before (form_slots (written insn)) (slots_on (take i (lines_of insns)))) ∙ none_told all at (before + form_slots (written insn)) i insns each.1 fits
+    let count : slot_count (insn ∷ insns) ≡ length (slots insn) + slot_count insns =
+    sum_by-cons (λ (j : Insn). length (slots j)) insn insns in
+    let fits : (before + form_slots (written insn)) + slot_count insns ≤ MAX_SLOTS =
+    omega (arith, count, each.0.slots_are) in
+    ap (λ (n : ℕ). told all at n (slice_get (lines_of insns) i))
+    (moved before (form_slots (written insn)) (slots_on (take i (lines_of insns))))
+    ∙ none_told all at (before + form_slots (written insn)) i insns each.1 fits
   where
     moved : (a b c : ℕ) → a + (b + c) ≡ (a + b) + c
     moved a b c = omega arith
 
-no_fault : (insns : List Insn) → EachWritten insns → slot_count insns ≤ MAX_SLOTS → (i : ℕ) → fault_at (lines_of insns) i ≡ None
+no_fault : (insns : List Insn)
+    → EachWritten insns → slot_count insns ≤ MAX_SLOTS
+    → (i : ℕ) → fault_at (lines_of insns) i ≡ None
 unfolding fault_at
-no_fault insns each room i = fault_told (lines_of insns) i (slice_get (lines_of insns) i) ∙ none_told (lines_of insns) i 0 i insns each (omega arith)
+no_fault insns each room i =
+    fault_told (lines_of insns) i (slice_get (lines_of insns) i)
+    ∙ none_told (lines_of insns) i 0 i insns each (omega arith)
 
-each_of : (P : Insn → Type 0) (insns : List Insn) → ((insn : Insn) → IsInsn insn → P insn) → AllByRecursion IsInsn insns → AllByRecursion P insns
+each_of : (P : Insn → Type 0) (insns : List Insn)
+    → ((insn : Insn) → IsInsn insn → P insn) → AllByRecursion IsInsn insns
+    → AllByRecursion P insns
 each_of P [] law each = tt
 each_of P (insn ∷ insns) law each = (law insn each.0, each_of P insns law each.1)
 
-pub printed_is : ((insn : Insn) → IsInsn insn → IsWrittenInRange insn) → ((insn : Insn) → IsInsn insn → IsPrinted insn) → PrintedIsAssembled
+pub printed_is : ((insn : Insn) → IsInsn insn → IsWrittenInRange insn)
+    → ((insn : Insn) → IsInsn insn → IsPrinted insn) → PrintedIsAssembled
 printed_is writes prints insns program =
     let each_written : EachWritten insns = each_of IsWrittenInRange insns writes program.each in
     let each_printed : EachPrinted insns = each_of IsPrinted insns prints program.each in
-    let forms : map written insns ≡ forms_from (lines_of insns) 0 (lines_of insns) = forms_of (lines_of insns) 0 insns each_written in
+    let forms : map written insns ≡ forms_from (lines_of insns) 0 (lines_of insns) =
+    forms_of (lines_of insns) 0 insns each_written in
     record {
       lines = lines_of insns;
       read = lines_read insns each_printed;

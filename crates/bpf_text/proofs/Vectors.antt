@@ -18,7 +18,8 @@ use Rattle.text_line.specs.Written.{printed_insn}
 use Rattle.bpf_text.specs.HexText.{hex_text, hex_line}
 use Rattle.bpf_text.specs.Printed.{printed}
 
-lines_of_slots : hex_text (0xb7 ∷ 0 ∷ 0 ∷ 0 ∷ 1 ∷ 0 ∷ 0 ∷ 0 ∷ 0x95 ∷ 0 ∷ 0 ∷ 0 ∷ 0 ∷ 0 ∷ 0 ∷ 0 ∷ []) ≡ codes "b700000001000000\n9500000000000000\n"
+lines_of_slots : hex_text (0xb7 ∷ 0 ∷ 0 ∷ 0 ∷ 1 ∷ 0 ∷ 0 ∷ 0 ∷ 0x95 ∷ 0 ∷ 0 ∷ 0 ∷ 0 ∷ 0 ∷ 0 ∷ 0 ∷ [])
+    ≡ codes "b700000001000000\n9500000000000000\n"
 unfolding hex_text hex_on_literals
 lines_of_slots = refl
 
@@ -33,7 +34,8 @@ slots_of_lines = (refl, refl, refl, refl)
 printed_lines :
     (printed (Alu true Mov 0 (Imm (negsuc 1)) ∷ Exit ∷ []) ≡ codes "r0 = -2\nexit\n")
     × (printed (Jump true SignedBelow 2 (Reg 3) (negsuc 32767) ∷ []) ≡ codes "if r2 s< r3 goto -32768\n")
-    × (printed (Load (record { size = Half; signed = true; dst = 1; src = 10; off = negsuc 1; listed = refl }) ∷ []) ≡ codes "r1 = *(s16 *)(r10 - 2)\n")
+    × (printed (Load (record { size = Half; signed = true; dst = 1; src = 10; off = negsuc 1; listed = refl }) ∷ [])
+    ≡ codes "r1 = *(s16 *)(r10 - 2)\n")
     × (printed (Store Byte 10 (Imm (pos 5)) (pos 4) ∷ []) ≡ codes "*(u8 *)(r10 + 4) = 5\n")
     × (printed (Const 2 18446744069414584327 ∷ []) ≡ codes "r2 = 18446744069414584327 ll\n")
     × (printed (MapFd 1 (negsuc 2) ∷ []) ≡ codes "r1 = map_fd -3 ll\n")
@@ -52,7 +54,9 @@ printed_atomics = (refl, refl, refl, refl)
 
 -- an offset has 15 bits and a sign
 addition_at : Bool → Option ℕ → Form
-addition_at negative offset = form.Access (access.Atomic atomic_size.Double atomic.Add 1) (record { base = 10; offset = record { negative = negative; magnitude = offset } })
+addition_at negative offset =
+    form.Access (access.Atomic atomic_size.Double atomic.Add 1)
+    (record { base = 10; offset = record { negative = negative; magnitude = offset } })
 
 ranges_of_atomics :
     (form_fits (addition_at false (Some 0)) ≡ true)
@@ -72,7 +76,8 @@ slots_of_atomics = refl
 
 -- a descriptor has 31 bits and a sign, the offset in a map's value 32 bits and none
 load_of_value : Bool → ℕ → Option ℕ → Form
-load_of_value negative fd off = form.WideLoad 1 (value.MapValue (record { negative = negative; magnitude = Some fd }) off)
+load_of_value negative fd off =
+    form.WideLoad 1 (value.MapValue (record { negative = negative; magnitude = Some fd }) off)
 
 ranges_of_map_values :
     (form_fits (load_of_value false 3 (Some 4294967295)) ≡ true)

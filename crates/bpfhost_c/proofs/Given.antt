@@ -12,7 +12,8 @@ fitted_ten words ten =
     (subst (λ (front : List ℕ). front ≡ words) (sym (append-nil (take 10 words))) (take_all 10 words (omega arith)))
 
 known_ten : (words : List ℕ) → length words ≡ 10 → has_known_words words ≡ true
-known_ten words ten = subst (λ (more : List ℕ). list_all (λ word. nat_eq word 0) more ≡ true) (sym (drop_all 10 words (omega arith))) refl
+known_ten words ten =
+    subst (λ (more : List ℕ). list_all (λ word. nat_eq word 0) more ≡ true) (sym (drop_all 10 words (omega arith))) refl
 
 fits_first : (count n : ℕ) → suc count * 10 ≤ n → 10 ≤ n
 fits_first count n fits = omega arith
@@ -20,12 +21,16 @@ fits_first count n fits = omega arith
 fits_rest : (count : ℕ) (words : List ℕ) → suc count * 10 ≤ length words → count * 10 ≤ length (drop 10 words)
 fits_rest count words fits = subst (λ (n : ℕ). count * 10 ≤ n) (sym (length-drop 10 words)) (omega arith)
 
-pub as_given : (count : ℕ) (words : List ℕ) → count * 10 ≤ length words → first_chunks 10 count words ≡ fitted_all 10 count words
+pub as_given : (count : ℕ) (words : List ℕ)
+    → count * 10 ≤ length words → first_chunks 10 count words ≡ fitted_all 10 count words
 as_given zero words fits = refl
 as_given (suc count) words fits =
-    subst (λ (context : List ℕ). take 10 words ∷ first_chunks 10 count (drop 10 words) ≡ context ∷ fitted_all 10 count (drop 10 words))
+    subst (λ (context : List ℕ).
+    take 10 words ∷ first_chunks 10 count (drop 10 words) ≡ context ∷ fitted_all 10 count (drop 10 words))
     (sym (fitted_ten (take 10 words) (length-take-le 10 words (fits_first count (length words) fits))))
-    (subst (λ (more : List (List ℕ)). take 10 words ∷ first_chunks 10 count (drop 10 words) ≡ take 10 words ∷ more) (as_given count (drop 10 words) (fits_rest count words fits)) refl)
+    (subst (λ (more : List (List ℕ)). take 10 words ∷ first_chunks 10 count (drop 10 words) ≡ take 10 words ∷ more)
+    (as_given count (drop 10 words) (fits_rest count words fits))
+    refl)
 
 pub all_known : (count : ℕ) (words : List ℕ) → count * 10 ≤ length words → have_known_words 10 count words ≡ true
 all_known zero words fits = refl

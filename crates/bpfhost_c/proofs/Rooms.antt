@@ -9,7 +9,10 @@ first_set n [] byte within = absurd (omega arith)
 first_set zero (x ∷ xs) byte within = refl
 first_set (suc n) (x ∷ xs) byte within = first_set n xs byte (omega arith)
 
-pub text_ended : (text room : List ℕ) (n : ℕ) → n ≡ fitting text room → n ≤ length text → n < length room → set (take n text ++ drop n room) n 0 ≡ text_in text room
+pub text_ended : (text room : List ℕ) (n : ℕ)
+    → n ≡ fitting text room → n ≤ length text
+    → n < length room
+    → set (take n text ++ drop n room) n 0 ≡ text_in text room
 text_ended text [] n is short within = absurd (omega arith)
 text_ended text (byte ∷ rest) n is short within =
     let room = byte ∷ rest in

@@ -55,22 +55,48 @@ module _ (R Z : RattleType) (L : Laws Z) (g : Ghosts Z.Denot) where
   raw_box_good b o h fits = (and_tt (has_ty (layout Z) h) fits.0, (tt, (fits.1, tt)))
 
   module _ {M : Type 1} {𝓤 : Ura M} {𝓛 : Logic 𝓤} {K : Type 0} {Γ : List (Item 𝓤)} {G : Goal 𝓤 𝓛.H} where
-    pub raw_box_out : K → (d : RawBox.Denot) (vs : List Val)
-        → ((b o : ℕ) (h : Val) → d.at ≡ block_ptr b o → vs ≡ both (vptr b o) h ∷ [] → Good (layout Z) h → Seq K 𝓛 (‵ (box_owns (g.dealloc_token d.alloc) R (block_ptr b o) d.value) ∷ ‵ (Z.own_val d.alloc (h ∷ [])) ∷ Γ) G)
+    pub raw_box_out : K
+        → (d : RawBox.Denot) (vs : List Val)
+        → ((b o : ℕ) (h : Val) → d.at ≡ block_ptr b o → vs ≡ both (vptr b o) h ∷ [] → Good (layout Z) h
+        → Seq K 𝓛
+        (‵ (box_owns (g.dealloc_token d.alloc) R (block_ptr b o) d.value) ∷ ‵ (Z.own_val d.alloc (h ∷ [])) ∷ Γ)
+        G)
         → Seq K 𝓛 (‵ (RawBox.own_val d vs) ∷ Γ) G
     raw_box_out t d vs k =
-        fsplit t $ fpick t (λ vss. fsplit t $ feq_l t (λ ev. fsplit t $ feq_l t (λ ep. fsplit t $ word_of al t d.alloc vss.1.0 (λ h ea fits. move t (1 ∷ []) $ drop t $ move t (1 ∷ []) $
-        in_a_block t d.at (λ p. box_owns (g.dealloc_token d.alloc) R p d.value) (fst∗ 𝓤 (never 𝓤) (sem 𝓛 (g.dealloc_token d.alloc (bare (lone R.mir)) null_ptr))) (λ b o e. k b o h e
+        fsplit t $ fpick t (λ vss. fsplit t $ feq_l t (λ ev. fsplit t $ feq_l t (λ ep.
+        fsplit t $ word_of al t d.alloc vss.1.0 (λ h ea fits. move t (1 ∷ []) $ drop t $ move t (1 ∷ []) $
+        in_a_block t d.at
+        (λ p. box_owns (g.dealloc_token d.alloc) R p d.value)
+        (fst∗ 𝓤 (never 𝓤) (sem 𝓛 (g.dealloc_token d.alloc (bare (lone R.mir)) null_ptr))) (λ b o e. k b o h e
         (subst (λ (p : Ptr). vs ≡ vstruct (of_list (ptr_val p ∷ h ∷ [])) ∷ []) e
-        (subst (λ (ws : List Val). vs ≡ vstruct (of_list (ptr_val d.at ∷ (ws ++ []))) ∷ []) ea (subst (λ (ps : List Val). vs ≡ vstruct (of_list (ps ++ (vss.1.0 ++ []))) ∷ []) ep ev))) fits)))))
+        (subst (λ (ws : List Val). vs ≡ vstruct (of_list (ptr_val d.at ∷ (ws ++ []))) ∷ []) ea
+        (subst (λ (ps : List Val). vs ≡ vstruct (of_list (ps ++ (vss.1.0 ++ []))) ∷ []) ep ev)))
+        fits)))))
 
-    pub raw_box_in : K → (b o : ℕ) (h : Val) (a : Z.Denot) (x : R.Denot)
-        → Step K 𝓛 (‵ (RawBox.own_val (record { at = block_ptr b o; alloc = a; value = x }) (both (vptr b o) h ∷ [])) ∷ Γ) G (‵ (box_owns (g.dealloc_token a) R (block_ptr b o) x) ∷ ‵ (Z.own_val a (h ∷ [])) ∷ Γ) G
+    pub raw_box_in : K
+        → (b o : ℕ) (h : Val) (a : Z.Denot) (x : R.Denot)
+        → Step K 𝓛
+        (‵ (RawBox.own_val (record { at = block_ptr b o; alloc = a; value = x }) (both (vptr b o) h ∷ [])) ∷ Γ)
+        G
+        (‵ (box_owns (g.dealloc_token a) R (block_ptr b o) x) ∷ ‵ (Z.own_val a (h ∷ [])) ∷ Γ)
+        G
     raw_box_in t b o h a x = step (λ s. let v : Val = both (vptr b o) h in
-        nothing t $ move t (2 ∷ 0 ∷ []) $ fjoin t $ feq_i t (List Val) (vptr b o ∷ []) (vptr b o ∷ []) refl $ fjoin t $ feq_i t (List Val) (v ∷ []) (v ∷ []) refl $ fjoin t $
-        fpack t (Valss (RawPtr ∷ Z ∷ [])) (within (shape (raw_box.the_type R Z g)) (block_ptr b o, (a, tt)) (v ∷ [])) (vptr b o ∷ [], (h ∷ [], tt)) $ fjoin t $ s)
+        nothing t $
+        move t (2 ∷ 0 ∷ []) $
+        fjoin t $
+        feq_i t (List Val) (vptr b o ∷ []) (vptr b o ∷ []) refl $
+        fjoin t $
+        feq_i t (List Val) (v ∷ []) (v ∷ []) refl $
+        fjoin t $
+        fpack t (Valss (RawPtr ∷ Z ∷ []))
+        (within (shape (raw_box.the_type R Z g)) (block_ptr b o, (a, tt)) (v ∷ []))
+        (vptr b o ∷ [], (h ∷ [], tt)) $
+        fjoin t $
+        s)
 
-pub null_good : (h : Val) → Good (layout heap.the_row) h → T (has_ty (layout heap.the_row) h && true) × WT (both (ptr_val null_ptr) h)
+pub null_good : (h : Val)
+    → Good (layout heap.the_row) h
+    → T (has_ty (layout heap.the_row) h && true) × WT (both (ptr_val null_ptr) h)
 null_good h fits = (and_tt (has_ty (layout heap.the_row) h) fits.0, (record { fits = lit< tt }, (fits.1, tt)))
 
 -- a session's box in a block, which may be compared with null
@@ -78,29 +104,66 @@ abbrev pub boxed : heap.the_row.Denot → Ptr → session.the_row.Denot → base
 boxed a p x = box_owns (ghosts.dealloc_token a) session.the_row p x
 
 module _ {M : Type 1} {𝓤 : Ura M} (𝓛 : Logic 𝓤) where
-  tested : (a : heap.the_row.Denot) (p : Ptr) (x : session.the_row.Denot) → ent 𝓤 (sem 𝓛 (boxed a p x)) (guard 𝓤 (Testable p) (sem 𝓛 (boxed a p x)))
+  tested : (a : heap.the_row.Denot) (p : Ptr) (x : session.the_row.Denot)
+      → ent 𝓤 (sem 𝓛 (boxed a p x)) (guard 𝓤 (Testable p) (sem 𝓛 (boxed a p x)))
   tested a p x =
-      fact_use 𝓤 (Testable p) (via 𝓤 _ (snd∗ 𝓤 (sem 𝓛 (lies_at session.the_row full_share p x)) (sem 𝓛 (ghosts.dealloc_token a (bare (lone session.the_row.mir)) p))) (dealloc_token-Testable 𝓛 a (bare (lone session.the_row.mir)) p)) (guard_i 𝓤 (Testable p) (sem 𝓛 (boxed a p x)))
+      fact_use 𝓤 (Testable p)
+      (via 𝓤 _
+      (snd∗ 𝓤 (sem 𝓛 (lies_at session.the_row full_share p x))
+      (sem 𝓛 (ghosts.dealloc_token a (bare (lone session.the_row.mir)) p)))
+      (dealloc_token-Testable 𝓛 a (bare (lone session.the_row.mir)) p))
+      (guard_i 𝓤 (Testable p) (sem 𝓛 (boxed a p x)))
 
 -- a handle, by value
 module _ {M : Type 1} {𝓤 : Ura M} {𝓛 : Logic 𝓤} {K : Type 0} {Γ : List (Item 𝓤)} {G : Goal 𝓤 𝓛.H} where
-  pub handle_out : K → (d : handle.the_row.Denot) (vs : List Val)
-      → ((h : Val) → vs ≡ both (ptr_val d.at) h ∷ [] → Good (layout heap.the_row) h → Seq K 𝓛 (‵ (handle_owns d.alloc d.at d.session) ∷ ‵ (heap.the_row.own_val d.alloc (h ∷ [])) ∷ Γ) G)
+  pub handle_out : K
+      → (d : handle.the_row.Denot) (vs : List Val)
+      → ((h : Val) → vs ≡ both (ptr_val d.at) h ∷ [] → Good (layout heap.the_row) h
+      → Seq K 𝓛 (‵ (handle_owns d.alloc d.at d.session) ∷ ‵ (heap.the_row.own_val d.alloc (h ∷ [])) ∷ Γ) G)
       → Seq K 𝓛 (‵ (handle.the_row.own_val d vs) ∷ Γ) G
   handle_out t d vs k =
-      fsplit t $ fpick t (λ vss. fsplit t $ feq_l t (λ ev. fsplit t $ feq_l t (λ ep. fsplit t $ word_of (al heap.the_row heap.the_row heap_laws.the_row_laws ghosts) t d.alloc vss.1.0 (λ h ea fits. move t (1 ∷ []) $ drop t $ move t (1 ∷ []) $
-      k h (subst (λ (ws : List Val). vs ≡ vstruct (of_list (ptr_val d.at ∷ (ws ++ []))) ∷ []) ea (subst (λ (ps : List Val). vs ≡ vstruct (of_list (ps ++ (vss.1.0 ++ []))) ∷ []) ep ev)) fits))))
+      fsplit t $ fpick t (λ vss. fsplit t $ feq_l t (λ ev. fsplit t $ feq_l t (λ ep.
+      fsplit t $
+      word_of (al heap.the_row heap.the_row heap_laws.the_row_laws ghosts) t d.alloc vss.1.0
+      (λ h ea fits. move t (1 ∷ []) $ drop t $ move t (1 ∷ []) $
+      k h
+      (subst (λ (ws : List Val). vs ≡ vstruct (of_list (ptr_val d.at ∷ (ws ++ []))) ∷ []) ea
+      (subst (λ (ps : List Val). vs ≡ vstruct (of_list (ps ++ (vss.1.0 ++ []))) ∷ []) ep ev))
+      fits))))
 
-  pub handle_either : K → (a : heap.the_row.Denot) (p : Ptr) (s : Option session.the_row.Denot) → (p ≡ null_ptr → s ≡ None → Seq K 𝓛 Γ G)
-      → ((b o : ℕ) (x : session.the_row.Denot) → p ≡ block_ptr b o → s ≡ Some x → Testable (block_ptr b o) → Seq K 𝓛 (‵ (boxed a (block_ptr b o) x) ∷ Γ) G)
+  pub handle_either : K
+      → (a : heap.the_row.Denot) (p : Ptr) (s : Option session.the_row.Denot)
+      → (p ≡ null_ptr → s ≡ None → Seq K 𝓛 Γ G)
+      → ((b o : ℕ) (x : session.the_row.Denot) → p ≡ block_ptr b o → s ≡ Some x → Testable (block_ptr b o)
+      → Seq K 𝓛 (‵ (boxed a (block_ptr b o) x) ∷ Γ) G)
       → Seq K 𝓛 (‵ (handle_owns a p s) ∷ Γ) G
   handle_either t a null_ptr None none one = drop t $ none refl refl
-  handle_either t a null_ptr (Some x) none one = use1 𝓛 (given ⊥ (‵ ftrue)) (never_e 𝓤 _) $ learn t (λ wrong. absurd wrong)
-  handle_either t a (block_ptr b o) None none one = use1 𝓛 (given ⊥ (‵ ftrue)) (never_e 𝓤 _) $ learn t (λ wrong. absurd wrong)
-  handle_either t a (block_ptr b o) (Some x) none one = use1 𝓛 (given (Testable (block_ptr b o)) (‵ (boxed a (block_ptr b o) x))) (tested 𝓛 a (block_ptr b o) x) $ learn t (λ e. one b o x refl refl e)
+  handle_either t a null_ptr (Some x) none one =
+      use1 𝓛 (given ⊥ (‵ ftrue)) (never_e 𝓤 _) $ learn t (λ wrong. absurd wrong)
+  handle_either t a (block_ptr b o) None none one =
+      use1 𝓛 (given ⊥ (‵ ftrue)) (never_e 𝓤 _) $ learn t (λ wrong. absurd wrong)
+  handle_either t a (block_ptr b o) (Some x) none one =
+      use1 𝓛 (given (Testable (block_ptr b o)) (‵ (boxed a (block_ptr b o) x))) (tested 𝓛 a (block_ptr b o) x) $
+      learn t (λ e. one b o x refl refl e)
 
-  pub handle_in : K → (p : Ptr) (h : Val) (a : heap.the_row.Denot) (s : Option session.the_row.Denot)
-      → Step K 𝓛 (‵ (handle.the_row.own_val (record { at = p; alloc = a; session = s }) (both (ptr_val p) h ∷ [])) ∷ Γ) G (‵ (handle_owns a p s) ∷ ‵ (heap.the_row.own_val a (h ∷ [])) ∷ Γ) G
+  pub handle_in : K
+      → (p : Ptr) (h : Val) (a : heap.the_row.Denot) (s : Option session.the_row.Denot)
+      → Step K 𝓛
+      (‵ (handle.the_row.own_val (record { at = p; alloc = a; session = s }) (both (ptr_val p) h ∷ [])) ∷ Γ)
+      G
+      (‵ (handle_owns a p s) ∷ ‵ (heap.the_row.own_val a (h ∷ [])) ∷ Γ)
+      G
   handle_in t p h a s = step (λ k. let v : Val = both (ptr_val p) h in
-      nothing t $ move t (2 ∷ 0 ∷ []) $ fjoin t $ feq_i t (List Val) (ptr_val p ∷ []) (ptr_val p ∷ []) refl $ fjoin t $ feq_i t (List Val) (v ∷ []) (v ∷ []) refl $ fjoin t $
-      fpack t (Valss (RawPtr ∷ heap.the_row ∷ [])) (within (shape (raw_box.the_type session.the_row heap.the_row ghosts)) (p, (a, tt)) (v ∷ [])) (ptr_val p ∷ [], (h ∷ [], tt)) $ fjoin t $ use1 𝓛 (‵ (handle.the_row.own_val (record { at = p; alloc = a; session = s }) (v ∷ []))) (id⊢ 𝓤 _) $ k)
+      nothing t $
+      move t (2 ∷ 0 ∷ []) $
+      fjoin t $
+      feq_i t (List Val) (ptr_val p ∷ []) (ptr_val p ∷ []) refl $
+      fjoin t $
+      feq_i t (List Val) (v ∷ []) (v ∷ []) refl $
+      fjoin t $
+      fpack t (Valss (RawPtr ∷ heap.the_row ∷ []))
+      (within (shape (raw_box.the_type session.the_row heap.the_row ghosts)) (p, (a, tt)) (v ∷ []))
+      (ptr_val p ∷ [], (h ∷ [], tt)) $
+      fjoin t $
+      use1 𝓛 (‵ (handle.the_row.own_val (record { at = p; alloc = a; session = s }) (v ∷ []))) (id⊢ 𝓤 _) $
+      k)

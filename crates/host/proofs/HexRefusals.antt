@@ -26,7 +26,10 @@ lines_refused text fault utf8 faulty refusal (inr refused) =
     ]
 
 -- lines without a fault are not rejected
-pub lines_not_refused : (text : List ℕ) → IsUtf8 text → ((own : TextFault) → ¬ IsHexFault text own) → (refusal : Failure) → ¬ (IsUnreadable text refusal)
+pub lines_not_refused : (text : List ℕ)
+    → IsUtf8 text
+    → ((own : TextFault) → ¬ IsHexFault text own)
+    → (refusal : Failure) → ¬ (IsUnreadable text refusal)
 lines_not_refused text utf8 faultless refusal (inl none) = none.0 utf8
 lines_not_refused text utf8 faultless refusal (inr refused) = faultless refused.fault refused.own
 
@@ -36,20 +39,25 @@ slots_of : {input : List ℕ} {refusal : Failure} → (is : IsProgramRefused inp
 slots_of is = record { utf8 = is.utf8; lines = is.slots }
 
 -- if the lines are rejected, their rejection is returned, or out of memory
-pub input_refused : (input : List ℕ) (failure : Failure) → ((refusal : Failure) → IsUnreadable input refusal → (failure ≡ refusal) ⊎ (failure ≡ Memory))
+pub input_refused : (input : List ℕ) (failure : Failure)
+    → ((refusal : Failure) → IsUnreadable input refusal → (failure ≡ refusal) ⊎ (failure ≡ Memory))
     → ((slots : List ℕ) → IsSlotText input slots → failure ≡ Memory)
-    → (refusal : Failure) → IsNoProgramText input refusal → (failure ≡ refusal) ⊎ (failure ≡ Memory)
+    → (refusal : Failure) → IsNoProgramText input refusal
+    → (failure ≡ refusal) ⊎ (failure ≡ Memory)
 input_refused input failure lines memory refusal (inl unreadable) = lines refusal unreadable
 input_refused input failure lines memory refusal (inr refused) = inr (memory refused.bytes (slots_of refused))
 
 -- the fault of the slots is returned, or out of memory
-pub slots_refused : (input slots : List ℕ) (fault : CodecFault) → ((refusal : Failure) → ¬ IsUnreadable input refusal)
+pub slots_refused : (input slots : List ℕ) (fault : CodecFault)
+    → ((refusal : Failure) → ¬ IsUnreadable input refusal)
     → ((other : List ℕ) → IsSlotText input other → slots ≡ other)
     → ((own : CodecFault) → IsProgramFault slots own → (fault ≡ own) ⊎ IsMemoryFault slots fault)
-    → (refusal : Failure) → IsNoProgramText input refusal → (codec_failure fault ≡ refusal) ⊎ (codec_failure fault ≡ Memory)
+    → (refusal : Failure) → IsNoProgramText input refusal
+    → (codec_failure fault ≡ refusal) ⊎ (codec_failure fault ≡ Memory)
 slots_refused input slots fault readable one faulty refusal (inl unreadable) = absurd (readable refusal unreadable)
 slots_refused input slots fault readable one faulty refusal (inr refused) =
-    elim (faulty refused.fault (subst (λ bytes. IsProgramFault bytes refused.fault) (sym (one refused.bytes (slots_of refused))) refused.own)) [
+    elim (faulty refused.fault
+    (subst (λ bytes. IsProgramFault bytes refused.fault) (sym (one refused.bytes (slots_of refused))) refused.own)) [
       | inl e ↦ inl (ap codec_failure e ∙ sym refused.failure_is)
       | inr e ↦ inr (ap codec_failure e.1)
     ]
@@ -61,4 +69,5 @@ pub program_not_refused : (input slots : List ℕ) → ((refusal : Failure) → 
     → (refusal : Failure) → ¬ (IsNoProgramText input refusal)
 program_not_refused input slots readable one faultless refusal (inl unreadable) = readable refusal unreadable
 program_not_refused input slots readable one faultless refusal (inr refused) =
-    faultless refused.fault (subst (λ bytes. IsProgramFault bytes refused.fault) (sym (one refused.bytes (slots_of refused))) refused.own)
+    faultless refused.fault
+    (subst (λ bytes. IsProgramFault bytes refused.fault) (sym (one refused.bytes (slots_of refused))) refused.own)

@@ -11,14 +11,19 @@ use Rattle.host.specs.program.Arguments.{Asked, Verifies}
 use Rattle.verifier.specs.declared.refusal.Refusal.{Refusal}
 
 -- a property of the bytes that were read is a property of the input
-of_input : (P : List ℕ → Type 0) (before after : Option (List ℕ)) (input : List ℕ) → ReadsWholeInput before after input → P input → IfSome before P
+of_input : (P : List ℕ → Type 0) (before after : Option (List ℕ)) (input : List ℕ)
+    → ReadsWholeInput before after input → P input → IfSome before P
 of_input P None after input whole holds = tt
 of_input P (Some bytes) None input whole holds = absurd whole.read
 of_input P (Some bytes) (Some rest) input whole holds =
     subst P (sym (whole.read ∙ (ap (λ more. input ++ more) whole.end ∙ append-nil input))) holds
 
-pub accepts_known : (arguments : List Text) (maps given : List Named) (refusal : Option Refusal) (old new : Streams) → AreMapArguments arguments maps → given ≡ maps
-    → WritesWholeOutput (IsJudgementLine given refusal) old new → judgement_status refusal ≡ 0 → AcceptsIfKnown arguments old.input
+pub accepts_known : (arguments : List Text) (maps given : List Named) (refusal : Option Refusal)
+    (old new : Streams)
+    → AreMapArguments arguments maps → given ≡ maps
+    → WritesWholeOutput (IsJudgementLine given refusal) old new
+    → judgement_status refusal ≡ 0
+    → AcceptsIfKnown arguments old.input
 accepts_known arguments maps given None old new named same ended zero =
     of_input (Accepts arguments) old.input new.input ended.input ended.whole
     (record { maps = given; named = subst (AreMapArguments arguments) (sym same) named; judged = ended.made_so.0 })
@@ -28,9 +33,14 @@ words_of : Option Asked → List Text
 words_of (Some (Verifies arguments)) = arguments
 words_of _ = []
 
-pub accepts_asked : (given : List Text) (told : Option Asked) (input : Option (List ℕ)) {E : Type 0} (r : Result ℕ E) → told ≡ Some (Verifies given)
+pub accepts_asked : (given : List Text) (told : Option Asked) (input : Option (List ℕ)) {E : Type 0}
+    (r : Result ℕ E)
+    → told ≡ Some (Verifies given)
     → IfOk r (λ status. status ≡ 0 → AcceptsIfKnown given input)
     → IfOk r (λ status. status ≡ 0 → (maps : List Text) → told ≡ Some (Verifies maps) → AcceptsIfKnown maps input)
 unfolding words_of
 accepts_asked given told input r is accepts =
-    IfOk-weaker r _ _ (λ status accepted zero maps other. subst (λ ws. AcceptsIfKnown ws input) (ap words_of (sym is ∙ other)) (accepted zero)) accepts
+    IfOk-weaker r _ _
+    (λ status accepted zero maps other.
+    subst (λ ws. AcceptsIfKnown ws input) (ap words_of (sym is ∙ other)) (accepted zero))
+    accepts

@@ -35,20 +35,31 @@ one_field text lacks = slice_split_none is_colon text lacks
 -- the text before and after the first colon
 pub first_cut : (text : Text) (r : Option (Bor Text × Bor Text))
     → MatchOption r (position_or_len is_colon text ≡ length text)
-    (λ cut. (position_or_len is_colon text < length text) × (cut.0.now ≡ before_first is_colon text) × (cut.1.now ≡ after_first is_colon text))
+    (λ cut.
+    (position_or_len is_colon text < length text)
+    × (cut.0.now ≡ before_first is_colon text)
+    × (cut.1.now ≡ after_first is_colon text))
     → IfSome r (λ cut. map_fields text ≡ cut.0.now ∷ map_fields cut.1.now)
 first_cut text None is = tt
-first_cut text (Some cut) is = slice_split_first is_colon text 0 is.0 ∙ sym (ap (λ front. front ∷ map_fields cut.1.now) is.1 ∙ ap (λ rest. before_first is_colon text ∷ map_fields rest) is.2)
+first_cut text (Some cut) is =
+    slice_split_first is_colon text 0 is.0
+    ∙ sym (ap (λ front. front ∷ map_fields cut.1.now) is.1
+    ∙ ap (λ rest. before_first is_colon text ∷ map_fields rest) is.2)
 
 pub no_cut : (text : Text) (r : Option (Bor Text × Bor Text))
     → MatchOption r (position_or_len is_colon text ≡ length text)
-    (λ cut. (position_or_len is_colon text < length text) × (cut.0.now ≡ before_first is_colon text) × (cut.1.now ≡ after_first is_colon text))
+    (λ cut.
+    (position_or_len is_colon text < length text)
+    × (cut.0.now ≡ before_first is_colon text)
+    × (cut.1.now ≡ after_first is_colon text))
     → IfNone r (map_fields text ≡ text ∷ [])
 no_cut text None is = one_field text (λ k d below. fails_before_first is_colon text k d (omega (arith, is)))
 no_cut text (Some cut) is = tt
 
 -- fields without a colon, joined by colons, are the fields of the joined text
-fields_joined : (first : Text) (more : List Text) → AllByRecursion Lacks (first ∷ more) → map_fields (join_with_byte colon (first ∷ more)) ≡ first ∷ more
+fields_joined : (first : Text) (more : List Text)
+    → AllByRecursion Lacks (first ∷ more)
+    → map_fields (join_with_byte colon (first ∷ more)) ≡ first ∷ more
 fields_joined first [] lack = one_field first lack.0
 fields_joined first (second ∷ more) lack =
     slice_split_at is_colon first colon (join_with_byte colon (second ∷ more)) lack.0 refl
@@ -64,10 +75,12 @@ number_lacks : (text : Text) (n : ℕ) → decimal_number text ≡ Some n → La
 number_lacks text n is = All-from_recursion (λ b. is_colon b ≡ false) text (digits_lack text (grind (arith, nat_tests)))
 
 descriptor_lacks : (text : Text) (fd : ℕ) → descriptor_number text ≡ Some fd → Lacks text
-descriptor_lacks text fd is = All-from_recursion (λ b. is_colon b ≡ false) text (digits_lack text (grind (arith, nat_tests)))
+descriptor_lacks text fd is =
+    All-from_recursion (λ b. is_colon b ≡ false) text (digits_lack text (grind (arith, nat_tests)))
 
 kind_lacks : (kind : MapKind) → Lacks (kind_name kind)
-kind_lacks Array = All-from_recursion (λ b. is_colon b ≡ false) (codes "array") (refl, (refl, (refl, (refl, (refl, tt)))))
+kind_lacks Array =
+    All-from_recursion (λ b. is_colon b ≡ false) (codes "array") (refl, (refl, (refl, (refl, (refl, tt)))))
 kind_lacks Hash = All-from_recursion (λ b. is_colon b ≡ false) (codes "hash") (refl, (refl, (refl, (refl, tt))))
 
 five_fields : (argument : Text) (map : Named) (is : IsMapArgument argument map)
@@ -92,13 +105,18 @@ five_fields argument map is =
 
 pub none_named : (argument : Text) (r : Option Named) → r ≡ None → ((map : Named) → ¬ IsMapArgument argument map)
     → (map : Named) → (r ≡ Some map → IsMapArgument argument map) × (IsMapArgument argument map → r ≡ Some map)
-none_named argument r none never map = ((λ some. absurd (let both : None ≡ Some map = sym none ∙ some in cc both)), (λ is. absurd (never map is)))
+none_named argument r none never map = (
+  (λ some. absurd (let both : None ≡ Some map = sym none ∙ some in cc both)),
+  (λ is. absurd (never map is)),
+)
 
 pub few_fields : (argument : Text) → length (map_fields argument) < 5 → (map : Named) → ¬ IsMapArgument argument map
 few_fields argument few map is = omega (arith, ap length (five_fields argument map is))
 
 -- the fields of a map argument are those of the argument that was cut at four colons
-pub record SameFields (argument fd kind key_size value_size max_entries : Text) (map : Named) (is : IsMapArgument argument map) : Type 0 where
+pub record SameFields
+    (argument fd kind key_size value_size max_entries : Text)
+    (map : Named) (is : IsMapArgument argument map) : Type 0 where
   pub fd_is : is.fd ≡ fd
   pub kind_is : is.kind ≡ kind
   pub key_size_is : is.key_size ≡ key_size
@@ -118,7 +136,8 @@ tail (x ∷ xs) = xs
 
 pub same_fields : (argument fd kind key_size value_size max_entries : Text)
     → map_fields argument ≡ fd ∷ kind ∷ key_size ∷ value_size ∷ map_fields max_entries
-    → (map : Named) (is : IsMapArgument argument map) → SameFields argument fd kind key_size value_size max_entries map is
+    → (map : Named) (is : IsMapArgument argument map)
+    → SameFields argument fd kind key_size value_size max_entries map is
 unfolding head tail
 same_fields argument fd kind key_size value_size max_entries cut map is =
     let same = sym (five_fields argument map is) ∙ cut in
@@ -132,7 +151,8 @@ same_fields argument fd kind key_size value_size max_entries cut map is =
 
 pub no_shape : (argument fd kind key_size value_size max_entries : Text)
     → map_fields argument ≡ fd ∷ kind ∷ key_size ∷ value_size ∷ map_fields max_entries
-    → ((shape : MapShape) → ¬ IsShapeOf shape kind key_size value_size max_entries) → (map : Named) → ¬ IsMapArgument argument map
+    → ((shape : MapShape) → ¬ IsShapeOf shape kind key_size value_size max_entries)
+    → (map : Named) → ¬ IsMapArgument argument map
 no_shape argument fd kind key_size value_size max_entries cut never map is =
     let same = same_fields argument fd kind key_size value_size max_entries cut map is in
     never is.shape (record {
@@ -163,7 +183,13 @@ listed_prop b = hlevel props
 
 -- shapes of equal fields are equal
 shape_with : (kind : MapKind) (key value max : ℕ) → IsTrue (is_shape kind key value max) → MapShape
-shape_with kind key value max listed = record { kind = kind; key_size = key; value_size = value; max_entries = max; listed = listed }
+shape_with kind key value max listed = record {
+  kind = kind;
+  key_size = key;
+  value_size = value;
+  max_entries = max;
+  listed = listed;
+}
 
 module _ (kind : MapKind) (key value max : ℕ) (listed : IsTrue (is_shape kind key value max)) where
   abbrev IsSame : MapKind → ℕ → ℕ → ℕ → Type 0
@@ -171,19 +197,25 @@ module _ (kind : MapKind) (key value max : ℕ) (listed : IsTrue (is_shape kind 
 
   same_shape_of : (k : MapKind) (a b c : ℕ) → kind ≡ k → key ≡ a → value ≡ b → max ≡ c → IsSame k a b c
   same_shape_of k a b c kind_is key_is value_is max_is =
-      let same : IsSame kind key value max = λ h. ap (shape_with kind key value max) (listed_prop (is_shape kind key value max) listed h) in
-      subst (IsSame k a b) max_is (subst (λ n. IsSame k a n max) value_is (subst (λ n. IsSame k n value max) key_is (subst (λ x. IsSame x key value max) kind_is same)))
+      let same : IsSame kind key value max =
+      λ h. ap (shape_with kind key value max) (listed_prop (is_shape kind key value max) listed h) in
+      subst (IsSame k a b) max_is
+      (subst (λ n. IsSame k a n max) value_is
+      (subst (λ n. IsSame k n value max) key_is (subst (λ x. IsSame x key value max) kind_is same)))
 
 some_same : (a b : ℕ) (o p : Option ℕ) → o ≡ Some a → p ≡ Some b → o ≡ p → a ≡ b
 some_same a b o p is_a is_b same = let both : Some a ≡ Some b = sym is_a ∙ (same ∙ is_b) in cc both
 
-pub same_shape : (a b : MapShape) (kind key_size value_size max_entries : Text) → IsShapeOf a kind key_size value_size max_entries
-    → IsShapeOf b kind key_size value_size max_entries → a ≡ b
+pub same_shape : (a b : MapShape) (kind key_size value_size max_entries : Text)
+    → IsShapeOf a kind key_size value_size max_entries
+    → IsShapeOf b kind key_size value_size max_entries
+    → a ≡ b
 unfolding shape_with
 same_shape a b kind key_size value_size max_entries is_a is_b =
     same_shape_of a.kind a.key_size a.value_size a.max_entries a.listed b.kind b.key_size b.value_size b.max_entries
     (same_kind a.kind b.kind (sym is_a.kind_is ∙ is_b.kind_is))
-    (some_same _ _ _ _ is_a.key_size_is is_b.key_size_is refl) (some_same _ _ _ _ is_a.value_size_is is_b.value_size_is refl)
+    (some_same _ _ _ _ is_a.key_size_is is_b.key_size_is refl) (some_same _ _ _ _ is_a.value_size_is
+    is_b.value_size_is refl)
     (some_same _ _ _ _ is_a.max_entries_is is_b.max_entries_is refl) b.listed
 
 named_with : ℕ → Target → Named
@@ -193,9 +225,11 @@ some_map : (a b : Named) → Some a ≡ Some b → a ≡ b
 some_map a b e = cc e
 
 same_map : (argument fd kind key_size value_size max_entries : Text) (descriptor : ℕ) (shape : MapShape)
-    → map_fields argument ≡ fd ∷ kind ∷ key_size ∷ value_size ∷ map_fields max_entries → Some descriptor ≡ descriptor_number fd
+    → map_fields argument ≡ fd ∷ kind ∷ key_size ∷ value_size ∷ map_fields max_entries
+    → Some descriptor ≡ descriptor_number fd
     → IsShapeOf shape kind key_size value_size max_entries
-    → (map : Named) → IsMapArgument argument map → record { fd = descriptor; target = Map shape } ≡ map
+    → (map : Named) → IsMapArgument argument map
+    → record { fd = descriptor; target = Map shape } ≡ map
 unfolding named_with
 same_map argument fd kind key_size value_size max_entries descriptor shape cut number shaped map is =
     let same = same_fields argument fd kind key_size value_size max_entries cut map is in
@@ -205,12 +239,16 @@ same_map argument fd kind key_size value_size max_entries descriptor shape cut n
       value_size_is = ap decimal_number (sym same.value_size_is) ∙ is.shaped.value_size_is;
       max_entries_is = ap decimal_number (sym same.max_entries_is) ∙ is.shaped.max_entries_is;
     }) in
-    let fd_is : descriptor ≡ map.fd = some_same _ _ _ _ (sym number) is.descriptor (ap descriptor_number (sym same.fd_is)) in
+    let fd_is : descriptor ≡ map.fd =
+    some_same _ _ _ _ (sym number) is.descriptor (ap descriptor_number (sym same.fd_is)) in
     ap (λ fd. named_with fd (Map shape)) fd_is ∙ ap (named_with map.fd) (ap Map shape_is ∙ sym is.target)
 
 -- an argument with these fields names this map
-pub named_by : (argument fd kind key_size value_size max_entries : Text) {descriptor : ℕ} {shape : MapShape} → argument ≡ join_with_byte colon (fd ∷ kind ∷ key_size ∷ value_size ∷ max_entries ∷ [])
-    → descriptor_number fd ≡ Some descriptor → IsShapeOf shape kind key_size value_size max_entries → IsMapArgument argument (record { fd = descriptor; target = Map shape })
+pub named_by : (argument fd kind key_size value_size max_entries : Text) {descriptor : ℕ} {shape : MapShape}
+    → argument ≡ join_with_byte colon (fd ∷ kind ∷ key_size ∷ value_size ∷ max_entries ∷ [])
+    → descriptor_number fd ≡ Some descriptor
+    → IsShapeOf shape kind key_size value_size max_entries
+    → IsMapArgument argument (record { fd = descriptor; target = Map shape })
 named_by argument fd kind key_size value_size max_entries {descriptor} {shape} spelled number shaped = record {
   fd = fd;
   kind = kind;
@@ -225,18 +263,28 @@ named_by argument fd kind key_size value_size max_entries {descriptor} {shape} s
 }
 
 -- the argument names this map and no other
-pub one_named : (argument fd kind key_size value_size max_entries : Text) (descriptor : ℕ) (shape : MapShape)
-    → map_fields argument ≡ fd ∷ kind ∷ key_size ∷ value_size ∷ map_fields max_entries → Some descriptor ≡ descriptor_number fd
+pub one_named : (argument fd kind key_size value_size max_entries : Text) (descriptor : ℕ)
+    (shape : MapShape)
+    → map_fields argument ≡ fd ∷ kind ∷ key_size ∷ value_size ∷ map_fields max_entries
+    → Some descriptor ≡ descriptor_number fd
     → IsShapeOf shape kind key_size value_size max_entries
-    → (map : Named) → (Some (record { fd = descriptor; target = Map shape }) ≡ Some map → IsMapArgument argument map)
+    → (map : Named)
+    → (Some (record { fd = descriptor; target = Map shape }) ≡ Some map → IsMapArgument argument map)
     × (IsMapArgument argument map → Some (record { fd = descriptor; target = Map shape }) ≡ Some map)
 one_named argument fd kind key_size value_size max_entries descriptor shape cut number shaped map =
     let is : IsMapArgument argument (record { fd = descriptor; target = Map shape }) =
     named_by argument fd kind key_size value_size max_entries
     (sym (join_with_byte-slice_split colon argument)
-    ∙ ap (join_with_byte colon) (cut ∙ ap (λ rest. fd ∷ kind ∷ key_size ∷ value_size ∷ rest) (one_field max_entries (number_lacks max_entries _ shaped.max_entries_is))))
-    (sym number) shaped in
-    ((λ e. subst (IsMapArgument argument) (some_map _ _ e) is), (λ other. ap Some (same_map argument fd kind key_size value_size max_entries descriptor shape cut number shaped map other)))
+    ∙ ap (join_with_byte colon)
+    (cut
+    ∙ ap (λ rest. fd ∷ kind ∷ key_size ∷ value_size ∷ rest)
+    (one_field max_entries (number_lacks max_entries _ shaped.max_entries_is))))
+    (sym number) shaped in (
+      (λ e. subst (IsMapArgument argument) (some_map _ _ e) is),
+      (λ other.
+          ap Some
+          (same_map argument fd kind key_size value_size max_entries descriptor shape cut number shaped map other)),
+    )
 
 -- two maps that an argument names are the same
 pub one_map : (argument : Text) (a b : Named) → IsMapArgument argument a → IsMapArgument argument b → a ≡ b
@@ -253,5 +301,6 @@ one_map argument a b is_a is_b =
 pub none_read : {E : Type 0} (r : Result Named E) (map : Named) → None ≡ result_ok r → r ≡ Ok map → ⊥
 none_read r map none ok = let both : None ≡ Some map = none ∙ ap result_ok ok in cc both
 
-pub one_read : {E : Type 0} (r : Result Named E) (map other : Named) → Some map ≡ result_ok r → r ≡ Ok other → map ≡ other
+pub one_read : {E : Type 0} (r : Result Named E) (map other : Named)
+    → Some map ≡ result_ok r → r ≡ Ok other → map ≡ other
 one_read r map other some ok = some_map map other (some ∙ ap result_ok ok)

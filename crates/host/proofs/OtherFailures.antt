@@ -34,17 +34,21 @@ at_slot slot other = λ e. omega (arith, e)
 
 -- ---- inputs that are rejected
 
-pub refused_otherwise : (task : TextTask) (input : List ℕ) (failure : Failure) → IsInputRefused task input failure → IsOther failure
+pub refused_otherwise : (task : TextTask) (input : List ℕ) (failure : Failure)
+    → IsInputRefused task input failure → IsOther failure
 refused_otherwise Assemble input failure (inl none) = λ e. omega (arith, sym (ap exit_status none.1) ∙ e)
-refused_otherwise Assemble input failure (inr of_text) = subst IsOther (sym of_text.failure_is) (on_line of_text.fault.line of_text.fault.kind)
+refused_otherwise Assemble input failure (inr of_text) =
+    subst IsOther (sym of_text.failure_is) (on_line of_text.fault.line of_text.fault.kind)
 refused_otherwise Disassemble input failure (inl (inl none)) = λ e. omega (arith, sym (ap exit_status none.1) ∙ e)
-refused_otherwise Disassemble input failure (inl (inr of_hex)) = subst IsOther (sym of_hex.failure_is) (on_line of_hex.fault.line of_hex.fault.kind)
+refused_otherwise Disassemble input failure (inl (inr of_hex)) =
+    subst IsOther (sym of_hex.failure_is) (on_line of_hex.fault.line of_hex.fault.kind)
 refused_otherwise Disassemble input failure (inr of_program) =
     subst IsOther (sym of_program.failure_is) (at_slot of_program.fault.slot of_program.fault.kind)
 
 -- ---- runs
 
-unread : (failure : Failure) (old new : Streams) → HasNoInput failure old.input new.input old.read_failures new.read_failures → IsOther failure
+unread : (failure : Failure) (old new : Streams)
+    → HasNoInput failure old.input new.input old.read_failures new.read_failures → IsOther failure
 unread TooLong old new is = λ e. omega (arith, e)
 unread Read old new is = λ e. omega (arith, e)
 unread Memory old new is = λ e. omega (arith, e)
@@ -59,7 +63,8 @@ stops_otherwise made refused otherwise old new failure (inr (inl unmade)) =
       | inl memory ↦ (λ e. omega (arith, sym (ap exit_status memory) ∙ e))
       | inr why ↦ otherwise unmade.input failure why
     ]
-stops_otherwise made refused otherwise old new failure (inr (inr unwritten)) = λ e. omega (arith, sym (ap exit_status unwritten.failure_is) ∙ e)
+stops_otherwise made refused otherwise old new failure (inr (inr unwritten)) = λ e.
+    omega (arith, sym (ap exit_status unwritten.failure_is) ∙ e)
 
 -- ---- streams
 
@@ -71,6 +76,7 @@ ends_otherwise : (served : Result ℕ ServeFault) → IfErr (stream_end served) 
 ends_otherwise (Ok count) = tt
 ends_otherwise (Err fault) = stream_otherwise fault.kind fault.frames
 
-pub served_otherwise : (result : Result (Unit {0}) Failure) (before : StreamState) (after : List TenantState → StreamState)
+pub served_otherwise : (result : Result (Unit {0}) Failure) (before : StreamState)
+    (after : List TenantState → StreamState)
     → ServesNewHost result before after → IfErr result IsOther
 served_otherwise result before after is = subst (λ r. IfErr r IsOther) (sym is.3) (ends_otherwise is.0)

@@ -16,7 +16,9 @@ array_of_8_bytes = record { kind = Array; key_size = 4; value_size = 8; max_entr
 array_word : IsMapArgument (codes "003:array:04:8:1") (record { fd = 3; target = Map array_of_8_bytes })
 unfolding array_of_8_bytes
 array_word =
-    named_by (codes "003:array:04:8:1") (codes "003") (codes "array") (codes "04") (codes "8") (codes "1") refl refl (record { kind_is = refl; key_size_is = refl; value_size_is = refl; max_entries_is = refl })
+    named_by (codes "003:array:04:8:1") (codes "003") (codes "array") (codes "04") (codes "8")
+    (codes "1") refl refl
+    (record { kind_is = refl; key_size_is = refl; value_size_is = refl; max_entries_is = refl })
 
 largest_hash_map : MapShape
 largest_hash_map = record { kind = Hash; key_size = 512; value_size = 4096; max_entries = 16; listed = refl }
@@ -24,7 +26,9 @@ largest_hash_map = record { kind = Hash; key_size = 512; value_size = 4096; max_
 hash_word : IsMapArgument (codes "66:hash:512:4096:16") (record { fd = 66; target = Map largest_hash_map })
 unfolding largest_hash_map
 hash_word =
-    named_by (codes "66:hash:512:4096:16") (codes "66") (codes "hash") (codes "512") (codes "4096") (codes "16") refl refl (record { kind_is = refl; key_size_is = refl; value_size_is = refl; max_entries_is = refl })
+    named_by (codes "66:hash:512:4096:16") (codes "66") (codes "hash") (codes "512") (codes "4096")
+    (codes "16") refl refl
+    (record { kind_is = refl; key_size_is = refl; value_size_is = refl; max_entries_is = refl })
 
 -- numbers
 no_digit : decimal_number (codes "") ≡ None
@@ -57,11 +61,13 @@ above_the_table = refl
 
 -- ---- the command line
 
-two_maps : asked_by_arguments (codes "verify" ∷ codes "3:array:4:8:1" ∷ codes "-" ∷ []) ≡ Some (Verifies (codes "3:array:4:8:1" ∷ codes "-" ∷ []))
+two_maps : asked_by_arguments (codes "verify" ∷ codes "3:array:4:8:1" ∷ codes "-" ∷ [])
+    ≡ Some (Verifies (codes "3:array:4:8:1" ∷ codes "-" ∷ []))
 unfolding clap_on_literals refusal_kinds chosen_subcommand
 two_maps = refl
 
-behind_two_dashes : asked_by_arguments (codes "verify" ∷ codes "--" ∷ codes "-h" ∷ codes "--" ∷ []) ≡ Some (Verifies (codes "-h" ∷ codes "--" ∷ []))
+behind_two_dashes : asked_by_arguments (codes "verify" ∷ codes "--" ∷ codes "-h" ∷ codes "--" ∷ [])
+    ≡ Some (Verifies (codes "-h" ∷ codes "--" ∷ []))
 unfolding clap_on_literals refusal_kinds chosen_subcommand
 behind_two_dashes = refl
 

@@ -9,14 +9,20 @@ use Rattle.tenant.specs.Laws.{FaultsHaveNoPayload}
 use Rattle.tenant.specs.State.{TenantState}
 
 -- the lowest byte of these statuses is not that of a fault
-other_status : (short : Bool) (frame : List ℕ) → ¬ IsFault (reply_to frame (status_of (if short then Invalid else NotPermitted)) [])
+other_status : (short : Bool) (frame : List ℕ)
+    → ¬ IsFault (reply_to frame (status_of (if short then Invalid else NotPermitted)) [])
 other_status true frame e = let same : 234 ≡ 242 = ap (λ (b : List ℕ). get_or b 0 0) e in absurd (omega (arith, same))
 other_status false frame e = let same : 255 ≡ 242 = ap (λ (b : List ℕ). get_or b 0 0) e in absurd (omega (arith, same))
 
 -- the reply to a frame of a tenant that is not served
-pub refusal_is_no_fault : (frame reply : List ℕ) → reply ≡ reply_to frame (status_of (if nat_lt (length frame) 4 then Invalid else NotPermitted)) [] → ¬ IsFault reply
+pub refusal_is_no_fault : (frame reply : List ℕ)
+    → reply ≡ reply_to frame (status_of (if nat_lt (length frame) 4 then Invalid else NotPermitted)) []
+    → ¬ IsFault reply
 refusal_is_no_fault frame reply told e = other_status (nat_lt (length frame) 4) frame (subst IsFault told e)
 
 -- the reply to a frame of a tenant that is served
-pub served_is_no_fault : FaultsHaveNoPayload → (frame reply : List ℕ) (before after : Option TenantState) → MayReply frame reply before after → reply ≢ reply_to frame (status_of BadAddress) [] → ¬ IsFault reply
+pub served_is_no_fault : FaultsHaveNoPayload
+    → (frame reply : List ℕ) (before after : Option TenantState) → MayReply frame reply before after
+    → reply ≢ reply_to frame (status_of BadAddress) []
+    → ¬ IsFault reply
 served_is_no_fault law frame reply before after told ne e = ne (law frame reply before after told e)

@@ -14,34 +14,51 @@ use Rattle.tenant.specs.declared.errno.Errno.TheVariants.{NotPermitted, Invalid}
 abbrev head_if : Bool → ℕ → ℕ → Option Head
 head_if short m n = if short then None else Some (record { tenant = m; command = n })
 
-headless : (short : Bool) (m n : ℕ) → head_if short m n ≡ None
-    → reply_bytes 65535 65535 (status_of Invalid) [] ≡ reply_bytes (if short then 65535 else m) (if short then 65535 else n) (status_of (if short then Invalid else NotPermitted)) []
+headless : (short : Bool) (m n : ℕ)
+    → head_if short m n ≡ None
+    → reply_bytes 65535 65535 (status_of Invalid) []
+    ≡ reply_bytes (if short then 65535 else m) (if short then 65535 else n)
+    (status_of (if short then Invalid else NotPermitted))
+    []
 headless true m n e = refl
 headless false m n e = absurd (none-some (record { tenant = m; command = n }) (sym e))
 
 -- a frame without a head
-pub refused_headless : (frame : List ℕ) → head_of frame ≡ None → reply_bytes 65535 65535 (status_of Invalid) [] ≡ reply_to frame (status_of (unserved_errno frame)) []
+pub refused_headless : (frame : List ℕ)
+    → head_of frame ≡ None
+    → reply_bytes 65535 65535 (status_of Invalid) [] ≡ reply_to frame (status_of (unserved_errno frame)) []
 refused_headless frame e = headless (nat_lt (length frame) 4) (little_number 2 frame) (little_number 2 (drop 2 frame)) e
 
-headed : (short : Bool) (m n : ℕ) (h : Head) → head_if short m n ≡ Some h
-    → reply_bytes h.tenant h.command (status_of NotPermitted) [] ≡ reply_bytes (if short then 65535 else m) (if short then 65535 else n) (status_of (if short then Invalid else NotPermitted)) []
+headed : (short : Bool) (m n : ℕ) (h : Head)
+    → head_if short m n ≡ Some h
+    → reply_bytes h.tenant h.command (status_of NotPermitted) []
+    ≡ reply_bytes (if short then 65535 else m) (if short then 65535 else n)
+    (status_of (if short then Invalid else NotPermitted))
+    []
 headed true m n h e = absurd (none-some h e)
-headed false m n h e = ap (λ (x : Head). reply_bytes x.tenant x.command (status_of NotPermitted) []) (same_Some h (record { tenant = m; command = n }) (sym e))
+headed false m n h e =
+    ap (λ (x : Head). reply_bytes x.tenant x.command (status_of NotPermitted) [])
+    (same_Some h (record { tenant = m; command = n }) (sym e))
 
 -- a frame with a head
-pub refused_headed : (frame : List ℕ) (h : Head) → head_of frame ≡ Some h → reply_bytes h.tenant h.command (status_of NotPermitted) [] ≡ reply_to frame (status_of (unserved_errno frame)) []
+pub refused_headed : (frame : List ℕ) (h : Head)
+    → head_of frame ≡ Some h
+    → reply_bytes h.tenant h.command (status_of NotPermitted) [] ≡ reply_to frame (status_of (unserved_errno frame)) []
 refused_headed frame h e = headed (nat_lt (length frame) 4) (little_number 2 frame) (little_number 2 (drop 2 frame)) h e
 
 -- ---- its owner
 
-by_length : (short : Bool) (frame : List ℕ) (h : Head) → nat_lt (length frame) 4 ≡ short → head_of frame ≡ Some h → h.tenant ≡ owner frame
+by_length : (short : Bool) (frame : List ℕ) (h : Head)
+    → nat_lt (length frame) 4 ≡ short → head_of frame ≡ Some h
+    → h.tenant ≡ owner frame
 by_length true frame h is e = absurd (let wrong = rw is at e in cc wrong)
 by_length false frame h is e = rw is (let same = rw is at e in cc same)
 
 pub owner_is : (frame : List ℕ) (h : Head) → head_of frame ≡ Some h → h.tenant ≡ owner frame
 owner_is frame h e = by_length (nat_lt (length frame) 4) frame h refl e
 
-by_no_length : (short : Bool) (frame : List ℕ) → nat_lt (length frame) 4 ≡ short → head_of frame ≡ None → owner frame ≡ 65535
+by_no_length : (short : Bool) (frame : List ℕ)
+    → nat_lt (length frame) 4 ≡ short → head_of frame ≡ None → owner frame ≡ 65535
 by_no_length true frame is e = rw is refl
 by_no_length false frame is e = absurd (let wrong = rw is at e in cc wrong)
 

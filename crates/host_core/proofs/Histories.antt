@@ -31,51 +31,100 @@ use Rattle.host_core.proofs.Tenants.{saved_of}
 -- ---- one tenant
 
 -- a history with one more command
-further : (commands : List Command) (s t : TenantState) (births later : List Birth) (refused : Bool) (c : Command) (a : Answer) → IsHistory s births commands t later → Answers refused t c a
+further : (commands : List Command) (s t : TenantState) (births later : List Birth) (refused : Bool)
+    (c : Command) (a : Answer)
+    → IsHistory s births commands t later → Answers refused t c a
     → IsHistory s births (commands ++ c ∷ []) a.after (births_after c a later)
-further [] s t births later refused c a (same, same_births) answers = (refused, a, subst (λ (x : TenantState). Answers refused x c a) same answers, (refl, ap (births_after c a) same_births))
-further (d ∷ ds) s t births later refused c a (r, b, first, rest) answers = (r, b, first, further ds b.after t (births_after d b births) later refused c a rest answers)
+further [] s t births later refused c a (same, same_births) answers = (
+  refused,
+  a,
+  subst (λ (x : TenantState). Answers refused x c a) same answers,
+  (refl, ap (births_after c a) same_births),
+)
+further (d ∷ ds) s t births later refused c a (r, b, first, rest) answers = (
+  r,
+  b,
+  first,
+  further ds b.after t (births_after d b births) later refused c a rest answers,
+)
 
-by_command : (s : TenantState) (births : List Birth) (refused : Bool) (c : Command) (a : Answer) → IsReached s births → Answers refused s c a → IsReached a.after (births_after c a births)
-by_command s births refused c a (commands, history) answers = (commands ++ c ∷ [], further commands new_tenant s [] births refused c a history answers)
+by_command : (s : TenantState) (births : List Birth) (refused : Bool) (c : Command) (a : Answer)
+    → IsReached s births → Answers refused s c a
+    → IsReached a.after (births_after c a births)
+by_command s births refused c a (commands, history) answers = (
+  commands ++ c ∷ [],
+  further commands new_tenant s [] births refused c a history answers,
+)
 
-by_frame : (frame reply : List ℕ) (s t : TenantState) (births later : List Birth) → IsReached s births → RecordsFrame frame reply s t births later → IsReached t later
+by_frame : (frame reply : List ℕ) (s t : TenantState) (births later : List Birth)
+    → IsReached s births → RecordsFrame frame reply s t births later
+    → IsReached t later
 by_frame frame reply s t births later reached told = by (parsed frame) told.answers told.recorded
   where
-    by : (p : Result Command BadFrame) → AnswersFrame told.refused s p told.answer → later ≡ births_after_frame p told.answer births → IsReached t later
+    by : (p : Result Command BadFrame)
+        → AnswersFrame told.refused s p told.answer
+        → later ≡ births_after_frame p told.answer births
+        → IsReached t later
     by (Err fault) answers recorded =
         let same : t ≡ s = told.left ∙ ap (λ (a : Answer). a.after) answers in
-        subst (λ (x : TenantState). IsReached x later) (sym same) (subst (λ (bs : List Birth). IsReached s bs) (sym recorded) reached)
+        subst (λ (x : TenantState). IsReached x later) (sym same)
+        (subst (λ (bs : List Birth). IsReached s bs) (sym recorded) reached)
     by (Ok c) answers recorded =
         subst (λ (x : TenantState). IsReached x later) (sym told.left)
-        (subst (λ (bs : List Birth). IsReached told.answer.after bs) (sym recorded) (by_command s births told.refused c told.answer reached answers))
+        (subst (λ (bs : List Birth). IsReached told.answer.after bs) (sym recorded)
+        (by_command s births told.refused c told.answer reached answers))
 
-by_runs : (births : List Birth) (fd : ℕ) (s t : TenantState) (inputs : List BatchInput) (results : List ℕ) → IsReached s births → RunsInOrder fd s inputs results t → IsReached t births
+by_runs : (births : List Birth) (fd : ℕ) (s t : TenantState) (inputs : List BatchInput) (results : List ℕ)
+    → IsReached s births → RunsInOrder fd s inputs results t → IsReached t births
 unfolding RunsInOrder
 by_runs births fd s t [] [] reached same = subst (λ (x : TenantState). IsReached x births) (sym same) reached
 by_runs births fd s t [] (r ∷ rs) reached wrong = absurd wrong
 by_runs births fd s t (input ∷ inputs) [] reached wrong = absurd wrong
 by_runs births fd s t (input ∷ inputs) (r ∷ rs) reached (between, answers, rest) =
-    by_runs births fd between t inputs rs (by_command s births false (prog_test_run fd input.words input.packet) (gives (little_bytes 4 r) between) reached answers) rest
+    by_runs births fd between t inputs rs
+    (by_command s births false (prog_test_run fd input.words input.packet)
+    (gives (little_bytes 4 r) between) reached answers)
+    rest
 
 -- ---- all tenants
 
-get_too : {X Y : Type 0} (xs : List X) (ys : List Y) (i : ℕ) (x : X) → length ys ≡ length xs → slice_get xs i ≡ Some x → (y : Y) × (slice_get ys i ≡ Some y)
+get_too : {X Y : Type 0} (xs : List X) (ys : List Y) (i : ℕ) (x : X)
+    → length ys ≡ length xs → slice_get xs i ≡ Some x
+    → (y : Y) × (slice_get ys i ≡ Some y)
 get_too [] ys i x same e = absurd (none-some x e)
 get_too (z ∷ xs) [] i x same e = let wrong : 0 ≡ suc (length xs) = same in absurd (omega arith)
 get_too (z ∷ xs) (y ∷ ys) zero x same e = (y, refl)
-get_too (z ∷ xs) (y ∷ ys) (suc i) x same e = let more : suc (length ys) ≡ suc (length xs) = same in get_too xs ys i x (omega arith) e
+get_too (z ∷ xs) (y ∷ ys) (suc i) x same e =
+    let more : suc (length ys) ≡ suc (length xs) = same in get_too xs ys i x (omega arith) e
 
-others_reached : (before after : HostState) (t : ℕ) (s : TenantState) (births : List Birth) → AreReached before → slice_get after.states t ≡ slice_get before.states t → slice_get after.births t ≡ slice_get before.births t
-    → slice_get after.states t ≡ Some s → slice_get after.births t ≡ Some births → IsReached s births
-others_reached before after t s births reached same same_births there born = reached.each t s births (sym same ∙ there) (sym same_births ∙ born)
+others_reached : (before after : HostState) (t : ℕ) (s : TenantState) (births : List Birth)
+    → AreReached before
+    → slice_get after.states t ≡ slice_get before.states t
+    → slice_get after.births t ≡ slice_get before.births t
+    → slice_get after.states t ≡ Some s → slice_get after.births t ≡ Some births
+    → IsReached s births
+others_reached before after t s births reached same same_births there born =
+    reached.each t s births (sym same ∙ there) (sym same_births ∙ born)
 
-pub by_handle : (before after : HostState) (frame reply : List ℕ) → AreReached before → Handles before.states frame reply after.states → Records frame reply before after → AreReached after
-by_handle before after frame reply reached handles records = record { many = records.count ∙ reached.many ∙ sym handles.count; each = λ t s births there born. at t s births there born (nat_eq t (owner frame)) refl }
+pub by_handle : (before after : HostState) (frame reply : List ℕ)
+    → AreReached before
+    → Handles before.states frame reply after.states
+    → Records frame reply before after
+    → AreReached after
+by_handle before after frame reply reached handles records = record {
+  many = records.count ∙ reached.many ∙ sym handles.count;
+  each = λ t s births there born. at t s births there born (nat_eq t (owner frame)) refl;
+}
   where
-    own : (s : TenantState) (births : List Birth) (o : Option TenantState) → slice_get before.states (owner frame) ≡ o → slice_get after.states (owner frame) ≡ Some s → slice_get after.births (owner frame) ≡ Some births → IsReached s births
+    own : (s : TenantState) (births : List Birth) (o : Option TenantState)
+        → slice_get before.states (owner frame) ≡ o
+        → slice_get after.states (owner frame) ≡ Some s
+        → slice_get after.births (owner frame) ≡ Some births
+        → IsReached s births
     own s births None e there born =
-        let told = subst (λ (x : Option TenantState). MayReply frame reply x (slice_get after.states (owner frame))) e handles.own in
+        let told =
+        subst (λ (x : Option TenantState). MayReply frame reply x (slice_get after.states (owner frame)))
+        e handles.own in
         absurd (none-some s (sym told.1.0 ∙ there))
     own s births (Some x) e there born =
         let (bs, born_before) = get_too before.states before.births (owner frame) x reached.many e in
@@ -85,34 +134,63 @@ by_handle before after frame reply reached handles records = record { many = rec
         subst (λ (u : TenantState). IsReached u births) same (subst (λ (ls : List Birth). IsReached t ls) same_births
         (by_frame frame reply x t bs later (reached.each (owner frame) x bs e born_before) told))
 
-    at : (t : ℕ) (s : TenantState) (births : List Birth) → slice_get after.states t ≡ Some s → slice_get after.births t ≡ Some births → (b : Bool) → nat_eq t (owner frame) ≡ b → IsReached s births
+    at : (t : ℕ) (s : TenantState) (births : List Birth)
+        → slice_get after.states t ≡ Some s → slice_get after.births t ≡ Some births
+        → (b : Bool) → nat_eq t (owner frame) ≡ b
+        → IsReached s births
     at t s births there born true e =
         let same : t ≡ owner frame = eqb-true t (owner frame) e in
-        own s births (slice_get before.states (owner frame)) refl (ap (slice_get after.states) (sym same) ∙ there) (ap (slice_get after.births) (sym same) ∙ born)
+        own s births (slice_get before.states (owner frame)) refl
+        (ap (slice_get after.states) (sym same) ∙ there)
+        (ap (slice_get after.births) (sym same) ∙ born)
     at t s births there born false e =
         let other : t ≢ owner frame = λ same. absurd (true≢false (sym (eq-eqb t (owner frame) same) ∙ e)) in
         others_reached before after t s births reached (handles.others t other) (records.others t other) there born
 
-pub by_packets : (before after : HostState) (tenant fd : ℕ) (inputs : List BatchInput) (room written : List ℕ) → AreReached before → RunsFor fd (slice_get before.states tenant) inputs room written (slice_get after.states tenant)
-    → ChangesTenant tenant before.states after.states → after.births ≡ before.births → AreReached after
+pub by_packets : (before after : HostState) (tenant fd : ℕ) (inputs : List BatchInput)
+    (room written : List ℕ)
+    → AreReached before
+    → RunsFor fd (slice_get before.states tenant) inputs room written (slice_get after.states tenant)
+    → ChangesTenant tenant before.states after.states
+    → after.births ≡ before.births
+    → AreReached after
 by_packets before after tenant fd inputs room written reached runs changes same_births =
-    record { many = ap length same_births ∙ reached.many ∙ sym changes.count; each = λ t s births there born. at t s births there born (nat_eq t tenant) refl }
+    record {
+      many = ap length same_births ∙ reached.many ∙ sym changes.count;
+      each = λ t s births there born. at t s births there born (nat_eq t tenant) refl;
+    }
   where
-    own : (s : TenantState) (births : List Birth) (o : Option TenantState) → slice_get before.states tenant ≡ o → slice_get after.states tenant ≡ Some s → slice_get after.births tenant ≡ Some births → IsReached s births
-    own s births None e there born = absurd (subst (λ (x : Option TenantState). RunsFor fd x inputs room written (slice_get after.states tenant)) e runs)
+    own : (s : TenantState) (births : List Birth) (o : Option TenantState)
+        → slice_get before.states tenant ≡ o → slice_get after.states tenant ≡ Some s
+        → slice_get after.births tenant ≡ Some births
+        → IsReached s births
+    own s births None e there born =
+        absurd (subst (λ (x : Option TenantState). RunsFor fd x inputs room written (slice_get after.states tenant))
+        e runs)
     own s births (Some x) e there born =
-        let (last, (results, in_order, front), is) = subst (λ (y : Option TenantState). RunsFor fd y inputs room written (slice_get after.states tenant)) e runs in
+        let (last, (results, in_order, front), is) =
+        subst (λ (y : Option TenantState). RunsFor fd y inputs room written (slice_get after.states tenant)) e runs in
         let same : last ≡ s = same_Some last s (sym is ∙ there) in
         subst (λ (u : TenantState). IsReached u births) same
-        (by_runs births fd x last inputs results (reached.each tenant x births e (ap (λ (bss : List (List Birth)). slice_get bss tenant) (sym same_births) ∙ born)) in_order)
+        (by_runs births fd x last inputs results
+        (reached.each tenant x births e
+        (ap (λ (bss : List (List Birth)). slice_get bss tenant) (sym same_births) ∙ born))
+        in_order)
 
-    at : (t : ℕ) (s : TenantState) (births : List Birth) → slice_get after.states t ≡ Some s → slice_get after.births t ≡ Some births → (b : Bool) → nat_eq t tenant ≡ b → IsReached s births
+    at : (t : ℕ) (s : TenantState) (births : List Birth)
+        → slice_get after.states t ≡ Some s → slice_get after.births t ≡ Some births
+        → (b : Bool) → nat_eq t tenant ≡ b
+        → IsReached s births
     at t s births there born true e =
         let same : t ≡ tenant = eqb-true t tenant e in
-        own s births (slice_get before.states tenant) refl (ap (slice_get after.states) (sym same) ∙ there) (ap (slice_get after.births) (sym same) ∙ born)
+        own s births (slice_get before.states tenant) refl
+        (ap (slice_get after.states) (sym same) ∙ there)
+        (ap (slice_get after.births) (sym same) ∙ born)
     at t s births there born false e =
         let other : t ≢ tenant = λ same. absurd (true≢false (sym (eq-eqb t tenant same) ∙ e)) in
-        others_reached before after t s births reached (changes.others t other) (ap (λ (bss : List (List Birth)). slice_get bss t) same_births) there born
+        others_reached before after t s births reached (changes.others t other)
+        (ap (λ (bss : List (List Birth)). slice_get bss t) same_births)
+        there born
 
 -- ---- a new host
 
@@ -128,36 +206,53 @@ same_length (suc n) x y = ap suc (same_length n x y)
 pub new_reached : (count : ℕ) → AreReached (new_host count)
 new_reached count = record {
   many = same_length count (let none : List Birth = [] in none) new_tenant;
-  each = λ t s births there born. ([], (get_replicated count new_tenant s t there, get_replicated count (let none : List Birth = [] in none) births t born));
+  each = λ t s births there born. (
+    [],
+    (
+      get_replicated count new_tenant s t there,
+      get_replicated count (let none : List Birth = [] in none) births t born,
+    ),
+  );
 }
 
 -- ---- a save
 
 -- the frames of the parts, joined, are the frames of all commands
-together : (tenant : ℕ) (ps : List (List Command)) → flat_map (λ (bytes : List ℕ). bytes) (map (frames_of tenant) ps) ≡ flat_map framed (map (frame_of tenant) (flat_map (λ (part : List Command). part) ps))
+together : (tenant : ℕ) (ps : List (List Command))
+    → flat_map (λ (bytes : List ℕ). bytes) (map (frames_of tenant) ps)
+    ≡ flat_map framed (map (frame_of tenant) (flat_map (λ (part : List Command). part) ps))
 together tenant [] = refl
 together tenant (p ∷ ps) =
     ap₂ (λ (xs ys : List ℕ). xs ++ ys) (sym (flat_map-map framed (frame_of tenant) p)) (together tenant ps)
-    ∙ sym (flat_map-append framed (map (frame_of tenant) p) (map (frame_of tenant) (flat_map (λ (part : List Command). part) ps)))
+    ∙ sym (flat_map-append framed (map (frame_of tenant) p)
+    (map (frame_of tenant) (flat_map (λ (part : List Command). part) ps)))
     ∙ ap (flat_map framed) (sym (map-append (frame_of tenant) p (flat_map (λ (part : List Command). part) ps)))
 
 -- each of them is a frame of the tenant
-owned : FramesHaveOwners → (tenant : ℕ) → tenant < 2 ^ 16 → (cs : List Command) → AllByRecursion (λ (frame : List ℕ). owner frame ≡ tenant) (map (frame_of tenant) cs)
+owned : FramesHaveOwners
+    → (tenant : ℕ) → tenant < 2 ^ 16 → (cs : List Command)
+    → AllByRecursion (λ (frame : List ℕ). owner frame ≡ tenant) (map (frame_of tenant) cs)
 owned law tenant few [] = tt
 owned law tenant few (c ∷ cs) = (law tenant c few, owned law tenant few cs)
 
-parts_of : (host : HostState) (tenant : ℕ) (s : TenantState) (births : List Birth) → slice_get host.states tenant ≡ Some s → slice_get host.births tenant ≡ Some births
+parts_of : (host : HostState) (tenant : ℕ) (s : TenantState) (births : List Birth)
+    → slice_get host.states tenant ≡ Some s → slice_get host.births tenant ≡ Some births
     → AreParts host tenant (map (frames_of tenant) (parts s births))
-parts_of host tenant s births there born = λ part. ap₂ (saved_of tenant part) there born ∙ sym (slice_get-map (frames_of tenant) (parts s births) part)
+parts_of host tenant s births there born = λ part.
+    ap₂ (saved_of tenant part) there born ∙ sym (slice_get-map (frames_of tenant) (parts s births) part)
 
-pub tenants_are_restored : HistoriesAreRestored → FramesHaveOwners → PartsAreWhole → (host : HostState) → AreReached host → AreRestored host
+pub tenants_are_restored : HistoriesAreRestored
+    → FramesHaveOwners → PartsAreWhole
+    → (host : HostState) → AreReached host
+    → AreRestored host
 tenants_are_restored law owners whole host reached tenant s few there =
     let (births, born) = get_too host.states host.births tenant s reached.many there in
     let (commands, history) = reached.each tenant s births there born in (
       map (frames_of tenant) (parts s births),
       map (frame_of tenant) (restored s births),
       parts_of host tenant s births there born,
-      together tenant (parts s births) ∙ ap (λ (cs : List Command). flat_map framed (map (frame_of tenant) cs)) (whole s births),
+      together tenant (parts s births)
+          ∙ ap (λ (cs : List Command). flat_map framed (map (frame_of tenant) cs)) (whole s births),
       owned owners tenant few (restored s births),
       law tenant commands s births history,
     )
@@ -165,13 +260,18 @@ tenants_are_restored law owners whole host reached tenant s few there =
 -- ---- calls one after another
 
 by_call : (before after : HostState) → AreReached before → Call before after → AreReached after
-by_call before after reached (inl (frame, reply, handles, records)) = by_handle before after frame reply reached handles records
-by_call before after reached (inr (inl (tenant, fd, inputs, room, written, runs, changes, same_births))) = by_packets before after tenant fd inputs room written reached runs changes same_births
+by_call before after reached (inl (frame, reply, handles, records)) =
+    by_handle before after frame reply reached handles records
+by_call before after reached (inr (inl (tenant, fd, inputs, room, written, runs, changes, same_births))) =
+    by_packets before after tenant fd inputs room written reached runs changes same_births
 by_call before after reached (inr (inr same)) = subst AreReached (sym same) reached
 
-by_calls : (calls : List HostState) (before after : HostState) → AreReached before → Calls before calls after → AreReached after
+by_calls : (calls : List HostState) (before after : HostState)
+    → AreReached before → Calls before calls after → AreReached after
 by_calls [] before after reached same = subst AreReached (sym same) reached
-by_calls (next ∷ later) before after reached (call, calls) = by_calls later next after (by_call before next reached call) calls
+by_calls (next ∷ later) before after reached (call, calls) =
+    by_calls later next after (by_call before next reached call) calls
 
 pub after_calls : HistoriesAreRestored → FramesHaveOwners → PartsAreWhole → TenantsAreRestored
-after_calls law owners whole count calls host made = tenants_are_restored law owners whole host (by_calls calls (new_host count) host (new_reached count) made)
+after_calls law owners whole count calls host made =
+    tenants_are_restored law owners whole host (by_calls calls (new_host count) host (new_reached count) made)

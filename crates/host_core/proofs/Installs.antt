@@ -27,11 +27,16 @@ use Rattle.host_core.proofs.Histories.{by_handle}
 use Rattle.host_core.proofs.Tenants.{state_there, others_stay, count_stays, states_are, tells_own, tells_none, records_none, records_own}
 
 -- what holds of the value or of the error of a result
-pub cases_of : {T E : Type 0} (Z : Type 0) (r : Result T E) (A B C : T → Type 0) (F : E → Type 0) → ((x : T) → A x → B x → C x → Z) → ((e : E) → F e → Z) → IfOk r A → IfOk r B → IfOk r C → IfErr r F → Z
+pub cases_of : {T E : Type 0} (Z : Type 0) (r : Result T E) (A B C : T → Type 0) (F : E → Type 0)
+    → ((x : T) → A x → B x → C x → Z) → ((e : E) → F e → Z)
+    → IfOk r A → IfOk r B
+    → IfOk r C → IfErr r F
+    → Z
 cases_of Z (Ok x) A B C F f g a b c e = f x a b c
 cases_of Z (Err x) A B C F f g a b c e = g x e
 
-pub all_ok : {T E : Type 0} (r : Result T E) (A B C D : T → Type 0) → ((x : T) → A x → B x → C x → D x) → IfOk r A → IfOk r B → IfOk r C → IfOk r D
+pub all_ok : {T E : Type 0} (r : Result T E) (A B C D : T → Type 0)
+    → ((x : T) → A x → B x → C x → D x) → IfOk r A → IfOk r B → IfOk r C → IfOk r D
 all_ok (Ok x) A B C D f a b c = f x a b c
 all_ok (Err e) A B C D f a b c = tt
 
@@ -41,19 +46,25 @@ with_error (Err e) A B f a = f e a
 
 -- ---- a tenant that is not served
 
-module _ (owners : FramesHaveOwners) (h : HostState) (t : ℕ) (small : t < 2 ^ 16) (unserved : slice_get h.states t ≡ None) (insns : List Insn) (status : ℤ) (is : status ≡ status_of NotPermitted) where
+module _ (owners : FramesHaveOwners) (h : HostState) (t : ℕ) (small : t < 2 ^ 16)
+    (unserved : slice_get h.states t ≡ None) (insns : List Insn) (status : ℤ)
+    (is : status ≡ status_of NotPermitted) where
   nowhere : slice_get h.states (owner (load_frame t insns)) ≡ None
   nowhere = ap (slice_get h.states) (owners t (load_of insns) small) ∙ unserved
 
-  refused : load_reply t insns status ≡ reply_to (load_frame t insns) (status_of (unserved_errno (load_frame t insns))) []
+  refused :
+      load_reply t insns status ≡ reply_to (load_frame t insns) (status_of (unserved_errno (load_frame t insns))) []
   refused =
       ap (λ (z : ℤ). reply_to (load_frame t insns) z []) is
-      ∙ sym (ap (λ (b : Bool). reply_to (load_frame t insns) (status_of (if b then Invalid else NotPermitted)) []) (le-ltb (length (load_frame t insns)) 4 (omega arith)))
+      ∙ sym (ap (λ (b : Bool). reply_to (load_frame t insns) (status_of (if b then Invalid else NotPermitted)) [])
+      (le-ltb (length (load_frame t insns)) 4 (omega arith)))
 
   pub installs_nowhere : Installs t insns status h h
   installs_nowhere = record {
     handled = record {
-      own = tells_none h.states (owner (load_frame t insns)) (load_frame t insns) (load_reply t insns status) nowhere refused;
+      own =
+          tells_none h.states (owner (load_frame t insns)) (load_frame t insns)
+          (load_reply t insns status) nowhere refused;
       others = λ other ne. refl;
       count = refl;
       no_fault = refusal_is_no_fault (load_frame t insns) (load_reply t insns status) refused;
@@ -63,7 +74,8 @@ module _ (owners : FramesHaveOwners) (h : HostState) (t : ℕ) (small : t < 2 ^ 
 
 -- ---- a tenant that is served
 
-module _ (m : Memory) (ks : List RecordedTenant) (h : HostState) (view : host_state m ks ≡ h) (t : ℕ) (k : RecordedTenant) (found : slice_get ks t ≡ Some k) (a : Accepted) where
+module _ (m : Memory) (ks : List RecordedTenant) (h : HostState) (view : host_state m ks ≡ h)
+    (t : ℕ) (k : RecordedTenant) (found : slice_get ks t ≡ Some k) (a : Accepted) where
   there : slice_get h.states t ≡ Some (tenant_state (part_bytes m t) k)
   there = state_there m ks h.states t k (states_are m ks h view) found
 
@@ -73,17 +85,27 @@ module _ (m : Memory) (ks : List RecordedTenant) (h : HostState) (view : host_st
   pub stale_there : ((part : List ℕ) → ¬ Fits a (targets (tenant_state part k))) → ¬ FitsTenant a (slice_get h.states t)
   stale_there stale fits = stale (part_bytes m t) (subst (FitsTenant a) there fits)
 
-module _ (owners : FramesHaveOwners) (law : FaultsHaveNoPayload) (m : Memory) (ks : List RecordedTenant) (h : HostState) (view : host_state m ks ≡ h) (t : ℕ) (small : t < 2 ^ 16) (room : t < length ks) (k l : RecordedTenant) (found : slice_get ks t ≡ Some k)
-    (insns : List Insn) (status : ℤ) (replied : MayReply (load_frame t insns) (load_reply t insns status) (Some (tenant_state (part_bytes m t) k)) (Some (tenant_state (part_bytes m t) l)))
-    (recorded : RecordsFrame (load_frame t insns) (load_reply t insns status) (tenant_state (part_bytes m t) k) (tenant_state (part_bytes m t) l) k.births l.births)
+module _ (owners : FramesHaveOwners) (law : FaultsHaveNoPayload) (m : Memory)
+    (ks : List RecordedTenant) (h : HostState) (view : host_state m ks ≡ h) (t : ℕ)
+    (small : t < 2 ^ 16) (room : t < length ks) (k l : RecordedTenant)
+    (found : slice_get ks t ≡ Some k) (insns : List Insn) (status : ℤ)
+    (replied : MayReply (load_frame t insns) (load_reply t insns status)
+    (Some (tenant_state (part_bytes m t) k)) (Some (tenant_state (part_bytes m t) l)))
+    (recorded : RecordsFrame (load_frame t insns) (load_reply t insns status) (tenant_state (part_bytes m t) k)
+    (tenant_state (part_bytes m t) l) k.births l.births)
     (no_fault : load_reply t insns status ≢ reply_to (load_frame t insns) (status_of BadAddress) []) where
   own : t ≡ owner (load_frame t insns)
   own = sym (owners t (load_of insns) small)
 
   handled : Handles h.states (load_frame t insns) (load_reply t insns status) (states_in m (set ks t l))
   handled = record {
-    own = tells_own m m ks h.states t (owner (load_frame t insns)) k l (load_frame t insns) (load_reply t insns status) (states_are m ks h view) own room found replied;
-    others = λ other ne. others_stay m m ks t other l (λ e. ne (e ∙ own)) refl ∙ ap (λ (s : List TenantState). slice_get s other) (states_are m ks h view);
+    own =
+        tells_own m m ks h.states t (owner (load_frame t insns)) k l (load_frame t insns)
+        (load_reply t insns status) (states_are m ks h view)
+        own room found replied;
+    others = λ other ne.
+        others_stay m m ks t other l (λ e. ne (e ∙ own)) refl
+        ∙ ap (λ (s : List TenantState). slice_get s other) (states_are m ks h view);
     count = count_stays m m ks t l ∙ ap length (states_are m ks h view);
     no_fault =
         served_is_no_fault law (load_frame t insns) (load_reply t insns status)
@@ -98,4 +120,5 @@ module _ (owners : FramesHaveOwners) (law : FaultsHaveNoPayload) (m : Memory) (k
 
   -- each tenant still has a history
   pub reached_there : AreReached h → AreReached (host_state m (set ks t l))
-  reached_there reached = by_handle h (host_state m (set ks t l)) (load_frame t insns) (load_reply t insns status) reached handled records
+  reached_there reached =
+      by_handle h (host_state m (set ks t l)) (load_frame t insns) (load_reply t insns status) reached handled records

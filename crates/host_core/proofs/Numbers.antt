@@ -6,7 +6,9 @@ use Rattle.byteorder.specs.Endian.{little_number, little_bytes}
 use Rattle.command_frames.specs.Frame.{IsPartial}
 
 -- the encoding of a number that was read gives the same bytes
-pub bytes_of_number : (bytes : List ℕ) → length bytes ≡ 4 → ((i : ℕ) → get_or bytes i 0 < 256) → little_bytes 4 (little_number 4 bytes) ≡ bytes
+pub bytes_of_number : (bytes : List ℕ)
+    → length bytes ≡ 4 → ((i : ℕ) → get_or bytes i 0 < 256)
+    → little_bytes 4 (little_number 4 bytes) ≡ bytes
 bytes_of_number bytes four fits =
     let same : little_number 4 bytes ≡ from_le_bytes w32 bytes = omega arith in
     le_bytes_4 bytes (little_number 4 bytes) four fits same

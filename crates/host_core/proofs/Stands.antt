@@ -27,14 +27,20 @@ long_owner frame long = rw (has_head frame long) refl
 long_command : (frame : List ℕ) → longest_frame < length frame → command_number frame ≡ little_number 2 (drop 2 frame)
 long_command frame long = rw (has_head frame long) refl
 
-same_owner : (front frame : List ℕ) → longest_frame < length front → longest_frame < length frame → take 4 front ≡ take 4 frame → owner front ≡ owner frame
+same_owner : (front frame : List ℕ)
+    → longest_frame < length front → longest_frame < length frame
+    → take 4 front ≡ take 4 frame
+    → owner front ≡ owner frame
 same_owner front frame long_front long_frame e =
     let low = same_byte front frame 0 (omega arith) e in
     let high = same_byte front frame 1 (omega arith) e in
     let same : little_number 2 front ≡ little_number 2 frame = omega arith in
     long_owner front long_front ∙ same ∙ sym (long_owner frame long_frame)
 
-same_command : (front frame : List ℕ) → longest_frame < length front → longest_frame < length frame → take 4 front ≡ take 4 frame → command_number front ≡ command_number frame
+same_command : (front frame : List ℕ)
+    → longest_frame < length front → longest_frame < length frame
+    → take 4 front ≡ take 4 frame
+    → command_number front ≡ command_number frame
 same_command front frame long_front long_frame e =
     let low = get_or-drop 2 front 0 0 ∙ same_byte front frame 2 (omega arith) e ∙ sym (get_or-drop 2 frame 0 0) in
     let high = get_or-drop 2 front 1 0 ∙ same_byte front frame 3 (omega arith) e ∙ sym (get_or-drop 2 frame 1 0) in
@@ -46,26 +52,40 @@ stands_owner front frame (inl same) = ap owner same
 stands_owner front frame (inr h) = same_owner front frame h.0 h.1 h.2
 
 -- frames that are too long are not parsed, so both have the same fault
-same_parsed : (front frame : List ℕ) → longest_frame < length front → longest_frame < length frame → parsed front ≡ parsed frame
+same_parsed : (front frame : List ℕ)
+    → longest_frame < length front → longest_frame < length frame
+    → parsed front ≡ parsed frame
 same_parsed front frame long_front long_frame =
     let front_long : nat_lt longest_frame (length front) ≡ true = lt-ltb longest_frame (length front) long_front in
     let frame_long : nat_lt longest_frame (length frame) ≡ true = lt-ltb longest_frame (length frame) long_frame in
     rw (front_long, frame_long) refl
 
-same_head : (front frame : List ℕ) (status : ℤ) (payload : List ℕ) → owner front ≡ owner frame → command_number front ≡ command_number frame → reply_to front status payload ≡ reply_to frame status payload
+same_head : (front frame : List ℕ) (status : ℤ) (payload : List ℕ)
+    → owner front ≡ owner frame
+    → command_number front ≡ command_number frame
+    → reply_to front status payload ≡ reply_to frame status payload
 same_head front frame status payload o c =
-    ap (λ (n : ℕ). reply_bytes n (command_number front) status payload) o ∙ ap (λ (n : ℕ). reply_bytes (owner frame) n status payload) c
+    ap (λ (n : ℕ). reply_bytes n (command_number front) status payload) o
+    ∙ ap (λ (n : ℕ). reply_bytes (owner frame) n status payload) c
 
-headed : (frame : List ℕ) → longest_frame < length frame → (if nat_lt (length frame) 4 then Invalid else NotPermitted) ≡ NotPermitted
+headed : (frame : List ℕ)
+    → longest_frame < length frame
+    → (if nat_lt (length frame) 4 then Invalid else NotPermitted) ≡ NotPermitted
 headed frame long = rw (has_head frame long) refl
 
-none_status : (front frame : List ℕ) → owner front ≡ owner frame → command_number front ≡ command_number frame → longest_frame < length front → longest_frame < length frame
-    → reply_to front (status_of (if nat_lt (length front) 4 then Invalid else NotPermitted)) [] ≡ reply_to frame (status_of (if nat_lt (length frame) 4 then Invalid else NotPermitted)) []
+none_status : (front frame : List ℕ)
+    → owner front ≡ owner frame
+    → command_number front ≡ command_number frame
+    → longest_frame < length front → longest_frame < length frame
+    → reply_to front (status_of (if nat_lt (length front) 4 then Invalid else NotPermitted)) []
+    ≡ reply_to frame (status_of (if nat_lt (length frame) 4 then Invalid else NotPermitted)) []
 none_status front frame o c long_front long_frame =
     same_head front frame (status_of (if nat_lt (length front) 4 then Invalid else NotPermitted)) [] o c
     ∙ ap (λ (e : Errno). reply_to frame (status_of e) []) (headed front long_front ∙ sym (headed frame long_frame))
 
-pub stands_tells : (front frame reply : List ℕ) (before after : Option TenantState) → IsKeptFrontOf front frame → MayReply front reply before after → MayReply frame reply before after
+pub stands_tells : (front frame reply : List ℕ) (before after : Option TenantState)
+    → IsKeptFrontOf front frame → MayReply front reply before after
+    → MayReply frame reply before after
 stands_tells front frame reply before after (inl same) h = subst (λ (f : List ℕ). MayReply f reply before after) same h
 stands_tells front frame reply None after (inr (long_front, long_frame, e)) (refused, h) =
     let o = same_owner front frame long_front long_frame e in
@@ -74,5 +94,12 @@ stands_tells front frame reply None after (inr (long_front, long_frame, e)) (ref
 stands_tells front frame reply (Some s) after (inr (long_front, long_frame, e)) (refused, (a, answers, told, goes)) =
     let o = same_owner front frame long_front long_frame e in
     let c = same_command front frame long_front long_frame e in
-    let same = same_parsed front frame long_front long_frame in
-    (refused, (a, subst (λ (r : Result Command BadFrame). AnswersFrame refused s r a) same answers, told ∙ same_head front frame a.status a.payload o c, goes))
+    let same = same_parsed front frame long_front long_frame in (
+      refused,
+      (
+        a,
+        subst (λ (r : Result Command BadFrame). AnswersFrame refused s r a) same answers,
+        told ∙ same_head front frame a.status a.payload o c,
+        goes,
+      ),
+    )

@@ -41,7 +41,10 @@ module _ (tenant : ℕ) where
   -- ---- each command of a walk
 
   pub program_carried : (insns : List Insn) → IsProgram insns → IsCarried (load_of insns)
-  program_carried insns is = let room = is.room in let long = length-program_bytes insns in load_parsed tenant (program_bytes insns) (omega arith)
+  program_carried insns is =
+      let room = is.room in
+      let long = length-program_bytes insns in
+      load_parsed tenant (program_bytes insns) (omega arith)
 
   close_carried : (fd : ℕ) → fd < first_descriptor + most → IsCarried (close fd)
   close_carried fd lt = close_parsed tenant fd (omega arith)
@@ -56,9 +59,15 @@ module _ (tenant : ℕ) where
       let key = within.key in
       let value = within.value in
       let entries = within.entries in
-      create_parsed tenant (type_number shape.kind) shape.key_size shape.value_size shape.max_entries (kind_small shape.kind) (omega arith) (omega arith) (omega arith)
+      create_parsed tenant (type_number shape.kind) shape.key_size shape.value_size
+      shape.max_entries (kind_small shape.kind) (omega arith)
+      (omega arith) (omega arith)
 
-  puts_carried : (shape : MapShape) (fd : ℕ) (es : List (List ℕ × List ℕ)) → fd < first_descriptor + most → AllByRecursion (λ e. length e.0 ≡ shape.key_size) es → AllByRecursion (λ e. length e.1 ≡ shape.value_size) es → AreCarried (map (put_of fd) es)
+  puts_carried : (shape : MapShape) (fd : ℕ) (es : List (List ℕ × List ℕ))
+      → fd < first_descriptor + most
+      → AllByRecursion (λ e. length e.0 ≡ shape.key_size) es
+      → AllByRecursion (λ e. length e.1 ≡ shape.value_size) es
+      → AreCarried (map (put_of fd) es)
   puts_carried shape fd [] lt keys values = tt
   puts_carried shape fd (e ∷ es) lt keys values =
       let within = limited shape in
@@ -71,37 +80,53 @@ module _ (tenant : ℕ) where
 
   -- ---- the walk
 
-  made_carried : (s : TenantState) → IsRestorable s → (older : List Birth) (b : Birth) → number b < first_descriptor + most → IsBorn s older b → AreCarried (made s b)
+  made_carried : (s : TenantState)
+      → IsRestorable s
+      → (older : List Birth) (b : Birth) → number b < first_descriptor + most
+      → IsBorn s older b
+      → AreCarried (made s b)
   made_carried s whole older (OfMap handle fd) lt (live_so, new) =
       let (m, there) = is_there (live s handle) live_so in
       let is = whole.maps handle m there in
-      subst (λ (o : Option Map). AreCarried (made_map fd o)) (sym there) (create_carried m.shape, puts_carried m.shape fd m.entries lt is.table.keys is.values)
+      subst (λ (o : Option Map). AreCarried (made_map fd o)) (sym there)
+      (create_carried m.shape, puts_carried m.shape fd m.entries lt is.table.keys is.values)
   made_carried s whole older (OfProgram fd) lt (l, there, maps) =
-      subst (λ (o : Option OpenObject). AreCarried (made_program o)) (sym there) (program_carried l.insns (whole.programs fd l there).program, tt)
+      subst (λ (o : Option OpenObject). AreCarried (made_program o)) (sym there)
+      (program_carried l.insns (whole.programs fd l there).program, tt)
 
   born_carried : (s : TenantState) → IsRestorable s → (bs : List Birth) → AreInOrder s bs → AreCarried (born s bs)
   born_carried s whole [] order = tt
   born_carried s whole (b ∷ older) (low, high, apart, is, order) =
-      both_carried (born s older) (close (number b) ∷ made s b) (born_carried s whole older order) (close_carried (number b) high, made_carried s whole older b high is)
+      both_carried (born s older) (close (number b) ∷ made s b) (born_carried s whole older order)
+      (close_carried (number b) high, made_carried s whole older b high is)
 
   filled_carried : IsProgram filler → (n : ℕ) → AreCarried (filled n)
   unfolding filled
   filled_carried fine zero = tt
   filled_carried fine (suc n) = (program_carried filler fine, filled_carried fine n)
 
-  closings_carried : (objects : List (Option OpenObject)) (fd n : ℕ) → fd + n ≤ first_descriptor + most → AreCarried (closings objects fd n)
+  closings_carried : (objects : List (Option OpenObject)) (fd n : ℕ)
+      → fd + n ≤ first_descriptor + most → AreCarried (closings objects fd n)
   unfolding closings
   closings_carried objects fd zero all = tt
-  closings_carried objects fd (suc n) all = both_carried (if is_none (named objects fd) then close fd ∷ [] else []) (closings objects (fd + 1) n) (here (is_none (named objects fd))) (closings_carried objects (fd + 1) n (omega arith))
+  closings_carried objects fd (suc n) all =
+      both_carried (if is_none (named objects fd) then close fd ∷ [] else [])
+      (closings objects (fd + 1) n) (here (is_none (named objects fd)))
+      (closings_carried objects (fd + 1) n (omega arith))
     where
       here : (b : Bool) → AreCarried (if b then close fd ∷ [] else [])
       here true = (close_carried fd (omega arith), tt)
       here false = tt
 
-  restored_carried : IsProgram filler → (s : TenantState) (births : List Birth) → IsRestorable s → AreInOrder s births → AreCarried (restored s births)
+  restored_carried : IsProgram filler
+      → (s : TenantState) (births : List Birth) → IsRestorable s
+      → AreInOrder s births
+      → AreCarried (restored s births)
   restored_carried fine s births whole order =
       both_carried (filled most) (born s births ++ closings s.objects first_descriptor most) (filled_carried fine most)
-      (both_carried (born s births) (closings s.objects first_descriptor most) (born_carried s whole births order) (closings_carried s.objects first_descriptor most (omega arith)))
+      (both_carried (born s births) (closings s.objects first_descriptor most)
+      (born_carried s whole births order)
+      (closings_carried s.objects first_descriptor most (omega arith)))
 
   -- ---- the replies to the walk
 
@@ -117,12 +142,17 @@ module _ (tenant : ℕ) where
       let frame = frame_of tenant c in
       record {
         replies = reply_to frame a.status a.payload ∷ later.replies;
-        told = (Some a.after, (a, subst (λ (p : Result Command BadFrame). AnswersFrame false s p a) (sym carried.0) answers, refl, refl), later.told);
+        told = (
+          Some a.after,
+          (a, subst (λ (p : Result Command BadFrame). AnswersFrame false s p a) (sym carried.0) answers, refl, refl),
+          later.told,
+        );
         good = ((well.0, a.payload, ap (λ (status : ℤ). reply_to frame status a.payload) well.1), later.good);
       }
 
 pub restored_by_frames : IsProgram filler → RestoredIsAlike → RestoredByFrames
 restored_by_frames fine law tenant s births whole are =
     let (t, leads, alike, holds) = law s births whole are in
-    let all = told_by tenant (restored s births) new_tenant t (restored_carried tenant fine s births whole are.order) leads in
+    let all =
+    told_by tenant (restored s births) new_tenant t (restored_carried tenant fine s births whole are.order) leads in
     (t, all.replies, all.told, all.good, alike, holds)

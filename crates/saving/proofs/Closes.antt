@@ -11,7 +11,8 @@ use Rattle.saving.proofs.Pairs.{ArePair}
 
 -- ---- the maps that are named
 
-pub length_named : (objects : List (Option OpenObject)) (handle : ℕ) (ms : List (Option Map)) → length (named_from objects handle ms) ≡ length ms
+pub length_named : (objects : List (Option OpenObject)) (handle : ℕ) (ms : List (Option Map))
+    → length (named_from objects handle ms) ≡ length ms
 unfolding named_from
 length_named objects handle [] = refl
 length_named objects handle (m ∷ ms) = let rest = length_named objects (handle + 1) ms in omega arith
@@ -20,30 +21,37 @@ nothing : (b : Bool) → let none : Option Map = None in (if b then none else no
 nothing true = refl
 nothing false = refl
 
-named_get : (objects : List (Option OpenObject)) (handle i : ℕ) (ms : List (Option Map)) → get_or (named_from objects handle ms) i None ≡ (if is_named objects (handle + i) then get_or ms i None else None)
+named_get : (objects : List (Option OpenObject)) (handle i : ℕ) (ms : List (Option Map))
+    → get_or (named_from objects handle ms) i None ≡ (if is_named objects (handle + i) then get_or ms i None else None)
 unfolding named_from
 named_get objects handle i [] = sym (nothing (is_named objects (handle + i)))
-named_get objects handle zero (m ∷ ms) = let e : handle ≡ handle + 0 = omega arith in ap (λ (p : ℕ). if is_named objects p then m else None) e
+named_get objects handle zero (m ∷ ms) =
+    let e : handle ≡ handle + 0 = omega arith in ap (λ (p : ℕ). if is_named objects p then m else None) e
 named_get objects handle (suc i) (m ∷ ms) =
     let e : handle + 1 + i ≡ handle + suc i = omega arith in
     named_get objects (handle + 1) i ms ∙ ap (λ (p : ℕ). if is_named objects p then get_or ms i None else None) e
 
 -- the map that is live under a handle with these open objects
-pub live_with : (s : TenantState) (objects : List (Option OpenObject)) (handle : ℕ) → live (with_objects s objects) handle ≡ (if is_named objects handle then live s handle else None)
+pub live_with : (s : TenantState) (objects : List (Option OpenObject)) (handle : ℕ)
+    → live (with_objects s objects) handle ≡ (if is_named objects handle then live s handle else None)
 live_with s objects handle =
     let e : 0 + handle ≡ handle = omega arith in
     named_get objects 0 handle s.maps ∙ ap (λ (p : ℕ). if is_named objects p then live s handle else None) e
 
-pub live_if : (s : TenantState) (objects : List (Option OpenObject)) (handle : ℕ) → is_named objects handle ≡ true → live (with_objects s objects) handle ≡ live s handle
+pub live_if : (s : TenantState) (objects : List (Option OpenObject)) (handle : ℕ)
+    → is_named objects handle ≡ true → live (with_objects s objects) handle ≡ live s handle
 live_if s objects handle e = live_with s objects handle ∙ ap (λ (b : Bool). if b then live s handle else None) e
 
 -- a map that is live with fewer open objects is named and was live
-pub live_parts : (s : TenantState) (objects : List (Option OpenObject)) (handle : ℕ) → IsSome (live (with_objects s objects) handle) → (is_named objects handle ≡ true) × IsSome (live s handle)
+pub live_parts : (s : TenantState) (objects : List (Option OpenObject)) (handle : ℕ)
+    → IsSome (live (with_objects s objects) handle)
+    → (is_named objects handle ≡ true) × IsSome (live s handle)
 live_parts s objects handle some = by (is_named objects handle) refl
   where
     by : (b : Bool) → is_named objects handle ≡ b → (is_named objects handle ≡ true) × IsSome (live s handle)
     by true e = (e, ap is_some (sym (live_if s objects handle e)) ∙ some)
-    by false e = absurd (not_none some (live_with s objects handle ∙ ap (λ (b : Bool). if b then live s handle else None) e))
+    by false e =
+        absurd (not_none some (live_with s objects handle ∙ ap (λ (b : Bool). if b then live s handle else None) e))
 
 -- ---- fewer open objects
 
@@ -54,9 +62,12 @@ NamesFewer fewer objects = (handle : ℕ) → is_named fewer handle ≡ true →
 unset_fewer : (objects : List (Option OpenObject)) (n : ℕ) → NamesFewer (set objects n None) objects
 unset_fewer [] n handle e = e
 unset_fewer (o ∷ os) zero handle e = names_later o os handle e
-unset_fewer (o ∷ os) (suc n) handle e = by (unset_fewer os n handle) (or_parts (first_names o handle) (is_named (set os n None) handle) e)
+unset_fewer (o ∷ os) (suc n) handle e =
+    by (unset_fewer os n handle) (or_parts (first_names o handle) (is_named (set os n None) handle) e)
   where
-    by : (is_named (set os n None) handle ≡ true → is_named os handle ≡ true) → (first_names o handle ≡ true) ⊎ (is_named (set os n None) handle ≡ true) → is_named (o ∷ os) handle ≡ true
+    by : (is_named (set os n None) handle ≡ true → is_named os handle ≡ true)
+        → (first_names o handle ≡ true) ⊎ (is_named (set os n None) handle ≡ true)
+        → is_named (o ∷ os) handle ≡ true
     by rest (inl here) = names_here o os handle here
     by rest (inr later) = names_later o os handle (rest later)
 
@@ -74,24 +85,43 @@ closed_length objects fd = by (nat_lt fd first_descriptor)
     by true = refl
     by false = length-set {A = Option OpenObject} objects (fd - first_descriptor) None
 
-pub fewer_pair : {move : ℕ → ℕ} {s t : TenantState} → ArePair move s t → (objects : List (Option OpenObject)) → NamesFewer objects s.objects → IsMovedBy move (with_objects s objects) (with_objects t (moved_objects move objects))
+pub fewer_pair : {move : ℕ → ℕ} {s t : TenantState}
+    → ArePair move s t
+    → (objects : List (Option OpenObject)) → NamesFewer objects s.objects
+    → IsMovedBy move (with_objects s objects) (with_objects t (moved_objects move objects))
 fewer_pair {move} {s} {t} h objects fewer = record {
   objects = refl;
-  same = λ handle some. let (named, was) = live_parts s objects handle some in live_if t (moved_objects move objects) (move handle) (named_there handle was ∙ named) ∙ h.by.same handle was ∙ sym (live_if s objects handle named);
+  same = λ handle some.
+      let (named, was) = live_parts s objects handle some in
+      live_if t (moved_objects move objects) (move handle) (named_there handle was ∙ named)
+      ∙ h.by.same handle was
+      ∙ sym (live_if s objects handle named);
   apart = λ p q x y e. h.by.apart p q (live_parts s objects p x).1 (live_parts s objects q y).1 e;
   only = λ q some. by q some (live_parts t (moved_objects move objects) q some);
 }
   where
-    named_there : (handle : ℕ) → IsSome (live s handle) → is_named (moved_objects move objects) (move handle) ≡ is_named objects handle
-    named_there handle some = is_named_moved move handle objects (λ p named e. h.by.apart p handle (h.one.live_if_named p (fewer p named)) some e)
+    named_there : (handle : ℕ)
+        → IsSome (live s handle)
+        → is_named (moved_objects move objects) (move handle) ≡ is_named objects handle
+    named_there handle some =
+        is_named_moved move handle objects
+        (λ p named e. h.by.apart p handle (h.one.live_if_named p (fewer p named)) some e)
 
-    by : (q : ℕ) → IsSome (live (with_objects t (moved_objects move objects)) q) → (is_named (moved_objects move objects) q ≡ true) × IsSome (live t q) → (p : ℕ) × IsSome (live (with_objects s objects) p) × (move p ≡ q)
+    by : (q : ℕ)
+        → IsSome (live (with_objects t (moved_objects move objects)) q)
+        → (is_named (moved_objects move objects) q ≡ true) × IsSome (live t q)
+        → (p : ℕ) × IsSome (live (with_objects s objects) p) × (move p ≡ q)
     by q some (named, was) =
         let (p, there, at) = h.by.only q was in
-        let still : is_named objects p ≡ true = sym (named_there p there) ∙ ap (is_named (moved_objects move objects)) at ∙ named in
+        let still : is_named objects p ≡ true =
+        sym (named_there p there) ∙ ap (is_named (moved_objects move objects)) at ∙ named in
         (p, ap is_some (live_if s objects p still) ∙ there, at)
 
-pub fewer_held : {s : TenantState} → HoldsItsMaps s → (objects : List (Option OpenObject)) → length objects ≡ length s.objects → NamesFewer objects s.objects → HoldsItsMaps (with_objects s objects)
+pub fewer_held : {s : TenantState}
+    → HoldsItsMaps s
+    → (objects : List (Option OpenObject)) → length objects ≡ length s.objects
+    → NamesFewer objects s.objects
+    → HoldsItsMaps (with_objects s objects)
 fewer_held {s} h objects long fewer = record {
   descriptors = long ∙ h.descriptors;
   handles = length_named objects 0 s.maps ∙ h.handles;
@@ -101,11 +131,15 @@ fewer_held {s} h objects long fewer = record {
 
 -- ---- one more open object
 
-pub named_open : (objects : List (Option OpenObject)) (n : ℕ) (o : OpenObject) (handle : ℕ) → n < length objects → get_or objects n None ≡ None → is_named (set objects n (Some o)) handle ≡ (names handle o || is_named objects handle)
+pub named_open : (objects : List (Option OpenObject)) (n : ℕ) (o : OpenObject) (handle : ℕ)
+    → n < length objects → get_or objects n None ≡ None
+    → is_named (set objects n (Some o)) handle ≡ (names handle o || is_named objects handle)
 named_open [] n o handle within free = absurd (omega arith)
-named_open (x ∷ xs) zero o handle within free = ap (λ (y : Option OpenObject). names handle o || (first_names y handle || is_named xs handle)) (sym free)
+named_open (x ∷ xs) zero o handle within free =
+    ap (λ (y : Option OpenObject). names handle o || (first_names y handle || is_named xs handle)) (sym free)
 named_open (x ∷ xs) (suc n) o handle within free =
-    ap (λ (b : Bool). first_names x handle || b) (named_open xs n o handle (omega arith) free) ∙ swap (first_names x handle) (names handle o) (is_named xs handle)
+    ap (λ (b : Bool). first_names x handle || b) (named_open xs n o handle (omega arith) free)
+    ∙ swap (first_names x handle) (names handle o) (is_named xs handle)
   where
     swap : (a b c : Bool) → (a || (b || c)) ≡ (b || (a || c))
     swap true true c = refl

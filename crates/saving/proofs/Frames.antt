@@ -26,8 +26,11 @@ module _ (one_alone : OneAlone) (held : MapsAreHeld) (bisimulation : AlikeIsBisi
     payload : b.payload ≡ a.payload
     after : AreAlike a.after b.after
 
-  frame_too : (refused : Bool) (s t : TenantState) (p : Result Command BadFrame) (a : Answer) → AreAlike s t → AnswersFrame refused s p a → FrameToo refused t p a
-  frame_too refused s t (Err fault) a h is = subst (λ (x : Answer). FrameToo refused t (Err fault) x) (sym is) (record { b = refuses (frame_errno fault) t; answers = refl; status = refl; payload = refl; after = h })
+  frame_too : (refused : Bool) (s t : TenantState) (p : Result Command BadFrame) (a : Answer)
+      → AreAlike s t → AnswersFrame refused s p a → FrameToo refused t p a
+  frame_too refused s t (Err fault) a h is =
+      subst (λ (x : Answer). FrameToo refused t (Err fault) x) (sym is)
+      (record { b = refuses (frame_errno fault) t; answers = refl; status = refl; payload = refl; after = h })
   frame_too refused s t (Ok command) a h is =
       let (b, answers, alike) = bisimulation refused s t command a h.one h.two h.alike is in
       record {
@@ -35,55 +38,92 @@ module _ (one_alone : OneAlone) (held : MapsAreHeld) (bisimulation : AlikeIsBisi
         answers = answers;
         status = alike.status;
         payload = alike.payload;
-        after = record { one = held.kept refused s command a h.one is; two = held.kept refused t command b h.two answers; alike = alike.after };
+        after = record {
+          one = held.kept refused s command a h.one is;
+          two = held.kept refused t command b h.two answers;
+          alike = alike.after;
+        };
       }
 
   -- the frames have these replies and lead to some state
-  abbrev Reaches : (List ℕ → List ℕ → Option TenantState → Option TenantState → Type 0) → TenantState → List (List ℕ) → List (List ℕ) → Type 0
+  abbrev Reaches : (List ℕ → List ℕ → Option TenantState → Option TenantState → Type 0)
+      → TenantState → List (List ℕ) → List (List ℕ) → Type 0
   Reaches tells t frames replies = (end : Option TenantState) × RepliesInOrder tells (Some t) frames replies end
 
   -- the reply in the other state, and a state after it that is alike
-  record ReplyToo (tells : List ℕ → List ℕ → Option TenantState → Option TenantState → Type 0) (t : TenantState) (frame reply : List ℕ) (after : Option TenantState) : Type 0 where
+  record ReplyToo
+      (tells : List ℕ → List ℕ → Option TenantState → Option TenantState → Type 0)
+      (t : TenantState) (frame reply : List ℕ) (after : Option TenantState) : Type 0 where
     left : TenantState
     right : TenantState
     left_is : after ≡ Some left
     told : tells frame reply (Some t) (Some right)
     alike : AreAlike left right
 
-  reply_under : (refused : Bool) (s t : TenantState) (frame reply : List ℕ) (after : Option TenantState) → AreAlike s t → RepliesUnder refused frame reply (Some s) after → ReplyToo (RepliesUnder refused) t frame reply after
+  reply_under : (refused : Bool) (s t : TenantState) (frame reply : List ℕ) (after : Option TenantState)
+      → AreAlike s t
+      → RepliesUnder refused frame reply (Some s) after
+      → ReplyToo (RepliesUnder refused) t frame reply after
   reply_under refused s t frame reply after h (a, is, said, goes) =
       let too = frame_too refused s t (parsed frame) a h is in
       record {
         left = a.after;
         right = too.b.after;
         left_is = goes;
-        told = (too.b, too.answers, said ∙ ap₂ (λ (status : ℤ) (payload : List ℕ). reply_to frame status payload) (sym too.status) (sym too.payload), refl);
+        told = (
+          too.b,
+          too.answers,
+          said
+              ∙ ap₂ (λ (status : ℤ) (payload : List ℕ). reply_to frame status payload)
+              (sym too.status) (sym too.payload),
+          refl,
+        );
         alike = too.after;
       }
 
-  may_reply : (s t : TenantState) (frame reply : List ℕ) (after : Option TenantState) → AreAlike s t → MayReply frame reply (Some s) after → ReplyToo MayReply t frame reply after
+  may_reply : (s t : TenantState) (frame reply : List ℕ) (after : Option TenantState)
+      → AreAlike s t → MayReply frame reply (Some s) after
+      → ReplyToo MayReply t frame reply after
   may_reply s t frame reply after h (refused, told) =
       let too = reply_under refused s t frame reply after h told in
-      record { left = too.left; right = too.right; left_is = too.left_is; told = (refused, too.told); alike = too.alike }
+      record {
+        left = too.left;
+        right = too.right;
+        left_is = too.left_is;
+        told = (refused, too.told);
+        alike = too.alike;
+      }
 
   in_order : (tells : List ℕ → List ℕ → Option TenantState → Option TenantState → Type 0)
-      → ((s t : TenantState) (frame reply : List ℕ) (after : Option TenantState) → AreAlike s t → tells frame reply (Some s) after → ReplyToo tells t frame reply after)
-      → (frames replies : List (List ℕ)) (s t : TenantState) (after : Option TenantState) → AreAlike s t → RepliesInOrder tells (Some s) frames replies after → Reaches tells t frames replies
+      → ((s t : TenantState) (frame reply : List ℕ) (after : Option TenantState) → AreAlike s t
+      → tells frame reply (Some s) after → ReplyToo tells t frame reply after)
+      → (frames replies : List (List ℕ)) (s t : TenantState) (after : Option TenantState)
+      → AreAlike s t
+      → RepliesInOrder tells (Some s) frames replies after
+      → Reaches tells t frames replies
   in_order tells each [] [] s t after h is = (Some t, refl)
   in_order tells each [] (reply ∷ replies) s t after h is = absurd is
   in_order tells each (frame ∷ frames) [] s t after h is = absurd is
   in_order tells each (frame ∷ frames) (reply ∷ replies) s t after h (between, told, rest) =
       let too = each s t frame reply between h told in
-      let (end, later) = in_order tells each frames replies too.left too.right after too.alike (subst (λ (x : Option TenantState). RepliesInOrder tells x frames replies after) too.left_is rest) in
+      let (end, later) =
+      in_order tells each frames replies too.left too.right after too.alike
+      (subst (λ (x : Option TenantState). RepliesInOrder tells x frames replies after) too.left_is rest) in
       (end, (Some too.right, too.told, later))
 
-  alone_too : (s t : TenantState) (frames replies : List (List ℕ)) (after : Option TenantState) → HoldsItsMaps s → HoldsItsMaps t → IsAlike s t → IsToldAlone (Some s) frames replies after → Reaches (RepliesUnder false) t frames replies
-  alone_too s t frames replies after one two alike is = in_order (RepliesUnder false) (reply_under false) frames replies s t after (record { one = one; two = two; alike = alike }) is
+  alone_too : (s t : TenantState) (frames replies : List (List ℕ)) (after : Option TenantState)
+      → HoldsItsMaps s → HoldsItsMaps t
+      → IsAlike s t → IsToldAlone (Some s) frames replies after
+      → Reaches (RepliesUnder false) t frames replies
+  alone_too s t frames replies after one two alike is =
+      in_order (RepliesUnder false) (reply_under false) frames replies s t after
+      (record { one = one; two = two; alike = alike }) is
 
   pub replies_alike : AlikeStatesReplyAlike
   replies_alike = record {
     alone = alone_too;
-    refused = λ s t frames replies after one two alike is. in_order MayReply may_reply frames replies s t after (record { one = one; two = two; alike = alike }) is;
+    refused = λ s t frames replies after one two alike is.
+        in_order MayReply may_reply frames replies s t after (record { one = one; two = two; alike = alike }) is;
     same = λ s t frames replies others after end one two alike is too.
         let (other, told) = alone_too s t frames replies after one two alike is in
         (one_alone (Some t) end other frames others replies too told).0;

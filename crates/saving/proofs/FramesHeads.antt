@@ -6,7 +6,8 @@ use Rattle.std.proofs.lemmas.Option.{none-some, same_Some}
 use Rattle.command_frames.specs.declared.command.Head.{Head}
 use Rattle.command_frames.specs.Frame.{head_of}
 
-pub heads : (short : Bool) (m n : ℕ) (h : Head) → (if short then None else Some (record { tenant = m; command = n })) ≡ Some h
+pub heads : (short : Bool) (m n : ℕ) (h : Head)
+    → (if short then None else Some (record { tenant = m; command = n })) ≡ Some h
     → ((if short then 65535 else m) ≡ h.tenant) × ((if short then 65535 else n) ≡ h.command)
 heads true m n h e = absurd (none-some h e)
 heads false m n h e =

@@ -17,11 +17,21 @@ pub record IsLent (m : Memory) (t : ℕ) (old new : List ℕ) : Type 0 where
   pub whole : length new ≡ PART
 
 -- a reply to a command on the borrowed bytes is the reply to it on the part
-pub on_lent : PartsAreApart → {m : Memory} {t : ℕ} {old new : List ℕ} {command : Command} {h : Head} {reply : List ℕ} {births later : List Birth} (k l : KeptTenant) → IsLent m t old new
+pub on_lent : PartsAreApart
+    → {m : Memory} {t : ℕ} {old new : List ℕ} {command : Command} {h : Head} {reply : List ℕ}
+    {births later : List Birth} (k l : KeptTenant)
+    → IsLent m t old new
     → AnswersCommand command h reply (state_in old k) (state_in new l) births later
-    → AnswersCommand command h reply (state_in (part_bytes m t) k) (state_in (part_bytes (with_part m t new) t) l) births later
+    → AnswersCommand command h reply (state_in (part_bytes m t) k)
+    (state_in (part_bytes (with_part m t new) t) l) births
+    later
 on_lent law {m} {t} {old} {new} {command} {h} {reply} {births} {later} k l lent told =
-    let own : part_bytes (with_part m t new) t ≡ new = law.own m t new (lent.parts, lent.served.0) (lent.whole ∙ sym lent.served.1) in
-    let of_new : AnswersCommand command h reply (state_in old k) (state_in (part_bytes (with_part m t new) t) l) births later =
-    subst (λ (bytes : List ℕ). AnswersCommand command h reply (state_in old k) (state_in bytes l) births later) (sym own) told in
-    subst (λ (bytes : List ℕ). AnswersCommand command h reply (state_in bytes k) (state_in (part_bytes (with_part m t new) t) l) births later) lent.bytes of_new
+    let own : part_bytes (with_part m t new) t ≡ new =
+    law.own m t new (lent.parts, lent.served.0) (lent.whole ∙ sym lent.served.1) in
+    let of_new :
+    AnswersCommand command h reply (state_in old k) (state_in (part_bytes (with_part m t new) t) l) births later =
+    subst (λ (bytes : List ℕ). AnswersCommand command h reply (state_in old k) (state_in bytes l) births later)
+    (sym own) told in
+    subst (λ (bytes : List ℕ).
+    AnswersCommand command h reply (state_in bytes k) (state_in (part_bytes (with_part m t new) t) l) births later)
+    lent.bytes of_new

@@ -19,20 +19,34 @@ use Rattle.saving.specs.inside.Frames.{AnswersCommand}
 use Rattle.saving.proofs.FramesHeads.{heads}
 use Rattle.saving.proofs.FramesStatuses.{no_fault_written}
 
-pub by_head : (frame : List ℕ) (h : Head) → head_of frame ≡ Some h → (status : ℤ) (payload : List ℕ) → reply_bytes h.tenant h.command status payload ≡ reply_to frame status payload
+pub by_head : (frame : List ℕ) (h : Head)
+    → head_of frame ≡ Some h → (status : ℤ) (payload : List ℕ)
+    → reply_bytes h.tenant h.command status payload ≡ reply_to frame status payload
 by_head frame h headed status payload =
     let both = heads (nat_lt (length frame) 4) (little_number 2 frame) (little_number 2 (drop 2 frame)) h headed in
-    ap (λ (n : ℕ). reply_bytes n h.command status payload) (sym both.0) ∙ ap (λ (n : ℕ). reply_bytes (owner frame) n status payload) (sym both.1)
+    ap (λ (n : ℕ). reply_bytes n h.command status payload) (sym both.0)
+    ∙ ap (λ (n : ℕ). reply_bytes (owner frame) n status payload) (sym both.1)
 
-pub may_tell : {births later : List Birth} (frame : List ℕ) (command : Command) (h : Head) (reply : List ℕ) (before after : TenantState) → head_of frame ≡ Some h → parsed frame ≡ Ok command
-    → AnswersCommand command h reply before after births later → MayReply frame reply (Some before) (Some after)
+pub may_tell : {births later : List Birth} (frame : List ℕ) (command : Command) (h : Head)
+    (reply : List ℕ) (before after : TenantState)
+    → head_of frame ≡ Some h → parsed frame ≡ Ok command
+    → AnswersCommand command h reply before after births later
+    → MayReply frame reply (Some before) (Some after)
 may_tell frame command h reply before after headed is t = (
   t.refused,
-  (t.answer, subst (λ (r : Result Command BadFrame). AnswersFrame t.refused before r t.answer) (sym is) t.answers, t.written ∙ by_head frame h headed t.answer.status t.answer.payload, ap Some t.left),
+  (
+    t.answer,
+    subst (λ (r : Result Command BadFrame). AnswersFrame t.refused before r t.answer) (sym is) t.answers,
+    t.written ∙ by_head frame h headed t.answer.status t.answer.payload,
+    ap Some t.left,
+  ),
 )
 
-pub may_record : (frame : List ℕ) (command : Command) (h : Head) (reply : List ℕ) (before after : TenantState) (births later : List Birth) → head_of frame ≡ Some h → parsed frame ≡ Ok command
-    → AnswersCommand command h reply before after births later → RecordsFrame frame reply before after births later
+pub may_record : (frame : List ℕ) (command : Command) (h : Head) (reply : List ℕ)
+    (before after : TenantState) (births later : List Birth)
+    → head_of frame ≡ Some h → parsed frame ≡ Ok command
+    → AnswersCommand command h reply before after births later
+    → RecordsFrame frame reply before after births later
 may_record frame command h reply before after births later headed is t = record {
   refused = t.refused;
   answer = t.answer;
@@ -42,29 +56,51 @@ may_record frame command h reply before after births later headed is t = record 
   recorded = subst (λ (r : Result Command BadFrame). later ≡ births_after_frame r t.answer births) (sym is) t.recorded;
 }
 
-pub no_fault_replied : (frame : List ℕ) (h : Head) (reply : List ℕ) → head_of frame ≡ Some h → reply ≢ reply_bytes h.tenant h.command (status_of BadAddress) [] → reply ≢ reply_to frame (status_of BadAddress) []
+pub no_fault_replied : (frame : List ℕ) (h : Head) (reply : List ℕ)
+    → head_of frame ≡ Some h
+    → reply ≢ reply_bytes h.tenant h.command (status_of BadAddress) []
+    → reply ≢ reply_to frame (status_of BadAddress) []
 no_fault_replied frame h reply headed apart e = apart (e ∙ sym (by_head frame h headed (status_of BadAddress) []))
 
 -- ---- a frame without a command
 
-pub refused_frame : (frame reply : List ℕ) (s : TenantState) (fault : BadFrame) (errno : Errno) (h : Head) → head_of frame ≡ Some h → parsed frame ≡ Err fault → errno ≡ frame_errno fault
-    → reply ≡ reply_bytes h.tenant h.command (status_of errno) [] → MayReply frame reply (Some s) (Some s)
+pub refused_frame : (frame reply : List ℕ) (s : TenantState) (fault : BadFrame) (errno : Errno) (h : Head)
+    → head_of frame ≡ Some h → parsed frame ≡ Err fault
+    → errno ≡ frame_errno fault
+    → reply ≡ reply_bytes h.tenant h.command (status_of errno) []
+    → MayReply frame reply (Some s) (Some s)
 refused_frame frame reply s fault errno h headed is same written = (
   false,
-  (refuses errno s, subst (λ (r : Result Command BadFrame). AnswersFrame false s r (refuses errno s)) (sym is) (ap (λ (x : Errno). refuses x s) same), written ∙ by_head frame h headed (status_of errno) [], refl),
+  (
+    refuses errno s,
+    subst (λ (r : Result Command BadFrame). AnswersFrame false s r (refuses errno s)) (sym is)
+        (ap (λ (x : Errno). refuses x s) same),
+    written ∙ by_head frame h headed (status_of errno) [],
+    refl,
+  ),
 )
 
-pub refused_record : (frame reply : List ℕ) (s : TenantState) (births : List Birth) (fault : BadFrame) (errno : Errno) (h : Head) → head_of frame ≡ Some h → parsed frame ≡ Err fault → errno ≡ frame_errno fault
-    → reply ≡ reply_bytes h.tenant h.command (status_of errno) [] → RecordsFrame frame reply s s births births
+pub refused_record : (frame reply : List ℕ) (s : TenantState) (births : List Birth)
+    (fault : BadFrame) (errno : Errno) (h : Head)
+    → head_of frame ≡ Some h → parsed frame ≡ Err fault
+    → errno ≡ frame_errno fault
+    → reply ≡ reply_bytes h.tenant h.command (status_of errno) []
+    → RecordsFrame frame reply s s births births
 refused_record frame reply s births fault errno h headed is same written = record {
   refused = false;
   answer = refuses errno s;
-  answers = subst (λ (r : Result Command BadFrame). AnswersFrame false s r (refuses errno s)) (sym is) (ap (λ (x : Errno). refuses x s) same);
+  answers =
+      subst (λ (r : Result Command BadFrame). AnswersFrame false s r (refuses errno s)) (sym is)
+      (ap (λ (x : Errno). refuses x s) same);
   reply_is = written ∙ by_head frame h headed (status_of errno) [];
   left = refl;
-  recorded = subst (λ (r : Result Command BadFrame). births ≡ births_after_frame r (refuses errno s) births) (sym is) refl;
+  recorded =
+      subst (λ (r : Result Command BadFrame). births ≡ births_after_frame r (refuses errno s) births) (sym is) refl;
 }
 
-pub refused_no_fault : (frame bytes : List ℕ) (s : TenantState) (errno : Errno) (h : Head) → head_of frame ≡ Some h → errno ≢ BadAddress → Writes h bytes (refuses errno s)
+pub refused_no_fault : (frame bytes : List ℕ) (s : TenantState) (errno : Errno) (h : Head)
+    → head_of frame ≡ Some h → errno ≢ BadAddress
+    → Writes h bytes (refuses errno s)
     → bytes ≢ reply_to frame (status_of BadAddress) []
-refused_no_fault frame bytes s errno h headed other written = no_fault_replied frame h bytes headed (no_fault_written h bytes (Err errno) s other written)
+refused_no_fault frame bytes s errno h headed other written =
+    no_fault_replied frame h bytes headed (no_fault_written h bytes (Err errno) s other written)

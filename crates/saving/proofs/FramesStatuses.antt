@@ -41,16 +41,26 @@ no_zero e = let wrong : 0 ≡ 242 = e in absurd (omega (arith, wrong))
 no_small_fault : (fd : ℕ) → fd < 67 → IsOther (pos fd)
 no_small_fault fd small e = let wrong : fd % 256 ≡ 242 = e in absurd (omega (arith, wrong, small))
 
-apart : (h : Head) (reply : List ℕ) (a : Answer) → Writes h reply a → IsOther a.status → reply ≢ reply_bytes h.tenant h.command (status_of BadAddress) []
+apart : (h : Head) (reply : List ℕ) (a : Answer)
+    → Writes h reply a → IsOther a.status
+    → reply ≢ reply_bytes h.tenant h.command (status_of BadAddress) []
 apart h reply a written other e = other (ap (λ (b : List ℕ). get_or b 8 0) (sym written ∙ e))
 
-pub no_fault_written : (h : Head) (bytes : List ℕ) (r : Result Reply Errno) (s : TenantState) → IsWritable r → Writes h bytes (shown_answer r s) → bytes ≢ reply_bytes h.tenant h.command (status_of BadAddress) []
-no_fault_written h bytes (Ok reply.Done) s writable written = apart h bytes (shown_answer (Ok reply.Done) s) written no_zero
-no_fault_written h bytes (Ok (reply.Opened fd)) s writable written = apart h bytes (shown_answer (Ok (reply.Opened fd)) s) written (no_small_fault fd writable)
-no_fault_written h bytes (Ok (reply.Value value)) s writable written = apart h bytes (shown_answer (Ok (reply.Value value)) s) written no_zero
-no_fault_written h bytes (Ok (reply.Key key)) s writable written = apart h bytes (shown_answer (Ok (reply.Key key)) s) written no_zero
-no_fault_written h bytes (Ok (reply.Number number)) s writable written = apart h bytes (shown_answer (Ok (reply.Number number)) s) written no_zero
+pub no_fault_written : (h : Head) (bytes : List ℕ) (r : Result Reply Errno) (s : TenantState)
+    → IsWritable r → Writes h bytes (shown_answer r s)
+    → bytes ≢ reply_bytes h.tenant h.command (status_of BadAddress) []
+no_fault_written h bytes (Ok reply.Done) s writable written =
+    apart h bytes (shown_answer (Ok reply.Done) s) written no_zero
+no_fault_written h bytes (Ok (reply.Opened fd)) s writable written =
+    apart h bytes (shown_answer (Ok (reply.Opened fd)) s) written (no_small_fault fd writable)
+no_fault_written h bytes (Ok (reply.Value value)) s writable written =
+    apart h bytes (shown_answer (Ok (reply.Value value)) s) written no_zero
+no_fault_written h bytes (Ok (reply.Key key)) s writable written =
+    apart h bytes (shown_answer (Ok (reply.Key key)) s) written no_zero
+no_fault_written h bytes (Ok (reply.Number number)) s writable written =
+    apart h bytes (shown_answer (Ok (reply.Number number)) s) written no_zero
 no_fault_written h bytes (Ok (reply.Refused refusal)) s writable written =
     -- a reply with a payload is longer
     λ e. let wrong : 14 ≡ 8 = ap (λ (b : List ℕ). get_or b 0 0) (sym written ∙ e) in absurd (omega (arith, wrong))
-no_fault_written h bytes (Err errno) s writable written = apart h bytes (shown_answer (Err errno) s) written (other_errno errno writable)
+no_fault_written h bytes (Err errno) s writable written =
+    apart h bytes (shown_answer (Err errno) s) written (other_errno errno writable)

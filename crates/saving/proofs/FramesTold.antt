@@ -19,15 +19,24 @@ shown_after (Ok reply.Done) s = refl
 shown_after (Ok other) s = refl
 
 -- the reply to the command, from the command that the code has parsed
-pub told : {command known : CodeCommand} {h : Head} {bytes : List ℕ} {before after : TenantState} {births later : List Birth} (refused : Bool) (r : Result Reply Errno) → command ≡ known
-    → Answers refused before (shown_command known) (shown_answer r after) → IsWritable r → ((s : TenantState) → Writes h bytes (shown_answer r s)) → later ≡ births_after (shown_command known) (shown_answer r after) births
+pub told : {command known : CodeCommand} {h : Head} {bytes : List ℕ} {before after : TenantState}
+    {births later : List Birth} (refused : Bool) (r : Result Reply Errno)
+    → command ≡ known
+    → Answers refused before (shown_command known) (shown_answer r after)
+    → IsWritable r
+    → ((s : TenantState) → Writes h bytes (shown_answer r s))
+    → later ≡ births_after (shown_command known) (shown_answer r after) births
     → AnswersCommand (shown_command command) h bytes before after births later
-told {command} {known} {h} {bytes} {before} {after} {births} {later} refused r is answers writable written recorded = record {
-  refused = refused;
-  answer = shown_answer r after;
-  answers = subst (λ (x : CodeCommand). Answers refused before (shown_command x) (shown_answer r after)) (sym is) answers;
-  written = written after;
-  left = shown_after r after;
-  recorded = subst (λ (x : CodeCommand). later ≡ births_after (shown_command x) (shown_answer r after) births) (sym is) recorded;
-  no_fault = no_fault_written h bytes r after writable (written after);
-}
+told {command} {known} {h} {bytes} {before} {after} {births} {later} refused r is answers writable
+    written recorded = record {
+      refused = refused;
+      answer = shown_answer r after;
+      answers =
+          subst (λ (x : CodeCommand). Answers refused before (shown_command x) (shown_answer r after)) (sym is) answers;
+      written = written after;
+      left = shown_after r after;
+      recorded =
+          subst (λ (x : CodeCommand). later ≡ births_after (shown_command x) (shown_answer r after) births)
+          (sym is) recorded;
+      no_fault = no_fault_written h bytes r after writable (written after);
+    }

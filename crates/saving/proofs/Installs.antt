@@ -23,10 +23,16 @@ use Rattle.saving.specs.inside.Frames.{AnswersCommand}
 use Rattle.saving.proofs.ByFrames.{program_carried}
 use Rattle.saving.proofs.FramesStatuses.{no_fault_written}
 
-module _ (insns : List Insn) (refused : Bool) (a : Answer) (before after : TenantState) (loads : Loads refused before 1 (program_bytes insns) a) (left : after ≡ a.after) where
+module _ (insns : List Insn) (refused : Bool) (a : Answer) (before after : TenantState)
+    (loads : Loads refused before 1 (program_bytes insns) a)
+    (left : after ≡ a.after) where
   -- what the command does
-  pub command_loaded : (births later : List Birth) (r : Result Reply Errno) → a ≡ shown_answer r after → IsWritable r → later ≡ with_opened a.status a.after births
-      → AnswersCommand (load_of insns) (record { tenant = 0; command = 0 }) (reply_bytes 0 0 a.status a.payload) before after births later
+  pub command_loaded : (births later : List Birth) (r : Result Reply Errno)
+      → a ≡ shown_answer r after → IsWritable r
+      → later ≡ with_opened a.status a.after births
+      → AnswersCommand (load_of insns) (record { tenant = 0; command = 0 })
+      (reply_bytes 0 0 a.status a.payload) before after births
+      later
   command_loaded births later r shown writable is =
       let h : Head = record { tenant = 0; command = 0 } in
       record {
@@ -36,12 +42,17 @@ module _ (insns : List Insn) (refused : Bool) (a : Answer) (before after : Tenan
         written = refl;
         left = left;
         recorded = is;
-        no_fault = no_fault_written h (reply_bytes 0 0 a.status a.payload) r after writable (ap (λ (x : Answer). reply_bytes 0 0 x.status x.payload) shown);
+        no_fault =
+            no_fault_written h (reply_bytes 0 0 a.status a.payload) r after writable
+            (ap (λ (x : Answer). reply_bytes 0 0 x.status x.payload) shown);
       }
 
-  module _ (number : ℕ) (is : IsProgram insns) (status : ℤ) (status_is : status ≡ a.status) (none : a.payload ≡ []) where
+  module _ (number : ℕ) (is : IsProgram insns) (status : ℤ) (status_is : status ≡ a.status)
+      (none : a.payload ≡ []) where
     carried : AnswersFrame refused before (parsed (load_frame number insns)) a
-    carried = subst (λ (c : Result Command BadFrame). AnswersFrame refused before c a) (sym (program_carried number insns is)) loads
+    carried =
+        subst (λ (c : Result Command BadFrame). AnswersFrame refused before c a)
+        (sym (program_carried number insns is)) loads
 
     pub reply_is : load_reply number insns status ≡ reply_to (load_frame number insns) a.status a.payload
     reply_is =
@@ -59,11 +70,16 @@ module _ (insns : List Insn) (refused : Bool) (a : Answer) (before after : Tenan
       answers = carried;
       reply_is = reply_is;
       left = left;
-      recorded = subst (λ (c : Result Command BadFrame). later ≡ births_after_frame c a births) (sym (program_carried number insns is)) opened;
+      recorded =
+          subst (λ (c : Result Command BadFrame). later ≡ births_after_frame c a births)
+          (sym (program_carried number insns is)) opened;
     }
 
-    pub frame_no_fault : (r : Result Reply Errno) → a ≡ shown_answer r after → IsWritable r → load_reply number insns status ≢ reply_to (load_frame number insns) (status_of BadAddress) []
+    pub frame_no_fault : (r : Result Reply Errno)
+        → a ≡ shown_answer r after → IsWritable r
+        → load_reply number insns status ≢ reply_to (load_frame number insns) (status_of BadAddress) []
     frame_no_fault r shown writable =
         let frame = load_frame number insns in
         let h : Head = record { tenant = owner frame; command = command_number frame } in
-        no_fault_written h (load_reply number insns status) r after writable (reply_is ∙ ap (λ (x : Answer). reply_to frame x.status x.payload) shown)
+        no_fault_written h (load_reply number insns status) r after writable
+        (reply_is ∙ ap (λ (x : Answer). reply_to frame x.status x.payload) shown)

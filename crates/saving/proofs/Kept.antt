@@ -40,22 +40,36 @@ use Rattle.saving.proofs.RunMaps.{LeavesMap, IsLeftOf}
 unfoldable pub shape_of : Option Map → Option MapShape
 shape_of o = option_map (λ t. t.shape) o
 
-shapes_same : (s t : TenantState) (ms : List (ℕ × ℕ)) (fd n : ℕ) → ((other handle : ℕ) → lookup (λ m. m == other) ms ≡ Some handle → shape_of (live t handle) ≡ shape_of (live s handle)) → shapes_from t ms fd n ≡ shapes_from s ms fd n
+shapes_same : (s t : TenantState) (ms : List (ℕ × ℕ)) (fd n : ℕ)
+    → ((other handle : ℕ) → lookup (λ m. m == other) ms ≡ Some handle
+    → shape_of (live t handle) ≡ shape_of (live s handle))
+    → shapes_from t ms fd n ≡ shapes_from s ms fd n
 unfolding shapes_from shape_of
 shapes_same s t ms fd zero h = refl
-shapes_same s t ms fd (suc n) h = ap₂ (λ (a b : List Named). a ++ b) (by (lookup (λ m. m == fd) ms) refl) (shapes_same s t ms (fd + 1) n h)
+shapes_same s t ms fd (suc n) h =
+    ap₂ (λ (a b : List Named). a ++ b) (by (lookup (λ m. m == fd) ms) refl) (shapes_same s t ms (fd + 1) n h)
   where
-    seen : (o p : Option Map) → option_map (λ x. x.shape) o ≡ option_map (λ x. x.shape) p → entry_of fd (option_map (λ x. target.Map x.shape) o) ≡ entry_of fd (option_map (λ x. target.Map x.shape) p)
+    seen : (o p : Option Map)
+        → option_map (λ x. x.shape) o ≡ option_map (λ x. x.shape) p
+        → entry_of fd (option_map (λ x. target.Map x.shape) o) ≡ entry_of fd (option_map (λ x. target.Map x.shape) p)
     seen None None e = refl
     seen None (Some y) e = absurd (none-some y.shape e)
     seen (Some x) None e = absurd (none-some x.shape (sym e))
-    seen (Some x) (Some y) e = ap (λ (shape : MapShape). entry_of fd (Some (target.Map shape))) (same_Some x.shape y.shape e)
+    seen (Some x) (Some y) e =
+        ap (λ (shape : MapShape). entry_of fd (Some (target.Map shape))) (same_Some x.shape y.shape e)
 
-    by : (o : Option ℕ) → lookup (λ m. m == fd) ms ≡ o → entry_of fd (option_map (λ x. target.Map x.shape) (and_then o (live t))) ≡ entry_of fd (option_map (λ x. target.Map x.shape) (and_then o (live s)))
+    by : (o : Option ℕ)
+        → lookup (λ m. m == fd) ms ≡ o
+        → entry_of fd (option_map (λ x. target.Map x.shape) (and_then o (live t)))
+        ≡ entry_of fd (option_map (λ x. target.Map x.shape) (and_then o (live s)))
     by None e = refl
     by (Some handle) e = seen (live t handle) (live s handle) (h fd handle e)
 
-pub program_kept : (s t : TenantState) (l : LoadedProgram) → IsWholeProgram s l → ((fd handle : ℕ) → lookup (λ m. m == fd) l.maps ≡ Some handle → shape_of (live t handle) ≡ shape_of (live s handle)) → IsWholeProgram t l
+pub program_kept : (s t : TenantState) (l : LoadedProgram)
+    → IsWholeProgram s l
+    → ((fd handle : ℕ) → lookup (λ m. m == fd) l.maps ≡ Some handle
+    → shape_of (live t handle) ≡ shape_of (live s handle))
+    → IsWholeProgram t l
 program_kept s t l whole h = record {
   program = whole.program;
   named = whole.named;
@@ -66,8 +80,13 @@ program_kept s t l whole h = record {
 }
 
 -- the handles of a program's maps are named
-pub program_names : (s : TenantState) (n : ℕ) (l : LoadedProgram) → table.named s.objects n ≡ Some (object.Program l) → (fd handle : ℕ) → lookup (λ m. m == fd) l.maps ≡ Some handle → is_named s.objects handle ≡ true
-program_names s n l there fd handle e = named_by s.objects (n - table.first_descriptor) (object.Program l) handle (stands_at s.objects n (object.Program l) there) (lookup_names l.maps fd handle e)
+pub program_names : (s : TenantState) (n : ℕ) (l : LoadedProgram)
+    → table.named s.objects n ≡ Some (object.Program l)
+    → (fd handle : ℕ) → lookup (λ m. m == fd) l.maps ≡ Some handle
+    → is_named s.objects handle ≡ true
+program_names s n l there fd handle e =
+    named_by s.objects (n - table.first_descriptor) (object.Program l) handle
+    (stands_at s.objects n (object.Program l) there) (lookup_names l.maps fd handle e)
 
 -- ---- changed contents of the same maps
 
@@ -88,13 +107,18 @@ pub leaves_self : (o : Option Map) → LeavesMap o o
 leaves_self None = tt
 leaves_self (Some t) = record { shape = refl; whole = λ whole. whole }
 
-leaves_whole : (o p : Option Map) (t : Map) → LeavesMap o p → ((u : Map) → o ≡ Some u → IsWholeMap u) → p ≡ Some t → IsWholeMap t
+leaves_whole : (o p : Option Map) (t : Map)
+    → LeavesMap o p → ((u : Map) → o ≡ Some u → IsWholeMap u)
+    → p ≡ Some t
+    → IsWholeMap t
 leaves_whole None None t h whole e = absurd (none-some t e)
 leaves_whole None (Some y) t h whole e = absurd h
 leaves_whole (Some x) None t h whole e = absurd h
 leaves_whole (Some x) (Some y) t h whole e = subst IsWholeMap (same_Some y t e) (h.whole (whole x refl))
 
-sums_same : (xs ys : List (Option Map)) → ((i : ℕ) → weight map_area (get_or ys i None) ≡ weight map_area (get_or xs i None)) → total map_area ys ≡ total map_area xs
+sums_same : (xs ys : List (Option Map))
+    → ((i : ℕ) → weight map_area (get_or ys i None) ≡ weight map_area (get_or xs i None))
+    → total map_area ys ≡ total map_area xs
 unfolding total
 sums_same [] [] h = refl
 sums_same [] (y ∷ ys) h = let rest = sums_same [] ys (λ i. h (suc i)) in let here = h zero in omega arith
@@ -102,21 +126,37 @@ sums_same (x ∷ xs) [] h = let rest = sums_same xs [] (λ i. h (suc i)) in let 
 sums_same (x ∷ xs) (y ∷ ys) h = let rest = sums_same xs ys (λ i. h (suc i)) in let here = h zero in omega arith
 
 -- each map is the same as before or has changed contents
-pub contents_kept : {s : TenantState} → IsRestorable s → (ms : List (Option Map)) (b : Bool) → HoldsItsMaps (record s { maps = ms; refused = b }) → ((handle : ℕ) → LeavesMap (live s handle) (get_or ms handle None)) → IsRestorable (record s { maps = ms; refused = b })
+pub contents_kept : {s : TenantState}
+    → IsRestorable s
+    → (ms : List (Option Map)) (b : Bool) → HoldsItsMaps (record s { maps = ms; refused = b })
+    → ((handle : ℕ) → LeavesMap (live s handle) (get_or ms handle None))
+    → IsRestorable (record s { maps = ms; refused = b })
 contents_kept {s} can ms b holds each = record {
   held = holds;
-  area = subst (λ (n : ℕ). n ≤ most_bytes) (sym (sums_same s.maps ms (λ i. leaves_weight (live s i) (get_or ms i None) (each i)))) can.area;
+  area =
+      subst (λ (n : ℕ). n ≤ most_bytes)
+      (sym (sums_same s.maps ms (λ i. leaves_weight (live s i) (get_or ms i None) (each i))))
+      can.area;
   maps = λ handle t there. leaves_whole (live s handle) (get_or ms handle None) t (each handle) (can.maps handle) there;
-  programs = λ fd l there. program_kept s (record s { maps = ms; refused = b }) l (can.programs fd l there) (λ other handle e. leaves_shape (live s handle) (get_or ms handle None) (each handle));
+  programs = λ fd l there.
+      program_kept s (record s { maps = ms; refused = b }) l (can.programs fd l there)
+      (λ other handle e. leaves_shape (live s handle) (get_or ms handle None) (each handle));
 }
 
 -- one map has changed contents
-pub one_left : (xs : List (Option Map)) (handle : ℕ) (t u : Map) → get_or xs handle None ≡ Some t → IsLeftOf t u → (p : ℕ) → LeavesMap (get_or xs p None) (get_or (set xs handle (Some u)) p None)
+pub one_left : (xs : List (Option Map)) (handle : ℕ) (t u : Map)
+    → get_or xs handle None ≡ Some t → IsLeftOf t u
+    → (p : ℕ) → LeavesMap (get_or xs p None) (get_or (set xs handle (Some u)) p None)
 one_left xs handle t u there left p = by (set_by_index xs handle p (Some u) (there_within xs handle (there_is there)))
   where
-    by : ((p ≡ handle) × (get_or (set xs handle (Some u)) p None ≡ Some u)) ⊎ ((p ≢ handle) × (get_or (set xs handle (Some u)) p None ≡ get_or xs p None)) → LeavesMap (get_or xs p None) (get_or (set xs handle (Some u)) p None)
-    by (inl (at, e)) = subst (λ (o : Option Map). LeavesMap (get_or xs p None) o) (sym e) (subst (λ (o : Option Map). LeavesMap o (Some u)) (sym (ap (λ (q : ℕ). get_or xs q None) at ∙ there)) left)
-    by (inr (other, e)) = subst (λ (o : Option Map). LeavesMap (get_or xs p None) o) (sym e) (leaves_self (get_or xs p None))
+    by : ((p ≡ handle) × (get_or (set xs handle (Some u)) p None ≡ Some u))
+        ⊎ ((p ≢ handle) × (get_or (set xs handle (Some u)) p None ≡ get_or xs p None))
+        → LeavesMap (get_or xs p None) (get_or (set xs handle (Some u)) p None)
+    by (inl (at, e)) =
+        subst (λ (o : Option Map). LeavesMap (get_or xs p None) o) (sym e)
+        (subst (λ (o : Option Map). LeavesMap o (Some u)) (sym (ap (λ (q : ℕ). get_or xs q None) at ∙ there)) left)
+    by (inr (other, e)) =
+        subst (λ (o : Option Map). LeavesMap (get_or xs p None) o) (sym e) (leaves_self (get_or xs p None))
 
 -- ---- a test run
 
@@ -126,19 +166,32 @@ AreLeftOf left [] xs = Unit {0}
 AreLeftOf left (m ∷ ms) xs = LeavesMap (get_or xs m.1 None) (left m.0) × AreLeftOf left ms xs
 
 -- the maps after the run of a program
-pub run_left : (left : MapsByDescriptor) (ms : List (ℕ × ℕ)) (xs ys : List (Option Map)) → AreLeftOf left ms xs → length ys ≡ length xs → ((p : ℕ) → LeavesMap (get_or xs p None) (get_or ys p None)) → (p : ℕ) → LeavesMap (get_or xs p None) (get_or (maps_left left ms ys) p None)
+pub run_left : (left : MapsByDescriptor) (ms : List (ℕ × ℕ)) (xs ys : List (Option Map))
+    → AreLeftOf left ms xs → length ys ≡ length xs
+    → ((p : ℕ) → LeavesMap (get_or xs p None) (get_or ys p None))
+    → (p : ℕ) → LeavesMap (get_or xs p None) (get_or (maps_left left ms ys) p None)
 unfolding maps_left AreLeftOf
 run_left left [] xs ys all long each p = each p
 run_left left (m ∷ ms) xs ys all long each p =
-    run_left left ms xs (set ys m.1 (left m.0)) all.1 (length-set {A = Option Map} ys m.1 (left m.0) ∙ long) (λ q. one q (cases_lt m.1 (length ys))) p
+    run_left left ms xs (set ys m.1 (left m.0)) all.1
+    (length-set {A = Option Map} ys m.1 (left m.0) ∙ long)
+    (λ q. one q (cases_lt m.1 (length ys))) p
   where
-    one : (q : ℕ) → (m.1 < length ys) ⊎ (length ys ≤ m.1) → LeavesMap (get_or xs q None) (get_or (set ys m.1 (left m.0)) q None)
+    one : (q : ℕ)
+        → (m.1 < length ys) ⊎ (length ys ≤ m.1)
+        → LeavesMap (get_or xs q None) (get_or (set ys m.1 (left m.0)) q None)
     one q (inl within) = by (set_by_index ys m.1 q (left m.0) within)
       where
-        by : ((q ≡ m.1) × (get_or (set ys m.1 (left m.0)) q None ≡ left m.0)) ⊎ ((q ≢ m.1) × (get_or (set ys m.1 (left m.0)) q None ≡ get_or ys q None)) → LeavesMap (get_or xs q None) (get_or (set ys m.1 (left m.0)) q None)
-        by (inl (at, e)) = subst (λ (o : Option Map). LeavesMap (get_or xs q None) o) (sym e) (subst (λ (k : ℕ). LeavesMap (get_or xs k None) (left m.0)) (sym at) all.0)
+        by : ((q ≡ m.1) × (get_or (set ys m.1 (left m.0)) q None ≡ left m.0))
+            ⊎ ((q ≢ m.1) × (get_or (set ys m.1 (left m.0)) q None ≡ get_or ys q None))
+            → LeavesMap (get_or xs q None) (get_or (set ys m.1 (left m.0)) q None)
+        by (inl (at, e)) =
+            subst (λ (o : Option Map). LeavesMap (get_or xs q None) o) (sym e)
+            (subst (λ (k : ℕ). LeavesMap (get_or xs k None) (left m.0)) (sym at) all.0)
         by (inr (other, e)) = subst (λ (o : Option Map). LeavesMap (get_or xs q None) o) (sym e) (each q)
-    one q (inr past) = subst (λ (zs : List (Option Map)). LeavesMap (get_or xs q None) (get_or zs q None)) (sym (set_past ys m.1 (left m.0) past)) (each q)
+    one q (inr past) =
+        subst (λ (zs : List (Option Map)). LeavesMap (get_or xs q None) (get_or zs q None))
+        (sym (set_past ys m.1 (left m.0) past)) (each q)
       where
         set_past : (zs : List (Option Map)) (n : ℕ) (x : Option Map) → length zs ≤ n → set zs n x ≡ zs
         set_past [] n x le = refl
@@ -150,13 +203,21 @@ unfoldable pub AreOnce : List ℕ → Type 0
 AreOnce [] = Unit {0}
 AreOnce (x ∷ xs) = (list_any (λ y. y == x) xs ≡ false) × AreOnce xs
 
-pub found_all : (left : MapsByDescriptor) (s : TenantState) (all ms : List (ℕ × ℕ)) → ((fd : ℕ) → LeavesMap (and_then (lookup (λ m. m == fd) all) (live s)) (left fd))
-    → ((fd : ℕ) → list_any (λ m. m.0 == fd) ms ≡ true → lookup (λ m. m == fd) all ≡ lookup (λ m. m == fd) ms) → AreOnce (keys_of ms) → AreLeftOf left ms s.maps
+pub found_all : (left : MapsByDescriptor) (s : TenantState) (all ms : List (ℕ × ℕ))
+    → ((fd : ℕ) → LeavesMap (and_then (lookup (λ m. m == fd) all) (live s)) (left fd))
+    → ((fd : ℕ) → list_any (λ m. m.0 == fd) ms ≡ true → lookup (λ m. m == fd) all ≡ lookup (λ m. m == fd) ms)
+    → AreOnce (keys_of ms)
+    → AreLeftOf left ms s.maps
 unfolding AreLeftOf AreOnce
 found_all left s all [] each same once = tt
 found_all left s all (m ∷ ms) each same once = (
-  subst (λ (o : Option Map). LeavesMap o (left m.0)) (ap (λ (o : Option ℕ). and_then o (live s)) (same m.0 (or_left (m.0 == m.0) (list_any (λ k. k.0 == m.0) ms) (eq-eqb m.0 m.0 refl)) ∙ here)) (each m.0),
-  found_all left s all ms each (λ fd e. same fd (or_right (m.0 == fd) (list_any (λ k. k.0 == fd) ms) e) ∙ later fd e) once.1,
+  subst (λ (o : Option Map). LeavesMap o (left m.0))
+      (ap (λ (o : Option ℕ). and_then o (live s))
+      (same m.0 (or_left (m.0 == m.0) (list_any (λ k. k.0 == m.0) ms) (eq-eqb m.0 m.0 refl)) ∙ here))
+      (each m.0),
+  found_all left s all ms each
+      (λ fd e. same fd (or_right (m.0 == fd) (list_any (λ k. k.0 == fd) ms) e) ∙ later fd e)
+      once.1,
 )
   where
     here : lookup (λ k. k == m.0) (m ∷ ms) ≡ Some m.1
@@ -169,17 +230,25 @@ found_all left s all (m ∷ ms) each same once = (
     later : (fd : ℕ) → list_any (λ k. k.0 == fd) ms ≡ true → lookup (λ k. k == fd) (m ∷ ms) ≡ lookup (λ k. k == fd) ms
     later fd e = by (m.0 == fd) refl
       where
-        by : (b : Bool) → (m.0 == fd) ≡ b → (if m.0 == fd then Some m.1 else lookup (λ k. k == fd) ms) ≡ lookup (λ k. k == fd) ms
-        by true is = absurd (true≢false (sym (sym (any_keys fd ms) ∙ e) ∙ ap (λ (x : ℕ). list_any (λ y. y == x) (keys_of ms)) (sym (eqb-true m.0 fd is)) ∙ once.0))
+        by : (b : Bool)
+            → (m.0 == fd) ≡ b
+            → (if m.0 == fd then Some m.1 else lookup (λ k. k == fd) ms) ≡ lookup (λ k. k == fd) ms
+        by true is =
+            absurd (true≢false (sym (sym (any_keys fd ms) ∙ e)
+            ∙ ap (λ (x : ℕ). list_any (λ y. y == x) (keys_of ms)) (sym (eqb-true m.0 fd is))
+            ∙ once.0))
         by false is = ap (λ (b : Bool). if b then Some m.1 else lookup (λ k. k == fd) ms) is
 
 -- ---- each map that a program loads is listed once
 
 none_left : (x a : ℕ) (xs : List ℕ) → is_among xs x ≡ false → is_among (without a xs) x ≡ false
 none_left x a [] h = h
-none_left x a (y ∷ ys) h = let parts = none_of (y == x) (is_among ys x) h in by (not (y == a)) parts.0 (none_left x a ys parts.1)
+none_left x a (y ∷ ys) h =
+    let parts = none_of (y == x) (is_among ys x) h in by (not (y == a)) parts.0 (none_left x a ys parts.1)
   where
-    by : (b : Bool) → (y == x) ≡ false → is_among (without a ys) x ≡ false → is_among (if b then y ∷ without a ys else without a ys) x ≡ false
+    by : (b : Bool)
+        → (y == x) ≡ false → is_among (without a ys) x ≡ false
+        → is_among (if b then y ∷ without a ys else without a ys) x ≡ false
     by true here rest = ap₂ (λ (p q : Bool). p || q) here rest
     by false here rest = rest
 
@@ -187,9 +256,13 @@ gone : (a : ℕ) (xs : List ℕ) → is_among (without a xs) a ≡ false
 gone a [] = refl
 gone a (y ∷ ys) = by (y == a) refl (gone a ys)
   where
-    by : (b : Bool) → (y == a) ≡ b → is_among (without a ys) a ≡ false → is_among (if not (y == a) then y ∷ without a ys else without a ys) a ≡ false
+    by : (b : Bool)
+        → (y == a) ≡ b → is_among (without a ys) a ≡ false
+        → is_among (if not (y == a) then y ∷ without a ys else without a ys) a ≡ false
     by true e rest = ap (λ (t : Bool). is_among (if not t then y ∷ without a ys else without a ys) a) e ∙ rest
-    by false e rest = ap (λ (t : Bool). is_among (if not t then y ∷ without a ys else without a ys) a) e ∙ ap₂ (λ (p q : Bool). p || q) e rest
+    by false e rest =
+        ap (λ (t : Bool). is_among (if not t then y ∷ without a ys else without a ys) a) e
+        ∙ ap₂ (λ (p q : Bool). p || q) e rest
 
 once_left : (a : ℕ) (xs : List ℕ) → AreOnce xs → AreOnce (without a xs)
 unfolding AreOnce
@@ -208,48 +281,86 @@ distinct_once (fd ∷ fds) = (gone fd (distinct fds), once_left fd (distinct fds
 -- ---- PROG_LOAD
 
 -- the target of a descriptor, as the verifier reads it
-targets_below : (s : TenantState) (from fd : ℕ) (xs : List (Option OpenObject)) → fd < from → target_of (targets_from s from xs) fd ≡ None
+targets_below : (s : TenantState) (from fd : ℕ) (xs : List (Option OpenObject))
+    → fd < from → target_of (targets_from s from xs) fd ≡ None
 unfolding targets_from target_of
 targets_below s from fd [] low = refl
-targets_below s from fd (x ∷ xs) low = by (and_then x (object_target s)) (targets_below s (from + 1) fd xs (omega arith))
+targets_below s from fd (x ∷ xs) low =
+    by (and_then x (object_target s)) (targets_below s (from + 1) fd xs (omega arith))
   where
-    by : (o : Option Target) → target_of (targets_from s (from + 1) xs) fd ≡ None → target_of (entry_of from o ++ targets_from s (from + 1) xs) fd ≡ None
+    by : (o : Option Target)
+        → target_of (targets_from s (from + 1) xs) fd ≡ None
+        → target_of (entry_of from o ++ targets_from s (from + 1) xs) fd ≡ None
     by None rest = rest
-    by (Some t) rest = ap (λ (b : Bool). if b then Some t else target_of (targets_from s (from + 1) xs) fd) (ne_eqb from fd (λ e. absurd (omega arith))) ∙ rest
+    by (Some t) rest =
+        ap (λ (b : Bool). if b then Some t else target_of (targets_from s (from + 1) xs) fd)
+        (ne_eqb from fd (λ e. absurd (omega arith)))
+        ∙ rest
 
-targets_at : (s : TenantState) (from fd : ℕ) (xs : List (Option OpenObject)) (n : ℕ) → fd ≡ from + n → target_of (targets_from s from xs) fd ≡ and_then (get_or xs n None) (object_target s)
+targets_at : (s : TenantState) (from fd : ℕ) (xs : List (Option OpenObject)) (n : ℕ)
+    → fd ≡ from + n
+    → target_of (targets_from s from xs) fd ≡ and_then (get_or xs n None) (object_target s)
 unfolding targets_from target_of
 targets_at s from fd [] n e = refl
 targets_at s from fd (x ∷ xs) zero e = by (and_then x (object_target s))
   where
     by : (o : Option Target) → target_of (entry_of from o ++ targets_from s (from + 1) xs) fd ≡ o
     by None = targets_below s (from + 1) fd xs (omega arith)
-    by (Some t) = ap (λ (b : Bool). if b then Some t else target_of (targets_from s (from + 1) xs) fd) (eq-eqb from fd (omega arith))
-targets_at s from fd (x ∷ xs) (suc n) e = by (and_then x (object_target s)) (targets_at s (from + 1) fd xs n (omega arith))
+    by (Some t) =
+        ap (λ (b : Bool). if b then Some t else target_of (targets_from s (from + 1) xs) fd)
+        (eq-eqb from fd (omega arith))
+targets_at s from fd (x ∷ xs) (suc n) e =
+    by (and_then x (object_target s)) (targets_at s (from + 1) fd xs n (omega arith))
   where
-    by : (o : Option Target) → target_of (targets_from s (from + 1) xs) fd ≡ and_then (get_or xs n None) (object_target s) → target_of (entry_of from o ++ targets_from s (from + 1) xs) fd ≡ and_then (get_or xs n None) (object_target s)
+    by : (o : Option Target)
+        → target_of (targets_from s (from + 1) xs) fd ≡ and_then (get_or xs n None) (object_target s)
+        → target_of (entry_of from o ++ targets_from s (from + 1) xs) fd ≡ and_then (get_or xs n None) (object_target s)
     by None rest = rest
-    by (Some t) rest = ap (λ (b : Bool). if b then Some t else target_of (targets_from s (from + 1) xs) fd) (ne_eqb from fd (λ same. absurd (omega arith))) ∙ rest
+    by (Some t) rest =
+        ap (λ (b : Bool). if b then Some t else target_of (targets_from s (from + 1) xs) fd)
+        (ne_eqb from fd (λ same. absurd (omega arith)))
+        ∙ rest
 
-named_get : (objects : List (Option OpenObject)) (fd : ℕ) → table.first_descriptor ≤ fd → table.named objects fd ≡ get_or objects (fd - table.first_descriptor) None
+named_get : (objects : List (Option OpenObject)) (fd : ℕ)
+    → table.first_descriptor ≤ fd
+    → table.named objects fd ≡ get_or objects (fd - table.first_descriptor) None
 named_get objects fd low =
-    ap (λ (b : Bool). if b then None else table.flattened (slice_get objects (fd - table.first_descriptor))) (le-ltb fd table.first_descriptor low) ∙ flattened-get objects (fd - table.first_descriptor)
+    ap (λ (b : Bool). if b then None else table.flattened (slice_get objects (fd - table.first_descriptor)))
+    (le-ltb fd table.first_descriptor low)
+    ∙ flattened-get objects (fd - table.first_descriptor)
 
 -- a descriptor that has a shape names an open map
-shaped_is_map : (s : TenantState) (fd : ℕ) → length s.objects ≡ table.most → IsSome (shapes_named (targets s) fd) → IsDescriptor fd × (handle : ℕ) × (table.named s.objects fd ≡ Some (object.Map handle))
+shaped_is_map : (s : TenantState) (fd : ℕ)
+    → length s.objects ≡ table.most → IsSome (shapes_named (targets s) fd)
+    → IsDescriptor fd × (handle : ℕ) × (table.named s.objects fd ≡ Some (object.Map handle))
 shaped_is_map s fd long some = by_low (cases_lt fd table.first_descriptor)
   where
-    here : (o : Option OpenObject) → table.first_descriptor ≤ fd → get_or s.objects (fd - table.first_descriptor) None ≡ o → IsSome (shape_in (and_then o (object_target s))) → IsDescriptor fd × (handle : ℕ) × (table.named s.objects fd ≡ Some (object.Map handle))
+    here : (o : Option OpenObject)
+        → table.first_descriptor ≤ fd
+        → get_or s.objects (fd - table.first_descriptor) None ≡ o
+        → IsSome (shape_in (and_then o (object_target s)))
+        → IsDescriptor fd × (handle : ℕ) × (table.named s.objects fd ≡ Some (object.Map handle))
     here None low is some = absurd (true≢false (sym some))
     here (Some (object.Program l)) low is some = absurd (true≢false (sym some))
-    here (Some (object.Map handle)) low is some =
-        (record { low = low; high = let within = there_within s.objects (fd - table.first_descriptor) (there_is is) in omega (arith, long) }, handle, named_get s.objects fd low ∙ is)
+    here (Some (object.Map handle)) low is some = (
+      record {
+        low = low;
+        high = let within = there_within s.objects (fd - table.first_descriptor) (there_is is) in omega (arith, long);
+      },
+      handle,
+      named_get s.objects fd low ∙ is,
+    )
 
-    by_low : (fd < table.first_descriptor) ⊎ (table.first_descriptor ≤ fd) → IsDescriptor fd × (handle : ℕ) × (table.named s.objects fd ≡ Some (object.Map handle))
-    by_low (inl low) = absurd (true≢false (sym some ∙ ap (λ (o : Option Target). is_some (shape_in o)) (targets_below s table.first_descriptor fd s.objects low)))
+    by_low : (fd < table.first_descriptor) ⊎ (table.first_descriptor ≤ fd)
+        → IsDescriptor fd × (handle : ℕ) × (table.named s.objects fd ≡ Some (object.Map handle))
+    by_low (inl low) =
+        absurd (true≢false (sym some
+        ∙ ap (λ (o : Option Target). is_some (shape_in o)) (targets_below s table.first_descriptor fd s.objects low)))
     by_low (inr low) =
         here (get_or s.objects (fd - table.first_descriptor) None) low refl
-        (sym (ap (λ (o : Option Target). is_some (shape_in o)) (targets_at s table.first_descriptor fd s.objects (fd - table.first_descriptor) (omega arith))) ∙ some)
+        (sym (ap (λ (o : Option Target). is_some (shape_in o))
+        (targets_at s table.first_descriptor fd s.objects (fd - table.first_descriptor) (omega arith)))
+        ∙ some)
 
 abbrev bind : Option ℕ → ℕ → List (ℕ × ℕ) → List (ℕ × ℕ)
 bind None fd rest = rest
@@ -260,29 +371,44 @@ record AreBound (s : TenantState) (fds : List ℕ) (ms : List (ℕ × ℕ)) : Ty
   keys : keys_of ms ≡ fds
   opened : AreOpen (table.named s.objects) ms
 
-all_bound : (s : TenantState) → length s.objects ≡ table.most → (fds : List ℕ) → AllByRecursion (λ fd. IsSome (shapes_named (targets s) fd)) fds → AreBound s fds (handles_from s.objects fds)
+all_bound : (s : TenantState)
+    → length s.objects ≡ table.most
+    → (fds : List ℕ) → AllByRecursion (λ fd. IsSome (shapes_named (targets s) fd)) fds
+    → AreBound s fds (handles_from s.objects fds)
 unfolding handles_from
 all_bound s long [] h = record { keys = refl; opened = tt }
 all_bound s long (fd ∷ fds) h =
     let (descriptor, handle, there) = shaped_is_map s fd long h.0 in
     by descriptor handle there (all_bound s long fds h.1)
   where
-    by : IsDescriptor fd → (handle : ℕ) → table.named s.objects fd ≡ Some (object.Map handle) → AreBound s fds (handles_from s.objects fds) → AreBound s (fd ∷ fds) (bind (named_handle (table.named s.objects fd)) fd (handles_from s.objects fds))
+    by : IsDescriptor fd
+        → (handle : ℕ) → table.named s.objects fd ≡ Some (object.Map handle)
+        → AreBound s fds (handles_from s.objects fds)
+        → AreBound s (fd ∷ fds) (bind (named_handle (table.named s.objects fd)) fd (handles_from s.objects fds))
     by descriptor handle there rest =
-        subst (λ (o : Option OpenObject). AreBound s (fd ∷ fds) (bind (named_handle o) fd (handles_from s.objects fds))) (sym there)
+        subst (λ (o : Option OpenObject). AreBound s (fd ∷ fds) (bind (named_handle o) fd (handles_from s.objects fds)))
+        (sym there)
         (record { keys = ap (λ (ks : List ℕ). fd ∷ ks) rest.keys; opened = ((descriptor, there), rest.opened) })
 
 -- a program that is loaded is whole
-pub loaded_whole : LoadedMapsHaveShapes → (s : TenantState) → length s.objects ≡ table.most → (insns : List Insn) → IsProgram insns → IsAccepted insns (targets s) → IsWholeProgram s (loaded_program s insns)
+pub loaded_whole : LoadedMapsHaveShapes
+    → (s : TenantState) → length s.objects ≡ table.most
+    → (insns : List Insn) → IsProgram insns → IsAccepted insns (targets s)
+    → IsWholeProgram s (loaded_program s insns)
 loaded_whole law s long insns program accepted =
-    let is = all_bound s long (maps_of insns) (recursion_from_All (λ fd. IsSome (shapes_named (targets s) fd)) (maps_of insns) (law.named insns (targets s) accepted)) in
+    let is =
+    all_bound s long (maps_of insns)
+    (recursion_from_All (λ fd. IsSome (shapes_named (targets s) fd)) (maps_of insns)
+    (law.named insns (targets s) accepted)) in
     record {
       program = program;
       named = targets s;
       accepted = accepted;
       picked = refl;
       shaped = ap (λ (fds : List ℕ). entries_of fds (targets s)) (sym is.keys)
-          ∙ ap (λ (os : List (Option OpenObject)). entries_of (keys_of (handles_from s.objects (maps_of insns))) (targets_from s table.first_descriptor os)) (sym (table_of s.objects long))
+          ∙ ap (λ (os : List (Option OpenObject)).
+          entries_of (keys_of (handles_from s.objects (maps_of insns))) (targets_from s table.first_descriptor os))
+          (sym (table_of s.objects long))
           ∙ seen s s (table.named s.objects) (handles_from s.objects (maps_of insns)) is.opened (λ handle e. refl);
       bound = is.keys;
     }

@@ -19,17 +19,30 @@ key_limit Hash size e = leb-true size longest_key (and_parts (nat_le 1 size) (na
 
 pub limited : (shape : MapShape) → IsLimited shape
 limited shape =
-    let valid = (and_parts (is_valid shape.kind shape.key_size shape.value_size shape.max_entries 0) (fits shape.value_size shape.max_entries) shape.listed).0 in
-    let sizes = (and_parts (has_key shape.kind shape.key_size && is_from_to 1 longest_value shape.value_size && is_from_to 1 most_entries shape.max_entries) (0 == 0) valid).0 in
-    let sized = and_parts (has_key shape.kind shape.key_size && is_from_to 1 longest_value shape.value_size) (is_from_to 1 most_entries shape.max_entries) sizes in
+    let valid =
+    (and_parts (is_valid shape.kind shape.key_size shape.value_size shape.max_entries 0)
+    (fits shape.value_size shape.max_entries) shape.listed).0 in
+    let sizes =
+    (and_parts (has_key shape.kind shape.key_size
+    && is_from_to 1 longest_value shape.value_size
+    && is_from_to 1 most_entries shape.max_entries)
+    (0 == 0) valid).0 in
+    let sized =
+    and_parts (has_key shape.kind shape.key_size && is_from_to 1 longest_value shape.value_size)
+    (is_from_to 1 most_entries shape.max_entries) sizes in
     let key = and_parts (has_key shape.kind shape.key_size) (is_from_to 1 longest_value shape.value_size) sized.0 in
     record {
       kind = key.0;
       key = key_limit shape.kind shape.key_size key.0;
-      value = leb-true shape.value_size longest_value (and_parts (nat_le 1 shape.value_size) (nat_le shape.value_size longest_value) key.1).1;
-      entries = leb-true shape.max_entries most_entries (and_parts (nat_le 1 shape.max_entries) (nat_le shape.max_entries most_entries) sized.1).1;
+      value =
+          leb-true shape.value_size longest_value
+          (and_parts (nat_le 1 shape.value_size) (nat_le shape.value_size longest_value) key.1).1;
+      entries =
+          leb-true shape.max_entries most_entries
+          (and_parts (nat_le 1 shape.max_entries) (nat_le shape.max_entries most_entries) sized.1).1;
     }
 
 -- the keys of an array are words
 pub array_key : (shape : MapShape) → shape.kind ≡ Array → shape.key_size ≡ 4
-array_key shape e = eqb-true shape.key_size 4 (sym (ap (λ (k : MapKind). has_key k shape.key_size) e) ∙ (limited shape).kind)
+array_key shape e =
+    eqb-true shape.key_size 4 (sym (ap (λ (k : MapKind). has_key k shape.key_size) e) ∙ (limited shape).kind)

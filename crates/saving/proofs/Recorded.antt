@@ -29,7 +29,8 @@ use Rattle.saving.proofs.Births.{same_births}
 
 -- ---- whether a map is live does not depend on the bytes of a part
 
-live_in_each : (k : KeptTenant) (p q : List ℕ) (handle : ℕ) → IsSome (live (state_in p k) handle) → IsSome (live (state_in q k) handle)
+live_in_each : (k : KeptTenant) (p q : List ℕ) (handle : ℕ)
+    → IsSome (live (state_in p k) handle) → IsSome (live (state_in q k) handle)
 live_in_each k p q handle some = sym (some_at_each p q k.live handle) ∙ some
 
 held_in_each : (k : KeptTenant) (p q : List ℕ) → HoldsItsMaps (state_in p k) → HoldsItsMaps (state_in q k)
@@ -40,53 +41,81 @@ held_in_each k p q h = record {
   named_if_live = λ handle some. h.named_if_live handle (live_in_each k q p handle some);
 }
 
-births_in_each : (k : KeptTenant) (p q : List ℕ) (births : List Birth) → AreBirths (state_in p k) births → AreBirths (state_in q k) births
+births_in_each : (k : KeptTenant) (p q : List ℕ) (births : List Birth)
+    → AreBirths (state_in p k) births → AreBirths (state_in q k) births
 births_in_each k p q births are = same_births (state_in p k) (state_in q k) births refl (live_in_each k p q) are
 
-recorded_by : (k : KeptTenant) (births : List Birth) (p : List ℕ) → HoldsItsMaps (state_in p k) → AreBirths (state_in p k) births → IsRecorded (record { kept = k; births = births })
+recorded_by : (k : KeptTenant) (births : List Birth) (p : List ℕ)
+    → HoldsItsMaps (state_in p k) → AreBirths (state_in p k) births
+    → IsRecorded (record { kept = k; births = births })
 recorded_by k births p held are = λ q. (held_in_each k p q held, births_in_each k p q births are)
 
 -- ---- a new tenant, and each command
 
 module _ (maps : MapsAreHeld) (law : BirthsAreKept) where
-  pub recorded_new : (k : KeptTenant) (births : List Birth) → ((part : List ℕ) → state_in part k ≡ new_tenant) → births ≡ [] → IsRecorded (record { kept = k; births = births })
+  pub recorded_new : (k : KeptTenant) (births : List Birth)
+      → ((part : List ℕ) → state_in part k ≡ new_tenant)
+      → births ≡ []
+      → IsRecorded (record { kept = k; births = births })
   recorded_new k births new none = λ part. (
     subst HoldsItsMaps (sym (new part)) maps.new,
-    subst (λ (bs : List Birth). AreBirths (state_in part k) bs) (sym none) (subst (λ (s : TenantState). AreBirths s []) (sym (new part)) law.new),
+    subst (λ (bs : List Birth). AreBirths (state_in part k) bs) (sym none)
+        (subst (λ (s : TenantState). AreBirths s []) (sym (new part)) law.new),
   )
 
-  module _ (k : KeptTenant) (births : List Birth) (is : IsRecorded (record { kept = k; births = births })) (p : List ℕ) where
+  module _ (k : KeptTenant) (births : List Birth)
+      (is : IsRecorded (record { kept = k; births = births }))
+      (p : List ℕ) where
     -- after a command there are at most as many births as there is room for
-    pub few_after : (refused : Bool) (command : Command) (a : Answer) → Answers refused (state_in p k) command a → length (births_after command a births) ≤ most + most_maps
+    pub few_after : (refused : Bool) (command : Command) (a : Answer)
+        → Answers refused (state_in p k) command a
+        → length (births_after command a births) ≤ most + most_maps
     few_after refused command a answers =
         let (held, are) = is p in
-        law.few a.after (births_after command a births) (maps.kept refused (state_in p k) command a held answers) (law.kept refused (state_in p k) command a births held are answers)
+        law.few a.after (births_after command a births)
+        (maps.kept refused (state_in p k) command a held answers)
+        (law.kept refused (state_in p k) command a births held are answers)
 
-    pub recorded_after : {command : Command} {h : Head} {reply : List ℕ} (l : KeptTenant) (later : List Birth) (q : List ℕ) → AnswersCommand command h reply (state_in p k) (state_in q l) births later
+    pub recorded_after : {command : Command} {h : Head} {reply : List ℕ} (l : KeptTenant)
+        (later : List Birth) (q : List ℕ)
+        → AnswersCommand command h reply (state_in p k) (state_in q l) births later
         → IsRecorded (record { kept = l; births = later })
     recorded_after {command} l later q t =
         let (held, are) = is p in
         recorded_by l later q
         (subst HoldsItsMaps (sym t.left) (maps.kept t.refused (state_in p k) command t.answer held t.answers))
         (subst (λ (bs : List Birth). AreBirths (state_in q l) bs) (sym t.recorded)
-        (subst (λ (s : TenantState). AreBirths s (births_after command t.answer births)) (sym t.left) (law.kept t.refused (state_in p k) command t.answer births held are t.answers)))
+        (subst (λ (s : TenantState). AreBirths s (births_after command t.answer births))
+        (sym t.left)
+        (law.kept t.refused (state_in p k) command t.answer births held are t.answers)))
 
   -- ---- a list of test runs
 
-  runs_keep : (births : List Birth) (fd : ℕ) (s t : TenantState) (inputs : List BatchInput) (results : List ℕ) → HoldsItsMaps s → AreBirths s births → RunsInOrder fd s inputs results t
+  runs_keep : (births : List Birth) (fd : ℕ) (s t : TenantState) (inputs : List BatchInput)
+      (results : List ℕ)
+      → HoldsItsMaps s → AreBirths s births
+      → RunsInOrder fd s inputs results t
       → HoldsItsMaps t × AreBirths t births
   unfolding RunsInOrder
-  runs_keep births fd s t [] [] held are same = (subst HoldsItsMaps (sym same) held, subst (λ (u : TenantState). AreBirths u births) (sym same) are)
+  runs_keep births fd s t [] [] held are same = (
+    subst HoldsItsMaps (sym same) held,
+    subst (λ (u : TenantState). AreBirths u births) (sym same) are,
+  )
   runs_keep births fd s t [] (r ∷ rs) held are wrong = absurd wrong
   runs_keep births fd s t (input ∷ inputs) [] held are wrong = absurd wrong
   runs_keep births fd s t (input ∷ inputs) (r ∷ rs) held are (between, told, rest) =
       let command = prog_test_run fd input.words input.packet in
       let a = gives (little_bytes 4 r) between in
-      runs_keep births fd between t inputs rs (maps.kept false s command a held told) (law.kept false s command a births held are told) rest
+      runs_keep births fd between t inputs rs (maps.kept false s command a held told)
+      (law.kept false s command a births held are told) rest
 
   -- packets are run, or nothing is changed
-  pub recorded_runs : {U E : Type 0} (r : Result U E) (k l : KeptTenant) (births : List Birth) (p q : List ℕ) (fd : ℕ) (inputs : List BatchInput) (room written : List ℕ)
-      → IsRecorded (record { kept = k; births = births }) → OnOk r (RunsBatch fd (state_in p k) inputs room written (state_in q l)) → OnErr r (l ≡ k) → IsRecorded (record { kept = l; births = births })
+  pub recorded_runs : {U E : Type 0} (r : Result U E) (k l : KeptTenant) (births : List Birth)
+      (p q : List ℕ) (fd : ℕ) (inputs : List BatchInput) (room written : List ℕ)
+      → IsRecorded (record { kept = k; births = births })
+      → OnOk r (RunsBatch fd (state_in p k) inputs room written (state_in q l))
+      → OnErr r (l ≡ k)
+      → IsRecorded (record { kept = l; births = births })
   recorded_runs (Ok done) k l births p q fd inputs room written is runs same =
       let (held, are) = is p in
       let (t, after) = runs_keep births fd (state_in p k) (state_in q l) inputs runs.0 held are runs.1 in
@@ -114,7 +143,8 @@ no_birth Invalid s births = refl
 no_birth TooManyOpen s births = refl
 no_birth NoSpace s births = refl
 
-pub births_opened : (r : Result Reply Errno) (s : TenantState) (births : List Birth) → with_told r s.objects births ≡ with_opened (shown_answer r s).status (shown_answer r s).after births
+pub births_opened : (r : Result Reply Errno) (s : TenantState) (births : List Birth)
+    → with_told r s.objects births ≡ with_opened (shown_answer r s).status (shown_answer r s).after births
 births_opened (Ok reply.Done) s births = refl
 births_opened (Ok (reply.Opened fd)) s births = refl
 births_opened (Ok (reply.Value value)) s births = refl

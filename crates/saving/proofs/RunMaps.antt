@@ -85,66 +85,95 @@ abbrev StateHasSame : RunState → Option RunState → Type 0
 StateHasSame s None = Unit {0}
 StateHasSame s (Some t) = HasSame s t
 
-or_fault_same : {A : Type 0} (s : RunState) (o : Option A) (f : A → Step) → ((x : A) → StepHasSame s (f x)) → StepHasSame s (or_fault o f)
+or_fault_same : {A : Type 0} (s : RunState) (o : Option A) (f : A → Step)
+    → ((x : A) → StepHasSame s (f x)) → StepHasSame s (or_fault o f)
 or_fault_same s None f h = tt
 or_fault_same s (Some x) f h = h x
 
-then_same : {A : Type 0} (s : RunState) (o : Option A) (f : A → Option RunState) → ((x : A) → o ≡ Some x → StateHasSame s (f x)) → StateHasSame s (and_then o f)
+then_same : {A : Type 0} (s : RunState) (o : Option A) (f : A → Option RunState)
+    → ((x : A) → o ≡ Some x → StateHasSame s (f x)) → StateHasSame s (and_then o f)
 then_same s None f h = tt
 then_same s (Some x) f h = h x refl
 
-if_same : (s : RunState) (holds : Bool) (o : Option RunState) → StateHasSame s o → StateHasSame s (if holds then o else None)
+if_same : (s : RunState) (holds : Bool) (o : Option RunState)
+    → StateHasSame s o → StateHasSame s (if holds then o else None)
 if_same s true o h = h
 if_same s false o h = tt
 
-goes_same : (s : RunState) (o : Option RunState) (n : ℕ) → StateHasSame s o → StepHasSame s (or_fault o (λ t. goes (record t { at = t.at + n })))
+goes_same : (s : RunState) (o : Option RunState) (n : ℕ)
+    → StateHasSame s o → StepHasSame s (or_fault o (λ t. goes (record t { at = t.at + n })))
 goes_same s None n h = tt
 goes_same s (Some t) n h = h
 
 -- ---- stores
 
-set_same : (s : RunState) (m : ℕ) (old new : RunMap) → s.maps m ≡ Some old → IsLater old new → HasSame s (with_map s m new)
+set_same : (s : RunState) (m : ℕ) (old new : RunMap)
+    → s.maps m ≡ Some old → IsLater old new → HasSame s (with_map s m new)
 set_same s m old new there later k = by (cases_eq k m)
   where
     by : (k ≡ m) ⊎ (k ≡ m → ⊥) → IsSameMap (s.maps k) (if k == m then Some new else s.maps k)
     by (inl same) =
         subst (λ (b : Bool). IsSameMap (s.maps k) (if b then Some new else s.maps k)) (sym (eq-eqb k m same))
         (subst (λ (o : Option RunMap). IsSameMap o (Some new)) (sym (ap s.maps same ∙ there)) later)
-    by (inr other) = subst (λ (b : Bool). IsSameMap (s.maps k) (if b then Some new else s.maps k)) (sym (ne_eqb k m other)) (same_self (s.maps k))
+    by (inr other) =
+        subst (λ (b : Bool). IsSameMap (s.maps k) (if b then Some new else s.maps k))
+        (sym (ne_eqb k m other)) (same_self (s.maps k))
 
 -- a write in a value does not change its length
-written_long : (value : List ℕ) (y : ℤ) (bs after : List ℕ) → value_written value y bs ≡ Some after → length after ≡ length value
+written_long : (value : List ℕ) (y : ℤ) (bs after : List ℕ)
+    → value_written value y bs ≡ Some after → length after ≡ length value
 written_long value (pos y) bs after e = by (nat_le (y + length bs) (length value)) refl e
   where
-    by : (b : Bool) → nat_le (y + length bs) (length value) ≡ b → (if b then Some (written_at value y bs) else None) ≡ Some after → length after ≡ length value
-    by true fits e = ap length (sym (same_Some (written_at value y bs) after e)) ∙ length-written_at value bs y (leb-true (y + length bs) (length value) fits)
+    by : (b : Bool)
+        → nat_le (y + length bs) (length value) ≡ b
+        → (if b then Some (written_at value y bs) else None) ≡ Some after
+        → length after ≡ length value
+    by true fits e =
+        ap length (sym (same_Some (written_at value y bs) after e))
+        ∙ length-written_at value bs y (leb-true (y + length bs) (length value) fits)
     by false fits e = absurd (none-some after e)
 written_long value (negsuc y) bs after e = absurd (none-some after e)
 
-later_value : (t : RunMap) (number : ℕ) (value : List ℕ) → (IsWholeRunMap t → number < t.count → length value ≡ t.table.shape.value_size) → IsLater t (with_value t number value)
-later_value t number value size = record { shape = refl; whole = λ whole. record { table = whole.table; owns = whole.owns; sized = λ k lt. by whole k lt (cases_eq k number) } }
+later_value : (t : RunMap) (number : ℕ) (value : List ℕ)
+    → (IsWholeRunMap t → number < t.count → length value ≡ t.table.shape.value_size)
+    → IsLater t (with_value t number value)
+later_value t number value size = record {
+  shape = refl;
+  whole = λ whole. record { table = whole.table; owns = whole.owns; sized = λ k lt. by whole k lt (cases_eq k number) };
+}
   where
-    by : IsWholeRunMap t → (k : ℕ) → k < t.count → (k ≡ number) ⊎ (k ≡ number → ⊥) → length (if k == number then value else t.values k) ≡ t.table.shape.value_size
-    by whole k lt (inl same) = ap (λ (b : Bool). length (if b then value else t.values k)) (eq-eqb k number same) ∙ size whole (omega (arith, lt, same))
-    by whole k lt (inr other) = ap (λ (b : Bool). length (if b then value else t.values k)) (ne_eqb k number other) ∙ whole.sized k lt
+    by : IsWholeRunMap t
+        → (k : ℕ) → k < t.count → (k ≡ number) ⊎ (k ≡ number → ⊥)
+        → length (if k == number then value else t.values k) ≡ t.table.shape.value_size
+    by whole k lt (inl same) =
+        ap (λ (b : Bool). length (if b then value else t.values k)) (eq-eqb k number same)
+        ∙ size whole (omega (arith, lt, same))
+    by whole k lt (inr other) =
+        ap (λ (b : Bool). length (if b then value else t.values k)) (ne_eqb k number other) ∙ whole.sized k lt
 
 object_same : (s : RunState) (m number : ℕ) (y : ℤ) (bs : List ℕ) → StateHasSame s (object_written s m number y bs)
 object_same s m number y bs =
-    then_same s (s.maps m) _ (λ t there. then_same s (value_written (t.values number) y bs) _ (λ value written. set_same s m t (with_value t number value) there
-    (later_value t number value (λ whole lt. written_long (t.values number) y bs value written ∙ whole.sized number lt))))
+    then_same s (s.maps m) _ (λ t there. then_same s (value_written (t.values number) y bs) _
+    (λ value written. set_same s m t (with_value t number value) there
+    (later_value t number value
+    (λ whole lt. written_long (t.values number) y bs value written ∙ whole.sized number lt))))
 
 cell_same : (s : RunState) (i : ℕ) (c : Cell) → StateHasSame s (Some (with_cell s i c))
 cell_same s i c m = same_self (s.maps m)
 
 stack_same : (s : RunState) (y : ℤ) (size : AccessSize) (v : Tagged) → StateHasSame s (stack_store s y size v)
-stack_same s y size v = then_same s (access_start y size) _ (λ p _. then_same s (write_cell (s.cells (p / 8)) (p % 8) size v) _ (λ c _. cell_same s (p / 8) c))
+stack_same s y size v =
+    then_same s (access_start y size) _
+    (λ p _. then_same s (write_cell (s.cells (p / 8)) (p % 8) size v) _ (λ c _. cell_same s (p / 8) c))
 
-stored_same : (s : RunState) (size : AccessSize) (m number : ℕ) (y : ℤ) (v : Tagged) → StateHasSame s (object_stored s size m number y v)
+stored_same : (s : RunState) (size : AccessSize) (m number : ℕ) (y : ℤ) (v : Tagged)
+    → StateHasSame s (object_stored s size m number y v)
 stored_same s size m number y (Scalar n) = object_same s m number y (low_bytes (bytes_of size) n)
 stored_same s size m number y (Map k) = tt
 stored_same s size m number y (Pointer o x) = tt
 
-store_same : (s : RunState) (size : AccessSize) (p : Tagged) (off : ℤ) (v : Tagged) → StateHasSame s (store s size p off v)
+store_same : (s : RunState) (size : AccessSize) (p : Tagged) (off : ℤ) (v : Tagged)
+    → StateHasSame s (store s size p off v)
 store_same s size (Scalar n) off v = tt
 store_same s size (Map m) off v = tt
 store_same s size (Pointer object.Stack x) off v = stack_same s (x +ℤ off) size v
@@ -154,31 +183,53 @@ store_same s size (Pointer (object.Value m number) x) off v = stored_same s size
 -- ---- calls
 
 -- an update, and a deletion
-later_put : (t : RunMap) (key value : List ℕ) (flags : ℕ) (v : Verdict ℕ) → verdict t.table key flags ≡ v → length key ≡ t.table.shape.key_size → length value ≡ t.table.shape.value_size → IsLater t (put t key value v).map
+later_put : (t : RunMap) (key value : List ℕ) (flags : ℕ) (v : Verdict ℕ)
+    → verdict t.table key flags ≡ v → length key ≡ t.table.shape.key_size
+    → length value ≡ t.table.shape.value_size
+    → IsLater t (put t key value v).map
 later_put t key value flags (Refused fault) is key_size value_size = later_self t
-later_put t key value flags (Present number) is key_size value_size = later_value t number value (λ whole lt. value_size)
+later_put t key value flags (Present number) is key_size value_size =
+    later_value t number value (λ whole lt. value_size)
 later_put t key value flags New is key_size value_size = record {
   shape = refl;
   whole = λ whole. record {
     table = whole_with_new whole.table key t.count flags key_size is;
-    owns = owns_with (t.count + 1) key t.count t.table.entries (omega arith) (owns_more t.count (t.count + 1) t.table.entries (omega arith) whole.owns);
+    owns =
+        owns_with (t.count + 1) key t.count t.table.entries (omega arith)
+        (owns_more t.count (t.count + 1) t.table.entries (omega arith) whole.owns);
     sized = λ k lt. by whole k lt (cases_eq k t.count);
   };
 }
   where
-    by : IsWholeRunMap t → (k : ℕ) → k < t.count + 1 → (k ≡ t.count) ⊎ (k ≡ t.count → ⊥) → length (if k == t.count then value else t.values k) ≡ t.table.shape.value_size
-    by whole k lt (inl same) = ap (λ (b : Bool). length (if b then value else t.values k)) (eq-eqb k t.count same) ∙ value_size
-    by whole k lt (inr other) = ap (λ (b : Bool). length (if b then value else t.values k)) (ne_eqb k t.count other) ∙ whole.sized k (omega (arith, lt, other))
+    by : IsWholeRunMap t
+        → (k : ℕ) → k < t.count + 1 → (k ≡ t.count) ⊎ (k ≡ t.count → ⊥)
+        → length (if k == t.count then value else t.values k) ≡ t.table.shape.value_size
+    by whole k lt (inl same) =
+        ap (λ (b : Bool). length (if b then value else t.values k)) (eq-eqb k t.count same) ∙ value_size
+    by whole k lt (inr other) =
+        ap (λ (b : Bool). length (if b then value else t.values k)) (ne_eqb k t.count other)
+        ∙ whole.sized k (omega (arith, lt, other))
 
-later_taken : (t : RunMap) (key : List ℕ) (r : Result ℕ MapFault) → removal t.table key ≡ r → IsLater t (taken_out t key r).map
+later_taken : (t : RunMap) (key : List ℕ) (r : Result ℕ MapFault)
+    → removal t.table key ≡ r → IsLater t (taken_out t key r).map
 later_taken t key (Err fault) is = later_self t
-later_taken t key (Ok number) is = record { shape = refl; whole = λ whole. record { table = whole_with_deleted whole.table key number is; owns = owns_without t.count key t.table.entries whole.owns; sized = whole.sized } }
+later_taken t key (Ok number) is = record {
+  shape = refl;
+  whole = λ whole.
+      record {
+        table = whole_with_deleted whole.table key number is;
+        owns = owns_without t.count key t.table.entries whole.owns;
+        sized = whole.sized;
+      };
+}
 
 -- whichever helper is called
 later_called : (t : RunMap) {u : RunMap} → MapAfterCall t u → IsLater t u
 later_called t unchanged = later_self t
-later_called t (written number y bs value is) = later_value t number value (λ whole lt. written_long (t.values number) y bs value is ∙ whole.sized number lt)
-later_called t (after_update key value flags key_size value_size) = later_put t key value flags (verdict t.table key flags) refl key_size value_size
+later_called t (written number y bs value is) =
+    later_value t number value (λ whole lt. written_long (t.values number) y bs value is ∙ whole.sized number lt)
+later_called t (after_update key value flags key_size value_size) =
+    later_put t key value flags (verdict t.table key flags) refl key_size value_size
 later_called t (after_delete key) = later_taken t key (removal t.table key) refl
 
 entry_called : (o p : Option RunMap) → EntryAfterCall o p → IsSameMap o p
@@ -212,29 +263,49 @@ ended_same s (Scalar n) = tt
 ended_same s (Map m) = tt
 ended_same s (Pointer o x) = tt
 
-changed_same : (s : RunState) (size : AtomicSize) (op : AtomicOp) (p : Tagged) (off : ℤ) (v : Tagged) → StateHasSame s (changed s size op p off v)
+changed_same : (s : RunState) (size : AtomicSize) (op : AtomicOp) (p : Tagged) (off : ℤ) (v : Tagged)
+    → StateHasSame s (changed s size op p off v)
 changed_same s size op p off v =
     if_same s (is_aligned_at (access_size size) p off) _
-    (then_same s (load s (access_size size) false p off) _ (λ old _. then_same s (of_numbers (is_wide_atomic size) (atomic_operator op) old v) _ (λ new _. store_same s (access_size size) p off new)))
+    (then_same s (load s (access_size size) false p off) _
+    (λ old _.
+    then_same s
+    (of_numbers (is_wide_atomic size) (atomic_operator op) old v)
+    _
+    (λ new _. store_same s (access_size size) p off new)))
 
 accessed_same : (s : RunState) (what : Access) (p : Tagged) (off : ℤ) → StepHasSame s (accessed s what p off)
 accessed_same s (loads size signed dst) p off = assigned_same s 1 dst _
-accessed_same s (stores size src) p off = or_fault_same s (operand_value s true src) _ (λ v. goes_same s (store s size p off v) 1 (store_same s size p off v))
-accessed_same s (changes size op src) p off = or_fault_same s (s.registers src) _ (λ v. goes_same s (changed s size op p off v) 1 (changed_same s size op p off v))
+accessed_same s (stores size src) p off =
+    or_fault_same s (operand_value s true src) _ (λ v. goes_same s (store s size p off v) 1 (store_same s size p off v))
+accessed_same s (changes size op src) p off =
+    or_fault_same s (s.registers src) _
+    (λ v. goes_same s (changed s size op p off v) 1 (changed_same s size op p off v))
 
 wide_same : (s : RunState) (dst : ℕ) (value : WideValue) → StepHasSame s (loaded_wide s dst value)
 wide_same s dst (immediate n) = λ m. same_self (s.maps m)
 wide_same s dst (map_ref m) = or_fault_same s (s.maps m) _ (λ t. assigned_same s 2 dst (Some (Map m)))
-wide_same s dst (value_ref m off) = or_fault_same s (s.maps m) _ (λ t. or_fault_same s (direct_object t.table off) _ (λ number. assigned_same s 2 dst (Some (Pointer (object.Value m number) (pos off)))))
+wide_same s dst (value_ref m off) =
+    or_fault_same s (s.maps m) _
+    (λ t.
+    or_fault_same s (direct_object t.table off) _
+    (λ number. assigned_same s 2 dst (Some (Pointer (object.Value m number) (pos off)))))
 
 act_same : (v : View) (s : RunState) → StepHasSame s (act_of v s)
-act_same (binary wide op dst src) s = or_fault_same s (first_operand op (s.registers dst)) _ (λ a. or_fault_same s (operand_value s wide src) _ (λ b. assigned_same s 1 dst _))
+act_same (binary wide op dst src) s =
+    or_fault_same s (first_operand op (s.registers dst)) _
+    (λ a. or_fault_same s (operand_value s wide src) _ (λ b. assigned_same s 1 dst _))
 act_same (unary wide op dst src) s = or_fault_same s (s.registers src) _ (λ a. assigned_same s 1 dst _)
 act_same (jump off) s = jumped_same s off
-act_same (branch wide cond dst src off) s = or_fault_same s (s.registers dst) _ (λ a. or_fault_same s (operand_value s wide src) _ (λ b. or_fault_same s (compared wide cond src a b) _ (branched_same s off)))
+act_same (branch wide cond dst src off) s =
+    or_fault_same s (s.registers dst) _
+    (λ a.
+    or_fault_same s (operand_value s wide src) _
+    (λ b. or_fault_same s (compared wide cond src a b) _ (branched_same s off)))
 act_same (access what base off) s = or_fault_same s (s.registers base) _ (λ p. accessed_same s what p off)
 act_same (wide_load dst value) s = wide_same s dst value
-act_same (call id) s = or_fault_same s (helper_of id) _ (λ h. goes_same s (called h s) 1 (called_same s (called h s) (call_leaves h s)))
+act_same (call id) s =
+    or_fault_same s (helper_of id) _ (λ h. goes_same s (called h s) 1 (called_same s (called h s) (call_leaves h s)))
 act_same exit s = or_fault_same s (s.registers 0) _ (ended_same s)
 
 step_same : (code : List Insn) (s : RunState) → StepHasSame s (step code s)
@@ -242,7 +313,9 @@ step_same code s = or_fault_same s (begins_at code s.at) _ (λ i. act_same (view
 
 -- ---- runs
 
-ending_same : (s : RunState) (x : Step) (f : RunState → Ending) → StepHasSame s x → ((t : RunState) → HasSame t (f t).state) → HasSame s (ending_after x s f).state
+ending_same : (s : RunState) (x : Step) (f : RunState → Ending)
+    → StepHasSame s x → ((t : RunState) → HasSame t (f t).state)
+    → HasSame s (ending_after x s f).state
 ending_same s (goes t) f h each m = same_then (s.maps m) (t.maps m) ((f t).state.maps m) (h m) (each t m)
 ending_same s (ends n) f h each m = same_self (s.maps m)
 ending_same s faults f h each m = same_self (s.maps m)
@@ -273,9 +346,14 @@ numbered_keys n (e ∷ es) = ap (λ (ks : List (List ℕ)). e.0 ∷ ks) (numbere
 numbered_owns : {A : Type 0} (n : ℕ) (es : List (List ℕ × A)) → KeysHaveObjects (n + length es) (numbered n es)
 unfolding numbered
 numbered_owns n [] = tt
-numbered_owns n (e ∷ es) = (omega arith, owns_more (n + 1 + length es) (n + suc (length es)) (numbered (n + 1) es) (omega arith) (numbered_owns (n + 1) es))
+numbered_owns n (e ∷ es) = (
+  omega arith,
+  owns_more (n + 1 + length es) (n + suc (length es)) (numbered (n + 1) es) (omega arith) (numbered_owns (n + 1) es),
+)
 
-values_sized : (size : ℕ) (es : List (List ℕ × List ℕ)) (number : ℕ) → AllByRecursion (λ e. length e.1 ≡ size) es → number < length es → length (slice_index_or (values_of es) number []) ≡ size
+values_sized : (size : ℕ) (es : List (List ℕ × List ℕ)) (number : ℕ)
+    → AllByRecursion (λ e. length e.1 ≡ size) es → number < length es
+    → length (slice_index_or (values_of es) number []) ≡ size
 values_sized size [] number h lt = absurd (omega arith)
 values_sized size (e ∷ es) zero h lt = h.0
 values_sized size (e ∷ es) (suc number) h lt = values_sized size es number h.1 (omega arith)
@@ -283,7 +361,10 @@ values_sized size (e ∷ es) (suc number) h lt = values_sized size es number h.1
 begins_whole : (t : Table (List ℕ)) → IsWholeMap t → IsWholeRunMap (first_map t)
 begins_whole t whole = record {
   table = whole_by_keys whole.table (numbered 0 t.entries) (numbered_keys 0 t.entries);
-  owns = subst (λ (n : ℕ). KeysHaveObjects n (numbered 0 t.entries)) (let e : 0 + length t.entries ≡ length t.entries = omega arith in e) (numbered_owns 0 t.entries);
+  owns =
+      subst (λ (n : ℕ). KeysHaveObjects n (numbered 0 t.entries))
+      (let e : 0 + length t.entries ≡ length t.entries = omega arith in e)
+      (numbered_owns 0 t.entries);
   sized = λ number lt. values_sized t.shape.value_size t.entries number whole.values lt;
 }
 
@@ -291,29 +372,40 @@ with_keys : (values : ℕ → List ℕ) (es : List (List ℕ × ℕ)) → keys_o
 with_keys values [] = refl
 with_keys values (e ∷ es) = ap (λ (ks : List (List ℕ)). e.0 ∷ ks) (with_keys values es)
 
-with_sized : (size count : ℕ) (values : ℕ → List ℕ) (es : List (List ℕ × ℕ)) → KeysHaveObjects count es → ((number : ℕ) → number < count → length (values number) ≡ size) → AllByRecursion (λ (e : List ℕ × List ℕ). length e.1 ≡ size) (map (λ e. (e.0, values e.1)) es)
+with_sized : (size count : ℕ) (values : ℕ → List ℕ) (es : List (List ℕ × ℕ))
+    → KeysHaveObjects count es
+    → ((number : ℕ) → number < count → length (values number) ≡ size)
+    → AllByRecursion (λ (e : List ℕ × List ℕ). length e.1 ≡ size) (map (λ e. (e.0, values e.1)) es)
 with_sized size count values [] owns h = tt
 with_sized size count values (e ∷ es) owns h = (h e.1 owns.0, with_sized size count values es owns.1 h)
 
 ends_whole : (t : RunMap) → IsWholeRunMap t → IsWholeMap (last_map t)
 ends_whole t whole = record {
-  table = whole_after_run (whole_by_keys whole.table (map (λ e. (e.0, t.values e.1)) t.table.entries) (with_keys t.values t.table.entries));
+  table =
+      whole_after_run (whole_by_keys whole.table (map (λ e. (e.0, t.values e.1)) t.table.entries)
+      (with_keys t.values t.table.entries));
   values = with_sized t.table.shape.value_size t.count t.values t.table.entries whole.owns whole.sized;
   ended = refl;
 }
 
-pub leaves_maps : (code : List Insn) (maps : MapsByDescriptor) (words packet : List ℕ) (m : ℕ) → LeavesMap (maps m) (left_of code maps words packet m)
-leaves_maps code maps words packet m = by (maps m) ((run_with code maps words packet).state.maps m) (run_same code (slot_count code) (start_of_run maps words packet) m)
+pub leaves_maps : (code : List Insn) (maps : MapsByDescriptor) (words packet : List ℕ) (m : ℕ)
+    → LeavesMap (maps m) (left_of code maps words packet m)
+leaves_maps code maps words packet m =
+    by (maps m) ((run_with code maps words packet).state.maps m)
+    (run_same code (slot_count code) (start_of_run maps words packet) m)
   where
-    by : (o : Option (Table (List ℕ))) (p : Option RunMap) → IsSameMap (option_map first_map o) p → LeavesMap o (option_map last_map p)
+    by : (o : Option (Table (List ℕ))) (p : Option RunMap)
+        → IsSameMap (option_map first_map o) p → LeavesMap o (option_map last_map p)
     by None None h = tt
     by None (Some u) h = h
     by (Some t) None h = h
     by (Some t) (Some u) h = record { shape = h.shape; whole = λ whole. ends_whole u (h.whole (begins_whole t whole)) }
 
 -- the run leaves a map if and only if it was given one
-pub left_same : (code : List Insn) (maps : MapsByDescriptor) (words packet : List ℕ) (m : ℕ) → is_some (left_of code maps words packet m) ≡ is_some (maps m)
-left_same code maps words packet m = by (maps m) (left_of code maps words packet m) (leaves_maps code maps words packet m)
+pub left_same : (code : List Insn) (maps : MapsByDescriptor) (words packet : List ℕ) (m : ℕ)
+    → is_some (left_of code maps words packet m) ≡ is_some (maps m)
+left_same code maps words packet m =
+    by (maps m) (left_of code maps words packet m) (leaves_maps code maps words packet m)
   where
     by : (o p : Option (Table (List ℕ))) → LeavesMap o p → is_some p ≡ is_some o
     by None None h = refl

@@ -25,13 +25,16 @@ born_in_order : (s : TenantState) (births : List Birth) → born s births ≡ fl
 born_in_order s [] = refl
 born_in_order s (b ∷ older) =
     ap (λ (cs : List Command). cs ++ birth_commands s b) (born_in_order s older)
-    ∙ ap (λ (cs : List Command). flat_map (birth_commands s) (reverse older) ++ cs) (sym (append-nil (birth_commands s b)))
+    ∙ ap (λ (cs : List Command). flat_map (birth_commands s) (reverse older) ++ cs)
+    (sym (append-nil (birth_commands s b)))
     ∙ sym (flat_map-append (birth_commands s) (reverse older) (b ∷ []))
     ∙ ap (flat_map (birth_commands s)) (sym (reverse-append (b ∷ []) older))
 
-collected : {A B : Type 0} (f : A → List B) (xs : List A) (last : List B) → flat_map (λ (part : List B). part) (map f xs ++ last ∷ []) ≡ flat_map f xs ++ last
+collected : {A B : Type 0} (f : A → List B) (xs : List A) (last : List B)
+    → flat_map (λ (part : List B). part) (map f xs ++ last ∷ []) ≡ flat_map f xs ++ last
 collected f [] last = append-nil last
-collected {A} {B} f (x ∷ xs) last = ap (λ (ys : List B). f x ++ ys) (collected f xs last) ∙ sym (append_assoc (f x) (flat_map f xs) last)
+collected {A} {B} f (x ∷ xs) last =
+    ap (λ (ys : List B). f x ++ ys) (collected f xs last) ∙ sym (append_assoc (f x) (flat_map f xs) last)
 
 pub parts_are_whole : PartsAreWhole
 parts_are_whole s births =
@@ -41,52 +44,70 @@ parts_are_whole s births =
 
 -- ---- a part by its index
 
-there : {A B : Type 0} (f : A → B) (xs : List A) (last : B) (i : ℕ) (x : A) → slice_get xs i ≡ Some x → slice_get (map f xs ++ last ∷ []) i ≡ Some (f x)
+there : {A B : Type 0} (f : A → B) (xs : List A) (last : B) (i : ℕ) (x : A)
+    → slice_get xs i ≡ Some x → slice_get (map f xs ++ last ∷ []) i ≡ Some (f x)
 there f [] last i x e = absurd (none-some x e)
 there {A} {B} f (y ∷ xs) last zero x e = ap (λ (z : A). let o : Option B = Some (f z) in o) (same_Some y x e)
 there f (y ∷ xs) last (suc i) x e = there f xs last i x e
 
-at_end : {A B : Type 0} (f : A → B) (xs : List A) (last : B) (i : ℕ) → i ≡ length xs → slice_get (map f xs ++ last ∷ []) i ≡ Some last
+at_end : {A B : Type 0} (f : A → B) (xs : List A) (last : B) (i : ℕ)
+    → i ≡ length xs → slice_get (map f xs ++ last ∷ []) i ≡ Some last
 at_end f [] last zero e = refl
 at_end f [] last (suc i) e = let wrong : suc i ≡ 0 = e in absurd (omega arith)
 at_end f (y ∷ xs) last zero e = let wrong : 0 ≡ suc (length xs) = e in absurd (omega arith)
 at_end f (y ∷ xs) last (suc i) e = let more : suc i ≡ suc (length xs) = e in at_end f xs last i (omega arith)
 
-past_end : {A B : Type 0} (f : A → B) (xs : List A) (last : B) (i : ℕ) → slice_get xs i ≡ None → i ≢ length xs → slice_get (map f xs ++ last ∷ []) i ≡ None
+past_end : {A B : Type 0} (f : A → B) (xs : List A) (last : B) (i : ℕ)
+    → slice_get xs i ≡ None → i ≢ length xs
+    → slice_get (map f xs ++ last ∷ []) i ≡ None
 past_end f [] last zero e other = absurd (other refl)
 past_end f [] last (suc i) e other = refl
 past_end f (y ∷ xs) last zero e other = absurd (none-some y (sym e))
 past_end f (y ∷ xs) last (suc i) e other = past_end f xs last i e (λ same. other (ap suc same))
 
 module _ (s : TenantState) (births : List Birth) where
-  pub part_of_birth : (i : ℕ) (b : Birth) → i ≢ 0 → slice_get (reverse births) (i - 1) ≡ Some b → slice_get (parts s births) i ≡ Some (birth_commands s b)
+  pub part_of_birth : (i : ℕ) (b : Birth)
+      → i ≢ 0
+      → slice_get (reverse births) (i - 1) ≡ Some b
+      → slice_get (parts s births) i ≡ Some (birth_commands s b)
   part_of_birth zero b other e = absurd (other refl)
   part_of_birth (suc i) b other e =
       let less : suc i - 1 ≡ i = omega arith in
-      there (birth_commands s) (reverse births) (closings s.objects first_descriptor most) i b (ap (slice_get (reverse births)) (sym less) ∙ e)
+      there (birth_commands s) (reverse births) (closings s.objects first_descriptor most) i b
+      (ap (slice_get (reverse births)) (sym less) ∙ e)
 
-  pub part_of_rest : (i : ℕ) → i ≢ 0 → i - 1 ≡ length births → slice_get (parts s births) i ≡ Some (closings s.objects first_descriptor most)
+  pub part_of_rest : (i : ℕ)
+      → i ≢ 0 → i - 1 ≡ length births
+      → slice_get (parts s births) i ≡ Some (closings s.objects first_descriptor most)
   part_of_rest zero other e = absurd (other refl)
   part_of_rest (suc i) other e =
       let same : i ≡ length (reverse births) = omega (arith, e, length-reverse births) in
       at_end (birth_commands s) (reverse births) (closings s.objects first_descriptor most) i same
 
-  pub no_part : (i : ℕ) → i ≢ 0 → slice_get (reverse births) (i - 1) ≡ None → i - 1 ≢ length births → slice_get (parts s births) i ≡ None
+  pub no_part : (i : ℕ)
+      → i ≢ 0 → slice_get (reverse births) (i - 1) ≡ None
+      → i - 1 ≢ length births
+      → slice_get (parts s births) i ≡ None
   no_part zero other e far = absurd (other refl)
   no_part (suc i) other e far =
       let less : suc i - 1 ≡ i = omega arith in
-      past_end (birth_commands s) (reverse births) (closings s.objects first_descriptor most) i (ap (slice_get (reverse births)) (sym less) ∙ e)
+      past_end (birth_commands s) (reverse births) (closings s.objects first_descriptor most) i
+      (ap (slice_get (reverse births)) (sym less) ∙ e)
       (λ same. far (omega (arith, same, length-reverse births)))
 
 -- ---- frames
 
 -- the frames after one more frame
-pub then_more : {A : Type 0} (old : List A) {mid new : List A} (frame rest : List A) → mid ≡ old ++ frame → new ≡ mid ++ rest → new ≡ old ++ (frame ++ rest)
+pub then_more : {A : Type 0} (old : List A) {mid new : List A} (frame rest : List A)
+    → mid ≡ old ++ frame → new ≡ mid ++ rest → new ≡ old ++ (frame ++ rest)
 then_more {A} old frame rest one more = more ∙ ap (λ (xs : List A). xs ++ rest) one ∙ append_assoc old frame rest
 
 -- a frame that is written is no longer left
-pub one_less : {A : Type 0} (before : List A) {all after : List A} (frame rest : List A) → before ++ (frame ++ rest) ≡ all → after ≡ before ++ frame → after ++ rest ≡ all
-one_less {A} before frame rest left written = ap (λ (xs : List A). xs ++ rest) written ∙ append_assoc before frame rest ∙ left
+pub one_less : {A : Type 0} (before : List A) {all after : List A} (frame rest : List A)
+    → before ++ (frame ++ rest) ≡ all → after ≡ before ++ frame
+    → after ++ rest ≡ all
+one_less {A} before frame rest left written =
+    ap (λ (xs : List A). xs ++ rest) written ∙ append_assoc before frame rest ∙ left
 
 pub nothing_left : {A : Type 0} {all now : List A} (rest : List A) → now ++ rest ≡ all → rest ≡ [] → now ≡ all
 nothing_left {A} {all} {now} rest left none = sym (append-nil now) ∙ ap (λ (xs : List A). now ++ xs) (sym none) ∙ left
@@ -108,7 +129,9 @@ filled_none n i le = let e : n - i ≡ 0 = omega arith in ap filled e
 
 -- ---- the closings
 
-pub closings_next : (objects : List (Option OpenObject)) (fd n : ℕ) → 0 < n → closings objects fd n ≡ closing fd (named objects fd) ++ closings objects (fd + 1) (n - 1)
+pub closings_next : (objects : List (Option OpenObject)) (fd n : ℕ)
+    → 0 < n
+    → closings objects fd n ≡ closing fd (named objects fd) ++ closings objects (fd + 1) (n - 1)
 unfolding closings
 closings_next objects fd n lt = let e : n ≡ suc (n - 1) = omega arith in ap (closings objects fd) e
 
@@ -134,7 +157,8 @@ self p q e = eq-eqb q p (sym e)
 
 module _ {K : Type 0} where
   -- the next entry is the first of them
-  pub first_of_rest : (element : Option ℕ) (es : List (K × ℕ)) → next_entry element es ≡ first_entry (rest_after element es)
+  pub first_of_rest : (element : Option ℕ) (es : List (K × ℕ))
+      → next_entry element es ≡ first_entry (rest_after element es)
   first_of_rest None es = refl
   first_of_rest (Some p) es = behind p es
     where
@@ -142,7 +166,9 @@ module _ {K : Type 0} where
       behind p [] = refl
       behind p (e ∷ es) = by (nat_eq p e.1) (behind p es)
         where
-          by : (b : Bool) → entry_behind p es ≡ first_entry (rest_behind p es) → (if b then first_entry es else entry_behind p es) ≡ first_entry (if b then es else rest_behind p es)
+          by : (b : Bool)
+              → entry_behind p es ≡ first_entry (rest_behind p es)
+              → (if b then first_entry es else entry_behind p es) ≡ first_entry (if b then es else rest_behind p es)
           by true r = refl
           by false r = r
 
@@ -161,7 +187,8 @@ module _ {K : Type 0} where
   later_once x es once p = fewer (nat_eq p x.1) (occurrences p (values_of es)) (once p)
 
   -- a later entry has another element than the first
-  head_other : (x : K × ℕ) (es : List (K × ℕ)) (p : ℕ) → AreOnce (x ∷ es) → 1 ≤ occurrences p (values_of es) → nat_eq p x.1 ≡ false
+  head_other : (x : K × ℕ) (es : List (K × ℕ)) (p : ℕ)
+      → AreOnce (x ∷ es) → 1 ≤ occurrences p (values_of es) → nat_eq p x.1 ≡ false
   head_other x es p once some = by (nat_eq p x.1) refl (once p)
     where
       by : (b : Bool) → nat_eq p x.1 ≡ b → (if b then 1 else 0) + occurrences p (values_of es) ≤ 1 → b ≡ false
@@ -170,13 +197,21 @@ module _ {K : Type 0} where
 
   first_seen : (e : K × ℕ) (es : List (K × ℕ)) → first_entry es ≡ Some e → 1 ≤ occurrences e.1 (values_of es)
   first_seen e [] is = absurd (none-some e is)
-  first_seen e (x ∷ es) is = seen e.1 x.1 (occurrences e.1 (values_of es)) (ap (λ (y : K × ℕ). y.1) (sym (same_Some x e is)))
+  first_seen e (x ∷ es) is =
+      seen e.1 x.1 (occurrences e.1 (values_of es)) (ap (λ (y : K × ℕ). y.1) (sym (same_Some x e is)))
 
-  behind_seen : (p : ℕ) (e : K × ℕ) (es : List (K × ℕ)) → entry_behind p es ≡ Some e → 1 ≤ occurrences e.1 (values_of es)
+  behind_seen : (p : ℕ) (e : K × ℕ) (es : List (K × ℕ))
+      → entry_behind p es ≡ Some e → 1 ≤ occurrences e.1 (values_of es)
   behind_seen p e [] is = absurd (none-some e is)
-  behind_seen p e (x ∷ es) is = seen_later (nat_eq e.1 x.1) (occurrences e.1 (values_of es)) (by (nat_eq p x.1) is (first_seen e es) (behind_seen p e es))
+  behind_seen p e (x ∷ es) is =
+      seen_later (nat_eq e.1 x.1) (occurrences e.1 (values_of es))
+      (by (nat_eq p x.1) is (first_seen e es) (behind_seen p e es))
     where
-      by : (b : Bool) → (if b then first_entry es else entry_behind p es) ≡ Some e → (first_entry es ≡ Some e → 1 ≤ occurrences e.1 (values_of es)) → (entry_behind p es ≡ Some e → 1 ≤ occurrences e.1 (values_of es)) → 1 ≤ occurrences e.1 (values_of es)
+      by : (b : Bool)
+          → (if b then first_entry es else entry_behind p es) ≡ Some e
+          → (first_entry es ≡ Some e → 1 ≤ occurrences e.1 (values_of es))
+          → (entry_behind p es ≡ Some e → 1 ≤ occurrences e.1 (values_of es))
+          → 1 ≤ occurrences e.1 (values_of es)
       by true is f r = f is
       by false is f r = r is
 
@@ -190,19 +225,26 @@ module _ {K : Type 0} where
       let hit : nat_eq e.1 x.1 ≡ true = self x.1 e.1 (ap (λ (y : K × ℕ). y.1) same) in
       ap (λ (y : K × ℕ). y ∷ es) same ∙ ap (λ (b : Bool). e ∷ (if b then es else rest_behind e.1 es)) (sym hit)
 
-  rest_of_behind : (p : ℕ) (e : K × ℕ) (es : List (K × ℕ)) → AreOnce es → entry_behind p es ≡ Some e → rest_behind p es ≡ e ∷ rest_behind e.1 es
+  rest_of_behind : (p : ℕ) (e : K × ℕ) (es : List (K × ℕ))
+      → AreOnce es → entry_behind p es ≡ Some e
+      → rest_behind p es ≡ e ∷ rest_behind e.1 es
   rest_of_behind p e [] once is = absurd (none-some e is)
   rest_of_behind p e (x ∷ es) once is = by (nat_eq p x.1) is (rest_of_behind p e es (later_once x es once))
     where
       other : 1 ≤ occurrences e.1 (values_of es) → rest_behind e.1 (x ∷ es) ≡ rest_behind e.1 es
       other some = skip e.1 x es (head_other x es e.1 once some)
 
-      by : (b : Bool) → (if b then first_entry es else entry_behind p es) ≡ Some e → (entry_behind p es ≡ Some e → rest_behind p es ≡ e ∷ rest_behind e.1 es)
+      by : (b : Bool)
+          → (if b then first_entry es else entry_behind p es) ≡ Some e
+          → (entry_behind p es ≡ Some e → rest_behind p es ≡ e ∷ rest_behind e.1 es)
           → (if b then es else rest_behind p es) ≡ e ∷ rest_behind e.1 (x ∷ es)
       by true is r = rest_of_first e es is ∙ ap (λ (ys : List (K × ℕ)). e ∷ ys) (sym (other (first_seen e es is)))
       by false is r = r is ∙ ap (λ (ys : List (K × ℕ)). e ∷ ys) (sym (other (behind_seen p e es is)))
 
   -- the entries after the next one
-  pub rest_of_next : (element : Option ℕ) (e : K × ℕ) (es : List (K × ℕ)) → ((p : ℕ) → occurrences p (values_of es) ≤ 1) → next_entry element es ≡ Some e → rest_after element es ≡ e ∷ rest_after (Some e.1) es
+  pub rest_of_next : (element : Option ℕ) (e : K × ℕ) (es : List (K × ℕ))
+      → ((p : ℕ) → occurrences p (values_of es) ≤ 1)
+      → next_entry element es ≡ Some e
+      → rest_after element es ≡ e ∷ rest_after (Some e.1) es
   rest_of_next None e es once is = rest_of_first e es is
   rest_of_next (Some p) e es once is = rest_of_behind p e es once is

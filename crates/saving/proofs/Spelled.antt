@@ -33,9 +33,15 @@ code_small (prog_load kind slots) = omega arith
 code_small (prog_test_run fd words packet) = omega arith
 code_small (close fd) = omega arith
 
-parsed_as : (tenant : ℕ) (c : Command) → length (body_of c) + 4 ≤ longest_frame → parsed (frame_of tenant c) ≡ command_in (command_code c) (body_of c)
+parsed_as : (tenant : ℕ) (c : Command)
+    → length (body_of c) + 4 ≤ longest_frame
+    → parsed (frame_of tenant c) ≡ command_in (command_code c) (body_of c)
 parsed_as tenant c short =
-    ap (λ (b : Bool). if b then Err TooLong else command_in (little_number 2 (drop 2 (frame_of tenant c))) (drop head_length (frame_of tenant c))) (le-ltb longest_frame (length (frame_of tenant c)) (omega arith))
+    ap (λ (b : Bool).
+    if b
+    then Err TooLong
+    else command_in (little_number 2 (drop 2 (frame_of tenant c))) (drop head_length (frame_of tenant c)))
+    (le-ltb longest_frame (length (frame_of tenant c)) (omega arith))
     ∙ ap (λ (n : ℕ). command_in n (body_of c)) (half_of_bytes (command_code c) (body_of c) (code_small c))
 
 -- ---- the commands of a walk
@@ -43,23 +49,34 @@ parsed_as tenant c short =
 same_create : (a b c d e f g h : ℕ) → a ≡ e → b ≡ f → c ≡ g → d ≡ h → map_create a b c d 0 ≡ map_create e f g h 0
 same_create a b c d e f g h p q r s = cc
 
-pub create_parsed : (tenant kind key value max : ℕ) → kind < 2 ^ 32 → key < 2 ^ 32 → value < 2 ^ 32 → max < 2 ^ 32 → parsed (frame_of tenant (map_create kind key value max 0)) ≡ Ok (map_create kind key value max 0)
+pub create_parsed : (tenant kind key value max : ℕ)
+    → kind < 2 ^ 32 → key < 2 ^ 32
+    → value < 2 ^ 32 → max < 2 ^ 32
+    → parsed (frame_of tenant (map_create kind key value max 0)) ≡ Ok (map_create kind key value max 0)
 create_parsed tenant kind key value max a b c d =
-    ap (λ (x : Command). Ok x) (same_create _ _ _ _ kind key value max (number_of_bytes kind [] a) (number_of_bytes key [] b) (number_of_bytes value [] c) (number_of_bytes max [] d))
+    ap (λ (x : Command). Ok x)
+    (same_create _ _ _ _ kind key value max (number_of_bytes kind [] a) (number_of_bytes key [] b)
+    (number_of_bytes value [] c) (number_of_bytes max [] d))
 
 abbrev at_least_if : Bool → Command → Result Command BadFrame
 at_least_if b c = if b then Ok c else Err Body
 
-pub update_parsed : (tenant fd : ℕ) (bytes : List ℕ) → fd < 2 ^ 32 → length bytes + 16 ≤ longest_frame → parsed (frame_of tenant (map_update fd 0 bytes)) ≡ Ok (map_update fd 0 bytes)
+pub update_parsed : (tenant fd : ℕ) (bytes : List ℕ)
+    → fd < 2 ^ 32 → length bytes + 16 ≤ longest_frame
+    → parsed (frame_of tenant (map_update fd 0 bytes)) ≡ Ok (map_update fd 0 bytes)
 update_parsed tenant fd bytes a short =
     parsed_as tenant (map_update fd 0 bytes) (omega arith)
-    ∙ ap (λ (b : Bool). at_least_if b (map_update (little_number 4 (little_bytes 4 fd)) 0 bytes)) (le-leb before_key_and_value (length (body_of (map_update fd 0 bytes))) (omega arith))
+    ∙ ap (λ (b : Bool). at_least_if b (map_update (little_number 4 (little_bytes 4 fd)) 0 bytes))
+    (le-leb before_key_and_value (length (body_of (map_update fd 0 bytes))) (omega arith))
     ∙ ap (λ (n : ℕ). Ok (map_update n 0 bytes)) (number_of_bytes fd [] a)
 
-pub load_parsed : (tenant : ℕ) (slots : List ℕ) → length slots + 8 ≤ longest_frame → parsed (frame_of tenant (prog_load 1 slots)) ≡ Ok (prog_load 1 slots)
+pub load_parsed : (tenant : ℕ) (slots : List ℕ)
+    → length slots + 8 ≤ longest_frame
+    → parsed (frame_of tenant (prog_load 1 slots)) ≡ Ok (prog_load 1 slots)
 load_parsed tenant slots short =
     parsed_as tenant (prog_load 1 slots) (omega arith)
-    ∙ ap (λ (b : Bool). at_least_if b (prog_load 1 slots)) (le-leb word_length (length (body_of (prog_load 1 slots))) (omega arith))
+    ∙ ap (λ (b : Bool). at_least_if b (prog_load 1 slots))
+    (le-leb word_length (length (body_of (prog_load 1 slots))) (omega arith))
 
 pub close_parsed : (tenant fd : ℕ) → fd < 2 ^ 32 → parsed (frame_of tenant (close fd)) ≡ Ok (close fd)
 close_parsed tenant fd a = ap (λ (n : ℕ). Ok (close n)) (number_of_bytes fd [] a)
@@ -67,13 +84,17 @@ close_parsed tenant fd a = ap (λ (n : ℕ). Ok (close n)) (number_of_bytes fd [
 -- ---- test runs
 
 -- words are read from their bytes
-words_read : (n : ℕ) (ws packet : List ℕ) → length ws ≡ n → AllByRecursion (λ w. w < 2 ^ 32) ws → words n (flat_map (little_bytes 4) ws ++ packet) ≡ ws
+words_read : (n : ℕ) (ws packet : List ℕ)
+    → length ws ≡ n → AllByRecursion (λ w. w < 2 ^ 32) ws
+    → words n (flat_map (little_bytes 4) ws ++ packet) ≡ ws
 unfolding words
 words_read zero [] packet e small = refl
 words_read zero (w ∷ ws) packet e small = absurd (omega (arith, e))
 words_read (suc n) [] packet e small = absurd (omega (arith, e))
 words_read (suc n) (w ∷ ws) packet e small =
-    ap₂ (λ (x : ℕ) (xs : List ℕ). x ∷ xs) (number_of_bytes w (flat_map (little_bytes 4) ws ++ packet) small.0) (words_read n ws packet (omega (arith, e)) small.1)
+    ap₂ (λ (x : ℕ) (xs : List ℕ). x ∷ xs)
+    (number_of_bytes w (flat_map (little_bytes 4) ws ++ packet) small.0)
+    (words_read n ws packet (omega (arith, e)) small.1)
 
 -- the packet begins after four bytes for each word
 after_words : (ws packet : List ℕ) → drop (4 * length ws) (flat_map (little_bytes 4) ws ++ packet) ≡ packet
@@ -86,29 +107,45 @@ words_long : (ws packet : List ℕ) → length (flat_map (little_bytes 4) ws ++ 
 words_long [] packet = omega arith
 words_long (w ∷ ws) packet = let rest = words_long ws packet in omega (arith, rest)
 
-same_run : (a b : ℕ) (ws vs packet other : List ℕ) → a ≡ b → ws ≡ vs → packet ≡ other → prog_test_run a ws packet ≡ prog_test_run b vs other
+same_run : (a b : ℕ) (ws vs packet other : List ℕ)
+    → a ≡ b → ws ≡ vs
+    → packet ≡ other
+    → prog_test_run a ws packet ≡ prog_test_run b vs other
 same_run a b ws vs packet other p q r = cc
 
-test_run_parsed : (tenant fd : ℕ) (input : BatchInput) → fd < 2 ^ 32 → FitsFrame input → parsed (frame_of tenant (prog_test_run fd input.words input.packet)) ≡ Ok (prog_test_run fd input.words input.packet)
+test_run_parsed : (tenant fd : ℕ) (input : BatchInput)
+    → fd < 2 ^ 32 → FitsFrame input
+    → parsed (frame_of tenant (prog_test_run fd input.words input.packet))
+    ≡ Ok (prog_test_run fd input.words input.packet)
 test_run_parsed tenant fd input a (ten, small, fits) =
     let command = prog_test_run fd input.words input.packet in
     let body = body_of command in
     let rest = flat_map (little_bytes 4) input.words ++ input.packet in
-    let long : length rest ≡ 40 + length input.packet = let all = words_long input.words input.packet in omega (arith, all, ten) in
+    let long : length rest ≡ 40 + length input.packet =
+    let all = words_long input.words input.packet in omega (arith, all, ten) in
     let size : length body ≡ 4 + length rest = omega arith in
     let behind : drop 40 rest ≡ input.packet =
-    ap (λ (k : ℕ). drop k rest) (let forty : 40 ≡ 4 * length input.words = omega (arith, ten) in forty) ∙ after_words input.words input.packet in
+    ap (λ (k : ℕ). drop k rest) (let forty : 40 ≡ 4 * length input.words = omega (arith, ten) in forty)
+    ∙ after_words input.words input.packet in
     parsed_as tenant command (omega (arith, long, size, fits))
-    ∙ ap (λ (b : Bool). at_least_if b (prog_test_run (little_number 4 body) (words given_words rest) (drop 40 rest))) (le-leb before_packet (length body) (omega (arith, long, size)))
-    ∙ ap (λ (c : Command). Ok c) (same_run _ fd _ input.words _ input.packet (number_of_bytes fd rest a) (words_read given_words input.words input.packet ten small) behind)
+    ∙ ap (λ (b : Bool). at_least_if b (prog_test_run (little_number 4 body) (words given_words rest) (drop 40 rest)))
+    (le-leb before_packet (length body) (omega (arith, long, size)))
+    ∙ ap (λ (c : Command). Ok c)
+    (same_run _ fd _ input.words _ input.packet (number_of_bytes fd rest a)
+    (words_read given_words input.words input.packet ten small)
+    behind)
 
 pub test_runs_have_frames : TestRunsHaveFrames
 test_runs_have_frames tenant fd [] small fit = tt
-test_runs_have_frames tenant fd (input ∷ inputs) small fit = (test_run_parsed tenant fd input small fit.0, test_runs_have_frames tenant fd inputs small fit.1)
+test_runs_have_frames tenant fd (input ∷ inputs) small fit = (
+  test_run_parsed tenant fd input small fit.0,
+  test_runs_have_frames tenant fd inputs small fit.1,
+)
 
 -- ---- the owners of the frames
 
 pub frames_have_owners : FramesHaveOwners
 frames_have_owners tenant c small =
-    ap (λ (b : Bool). if b then 65535 else little_number 2 (frame_of tenant c)) (le-ltb (length (frame_of tenant c)) head_length (omega arith))
+    ap (λ (b : Bool). if b then 65535 else little_number 2 (frame_of tenant c))
+    (le-ltb (length (frame_of tenant c)) head_length (omega arith))
     ∙ half_of_bytes tenant (little_bytes 2 (command_code c) ++ body_of c) small

@@ -42,7 +42,14 @@ module _ (held : MapsAreHeld) (bisimulation : AlikeIsBisimulation) where
         b = b;
         answers = answers;
         status = alike.status;
-        after = record { move = alike.after.0; pair = record { one = held.kept false x c a h.pair.one is; two = held.kept false t c b h.pair.two answers; by = alike.after.1 } };
+        after = record {
+          move = alike.after.0;
+          pair = record {
+            one = held.kept false x c a h.pair.one is;
+            two = held.kept false t c b h.pair.two answers;
+            by = alike.after.1;
+          };
+        };
       }
 
 -- ---- states by their open objects
@@ -62,37 +69,58 @@ held_of s f h within = record {
   named_if_live = λ handle some. (live_parts s (table f) handle some).0;
 }
 
-pub same_state : (s : TenantState) (f : Opened) (x : TenantState) → x.objects ≡ table f → length x.maps ≡ length s.maps → ((handle : ℕ) → live x handle ≡ (if is_named (table f) handle then live s handle else None)) → x.refused ≡ false
+pub same_state : (s : TenantState) (f : Opened) (x : TenantState)
+    → x.objects ≡ table f → length x.maps ≡ length s.maps
+    → ((handle : ℕ) → live x handle ≡ (if is_named (table f) handle then live s handle else None))
+    → x.refused ≡ false
     → x ≡ state_of s f
 same_state s f x objects long maps flag =
-    ap₂ (λ (os : List (Option OpenObject)) (ms : List (Option Map)). record { objects = os; maps = ms; refused = x.refused }) objects
-    (ext_get_or None x.maps (named_from (table f) 0 s.maps) (long ∙ sym (length_named (table f) 0 s.maps)) (λ i lt. maps i ∙ sym (live_with s (table f) i)))
+    ap₂ (λ (os : List (Option OpenObject)) (ms : List (Option Map)).
+    record { objects = os; maps = ms; refused = x.refused })
+    objects
+    (ext_get_or None x.maps (named_from (table f) 0 s.maps)
+    (long ∙ sym (length_named (table f) 0 s.maps)) (λ i lt. maps i ∙ sym (live_with s (table f) i)))
     ∙ ap (λ (b : Bool). record { objects = table f; maps = named_from (table f) 0 s.maps; refused = b }) flag
 
 -- ---- a descriptor is closed
 
-twice : (a b : Bool) (o : Option Map) → (a ≡ true → b ≡ true) → (if a then (if b then o else None) else None) ≡ (if a then o else None)
+twice : (a b : Bool) (o : Option Map)
+    → (a ≡ true → b ≡ true)
+    → (if a then (if b then o else None) else None) ≡ (if a then o else None)
 twice true b o h = ap (λ (x : Bool). if x then o else None) (h refl)
 twice false b o h = refl
 
 -- a state with fewer open objects
-pub narrowed : (s : TenantState) (f g : Opened) → NamesFewer (table g) (table f) → with_objects (state_of s f) (table g) ≡ state_of s g
+pub narrowed : (s : TenantState) (f g : Opened)
+    → NamesFewer (table g) (table f) → with_objects (state_of s f) (table g) ≡ state_of s g
 narrowed s f g fewer =
-    same_state s g (with_objects (state_of s f) (table g)) refl (length_named (table g) 0 (named_from (table f) 0 s.maps) ∙ length_named (table f) 0 s.maps)
-    (λ handle. live_with (state_of s f) (table g) handle ∙ ap (λ (o : Option Map). if is_named (table g) handle then o else None) (live_with s (table f) handle) ∙ twice (is_named (table g) handle) (is_named (table f) handle) (live s handle) (fewer handle))
+    same_state s g (with_objects (state_of s f) (table g)) refl
+    (length_named (table g) 0 (named_from (table f) 0 s.maps) ∙ length_named (table f) 0 s.maps)
+    (λ handle.
+    live_with (state_of s f) (table g) handle
+    ∙ ap (λ (o : Option Map). if is_named (table g) handle then o else None) (live_with s (table f) handle)
+    ∙ twice (is_named (table g) handle) (is_named (table f) handle) (live s handle) (fewer handle))
     refl
 
 pub closed_names : (f : Opened) (fd : ℕ) → IsDescriptor fd → NamesFewer (table (set_at f fd None)) (table f)
-closed_names f fd is = subst (λ (os : List (Option OpenObject)). NamesFewer os (table f)) (table-closed f fd is) (closed_fewer (table f) fd)
+closed_names f fd is =
+    subst (λ (os : List (Option OpenObject)). NamesFewer os (table f)) (table-closed f fd is)
+    (closed_fewer (table f) fd)
 
-pub close_answer : (s : TenantState) (f : Opened) (fd : ℕ) (o : OpenObject) → IsDescriptor fd → f fd ≡ Some o → Answers false (state_of s f) (close fd) (gives [] (state_of s (set_at f fd None)))
+pub close_answer : (s : TenantState) (f : Opened) (fd : ℕ) (o : OpenObject)
+    → IsDescriptor fd → f fd ≡ Some o
+    → Answers false (state_of s f) (close fd) (gives [] (state_of s (set_at f fd None)))
 close_answer s f fd o is there =
-    ap (gives []) (sym (narrowed s f (set_at f fd None) (closed_names f fd is)) ∙ ap (with_objects (state_of s f)) (sym (table-closed f fd is)))
+    ap (gives [])
+    (sym (narrowed s f (set_at f fd None) (closed_names f fd is))
+    ∙ ap (with_objects (state_of s f)) (sym (table-closed f fd is)))
     ∙ sym (ap (closed (state_of s f) fd) (named-table f fd is ∙ there))
 
 -- ---- a descriptor is opened
 
-pub opened_names : (f : Opened) (fd : ℕ) (o : OpenObject) (handle : ℕ) → IsOnlyFree f fd → is_named (table (set_at f fd (Some o))) handle ≡ (names handle o || is_named (table f) handle)
+pub opened_names : (f : Opened) (fd : ℕ) (o : OpenObject) (handle : ℕ)
+    → IsOnlyFree f fd
+    → is_named (table (set_at f fd (Some o))) handle ≡ (names handle o || is_named (table f) handle)
 opened_names f fd o handle is =
     ap (λ (os : List (Option OpenObject)). is_named os handle) (sym (table-open f fd o is.descriptor))
     ∙ named_open (table f) (fd - first_descriptor) o handle within (table-get f fd is.descriptor ∙ is.free)

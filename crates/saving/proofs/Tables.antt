@@ -52,12 +52,16 @@ tabled-get : (f : Opened) (fd n i : ℕ) → i < n → get_or (tabled f fd n) i 
 unfolding tabled
 tabled-get f fd zero i lt = absurd (omega arith)
 tabled-get f fd (suc n) zero lt = let e : fd ≡ fd + 0 = omega arith in ap f e
-tabled-get f fd (suc n) (suc i) lt = let e : fd + 1 + i ≡ fd + suc i = omega arith in tabled-get f (fd + 1) n i (omega arith) ∙ ap f e
+tabled-get f fd (suc n) (suc i) lt =
+    let e : fd + 1 + i ≡ fd + suc i = omega arith in tabled-get f (fd + 1) n i (omega arith) ∙ ap f e
 
 tabled-same : (f g : Opened) (fd n : ℕ) → ((i : ℕ) → i < n → f (fd + i) ≡ g (fd + i)) → tabled f fd n ≡ tabled g fd n
 tabled-same f g fd n h =
     ext_get_or None (tabled f fd n) (tabled g fd n) (tabled-length f fd n ∙ sym (tabled-length g fd n))
-    (λ i lt. let long = tabled-length f fd n in let within : i < n = omega arith in tabled-get f fd n i within ∙ h i within ∙ sym (tabled-get g fd n i within))
+    (λ i lt.
+    let long = tabled-length f fd n in
+    let within : i < n = omega arith in
+    tabled-get f fd n i within ∙ h i within ∙ sym (tabled-get g fd n i within))
 
 pub table-length : (f : Opened) → length (table f) ≡ most
 table-length f = tabled-length f first_descriptor most
@@ -70,13 +74,17 @@ table-get f fd is =
     tabled-get f first_descriptor most (fd - first_descriptor) (omega arith) ∙ ap f e
 
 pub table-same : (f g : Opened) → ((fd : ℕ) → IsDescriptor fd → f fd ≡ g fd) → table f ≡ table g
-table-same f g h = tabled-same f g first_descriptor most (λ i lt. h (first_descriptor + i) (record { low = omega arith; high = omega arith }))
+table-same f g h =
+    tabled-same f g first_descriptor most
+    (λ i lt. h (first_descriptor + i) (record { low = omega arith; high = omega arith }))
 
 pub named-table : (f : Opened) (fd : ℕ) → IsDescriptor fd → named (table f) fd ≡ f fd
 named-table f fd is =
     let low = is.low in
     let no : nat_lt fd first_descriptor ≡ false = le-ltb fd first_descriptor low in
-    ap (λ (b : Bool). if b then None else flattened (slice_get (table f) (fd - first_descriptor))) no ∙ flattened-get (table f) (fd - first_descriptor) ∙ table-get f fd is
+    ap (λ (b : Bool). if b then None else flattened (slice_get (table f) (fd - first_descriptor))) no
+    ∙ flattened-get (table f) (fd - first_descriptor)
+    ∙ table-get f fd is
 
 -- each table is given by its objects
 pub table_of : (xs : List (Option OpenObject)) → length xs ≡ most → table (named xs) ≡ xs
@@ -86,7 +94,8 @@ table_of xs long =
   where
     at : (i : ℕ) → i < most → get_or (table (named xs)) i None ≡ get_or xs i None
     at i within =
-        let no : nat_lt (first_descriptor + i) first_descriptor ≡ false = le-ltb (first_descriptor + i) first_descriptor (omega arith) in
+        let no : nat_lt (first_descriptor + i) first_descriptor ≡ false =
+        le-ltb (first_descriptor + i) first_descriptor (omega arith) in
         let e : first_descriptor + i - first_descriptor ≡ i = omega arith in
         tabled-get (named xs) first_descriptor most i within
         ∙ ap (λ (b : Bool). if b then None else flattened (slice_get xs (first_descriptor + i - first_descriptor))) no
@@ -95,27 +104,43 @@ table_of xs long =
 
 -- ---- changes
 
-table-set : (f : Opened) (fd : ℕ) (x : Option OpenObject) → IsDescriptor fd → set (table f) (fd - first_descriptor) x ≡ table (set_at f fd x)
+table-set : (f : Opened) (fd : ℕ) (x : Option OpenObject)
+    → IsDescriptor fd → set (table f) (fd - first_descriptor) x ≡ table (set_at f fd x)
 table-set f fd x is =
     ext_get_or None (set (table f) (fd - first_descriptor) x) (table (set_at f fd x))
-    (length-set {A = Option OpenObject} (table f) (fd - first_descriptor) x ∙ table-length f ∙ sym (table-length (set_at f fd x)))
-    (λ i lt. let size = length-set {A = Option OpenObject} (table f) (fd - first_descriptor) x in let long = table-length f in at i (omega arith))
+    (length-set {A = Option OpenObject} (table f) (fd - first_descriptor) x
+    ∙ table-length f
+    ∙ sym (table-length (set_at f fd x)))
+    (λ i lt.
+    let size = length-set {A = Option OpenObject} (table f) (fd - first_descriptor) x in
+    let long = table-length f in
+    at i (omega arith))
   where
     within : fd - first_descriptor < length (table f)
     within = let low = is.low in let high = is.high in let long = table-length f in omega arith
 
-    at : (i : ℕ) → i < most → get_or (set (table f) (fd - first_descriptor) x) i None ≡ get_or (table (set_at f fd x)) i None
-    at i lt = by (set_by_index (table f) (fd - first_descriptor) i x within) ∙ sym (tabled-get (set_at f fd x) first_descriptor most i lt)
+    at : (i : ℕ)
+        → i < most
+        → get_or (set (table f) (fd - first_descriptor) x) i None ≡ get_or (table (set_at f fd x)) i None
+    at i lt =
+        by (set_by_index (table f) (fd - first_descriptor) i x within)
+        ∙ sym (tabled-get (set_at f fd x) first_descriptor most i lt)
       where
-        by : ((i ≡ fd - first_descriptor) × (get_or (set (table f) (fd - first_descriptor) x) i None ≡ x)) ⊎ ((i ≢ fd - first_descriptor) × (get_or (set (table f) (fd - first_descriptor) x) i None ≡ get_or (table f) i None))
+        by : ((i ≡ fd - first_descriptor) × (get_or (set (table f) (fd - first_descriptor) x) i None ≡ x))
+            ⊎ ((i ≢ fd - first_descriptor)
+            × (get_or (set (table f) (fd - first_descriptor) x) i None ≡ get_or (table f) i None))
             → get_or (set (table f) (fd - first_descriptor) x) i None ≡ set_at f fd x (first_descriptor + i)
-        by (inl (same, e)) = let low = is.low in let here : first_descriptor + i ≡ fd = omega arith in e ∙ sym (ap (set_at f fd x) here ∙ set_here f fd x)
+        by (inl (same, e)) =
+            let low = is.low in
+            let here : first_descriptor + i ≡ fd = omega arith in
+            e ∙ sym (ap (set_at f fd x) here ∙ set_here f fd x)
         by (inr (other, e)) =
             let low = is.low in
             let apart : first_descriptor + i ≢ fd = λ same. other (omega arith) in
             e ∙ tabled-get f first_descriptor most i lt ∙ sym (set_there f fd x (first_descriptor + i) apart)
 
-pub table-open : (f : Opened) (fd : ℕ) (o : OpenObject) → IsDescriptor fd → with_open (table f) fd o ≡ table (set_at f fd (Some o))
+pub table-open : (f : Opened) (fd : ℕ) (o : OpenObject)
+    → IsDescriptor fd → with_open (table f) fd o ≡ table (set_at f fd (Some o))
 table-open f fd o is = table-set f fd (Some o) is
 
 pub table-closed : (f : Opened) (fd : ℕ) → IsDescriptor fd → with_closed (table f) fd ≡ table (set_at f fd None)
@@ -126,16 +151,27 @@ table-closed f fd is =
 
 -- ---- the lowest free descriptor
 
-prefix_to : (f : Opened) (fd n k : ℕ) → k < n → ((i : ℕ) → i < k → IsSome (f (fd + i))) → f (fd + k) ≡ None → prefix_len (λ o. not (is_none o)) (tabled f fd n) ≡ k
+prefix_to : (f : Opened) (fd n k : ℕ)
+    → k < n → ((i : ℕ) → i < k → IsSome (f (fd + i)))
+    → f (fd + k) ≡ None
+    → prefix_len (λ o. not (is_none o)) (tabled f fd n) ≡ k
 unfolding tabled
 prefix_to f fd zero k lt below free = absurd (omega arith)
 prefix_to f fd (suc n) zero lt below free =
     let e : fd ≡ fd + 0 = omega arith in
-    ap (λ (o : Option OpenObject). cond (not (is_none o)) (1 + prefix_len (λ o. not (is_none o)) (tabled f (fd + 1) n)) 0) (ap f e ∙ free)
+    ap (λ (o : Option OpenObject).
+    cond (not (is_none o)) (1 + prefix_len (λ o. not (is_none o)) (tabled f (fd + 1) n)) 0)
+    (ap f e ∙ free)
 prefix_to f fd (suc n) (suc k) lt below free =
     let e : fd ≡ fd + 0 = omega arith in
-    let there : not (is_none (f fd)) ≡ true = some_not (f fd) (ap (λ (m : ℕ). is_some (f m)) e ∙ below 0 (omega arith)) in
-    let rest = prefix_to f (fd + 1) n k (omega arith) (λ i low. let same : fd + suc i ≡ fd + 1 + i = omega arith in ap (λ (m : ℕ). is_some (f m)) (sym same) ∙ below (suc i) (omega arith)) (let same : fd + 1 + k ≡ fd + suc k = omega arith in ap f same ∙ free) in
+    let there : not (is_none (f fd)) ≡ true =
+    some_not (f fd) (ap (λ (m : ℕ). is_some (f m)) e ∙ below 0 (omega arith)) in
+    let rest =
+    prefix_to f (fd + 1) n k (omega arith)
+    (λ i low.
+    let same : fd + suc i ≡ fd + 1 + i = omega arith in
+    ap (λ (m : ℕ). is_some (f m)) (sym same) ∙ below (suc i) (omega arith))
+    (let same : fd + 1 + k ≡ fd + suc k = omega arith in ap f same ∙ free) in
     ap (λ (b : Bool). cond b (1 + prefix_len (λ o. not (is_none o)) (tabled f (fd + 1) n)) 0) there ∙ (omega arith)
   where
     some_not : (o : Option OpenObject) → IsSome o → not (is_none o) ≡ true
@@ -155,9 +191,13 @@ lowest-is f fd is =
     let k = fd - first_descriptor in
     let back : first_descriptor + k ≡ fd = omega arith in
     let size = table-length f in
-    let prefix = prefix_to f first_descriptor most k (omega arith) (λ i lt. is.lower (first_descriptor + i) (omega arith) (omega arith)) (ap f back ∙ is.free) in
+    let prefix =
+    prefix_to f first_descriptor most k (omega arith)
+    (λ i lt. is.lower (first_descriptor + i) (omega arith) (omega arith))
+    (ap f back ∙ is.free) in
     let found : position is_none (table f) ≡ Some k =
-    ap₂ (λ (m n : ℕ). cond (nat_lt m n) (Some m) None) prefix size ∙ ap (λ (b : Bool). cond b (Some k) None) (lt-ltb k most (omega arith)) in
+    ap₂ (λ (m n : ℕ). cond (nat_lt m n) (Some m) None) prefix size
+    ∙ ap (λ (b : Bool). cond b (Some k) None) (lt-ltb k most (omega arith)) in
     ap (option_map (λ index. first_descriptor + index)) found ∙ ap (λ (m : ℕ). Some m) back
 
 -- the only free descriptor
@@ -178,19 +218,32 @@ lowest-table f fd is =
 -- ---- names
 
 -- a handle that is named is named by an object of the table
-tabled-named : (f : Opened) (fd n handle : ℕ) → is_named (tabled f fd n) handle ≡ true → (i : ℕ) × (i < n) × (o : OpenObject) × (f (fd + i) ≡ Some o) × (names handle o ≡ true)
+tabled-named : (f : Opened) (fd n handle : ℕ)
+    → is_named (tabled f fd n) handle ≡ true
+    → (i : ℕ) × (i < n) × (o : OpenObject) × (f (fd + i) ≡ Some o) × (names handle o ≡ true)
 unfolding tabled
 tabled-named f fd zero handle e = absurd (true≢false (sym e))
-tabled-named f fd (suc n) handle e = by (f fd) refl (tabled-named f (fd + 1) n handle) (or_parts (first_names (f fd) handle) (is_named (tabled f (fd + 1) n) handle) e)
+tabled-named f fd (suc n) handle e =
+    by (f fd) refl (tabled-named f (fd + 1) n handle)
+    (or_parts (first_names (f fd) handle) (is_named (tabled f (fd + 1) n) handle) e)
   where
-    first : (o : Option OpenObject) → f fd ≡ o → first_names o handle ≡ true → (i : ℕ) × (i < suc n) × (x : OpenObject) × (f (fd + i) ≡ Some x) × (names handle x ≡ true)
+    first : (o : Option OpenObject)
+        → f fd ≡ o → first_names o handle ≡ true
+        → (i : ℕ) × (i < suc n) × (x : OpenObject) × (f (fd + i) ≡ Some x) × (names handle x ≡ true)
     first None is e = absurd (true≢false (sym e))
     first (Some x) is e = let same : fd + 0 ≡ fd = omega arith in (0, omega arith, x, ap f same ∙ is, e)
 
-    by : (o : Option OpenObject) → f fd ≡ o → (is_named (tabled f (fd + 1) n) handle ≡ true → (i : ℕ) × (i < n) × (x : OpenObject) × (f (fd + 1 + i) ≡ Some x) × (names handle x ≡ true))
-        → (first_names (f fd) handle ≡ true) ⊎ (is_named (tabled f (fd + 1) n) handle ≡ true) → (i : ℕ) × (i < suc n) × (x : OpenObject) × (f (fd + i) ≡ Some x) × (names handle x ≡ true)
+    by : (o : Option OpenObject)
+        → f fd ≡ o
+        → (is_named (tabled f (fd + 1) n) handle ≡ true
+        → (i : ℕ) × (i < n) × (x : OpenObject) × (f (fd + 1 + i) ≡ Some x) × (names handle x ≡ true))
+        → (first_names (f fd) handle ≡ true) ⊎ (is_named (tabled f (fd + 1) n) handle ≡ true)
+        → (i : ℕ) × (i < suc n) × (x : OpenObject) × (f (fd + i) ≡ Some x) × (names handle x ≡ true)
     by o is rest (inl here) = first (f fd) refl here
-    by o is rest (inr later) = let (i, lt, x, at, named) = rest later in let same : fd + suc i ≡ fd + 1 + i = omega arith in (suc i, omega (arith, lt), x, ap f same ∙ at, named)
+    by o is rest (inr later) =
+        let (i, lt, x, at, named) = rest later in
+        let same : fd + suc i ≡ fd + 1 + i = omega arith in
+        (suc i, omega (arith, lt), x, ap f same ∙ at, named)
 
 -- a descriptor whose object names the handle
 pub record NamesAt (f : Opened) (handle : ℕ) : Type 0 where
@@ -203,14 +256,23 @@ pub record NamesAt (f : Opened) (handle : ℕ) : Type 0 where
 pub names_at : (f : Opened) (handle : ℕ) → is_named (table f) handle ≡ true → NamesAt f handle
 names_at f handle e =
     let (i, lt, o, at, named) = tabled-named f first_descriptor most handle e in
-    record { fd = first_descriptor + i; descriptor = record { low = omega arith; high = omega (arith, lt) }; o = o; at = at; named = named }
+    record {
+      fd = first_descriptor + i;
+      descriptor = record { low = omega arith; high = omega (arith, lt) };
+      o = o;
+      at = at;
+      named = named;
+    }
 
 pub named_from_at : (f : Opened) (handle : ℕ) → NamesAt f handle → is_named (table f) handle ≡ true
-named_from_at f handle h = named_by (table f) (h.fd - first_descriptor) h.o handle (table-get f h.fd h.descriptor ∙ h.at) h.named
+named_from_at f handle h =
+    named_by (table f) (h.fd - first_descriptor) h.o handle (table-get f h.fd h.descriptor ∙ h.at) h.named
 
 -- ---- the maps of each object have other handles
 
-pub table-moved : (move : ℕ → ℕ) (f : Opened) (fd n : ℕ) → moved_objects move (tabled f fd n) ≡ tabled (λ k. option_map (moved_object move) (f k)) fd n
+pub table-moved : (move : ℕ → ℕ) (f : Opened) (fd n : ℕ)
+    → moved_objects move (tabled f fd n) ≡ tabled (λ k. option_map (moved_object move) (f k)) fd n
 unfolding tabled
 table-moved move f fd zero = refl
-table-moved move f fd (suc n) = ap (λ (os : List (Option OpenObject)). option_map (moved_object move) (f fd) ∷ os) (table-moved move f (fd + 1) n)
+table-moved move f fd (suc n) =
+    ap (λ (os : List (Option OpenObject)). option_map (moved_object move) (f fd) ∷ os) (table-moved move f (fd + 1) n)

@@ -32,22 +32,28 @@ use Rattle.saving.specs.Filler.{filler}
 
 -- ---- entries that are selected by their descriptors
 
-picked : (p : ℕ → Bool) (ns : List Named) (fd : ℕ) → p fd ≡ true → target_of (filter (λ n. p n.fd) ns) fd ≡ target_of ns fd
+picked : (p : ℕ → Bool) (ns : List Named) (fd : ℕ)
+    → p fd ≡ true → target_of (filter (λ n. p n.fd) ns) fd ≡ target_of ns fd
 unfolding target_of
 picked p [] fd is = refl
 picked p (n ∷ ns) fd is = by (picked p ns fd is) (p n.fd) refl
   where
-    by_key : target_of (filter (λ n. p n.fd) ns) fd ≡ target_of ns fd → (here : Bool) → (n.fd == fd) ≡ here → p n.fd ≡ false → target_of (filter (λ n. p n.fd) ns) fd ≡ (if here then Some n.target else target_of ns fd)
+    by_key : target_of (filter (λ n. p n.fd) ns) fd ≡ target_of ns fd
+        → (here : Bool) → (n.fd == fd) ≡ here → p n.fd ≡ false
+        → target_of (filter (λ n. p n.fd) ns) fd ≡ (if here then Some n.target else target_of ns fd)
     by_key rest true same isnt = absurd (true≢false (sym is ∙ ap p (sym (eqb-true n.fd fd same)) ∙ isnt))
     by_key rest false same isnt = rest
 
-    by : target_of (filter (λ n. p n.fd) ns) fd ≡ target_of ns fd → (here : Bool) → p n.fd ≡ here → target_of (if here then n ∷ filter (λ n. p n.fd) ns else filter (λ n. p n.fd) ns) fd ≡ target_of (n ∷ ns) fd
+    by : target_of (filter (λ n. p n.fd) ns) fd ≡ target_of ns fd
+        → (here : Bool) → p n.fd ≡ here
+        → target_of (if here then n ∷ filter (λ n. p n.fd) ns else filter (λ n. p n.fd) ns) fd ≡ target_of (n ∷ ns) fd
     by rest true e = ap (λ (o : Option Target). if n.fd == fd then Some n.target else o) rest
     by rest false e = by_key rest (n.fd == fd) refl e
 
 among : (fds : List ℕ) (i fd : ℕ) → slice_get fds i ≡ Some fd → is_among fds fd ≡ true
 among [] i fd there = absurd (none-some fd there)
-among (x ∷ fds) zero fd there = ap (λ (b : Bool). b || is_among fds fd) (eq-eqb x fd (same_Some x fd there)) ∙ true-or (is_among fds fd)
+among (x ∷ fds) zero fd there =
+    ap (λ (b : Bool). b || is_among fds fd) (eq-eqb x fd (same_Some x fd there)) ∙ true-or (is_among fds fd)
 among (x ∷ fds) (suc i) fd there = ap (λ (b : Bool). (x == fd) || b) (among fds i fd there) ∙ or-true (x == fd)
 
 -- ---- the shape of a program
@@ -57,11 +63,14 @@ module _ (a b : List Named) where
   abbrev SameTarget : Reference → Type 0
   SameTarget r = (fd : ℕ) → descriptor_by r ≡ Some fd → target_of a fd ≡ target_of b fd
 
-  same_open : (o : Option ℕ) → ((fd : ℕ) → o ≡ Some fd → target_of a fd ≡ target_of b fd) → is_not_open a o ≡ is_not_open b o
+  same_open : (o : Option ℕ)
+      → ((fd : ℕ) → o ≡ Some fd → target_of a fd ≡ target_of b fd)
+      → is_not_open a o ≡ is_not_open b o
   same_open None h = refl
   same_open (Some fd) h = ap (λ (t : Option Target). not (is_some t)) (h fd refl)
 
-  same_map : (o : Option ℕ) → ((fd : ℕ) → o ≡ Some fd → target_of a fd ≡ target_of b fd) → is_not_map a o ≡ is_not_map b o
+  same_map : (o : Option ℕ)
+      → ((fd : ℕ) → o ≡ Some fd → target_of a fd ≡ target_of b fd) → is_not_map a o ≡ is_not_map b o
   same_map None h = refl
   same_map (Some fd) h = ap (λ (t : Option Target). not (option_map_or is_map t true)) (h fd refl)
 
@@ -69,11 +78,15 @@ module _ (a b : List Named) where
   same_value names.Nothing h = refl
   same_value (names.Helper id) h = refl
   same_value (names.Map fd) h = refl
-  same_value (names.Value fd off) h = ap (λ (t : Option Target). not (option_map_or (λ shape. has_direct_value shape off) (shape_in t) true)) (h fd refl)
+  same_value (names.Value fd off) h =
+      ap (λ (t : Option Target). not (option_map_or (λ shape. has_direct_value shape off) (shape_in t) true))
+      (h fd refl)
 
-  same_reason : (code : List Insn) (i : Insn) (at : ℕ) → SameTarget (profile i).reference → shape_reason code a i at ≡ shape_reason code b i at
+  same_reason : (code : List Insn) (i : Insn) (at : ℕ)
+      → SameTarget (profile i).reference → shape_reason code a i at ≡ shape_reason code b i at
   same_reason code i at h =
-      ap₂ (λ (x y : Bool). reasons x y (is_no_value a (profile i).reference)) (same_open (descriptor i) h) (same_map (descriptor i) h)
+      ap₂ (λ (x y : Bool). reasons x y (is_no_value a (profile i).reference))
+      (same_open (descriptor i) h) (same_map (descriptor i) h)
       ∙ ap (reasons (is_not_open b (descriptor i)) (is_not_map b (descriptor i))) (same_value (profile i).reference h)
     where
       reasons : Bool → Bool → Bool → Option Reason
@@ -89,7 +102,9 @@ module _ (a b : List Named) where
           ∷ (z, NoDirectValue)
           ∷ [])
 
-  same_structure : MapsAreListed → (code : List Insn) → entries_of (maps_of code) a ≡ entries_of (maps_of code) b → (at : ℕ) → structure_fault code a at ≡ structure_fault code b at
+  same_structure : MapsAreListed
+      → (code : List Insn) → entries_of (maps_of code) a ≡ entries_of (maps_of code) b
+      → (at : ℕ) → structure_fault code a at ≡ structure_fault code b at
   unfolding structure_fault
   same_structure listed code same at = by (begins_at code at) refl
     where
@@ -97,7 +112,9 @@ module _ (a b : List Named) where
       target i begins fd e =
           let (n, there) = listed.each code at i fd begins e in
           let is = among (maps_of code) n fd there in
-          sym (picked (is_among (maps_of code)) a fd is) ∙ ap (λ (ns : List Named). target_of ns fd) same ∙ picked (is_among (maps_of code)) b fd is
+          sym (picked (is_among (maps_of code)) a fd is)
+          ∙ ap (λ (ns : List Named). target_of ns fd) same
+          ∙ picked (is_among (maps_of code)) b fd is
 
       by : (o : Option Insn) → begins_at code at ≡ o → shape_of code a at o ≡ shape_of code b at o
       by None begins = refl
@@ -105,7 +122,11 @@ module _ (a b : List Named) where
 
 -- ---- the verdict
 
-pub same_verdict : MapsAreListed → (code : List Insn) (a b : List Named) → entries_of (maps_of code) a ≡ entries_of (maps_of code) b → IsAccepted code a → IsAccepted code b
+pub same_verdict : MapsAreListed
+    → (code : List Insn) (a b : List Named)
+    → entries_of (maps_of code) a ≡ entries_of (maps_of code) b
+    → IsAccepted code a
+    → IsAccepted code b
 same_verdict listed code a b same accepted = (
   λ n. sym (same_structure a b listed code same n) ∙ accepted.0 n,
   λ n. ap (λ (ns : List Named). safety_fault (shapes_named ns) code n) (sym same) ∙ accepted.1 n,
@@ -130,7 +151,10 @@ unfolding safety_fault facts_from_below begins_at tabulate
 filler_safe shapes zero = refl
 filler_safe shapes (suc zero) = refl
 filler_safe shapes (suc (suc n)) =
-    ap (λ (o : Option Insn). and_then (facts_before shapes filler (suc (suc n))) (λ f. and_then o (λ i. reason_of (effect shapes (suc (suc n)) i f)))) (past n)
+    ap (λ (o : Option Insn).
+    and_then (facts_before shapes filler (suc (suc n)))
+    (λ f. and_then o (λ i. reason_of (effect shapes (suc (suc n)) i f))))
+    (past n)
     ∙ none_then (facts_before shapes filler (suc (suc n)))
   where
     none_then : (o : Option Facts) → let none : Option Reason = None in and_then o (λ f. none) ≡ none

@@ -43,71 +43,119 @@ object_of s (Some (OfProgram fd)) = program_or (named s.objects fd)
 abbrev pub at_births : TenantState → List Birth → Opened
 at_births s births fd = Some (object_of s (latest_at births fd))
 
-next_birth : (s : TenantState) (b : Birth) (older : List Birth) → set_at (set_at (at_births s older) (number b) None) (number b) (Some (object_of s (Some b))) ≡ at_births s (b ∷ older)
+next_birth : (s : TenantState) (b : Birth) (older : List Birth)
+    → set_at (set_at (at_births s older) (number b) None) (number b) (Some (object_of s (Some b)))
+    ≡ at_births s (b ∷ older)
 next_birth s b older = fun_ext (λ fd. by fd (cases_eq fd (number b)))
   where
-    by : (fd : ℕ) → (fd ≡ number b) ⊎ (fd ≡ number b → ⊥) → set_at (set_at (at_births s older) (number b) None) (number b) (Some (object_of s (Some b))) fd ≡ at_births s (b ∷ older) fd
+    by : (fd : ℕ)
+        → (fd ≡ number b) ⊎ (fd ≡ number b → ⊥)
+        → set_at (set_at (at_births s older) (number b) None) (number b) (Some (object_of s (Some b))) fd
+        ≡ at_births s (b ∷ older) fd
     by fd (inl same) =
-        ap (λ (x : Bool). if x then Some (object_of s (Some b)) else set_at (at_births s older) (number b) None fd) (eq-eqb fd (number b) same)
-        ∙ sym (ap (λ (x : Bool). Some (object_of s (if x then Some b else latest_at older fd))) (eq-eqb (number b) fd (sym same)))
+        ap (λ (x : Bool). if x then Some (object_of s (Some b)) else set_at (at_births s older) (number b) None fd)
+        (eq-eqb fd (number b) same)
+        ∙ sym (ap (λ (x : Bool). Some (object_of s (if x then Some b else latest_at older fd)))
+        (eq-eqb (number b) fd (sym same)))
     by fd (inr other) =
         set_other (set_at (at_births s older) (number b) None) (number b) (Some (object_of s (Some b))) fd other
         ∙ set_other (at_births s older) (number b) None fd other
-        ∙ sym (ap (λ (x : Bool). Some (object_of s (if x then Some b else latest_at older fd))) (ne_eqb (number b) fd (λ e. other (sym e))))
+        ∙ sym (ap (λ (x : Bool). Some (object_of s (if x then Some b else latest_at older fd)))
+        (ne_eqb (number b) fd (λ e. other (sym e))))
 
 -- ---- births in order
 
-latest_descriptor : (s : TenantState) (bs : List Birth) (fd : ℕ) (b : Birth) → AreInOrder s bs → latest_at bs fd ≡ Some b → IsDescriptor fd
+latest_descriptor : (s : TenantState) (bs : List Birth) (fd : ℕ) (b : Birth)
+    → AreInOrder s bs → latest_at bs fd ≡ Some b → IsDescriptor fd
 latest_descriptor s [] fd b order e = absurd (none-some b e)
 latest_descriptor s (x ∷ older) fd b order e = by (number x == fd) refl (latest_descriptor s older fd b order.4) e
   where
-    by : (here : Bool) → (number x == fd) ≡ here → (latest_at older fd ≡ Some b → IsDescriptor fd) → (if here then Some x else latest_at older fd) ≡ Some b → IsDescriptor fd
-    by true is rest e = let same = eqb-true (number x) fd is in let low = order.0 in let high = order.1 in record { low = omega arith; high = omega arith }
+    by : (here : Bool)
+        → (number x == fd) ≡ here
+        → (latest_at older fd ≡ Some b → IsDescriptor fd)
+        → (if here then Some x else latest_at older fd) ≡ Some b
+        → IsDescriptor fd
+    by true is rest e =
+        let same = eqb-true (number x) fd is in
+        let low = order.0 in
+        let high = order.1 in
+        record { low = omega arith; high = omega arith }
     by false is rest e = rest e
 
-latest_map : (bs : List Birth) (fd handle n : ℕ) → latest_at bs fd ≡ Some (OfMap handle n) → list_any (is_of_map handle) bs ≡ true
+latest_map : (bs : List Birth) (fd handle n : ℕ)
+    → latest_at bs fd ≡ Some (OfMap handle n) → list_any (is_of_map handle) bs ≡ true
 latest_map [] fd handle n e = absurd (none-some (OfMap handle n) e)
 latest_map (x ∷ older) fd handle n e = by (number x == fd) (latest_map older fd handle n) e
   where
-    by : (here : Bool) → (latest_at older fd ≡ Some (OfMap handle n) → list_any (is_of_map handle) older ≡ true) → (if here then Some x else latest_at older fd) ≡ Some (OfMap handle n) → (is_of_map handle x || list_any (is_of_map handle) older) ≡ true
-    by true rest e = or_left (is_of_map handle x) (list_any (is_of_map handle) older) (ap (is_of_map handle) (same_Some x (OfMap handle n) e) ∙ eq-eqb handle handle refl)
+    by : (here : Bool)
+        → (latest_at older fd ≡ Some (OfMap handle n) → list_any (is_of_map handle) older ≡ true)
+        → (if here then Some x else latest_at older fd) ≡ Some (OfMap handle n)
+        → (is_of_map handle x || list_any (is_of_map handle) older) ≡ true
+    by true rest e =
+        or_left (is_of_map handle x) (list_any (is_of_map handle) older)
+        (ap (is_of_map handle) (same_Some x (OfMap handle n) e) ∙ eq-eqb handle handle refl)
     by false rest e = or_right (is_of_map handle x) (list_any (is_of_map handle) older) (rest e)
 
 -- each map of a program that was born was itself born before
-each_born : (older : List Birth) (ms : List (ℕ × ℕ)) (fd handle : ℕ) → AllByRecursion (λ m. (m.0 ≢ fd) × (latest_at older m.0 ≡ Some (OfMap m.1 m.0))) ms → list_any (λ m. m.1 == handle) ms ≡ true → list_any (is_of_map handle) older ≡ true
+each_born : (older : List Birth) (ms : List (ℕ × ℕ)) (fd handle : ℕ)
+    → AllByRecursion (λ m. (m.0 ≢ fd) × (latest_at older m.0 ≡ Some (OfMap m.1 m.0))) ms
+    → list_any (λ m. m.1 == handle) ms ≡ true
+    → list_any (is_of_map handle) older ≡ true
 each_born older [] fd handle h e = absurd (true≢false (sym e))
-each_born older (m ∷ ms) fd handle h e = by (or_parts (m.1 == handle) (list_any (λ k. k.1 == handle) ms) e) (each_born older ms fd handle h.1)
+each_born older (m ∷ ms) fd handle h e =
+    by (or_parts (m.1 == handle) (list_any (λ k. k.1 == handle) ms) e) (each_born older ms fd handle h.1)
   where
-    by : ((m.1 == handle) ≡ true) ⊎ (list_any (λ k. k.1 == handle) ms ≡ true) → (list_any (λ k. k.1 == handle) ms ≡ true → list_any (is_of_map handle) older ≡ true) → list_any (is_of_map handle) older ≡ true
-    by (inl same) rest = latest_map older m.0 handle m.0 (h.0.1 ∙ ap (λ (p : ℕ). Some (OfMap p m.0)) (eqb-true m.1 handle same))
+    by : ((m.1 == handle) ≡ true) ⊎ (list_any (λ k. k.1 == handle) ms ≡ true)
+        → (list_any (λ k. k.1 == handle) ms ≡ true → list_any (is_of_map handle) older ≡ true)
+        → list_any (is_of_map handle) older ≡ true
+    by (inl same) rest =
+        latest_map older m.0 handle m.0 (h.0.1 ∙ ap (λ (p : ℕ). Some (OfMap p m.0)) (eqb-true m.1 handle same))
     by (inr later) rest = rest later
 
-program_maps : (s : TenantState) (bs : List Birth) (fd n handle : ℕ) → AreInOrder s bs → latest_at bs fd ≡ Some (OfProgram n) → names handle (program_or (named s.objects n)) ≡ true → list_any (is_of_map handle) bs ≡ true
+program_maps : (s : TenantState) (bs : List Birth) (fd n handle : ℕ)
+    → AreInOrder s bs → latest_at bs fd ≡ Some (OfProgram n)
+    → names handle (program_or (named s.objects n)) ≡ true
+    → list_any (is_of_map handle) bs ≡ true
 program_maps s [] fd n handle order e named_so = absurd (none-some (OfProgram n) e)
-program_maps s (x ∷ older) fd n handle order e named_so = by (number x == fd) (λ f. program_maps s older fd n handle order.4 f named_so) e
+program_maps s (x ∷ older) fd n handle order e named_so =
+    by (number x == fd) (λ f. program_maps s older fd n handle order.4 f named_so) e
   where
     of_birth : (b : Birth) → b ≡ OfProgram n → IsBorn s older b → list_any (is_of_map handle) older ≡ true
     of_birth (OfMap p k) is h = absurd (let wrong : OfMap p k ≡ OfProgram n = is in cc wrong)
     of_birth (OfProgram k) is (l, there, maps) =
         let same : k ≡ n = (let f : OfProgram k ≡ OfProgram n = is in cc f) in
-        each_born older l.maps k handle maps (ap (λ (o : Option OpenObject). names handle (program_or o)) (sym (ap (named s.objects) (sym same) ∙ there)) ∙ named_so)
+        each_born older l.maps k handle maps
+        (ap (λ (o : Option OpenObject). names handle (program_or o)) (sym (ap (named s.objects) (sym same) ∙ there))
+        ∙ named_so)
 
-    by : (here : Bool) → (latest_at older fd ≡ Some (OfProgram n) → list_any (is_of_map handle) older ≡ true) → (if here then Some x else latest_at older fd) ≡ Some (OfProgram n) → (is_of_map handle x || list_any (is_of_map handle) older) ≡ true
-    by true rest e = or_right (is_of_map handle x) (list_any (is_of_map handle) older) (of_birth x (same_Some x (OfProgram n) e) order.3)
+    by : (here : Bool)
+        → (latest_at older fd ≡ Some (OfProgram n) → list_any (is_of_map handle) older ≡ true)
+        → (if here then Some x else latest_at older fd) ≡ Some (OfProgram n)
+        → (is_of_map handle x || list_any (is_of_map handle) older) ≡ true
+    by true rest e =
+        or_right (is_of_map handle x) (list_any (is_of_map handle) older)
+        (of_birth x (same_Some x (OfProgram n) e) order.3)
     by false rest e = or_right (is_of_map handle x) (list_any (is_of_map handle) older) (rest e)
 
 -- each map that an object names was born
-named_born : (s : TenantState) (bs : List Birth) (handle : ℕ) → AreInOrder s bs → NamesAt (at_births s bs) handle → list_any (is_of_map handle) bs ≡ true
-named_born s bs handle order h = by (latest_at bs h.fd) refl (ap (names handle) (same_Some (object_of s (latest_at bs h.fd)) h.o h.at) ∙ h.named)
+named_born : (s : TenantState) (bs : List Birth) (handle : ℕ)
+    → AreInOrder s bs → NamesAt (at_births s bs) handle
+    → list_any (is_of_map handle) bs ≡ true
+named_born s bs handle order h =
+    by (latest_at bs h.fd) refl (ap (names handle) (same_Some (object_of s (latest_at bs h.fd)) h.o h.at) ∙ h.named)
   where
-    by : (b : Option Birth) → latest_at bs h.fd ≡ b → names handle (object_of s b) ≡ true → list_any (is_of_map handle) bs ≡ true
+    by : (b : Option Birth)
+        → latest_at bs h.fd ≡ b → names handle (object_of s b) ≡ true
+        → list_any (is_of_map handle) bs ≡ true
     by None is e = absurd (true≢false (sym e))
-    by (Some (OfMap p n)) is e = latest_map bs h.fd handle n (is ∙ ap (λ (q : ℕ). Some (OfMap q n)) (eqb-true p handle e))
+    by (Some (OfMap p n)) is e =
+        latest_map bs h.fd handle n (is ∙ ap (λ (q : ℕ). Some (OfMap q n)) (eqb-true p handle e))
     by (Some (OfProgram n)) is e = program_maps s bs h.fd n handle order is e
 
 -- ---- the walk
 
-module _ (held : MapsAreHeld) (bisimulation : AlikeIsBisimulation) (same_verdict : SameEntriesSameVerdict) (s : TenantState) (whole : IsRestorable s) where
+module _ (held : MapsAreHeld) (bisimulation : AlikeIsBisimulation)
+    (same_verdict : SameEntriesSameVerdict) (s : TenantState) (whole : IsRestorable s) where
   without : Birth → List Birth → Opened
   without b older = set_at (at_births s older) (number b) None
 
@@ -120,7 +168,9 @@ module _ (held : MapsAreHeld) (bisimulation : AlikeIsBisimulation) (same_verdict
   }
 
   -- no object names a map before the map is born
-  unnamed : (b : Birth) (older : List Birth) (handle : ℕ) → AreInOrder s older → list_any (is_of_map handle) older ≡ false → is_named (table (without b older)) handle ≡ false
+  unnamed : (b : Birth) (older : List Birth) (handle : ℕ)
+      → AreInOrder s older → list_any (is_of_map handle) older ≡ false
+      → is_named (table (without b older)) handle ≡ false
   unfolding without
   unnamed b older handle order none = by (is_named (table (without b older)) handle) refl
     where
@@ -128,52 +178,95 @@ module _ (held : MapsAreHeld) (bisimulation : AlikeIsBisimulation) (same_verdict
       older_at h = by_handle (cases_eq h.fd (number b))
         where
           by_handle : (h.fd ≡ number b) ⊎ (h.fd ≡ number b → ⊥) → NamesAt (at_births s older) handle
-          by_handle (inl same) = absurd (none-some h.o (sym (ap (without b older) same ∙ set_same (at_births s older) (number b) None) ∙ h.at))
-          by_handle (inr other) = record { fd = h.fd; descriptor = h.descriptor; o = h.o; at = sym (set_other (at_births s older) (number b) None h.fd other) ∙ h.at; named = h.named }
+          by_handle (inl same) =
+              absurd (none-some h.o
+              (sym (ap (without b older) same ∙ set_same (at_births s older) (number b) None) ∙ h.at))
+          by_handle (inr other) = record {
+            fd = h.fd;
+            descriptor = h.descriptor;
+            o = h.o;
+            at = sym (set_other (at_births s older) (number b) None h.fd other) ∙ h.at;
+            named = h.named;
+          }
 
-      by : (x : Bool) → is_named (table (without b older)) handle ≡ x → is_named (table (without b older)) handle ≡ false
-      by true e = absurd (true≢false (sym (named_born s older handle order (older_at (names_at (without b older) handle e))) ∙ none))
+      by : (x : Bool)
+          → is_named (table (without b older)) handle ≡ x
+          → is_named (table (without b older)) handle ≡ false
+      by true e =
+          absurd (true≢false (sym (named_born s older handle order (older_at (names_at (without b older) handle e)))
+          ∙ none))
       by false e = e
 
   -- the maps of a program are open when it is loaded
-  are_open : (fd : ℕ) (older : List Birth) (ms : List (ℕ × ℕ)) → AreInOrder s older → AllByRecursion (λ m. (m.0 ≢ fd) × (latest_at older m.0 ≡ Some (OfMap m.1 m.0))) ms → AreOpen (without (OfProgram fd) older) ms
+  are_open : (fd : ℕ) (older : List Birth) (ms : List (ℕ × ℕ))
+      → AreInOrder s older
+      → AllByRecursion (λ m. (m.0 ≢ fd) × (latest_at older m.0 ≡ Some (OfMap m.1 m.0))) ms
+      → AreOpen (without (OfProgram fd) older) ms
   unfolding without
   are_open fd older [] order h = tt
   are_open fd older (m ∷ ms) order h = (
-    (latest_descriptor s older m.0 (OfMap m.1 m.0) order h.0.1, set_other (at_births s older) fd None m.0 h.0.0 ∙ ap (λ (b : Option Birth). Some (object_of s b)) h.0.1),
+    (
+      latest_descriptor s older m.0 (OfMap m.1 m.0) order h.0.1,
+      set_other (at_births s older) fd None m.0 h.0.0 ∙ ap (λ (b : Option Birth). Some (object_of s b)) h.0.1,
+    ),
     are_open fd older ms order h.1,
   )
 
-  making : (b : Birth) (older : List Birth) (t : TenantState) → IsDescriptor (number b) → AreInOrder s older → IsBorn s older b → Follows (state_of s (without b older)) t → LeadsTo t (made s b) (state_of s (set_at (without b older) (number b) (Some (object_of s (Some b)))))
+  making : (b : Birth) (older : List Birth) (t : TenantState)
+      → IsDescriptor (number b) → AreInOrder s older
+      → IsBorn s older b → Follows (state_of s (without b older)) t
+      → LeadsTo t (made s b) (state_of s (set_at (without b older) (number b) (Some (object_of s (Some b)))))
   making (OfMap handle fd) older t is order (live_so, none) h =
       let (m, there) = is_there (live s handle) live_so in
-      subst (λ (o : Option Map). LeadsTo t (made_map fd o) (state_of s (set_at (without (OfMap handle fd) older) fd (Some (object.Map handle))))) (sym there)
-      (map_leads held bisimulation s (without (OfMap handle fd) older) t fd handle m h (only_free (OfMap handle fd) older is) there (whole.maps handle m there) (unnamed (OfMap handle fd) older handle order none) whole.area)
+      subst (λ (o : Option Map).
+      LeadsTo t (made_map fd o) (state_of s (set_at (without (OfMap handle fd) older) fd (Some (object.Map handle)))))
+      (sym there)
+      (map_leads held bisimulation s (without (OfMap handle fd) older) t fd handle m h
+      (only_free (OfMap handle fd) older is) there (whole.maps handle m there)
+      (unnamed (OfMap handle fd) older handle order none)
+      whole.area)
   making (OfProgram fd) older t is order (l, there, maps) h =
       let f = without (OfProgram fd) older in
-      let answer = load_answer s f l (whole.programs fd l there) (are_open fd older l.maps order maps) same_verdict fd (only_free (OfProgram fd) older is) in
-      let one = follows held bisimulation (state_of s f) t (load_of l.insns) (opens fd (state_of s (set_at f fd (Some (object.Program l))))) h answer in
-      subst (λ (o : Option OpenObject). LeadsTo t (made_program o) (state_of s (set_at f fd (Some (program_or o))))) (sym there)
+      let answer =
+      load_answer s f l (whole.programs fd l there) (are_open fd older l.maps order maps)
+      same_verdict fd (only_free (OfProgram fd) older is) in
+      let one =
+      follows held bisimulation (state_of s f) t (load_of l.insns)
+      (opens fd (state_of s (set_at f fd (Some (object.Program l)))))
+      h answer in
+      subst (λ (o : Option OpenObject). LeadsTo t (made_program o) (state_of s (set_at f fd (Some (program_or o)))))
+      (sym there)
       (record { end = one.b.after; leads = (one.b, one.answers, (fd, one.status), refl); after = one.after })
 
-  close_here : (b : Birth) (older : List Birth) → IsDescriptor (number b) → Answers false (state_of s (at_births s older)) (close (number b)) (gives [] (state_of s (without b older)))
+  close_here : (b : Birth) (older : List Birth)
+      → IsDescriptor (number b)
+      → Answers false (state_of s (at_births s older)) (close (number b)) (gives [] (state_of s (without b older)))
   unfolding without
-  close_here b older is = close_answer s (at_births s older) (number b) (object_of s (latest_at older (number b))) is refl
+  close_here b older is =
+      close_answer s (at_births s older) (number b) (object_of s (latest_at older (number b))) is refl
 
-  next_here : (b : Birth) (older : List Birth) → set_at (without b older) (number b) (Some (object_of s (Some b))) ≡ at_births s (b ∷ older)
+  next_here : (b : Birth) (older : List Birth)
+      → set_at (without b older) (number b) (Some (object_of s (Some b))) ≡ at_births s (b ∷ older)
   unfolding without
   next_here b older = next_birth s b older
 
-  pub walk : (bs : List Birth) (t : TenantState) → AreInOrder s bs → Follows (state_of s (at_births s [])) t → LeadsTo t (born s bs) (state_of s (at_births s bs))
+  pub walk : (bs : List Birth) (t : TenantState)
+      → AreInOrder s bs → Follows (state_of s (at_births s [])) t
+      → LeadsTo t (born s bs) (state_of s (at_births s bs))
   walk [] t order h = record { end = t; leads = refl; after = h }
   walk (b ∷ older) t (low, high, apart, is, order) h =
       let before = walk older t order h in
       let descriptor : IsDescriptor (number b) = record { low = low; high = high } in
-      let closes = follows held bisimulation (state_of s (at_births s older)) before.end (close (number b)) (gives [] (state_of s (without b older))) before.after
+      let closes =
+      follows held bisimulation (state_of s (at_births s older)) before.end (close (number b))
+      (gives [] (state_of s (without b older))) before.after
       (close_here b older descriptor) in
       let makes = making b older closes.b.after descriptor order is closes.after in
       record {
         end = makes.end;
-        leads = leads_then (born s older) (close (number b) ∷ made s b) t before.end makes.end before.leads (closes.b, closes.answers, (0, closes.status), makes.leads);
+        leads =
+            leads_then (born s older) (close (number b) ∷ made s b) t before.end makes.end
+            before.leads
+            (closes.b, closes.answers, (0, closes.status), makes.leads);
         after = subst (λ (f : Opened). Follows (state_of s f) makes.end) (next_here b older) makes.after;
       }

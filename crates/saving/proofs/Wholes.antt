@@ -54,23 +54,27 @@ any_mid p [] ys x e = (none_of (p x) (list_any p ys) e).0
 any_mid p (z ∷ xs) ys x e = any_mid p xs ys x (none_of (p z) (list_any p (xs ++ x ∷ ys)) e).1
 
 -- the key in the middle is not among the keys before it
-pub mid_apart : (before : List (List ℕ)) (key : List ℕ) (after : List (List ℕ)) → AreDistinct (before ++ key ∷ after) → list_any (is_key key) before ≡ false
+pub mid_apart : (before : List (List ℕ)) (key : List ℕ) (after : List (List ℕ))
+    → AreDistinct (before ++ key ∷ after) → list_any (is_key key) before ≡ false
 mid_apart [] key after h = refl
-mid_apart (b ∷ bs) key after h = ap₂ (λ (x y : Bool). x || y) (key_either key b ∙ any_mid (is_key b) bs after key h.0) (mid_apart bs key after h.1)
+mid_apart (b ∷ bs) key after h =
+    ap₂ (λ (x y : Bool). x || y) (key_either key b ∙ any_mid (is_key b) bs after key h.0) (mid_apart bs key after h.1)
 
 module _ {A : Type 0} where
   pub keys_append : (es fs : List (List ℕ × A)) → keys_of (es ++ fs) ≡ keys_of es ++ keys_of fs
   keys_append [] fs = refl
   keys_append (e ∷ es) fs = ap (λ (ks : List (List ℕ)). e.0 ∷ ks) (keys_append es fs)
 
-  pub not_found : (key : List ℕ) (es : List (List ℕ × A)) → list_any (is_key key) (keys_of es) ≡ false → found key es ≡ None
+  pub not_found : (key : List ℕ) (es : List (List ℕ × A))
+      → list_any (is_key key) (keys_of es) ≡ false → found key es ≡ None
   not_found key es e = by (found key es) (is_some-lookup (is_key key) es ∙ e)
     where
       by : (o : Option A) → is_some o ≡ false → o ≡ None
       by None e = refl
       by (Some x) e = absurd (true≢false e)
 
-  absent_key : (key : List ℕ) (es : List (List ℕ × A)) → found key es ≡ None → list_any (is_key key) (keys_of es) ≡ false
+  absent_key : (key : List ℕ) (es : List (List ℕ × A))
+      → found key es ≡ None → list_any (is_key key) (keys_of es) ≡ false
   absent_key key es e = sym (is_some-lookup (is_key key) es) ∙ ap is_some e
 
   -- ---- the keys after a call
@@ -79,62 +83,87 @@ module _ {A : Type 0} where
   keys_set test [] a = refl
   keys_set test (e ∷ es) a = by (test e.0) (keys_set test es a)
     where
-      by : (b : Bool) → keys_of (set_value test es a) ≡ keys_of es → keys_of (cond b ((e.0, a) ∷ es) (e ∷ set_value test es a)) ≡ e.0 ∷ keys_of es
+      by : (b : Bool)
+          → keys_of (set_value test es a) ≡ keys_of es
+          → keys_of (cond b ((e.0, a) ∷ es) (e ∷ set_value test es a)) ≡ e.0 ∷ keys_of es
       by true rest = refl
       by false rest = ap (λ (ks : List (List ℕ)). e.0 ∷ ks) rest
 
-  any_without : (p test : List ℕ → Bool) (es : List (List ℕ × A)) → list_any p (keys_of es) ≡ false → list_any p (keys_of (remove_entry test es)) ≡ false
+  any_without : (p test : List ℕ → Bool) (es : List (List ℕ × A))
+      → list_any p (keys_of es) ≡ false → list_any p (keys_of (remove_entry test es)) ≡ false
   any_without p test [] e = refl
-  any_without p test (x ∷ es) e = let parts = none_of (p x.0) (list_any p (keys_of es)) e in by (test x.0) parts.0 parts.1 (any_without p test es parts.1)
+  any_without p test (x ∷ es) e =
+      let parts = none_of (p x.0) (list_any p (keys_of es)) e in
+      by (test x.0) parts.0 parts.1 (any_without p test es parts.1)
     where
-      by : (b : Bool) → p x.0 ≡ false → list_any p (keys_of es) ≡ false → list_any p (keys_of (remove_entry test es)) ≡ false → list_any p (keys_of (cond b es (x ∷ remove_entry test es))) ≡ false
+      by : (b : Bool)
+          → p x.0 ≡ false → list_any p (keys_of es) ≡ false
+          → list_any p (keys_of (remove_entry test es)) ≡ false
+          → list_any p (keys_of (cond b es (x ∷ remove_entry test es))) ≡ false
       by true here later rest = later
       by false here later rest = ap₂ (λ (a b : Bool). a || b) here rest
 
-  distinct_without : (test : List ℕ → Bool) (es : List (List ℕ × A)) → AreDistinct (keys_of es) → AreDistinct (keys_of (remove_entry test es))
+  distinct_without : (test : List ℕ → Bool) (es : List (List ℕ × A))
+      → AreDistinct (keys_of es) → AreDistinct (keys_of (remove_entry test es))
   distinct_without test [] h = tt
   distinct_without test (e ∷ es) h = by (test e.0) (distinct_without test es h.1)
     where
-      by : (b : Bool) → AreDistinct (keys_of (remove_entry test es)) → AreDistinct (keys_of (cond b es (e ∷ remove_entry test es)))
+      by : (b : Bool)
+          → AreDistinct (keys_of (remove_entry test es))
+          → AreDistinct (keys_of (cond b es (e ∷ remove_entry test es)))
       by true rest = h.1
       by false rest = (any_without (is_key e.0) test es h.0, rest)
 
-  length_without : (test : List ℕ → Bool) (es : List (List ℕ × A)) (a : A) → lookup test es ≡ Some a → length (remove_entry test es) + 1 ≡ length es
+  length_without : (test : List ℕ → Bool) (es : List (List ℕ × A)) (a : A)
+      → lookup test es ≡ Some a → length (remove_entry test es) + 1 ≡ length es
   length_without test [] a e = absurd (none-some a e)
   length_without test (x ∷ es) a e = by (test x.0) e (length_without test es a)
     where
-      by : (b : Bool) → cond b (Some x.1) (lookup test es) ≡ Some a → (lookup test es ≡ Some a → length (remove_entry test es) + 1 ≡ length es) → length (cond b es (x ∷ remove_entry test es)) + 1 ≡ length (x ∷ es)
+      by : (b : Bool)
+          → cond b (Some x.1) (lookup test es) ≡ Some a
+          → (lookup test es ≡ Some a → length (remove_entry test es) + 1 ≡ length es)
+          → length (cond b es (x ∷ remove_entry test es)) + 1 ≡ length (x ∷ es)
       by true e rest = omega arith
       by false e rest = let later = rest e in omega arith
 
   -- a property of the key of each entry
-  each_key : (P : List ℕ → Type 0) (es : List (List ℕ × A)) → AllByRecursion (λ e. P e.0) es → AllByRecursion P (keys_of es)
+  each_key : (P : List ℕ → Type 0) (es : List (List ℕ × A))
+      → AllByRecursion (λ e. P e.0) es → AllByRecursion P (keys_of es)
   each_key P [] h = tt
   each_key P (e ∷ es) h = (h.0, each_key P es h.1)
 
-  pub from_keys : (P : List ℕ → Type 0) (es : List (List ℕ × A)) → AllByRecursion P (keys_of es) → AllByRecursion (λ e. P e.0) es
+  pub from_keys : (P : List ℕ → Type 0) (es : List (List ℕ × A))
+      → AllByRecursion P (keys_of es) → AllByRecursion (λ e. P e.0) es
   from_keys P [] h = tt
   from_keys P (e ∷ es) h = (h.0, from_keys P es h.1)
 
-  pub all_without : (P : List ℕ × A → Type 0) (test : List ℕ → Bool) (es : List (List ℕ × A)) → AllByRecursion P es → AllByRecursion P (remove_entry test es)
+  pub all_without : (P : List ℕ × A → Type 0) (test : List ℕ → Bool) (es : List (List ℕ × A))
+      → AllByRecursion P es → AllByRecursion P (remove_entry test es)
   all_without P test [] h = tt
   all_without P test (e ∷ es) h = by (test e.0) (all_without P test es h.1)
     where
-      by : (b : Bool) → AllByRecursion P (remove_entry test es) → AllByRecursion P (cond b es (e ∷ remove_entry test es))
+      by : (b : Bool)
+          → AllByRecursion P (remove_entry test es)
+          → AllByRecursion P (cond b es (e ∷ remove_entry test es))
       by true rest = h.1
       by false rest = (h.0, rest)
 
-distinct_with : (ks : List (List ℕ)) (key : List ℕ) → AreDistinct ks → list_any (is_key key) ks ≡ false → AreDistinct (ks ++ key ∷ [])
+distinct_with : (ks : List (List ℕ)) (key : List ℕ)
+    → AreDistinct ks → list_any (is_key key) ks ≡ false
+    → AreDistinct (ks ++ key ∷ [])
 distinct_with [] key h e = (refl, tt)
 distinct_with (k ∷ ks) key h e =
     let parts = none_of (is_key key k) (list_any (is_key key) ks) e in
     (any_end (is_key k) ks h.0 (key_either k key ∙ parts.0), distinct_with ks key h.1 parts.1)
   where
-    any_end : (p : List ℕ → Bool) (xs : List (List ℕ)) → list_any p xs ≡ false → p key ≡ false → list_any p (xs ++ key ∷ []) ≡ false
+    any_end : (p : List ℕ → Bool) (xs : List (List ℕ))
+        → list_any p xs ≡ false → p key ≡ false → list_any p (xs ++ key ∷ []) ≡ false
     any_end p [] e f = ap (λ (b : Bool). b || false) f
-    any_end p (x ∷ xs) e f = let parts = none_of (p x) (list_any p xs) e in ap₂ (λ (a b : Bool). a || b) parts.0 (any_end p xs parts.1 f)
+    any_end p (x ∷ xs) e f =
+        let parts = none_of (p x) (list_any p xs) e in ap₂ (λ (a b : Bool). a || b) parts.0 (any_end p xs parts.1 f)
 
-pub all_end : {X : Type 0} (P : X → Type 0) (xs : List X) (x : X) → AllByRecursion P xs → P x → AllByRecursion P (xs ++ x ∷ [])
+pub all_end : {X : Type 0} (P : X → Type 0) (xs : List X) (x : X)
+    → AllByRecursion P xs → P x → AllByRecursion P (xs ++ x ∷ [])
 all_end P [] x h p = (p, tt)
 all_end P (y ∷ ys) x h p = (h.0, all_end P ys x h.1 p)
 
@@ -149,32 +178,53 @@ module _ {A : Type 0} (t : Table A) (key : List ℕ) where
     pub hash : t.shape.kind ≡ Hash
     pub room : (length t.entries + t.deleted) ≢ t.shape.max_entries
 
-  has_room : (kind : MapKind) (flags : ℕ) → t.shape.kind ≡ kind → look_up t key ≡ None → of_absent {A = A} kind (is_full t) flags ≡ New → IsRoomFor
+  has_room : (kind : MapKind) (flags : ℕ)
+      → t.shape.kind ≡ kind → look_up t key ≡ None
+      → of_absent {A = A} kind (is_full t) flags ≡ New
+      → IsRoomFor
   has_room Array flags is none e = absurd (let wrong : of_absent {A = A} Array (is_full t) flags ≡ New = e in cc wrong)
   has_room Hash flags is none e = by_exist (flags == exist) e
     where
-      by_full : (b : Bool) → is_full t ≡ b → (let full : Verdict A = Refused TooBig in if b then full else New) ≡ New → IsRoomFor
+      by_full : (b : Bool)
+          → is_full t ≡ b
+          → (let full : Verdict A = Refused TooBig in if b then full else New) ≡ New
+          → IsRoomFor
       by_full true same e = absurd (let wrong : (let full : Verdict A = Refused TooBig in full) ≡ New = e in cc wrong)
-      by_full false same e = record { absent = none; hash = is; room = λ all. true≢false (sym (eq-eqb (length t.entries + t.deleted) t.shape.max_entries all) ∙ same) }
+      by_full false same e = record {
+        absent = none;
+        hash = is;
+        room = λ all. true≢false (sym (eq-eqb (length t.entries + t.deleted) t.shape.max_entries all) ∙ same);
+      }
 
-      by_exist : (b : Bool) → (let missing : Verdict A = Refused NoEntry in let full : Verdict A = Refused TooBig in if b then missing else (if is_full t then full else New)) ≡ New → IsRoomFor
-      by_exist true e = absurd (let wrong : (let missing : Verdict A = Refused NoEntry in missing) ≡ New = e in cc wrong)
+      by_exist : (b : Bool)
+          → (let missing : Verdict A = Refused NoEntry in let full : Verdict A = Refused TooBig in
+          if b then missing else (if is_full t then full else New))
+          ≡ New
+          → IsRoomFor
+      by_exist true e =
+          absurd (let wrong : (let missing : Verdict A = Refused NoEntry in missing) ≡ New = e in cc wrong)
       by_exist false e = by_full (is_full t) refl e
 
   pub new_has_room : (flags : ℕ) → verdict t key flags ≡ New → IsRoomFor
   new_has_room flags e = by_flags (nat_le flags exist) e
     where
-      present : (a : A) (b : Bool) → (let refused : Verdict A = Refused Exists in if b then refused else Present a) ≡ New → IsRoomFor
-      present a true e = absurd (let wrong : (let refused : Verdict A = Refused Exists in refused) ≡ New = e in cc wrong)
+      present : (a : A) (b : Bool)
+          → (let refused : Verdict A = Refused Exists in if b then refused else Present a) ≡ New
+          → IsRoomFor
+      present a true e =
+          absurd (let wrong : (let refused : Verdict A = Refused Exists in refused) ≡ New = e in cc wrong)
       present a false e = absurd (let wrong : Present a ≡ New = e in cc wrong)
 
       by_found : (o : Option A) → look_up t key ≡ o → of_found t flags o ≡ New → IsRoomFor
       by_found None none e = has_room t.shape.kind flags refl none e
       by_found (Some a) there e = present a (flags == no_exist) e
 
-      by_flags : (b : Bool) → (let refused : Verdict A = Refused Invalid in if b then of_found t flags (look_up t key) else refused) ≡ New → IsRoomFor
+      by_flags : (b : Bool)
+          → (let refused : Verdict A = Refused Invalid in if b then of_found t flags (look_up t key) else refused) ≡ New
+          → IsRoomFor
       by_flags true e = by_found (look_up t key) refl e
-      by_flags false e = absurd (let wrong : (let refused : Verdict A = Refused Invalid in refused) ≡ New = e in cc wrong)
+      by_flags false e =
+          absurd (let wrong : (let refused : Verdict A = Refused Invalid in refused) ≡ New = e in cc wrong)
 
   pub record IsRemoved (a : A) : Type 0 where
     pub there : look_up t key ≡ Some a
@@ -184,8 +234,10 @@ module _ {A : Type 0} (t : Table A) (key : List ℕ) where
   removed_is a e = by t.shape.kind (look_up t key) refl refl e
     where
       by : (k : MapKind) (o : Option A) → t.shape.kind ≡ k → look_up t key ≡ o → removal_of k o ≡ Ok a → IsRemoved a
-      by Array o is there e = absurd (let wrong : (let no : Result A MapFault = Err Invalid in no) ≡ Ok a = e in cc wrong)
-      by Hash None is there e = absurd (let wrong : (let no : Result A MapFault = Err NoEntry in no) ≡ Ok a = e in cc wrong)
+      by Array o is there e =
+          absurd (let wrong : (let no : Result A MapFault = Err Invalid in no) ≡ Ok a = e in cc wrong)
+      by Hash None is there e =
+          absurd (let wrong : (let no : Result A MapFault = Err NoEntry in no) ≡ Ok a = e in cc wrong)
       by Hash (Some x) is there e = record { there = there ∙ ap (λ (y : A). Some y) (same_ok x a e); hash = is }
         where
           same_ok : (x a : A) → (let r : Result A MapFault = Ok x in r) ≡ Ok a → x ≡ a
@@ -194,13 +246,21 @@ module _ {A : Type 0} (t : Table A) (key : List ℕ) where
 -- ---- the tables after calls
 
 module _ {A : Type 0} {t : Table A} (whole : IsWholeTable t) where
-  pub whole_with_new : (key : List ℕ) (a : A) (flags : ℕ) → length key ≡ t.shape.key_size → verdict t key flags ≡ New → IsWholeTable (with_new t key a)
+  pub whole_with_new : (key : List ℕ) (a : A) (flags : ℕ)
+      → length key ≡ t.shape.key_size → verdict t key flags ≡ New
+      → IsWholeTable (with_new t key a)
   whole_with_new key a flags size e =
       let room = new_has_room t key flags e in
       record {
         keys = all_end (λ (x : List ℕ × A). length x.0 ≡ t.shape.key_size) t.entries (key, a) whole.keys size;
-        distinct = subst AreDistinct (sym (keys_append t.entries ((key, a) ∷ []))) (distinct_with (keys_of t.entries) key whole.distinct (absent_key key t.entries room.absent));
-        few = let most = whole.few in let apart = room.room in let long = length-append t.entries ((key, a) ∷ []) in omega arith;
+        distinct =
+            subst AreDistinct (sym (keys_append t.entries ((key, a) ∷ [])))
+            (distinct_with (keys_of t.entries) key whole.distinct (absent_key key t.entries room.absent));
+        few =
+            let most = whole.few in
+            let apart = room.room in
+            let long = length-append t.entries ((key, a) ∷ []) in
+            omega arith;
         indices = λ array. absurd (no_array (sym array ∙ room.hash));
       }
 
@@ -208,9 +268,16 @@ module _ {A : Type 0} {t : Table A} (whole : IsWholeTable t) where
   whole_with_object key a =
       let same = keys_set (is_key key) t.entries a in
       record {
-        keys = from_keys (λ k. length k ≡ t.shape.key_size) (set_value (is_key key) t.entries a) (subst (AllByRecursion (λ k. length k ≡ t.shape.key_size)) (sym same) (each_key (λ k. length k ≡ t.shape.key_size) t.entries whole.keys));
+        keys =
+            from_keys (λ k. length k ≡ t.shape.key_size) (set_value (is_key key) t.entries a)
+            (subst (AllByRecursion (λ k. length k ≡ t.shape.key_size)) (sym same)
+            (each_key (λ k. length k ≡ t.shape.key_size) t.entries whole.keys));
         distinct = subst AreDistinct (sym same) whole.distinct;
-        few = let long = sym (length-keys_of (set_value (is_key key) t.entries a)) ∙ ap length same ∙ length-keys_of t.entries in let most = whole.few in omega arith;
+        few =
+            let long =
+            sym (length-keys_of (set_value (is_key key) t.entries a)) ∙ ap length same ∙ length-keys_of t.entries in
+            let most = whole.few in
+            omega arith;
         indices = λ array. same ∙ whole.indices array;
       }
 
@@ -225,20 +292,36 @@ module _ {A : Type 0} {t : Table A} (whole : IsWholeTable t) where
       }
 
   pub whole_after_run : IsWholeTable (after_run t)
-  whole_after_run = record { keys = whole.keys; distinct = whole.distinct; few = let most = whole.few in omega arith; indices = whole.indices }
+  whole_after_run = record {
+    keys = whole.keys;
+    distinct = whole.distinct;
+    few = let most = whole.few in omega arith;
+    indices = whole.indices;
+  }
 
 -- a table with the same keys and other objects
-pub whole_by_keys : {A B : Type 0} {t : Table A} → IsWholeTable t → (es : List (List ℕ × B)) → keys_of es ≡ keys_of t.entries → IsWholeTable (record { shape = t.shape; entries = es; deleted = t.deleted })
+pub whole_by_keys : {A B : Type 0} {t : Table A}
+    → IsWholeTable t
+    → (es : List (List ℕ × B)) → keys_of es ≡ keys_of t.entries
+    → IsWholeTable (record { shape = t.shape; entries = es; deleted = t.deleted })
 whole_by_keys {A} {B} {t} whole es same = record {
-  keys = from_keys (λ k. length k ≡ t.shape.key_size) es (subst (AllByRecursion (λ k. length k ≡ t.shape.key_size)) (sym same) (each_key (λ k. length k ≡ t.shape.key_size) t.entries whole.keys));
+  keys =
+      from_keys (λ k. length k ≡ t.shape.key_size) es
+      (subst (AllByRecursion (λ k. length k ≡ t.shape.key_size)) (sym same)
+      (each_key (λ k. length k ≡ t.shape.key_size) t.entries whole.keys));
   distinct = subst AreDistinct (sym same) whole.distinct;
-  few = let long = sym (length-keys_of es) ∙ ap length same ∙ length-keys_of t.entries in let most = whole.few in omega arith;
+  few =
+      let long = sym (length-keys_of es) ∙ ap length same ∙ length-keys_of t.entries in
+      let most = whole.few in
+      omega arith;
   indices = λ array. same ∙ whole.indices array;
 }
 
 -- ---- a new table
 
-pub indexed_keys : (P : List ℕ → Type 0) → ((i : ℕ) → P (index_key i)) → (from n : ℕ) → AllByRecursion P (keys_of (indexed (λ i. i) from n))
+pub indexed_keys : (P : List ℕ → Type 0)
+    → ((i : ℕ) → P (index_key i))
+    → (from n : ℕ) → AllByRecursion P (keys_of (indexed (λ i. i) from n))
 unfolding indexed
 indexed_keys P h from zero = tt
 indexed_keys P h from (suc n) = (h from, indexed_keys P h (from + 1) n)
@@ -253,19 +336,29 @@ index_apart i j lt small = by (is_key (low_bytes 4 i) (low_bytes 4 j)) refl
   where
     by : (b : Bool) → is_key (low_bytes 4 i) (low_bytes 4 j) ≡ b → is_key (low_bytes 4 i) (low_bytes 4 j) ≡ false
     by true e =
-        let same : i ≡ j = sym (number_of-low_bytes 4 i (omega arith)) ∙ ap number_of (one_key (low_bytes 4 i) (low_bytes 4 j) e) ∙ number_of-low_bytes 4 j (omega arith) in
+        let same : i ≡ j =
+        sym (number_of-low_bytes 4 i (omega arith))
+        ∙ ap number_of (one_key (low_bytes 4 i) (low_bytes 4 j) e)
+        ∙ number_of-low_bytes 4 j (omega arith) in
         absurd (omega arith)
     by false e = e
 
-indexed_apart : (i from n : ℕ) → i < from → from + n ≤ 2 ^ 32 → list_any (is_key (index_key i)) (keys_of (indexed (λ k. k) from n)) ≡ false
+indexed_apart : (i from n : ℕ)
+    → i < from → from + n ≤ 2 ^ 32
+    → list_any (is_key (index_key i)) (keys_of (indexed (λ k. k) from n)) ≡ false
 unfolding indexed
 indexed_apart i from zero lt small = refl
-indexed_apart i from (suc n) lt small = ap₂ (λ (a b : Bool). a || b) (index_apart i from lt (omega arith)) (indexed_apart i (from + 1) n (omega arith) (omega arith))
+indexed_apart i from (suc n) lt small =
+    ap₂ (λ (a b : Bool). a || b) (index_apart i from lt (omega arith))
+    (indexed_apart i (from + 1) n (omega arith) (omega arith))
 
 pub indexed_distinct : (from n : ℕ) → from + n ≤ 2 ^ 32 → AreDistinct (keys_of (indexed (λ k. k) from n))
 unfolding indexed
 indexed_distinct from zero small = tt
-indexed_distinct from (suc n) small = (indexed_apart from (from + 1) n (omega arith) (omega arith), indexed_distinct (from + 1) n (omega arith))
+indexed_distinct from (suc n) small = (
+  indexed_apart from (from + 1) n (omega arith) (omega arith),
+  indexed_distinct (from + 1) n (omega arith),
+)
 
 pub indexed_long : (from n : ℕ) → length (keys_of (indexed (λ k. k) from n)) ≡ n
 unfolding indexed

@@ -39,18 +39,22 @@ one_result_each fd (input ∷ inputs) [] before after runs = absurd runs
 one_result_each fd (input ∷ inputs) (result ∷ results) before after runs =
     let (between, told, rest) = runs in ap (λ (n : ℕ). suc n) (one_result_each fd inputs results between after rest)
 
-refused_by : (s : TenantState) (answer : Errno) (errno : Errno) → Some answer ≡ Some errno → refuses errno s ≡ refuses answer s
+refused_by : (s : TenantState) (answer : Errno) (errno : Errno)
+    → Some answer ≡ Some errno → refuses errno s ≡ refuses answer s
 refused_by s answer errno same = let is : errno ≡ answer = cc in ap (λ (e : Errno). refuses e s) is
 
-long_by : (s : TenantState) (l : LoadedProgram) (words packet : List ℕ) (errno : Errno) (b : Bool) → (if b then Some TooBig else None) ≡ Some errno
+long_by : (s : TenantState) (l : LoadedProgram) (words packet : List ℕ) (errno : Errno) (b : Bool)
+    → (if b then Some TooBig else None) ≡ Some errno
     → refuses errno s ≡ (if b then refuses TooBig s else ran s l words packet)
 long_by s l words packet errno true same = refused_by s TooBig errno same
 long_by s l words packet errno false same = cc
 
-refused_object : (s : TenantState) (words packet : List ℕ) (errno : Errno) (o : Option OpenObject) → run_refusal o (length packet) ≡ Some errno → refuses errno s ≡ run_of s words packet o
+refused_object : (s : TenantState) (words packet : List ℕ) (errno : Errno) (o : Option OpenObject)
+    → run_refusal o (length packet) ≡ Some errno → refuses errno s ≡ run_of s words packet o
 refused_object s words packet errno None same = refused_by s BadDescriptor errno same
 refused_object s words packet errno (Some (object.Map handle)) same = refused_by s Invalid errno same
-refused_object s words packet errno (Some (object.Program l)) same = long_by s l words packet errno (nat_lt longest_packet (length packet)) same
+refused_object s words packet errno (Some (object.Program l)) same =
+    long_by s l words packet errno (nat_lt longest_packet (length packet)) same
 
 pub refused_as_its_frame : RefusedAsItsFrame
 refused_as_its_frame s fd words packet errno same = refused_object s words packet errno (named s.objects fd) same

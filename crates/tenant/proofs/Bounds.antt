@@ -21,14 +21,18 @@ positive n m h = omega (arith, h)
 
 pub weights_are_positive : (code : List Insn) (cost : Cost) → IsCostOf cost code → 1 ≤ run_weight cost
 weights_are_positive code cost most =
-    positive cost.instructions (CALL_WEIGHT * cost.calls) (paths_have_one code most.0.1.0 cost.instructions most.0.1.1 most.0.1.2)
+    positive cost.instructions (CALL_WEIGHT * cost.calls)
+    (paths_have_one code most.0.1.0 cost.instructions most.0.1.1 most.0.1.2)
 
 -- bound 0 allows all packets
 pub all_allowed : (o : Option OpenObject) (bound packets : ℕ) → bound ≡ 0 → IsAllowed o bound packets packets
 all_allowed o bound packets zero = (λ _. refl, λ other. absurd (other zero))
 
-pub allowed_of_program : (o : Option OpenObject) (l : LoadedProgram) (cost : Cost) (bound packets n : ℕ) → bound ≢ 0 → o ≡ Some (object.Program l)
-    → IsCostOf cost l.insns → n ≡ allowed bound (run_weight cost) packets → IsAllowed o bound packets n
+pub allowed_of_program : (o : Option OpenObject) (l : LoadedProgram) (cost : Cost) (bound packets n : ℕ)
+    → bound ≢ 0 → o ≡ Some (object.Program l)
+    → IsCostOf cost l.insns
+    → n ≡ allowed bound (run_weight cost) packets
+    → IsAllowed o bound packets n
 allowed_of_program o l cost bound packets n other is most count = (
   λ zero. absurd (other zero),
   λ _. subst (λ (x : Option OpenObject). IsWithinBound x bound packets n) (sym is) (cost, most, count),
@@ -41,7 +45,8 @@ allowed_otherwise None errno bound packets refused = (λ _. refl, λ _. refl)
 allowed_otherwise (Some (object.Map handle)) errno bound packets refused = (λ _. refl, λ _. refl)
 allowed_otherwise (Some (object.Program l)) errno bound packets refused = grind arith
 
-pub cost_of_program : (o : Option OpenObject) (l : LoadedProgram) (cost : Cost) → o ≡ Some (object.Program l) → IsCostOf cost l.insns → HasCost o (Some cost)
+pub cost_of_program : (o : Option OpenObject) (l : LoadedProgram) (cost : Cost)
+    → o ≡ Some (object.Program l) → IsCostOf cost l.insns → HasCost o (Some cost)
 cost_of_program o l cost is has =
     subst (λ (x : Option OpenObject). HasCost x (Some cost)) (sym is) has
 

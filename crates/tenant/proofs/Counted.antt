@@ -17,7 +17,8 @@ use Rattle.tenant.specs.declared.object.OpenObject.TheVariants as object
 use Rattle.tenant.proofs.Targets.{named_at}
 
 -- the sum over one more descriptor
-pub total_more : (f : OpenObject → ℕ) (xs : List (Option OpenObject)) (fd : ℕ) → first_descriptor ≤ fd → fd - first_descriptor < length xs
+pub total_more : (f : OpenObject → ℕ) (xs : List (Option OpenObject)) (fd : ℕ)
+    → first_descriptor ≤ fd → fd - first_descriptor < length xs
     → total f (take (fd + 1 - first_descriptor) xs) ≡ total f (take (fd - first_descriptor) xs) + weight f (named xs fd)
 total_more f xs fd low within =
     let next : fd + 1 - first_descriptor ≡ fd - first_descriptor + 1 = omega arith in
@@ -26,22 +27,26 @@ total_more f xs fd low within =
     ∙ ap (λ (o : Option OpenObject). total f (take (fd - first_descriptor) xs) + weight f o) (sym (named_at xs fd low))
 
 -- an open descriptor counts as one, and another one as none
-pub open_one : (r : Option (Bor OpenObject)) {o : Option OpenObject} → option_copied r ≡ o → is_some r ≡ true → weight (λ x. 1) o ≡ 1
+pub open_one : (r : Option (Bor OpenObject)) {o : Option OpenObject}
+    → option_copied r ≡ o → is_some r ≡ true → weight (λ x. 1) o ≡ 1
 open_one None is some = absurd (true≢false (sym some))
 open_one (Some x) is some = sym (ap (weight (λ y. 1)) is)
 
-pub closed_none : (r : Option (Bor OpenObject)) {o : Option OpenObject} → option_copied r ≡ o → is_some r ≡ false → weight (λ x. 1) o ≡ 0
+pub closed_none : (r : Option (Bor OpenObject)) {o : Option OpenObject}
+    → option_copied r ≡ o → is_some r ≡ false → weight (λ x. 1) o ≡ 0
 closed_none None is none = sym (ap (weight (λ y. 1)) is)
 closed_none (Some x) is none = absurd (true≢false none)
 
 -- a program counts as one, and anything else as none
-pub program_one : {A : Type 0} (r : Result A Errno) (o : Option OpenObject) → result_err r ≡ object_refusal o → is_ok r ≡ true → weight one_program o ≡ 1
+pub program_one : {A : Type 0} (r : Result A Errno) (o : Option OpenObject)
+    → result_err r ≡ object_refusal o → is_ok r ≡ true → weight one_program o ≡ 1
 program_one (Ok p) None is some = absurd (none-some BadDescriptor is)
 program_one (Ok p) (Some (object.Map handle)) is some = absurd (none-some Invalid is)
 program_one (Ok p) (Some (object.Program l)) is some = refl
 program_one (Err e) o is some = absurd (true≢false (sym some))
 
-pub program_none : {A : Type 0} (r : Result A Errno) (o : Option OpenObject) → result_err r ≡ object_refusal o → is_ok r ≡ false → weight one_program o ≡ 0
+pub program_none : {A : Type 0} (r : Result A Errno) (o : Option OpenObject)
+    → result_err r ≡ object_refusal o → is_ok r ≡ false → weight one_program o ≡ 0
 program_none (Ok p) o is none = absurd (true≢false none)
 program_none (Err e) None is none = refl
 program_none (Err e) (Some (object.Map handle)) is none = refl
@@ -58,5 +63,9 @@ as_counts maps entries bytes programs descriptors refused = record {
   memory_refused = refused;
 }
 
-pub same_counts : {a b c d e v w x y z : ℕ} {f g : Bool} → a ≡ v → b ≡ w → c ≡ x → d ≡ y → e ≡ z → f ≡ g → as_counts a b c d e f ≡ as_counts v w x y z g
+pub same_counts : {a b c d e v w x y z : ℕ} {f g : Bool}
+    → a ≡ v → b ≡ w
+    → c ≡ x → d ≡ y
+    → e ≡ z → f ≡ g
+    → as_counts a b c d e f ≡ as_counts v w x y z g
 same_counts p q r s t u = cc

@@ -99,7 +99,8 @@ bare_created : (b : Bool) (s : TenantState) (r : Result MapShape Errno) → IsBa
 bare_created b s (Err errno) e = refl
 bare_created b s (Ok shape) e = bare_under b s shape (table.lowest s.objects) e
 
-bare_on_map : (s : TenantState) (fd : ℕ) (f : ℕ → Map → Answer) → ((handle : ℕ) (t : Map) → IsBare (f handle t)) → IsBare (on_map s fd f)
+bare_on_map : (s : TenantState) (fd : ℕ) (f : ℕ → Map → Answer)
+    → ((handle : ℕ) (t : Map) → IsBare (f handle t)) → IsBare (on_map s fd f)
 bare_on_map s fd f each e = of_objects (table.named s.objects fd) e
   where
     of_handles : (handle : ℕ) (o : Option Map) → IsBare (of_handle s handle f o)
@@ -111,24 +112,29 @@ bare_on_map s fd f each e = of_objects (table.named s.objects fd) e
     of_objects (Some (object.Program l)) e = refl
     of_objects (Some (object.Map handle)) e = of_handles handle (live s handle) e
 
-bare_if : (right : Bool) (errno : Errno) (s : TenantState) (a : Answer) → IsBare a → IsBare (if right then a else refuses errno s)
+bare_if : (right : Bool) (errno : Errno) (s : TenantState) (a : Answer)
+    → IsBare a → IsBare (if right then a else refuses errno s)
 bare_if true errno s a bare = bare
 bare_if false errno s a bare = λ e. refl
 
 -- a command on a map that tests sizes
-bare_tested : (s : TenantState) (fd : ℕ) (fits : Map → Bool) (f : ℕ → Map → Answer) → ((handle : ℕ) (t : Map) → IsBare (f handle t)) → IsBare (on_map s fd (λ p t. if fits t then f p t else refuses Invalid s))
+bare_tested : (s : TenantState) (fd : ℕ) (fits : Map → Bool) (f : ℕ → Map → Answer)
+    → ((handle : ℕ) (t : Map) → IsBare (f handle t))
+    → IsBare (on_map s fd (λ p t. if fits t then f p t else refuses Invalid s))
 bare_tested s fd fits f each = bare_on_map s fd _ (λ handle t. bare_if (fits t) Invalid s (f handle t) (each handle t))
 
 bare_found : (s : TenantState) (o : Option (List ℕ)) → IsBare (gives_if_found s o)
 bare_found s None e = refl
 bare_found s (Some value) e = no_zero value e
 
-bare_put : (s : TenantState) (handle : ℕ) (t : Map) (key value : List ℕ) (v : call.Verdict (List ℕ)) → IsBare (element_put s handle t key value v)
+bare_put : (s : TenantState) (handle : ℕ) (t : Map) (key value : List ℕ) (v : call.Verdict (List ℕ))
+    → IsBare (element_put s handle t key value v)
 bare_put s handle t key value (call.Refused fault) e = refl
 bare_put s handle t key value (call.Present old) e = refl
 bare_put s handle t key value call.New e = refl
 
-bare_taken : (s : TenantState) (handle : ℕ) (t : Map) (key : List ℕ) (r : Result (List ℕ) MapFault) → IsBare (element_taken_out s handle t key r)
+bare_taken : (s : TenantState) (handle : ℕ) (t : Map) (key : List ℕ) (r : Result (List ℕ) MapFault)
+    → IsBare (element_taken_out s handle t key r)
 bare_taken s handle t key (Err fault) e = refl
 bare_taken s handle t key (Ok value) e = refl
 
@@ -139,12 +145,16 @@ bare_judged s fd (Err refusal) e = absurd (cause_other refusal.cause e)
 bare_told : (a b : Answer) → a ≡ b → IsBare b → IsBare a
 bare_told a b same bare = subst IsBare (sym same) bare
 
-bare_load : (b : Bool) (s : TenantState) (o : Option ℕ) (slots : List ℕ) (a : Answer) → LoadsUnder b s o slots a → IsBare a
+bare_load : (b : Bool) (s : TenantState) (o : Option ℕ) (slots : List ℕ) (a : Answer)
+    → LoadsUnder b s o slots a → IsBare a
 bare_load b s None slots a h = bare_told a _ h (λ e. refl)
 bare_load true s (Some fd) slots a h = bare_told a _ h (λ e. refl)
 bare_load false s (Some fd) slots a (j, is, told) = bare_told a _ told (bare_judged s fd j)
 
-bare_loads : (right b : Bool) (s : TenantState) (slots : List ℕ) (a x : Answer) → x.payload ≡ [] → MatchBool right (LoadsUnder b s (table.lowest s.objects) slots a) (a ≡ x) → IsBare a
+bare_loads : (right b : Bool) (s : TenantState) (slots : List ℕ) (a x : Answer)
+    → x.payload ≡ []
+    → MatchBool right (LoadsUnder b s (table.lowest s.objects) slots a) (a ≡ x)
+    → IsBare a
 bare_loads true b s slots a x plain h = bare_load b s (table.lowest s.objects) slots a h
 bare_loads false b s slots a x plain h = λ e. ap (λ (y : Answer). y.payload) h ∙ plain
 
@@ -165,36 +175,50 @@ bare_closed : (s : TenantState) (fd : ℕ) (o : Option OpenObject) → IsBare (c
 bare_closed s fd None e = refl
 bare_closed s fd (Some o) e = refl
 
-bare_answer : (refused : Bool) (s : TenantState) (command : Command) (a : Answer) → Answers refused s command a → IsBare a
-bare_answer refused s (map_create kind key value max flags) a h = bare_told a _ h (bare_created refused s (asked_shape (kind_of kind) key value max flags))
-bare_answer refused s (map_lookup fd key) a h = bare_told a _ h (bare_tested s fd (has_size key) _ (λ handle t. bare_found s (look_up t key)))
+bare_answer : (refused : Bool) (s : TenantState) (command : Command) (a : Answer)
+    → Answers refused s command a → IsBare a
+bare_answer refused s (map_create kind key value max flags) a h =
+    bare_told a _ h (bare_created refused s (asked_shape (kind_of kind) key value max flags))
+bare_answer refused s (map_lookup fd key) a h =
+    bare_told a _ h (bare_tested s fd (has_size key) _ (λ handle t. bare_found s (look_up t key)))
 bare_answer refused s (map_update fd flags bytes) a h =
     bare_told a _ h (bare_tested s fd (has_sizes bytes) (put_of s flags bytes)
-    (λ handle t. bare_put s handle t (key_of t.shape bytes) (value_of t.shape bytes) (verdict t (key_of t.shape bytes) flags)))
-bare_answer refused s (map_delete fd key) a h = bare_told a _ h (bare_tested s fd (has_size key) _ (λ handle t. bare_taken s handle t key (removal t key)))
-bare_answer refused s (map_next_key fd key) a h = bare_told a _ h (bare_tested s fd (is_empty_or_fits key) _ (λ handle t. bare_found s (next_of t key)))
+    (λ handle t.
+    bare_put s handle t (key_of t.shape bytes) (value_of t.shape bytes) (verdict t (key_of t.shape bytes) flags)))
+bare_answer refused s (map_delete fd key) a h =
+    bare_told a _ h (bare_tested s fd (has_size key) _ (λ handle t. bare_taken s handle t key (removal t key)))
+bare_answer refused s (map_next_key fd key) a h =
+    bare_told a _ h (bare_tested s fd (is_empty_or_fits key) _ (λ handle t. bare_found s (next_of t key)))
 bare_answer refused s (prog_load kind slots) a h = bare_loads (kind == 1) refused s slots a (refuses Invalid s) refl h
-bare_answer refused s (prog_test_run fd words packet) a h = bare_told a _ h (bare_run s words packet (table.named s.objects fd))
+bare_answer refused s (prog_test_run fd words packet) a h =
+    bare_told a _ h (bare_run s words packet (table.named s.objects fd))
 bare_answer refused s (close fd) a h = bare_told a _ h (bare_closed s fd (table.named s.objects fd))
 
-bare_frame : (refused : Bool) (s : TenantState) (r : Result Command BadFrame) (a : Answer) → AnswersFrame refused s r a → IsBare a
+bare_frame : (refused : Bool) (s : TenantState) (r : Result Command BadFrame) (a : Answer)
+    → AnswersFrame refused s r a → IsBare a
 bare_frame refused s (Err fault) a h = bare_told a _ h (λ e. refl)
 bare_frame refused s (Ok command) a h = bare_answer refused s command a h
 
 -- ---- replies
 
 -- the rejection of a frame of a tenant that is not served is not a fault
-unserved : (short : Bool) (frame : List ℕ) → ¬ IsFault (reply_to frame (status_of (if short then Invalid else NotPermitted)) [])
+unserved : (short : Bool) (frame : List ℕ)
+    → ¬ IsFault (reply_to frame (status_of (if short then Invalid else NotPermitted)) [])
 unserved true frame e = invalid (ap (λ (b : List ℕ). get_or b 0 0) e)
 unserved false frame e = let wrong : 255 ≡ 242 = ap (λ (b : List ℕ). get_or b 0 0) e in absurd (omega (arith, wrong))
 
-same_status : (frame : List ℕ) (status : ℤ) (payload : List ℕ) → IsFault (reply_to frame status payload) → payload ≡ [] → reply_to frame status payload ≡ reply_to frame (status_of BadAddress) []
+same_status : (frame : List ℕ) (status : ℤ) (payload : List ℕ)
+    → IsFault (reply_to frame status payload) → payload ≡ []
+    → reply_to frame status payload ≡ reply_to frame (status_of BadAddress) []
 same_status frame status payload e none =
     ap (λ (p : List ℕ). reply_to frame status p) none
-    ∙ ap (λ (b : List ℕ). little_bytes 4 8 ++ (little_bytes 2 (owner frame) ++ (little_bytes 2 (command_number frame) ++ b))) e
+    ∙ ap (λ (b : List ℕ).
+    little_bytes 4 8 ++ (little_bytes 2 (owner frame) ++ (little_bytes 2 (command_number frame) ++ b)))
+    e
 
 pub faults_have_no_payload : FaultsHaveNoPayload
-faults_have_no_payload frame reply None after (refused, (goes, told)) e = absurd (unserved (nat_lt (length frame) 4) frame (subst IsFault told e))
+faults_have_no_payload frame reply None after (refused, (goes, told)) e =
+    absurd (unserved (nat_lt (length frame) 4) frame (subst IsFault told e))
 faults_have_no_payload frame reply (Some s) after (refused, (a, answers, told, goes)) e =
     let fault = subst IsFault told e in
     let bare = bare_frame refused s (parsed frame) a answers (ap (λ (b : List ℕ). get_or b 0 0) fault) in

@@ -20,7 +20,9 @@ use Rattle.tenant.proofs.Named.{named_is_live}
 use Rattle.tenant.proofs.LoadingHandles.{seconds, handles_keys, lookup_named, times_named, times_once, length-seconds, length-firsts, paired}
 use Rattle.tenant.proofs.LoadingShapes.{shapes_picked, shape_is, shaped_map}
 
-pub loaded_is : (l : LoadedProgram) (insns : List Insn) (named : List Named) (maps : List (ℕ × ℕ)) → l.insns ≡ insns → l.named ≡ named → l.maps ≡ maps
+pub loaded_is : (l : LoadedProgram) (insns : List Insn) (named : List Named) (maps : List (ℕ × ℕ))
+    → l.insns ≡ insns → l.named ≡ named
+    → l.maps ≡ maps
     → l ≡ record { insns = insns; named = named; maps = maps }
 loaded_is l insns named maps a b c =
     ap (λ (is : List Insn). record { insns = is; named = l.named; maps = l.maps }) a
@@ -28,21 +30,32 @@ loaded_is l insns named maps a b c =
     ∙ ap (λ (ms : List (ℕ × ℕ)). record { insns = insns; named = named; maps = ms }) c
 
 -- the map of a handle of the program is live
-pub loaded_live : {k : KeptTenant} → IsWellFormedTenant k → (fds : List ℕ) → AreLive k.live (seconds (handles_from k.objects fds))
-loaded_live {k} is fds handle some = let (i, fd, at, opened) = times_named k.objects fds handle some in (named_is_live is fd opened).live
+pub loaded_live : {k : KeptTenant}
+    → IsWellFormedTenant k
+    → (fds : List ℕ) → AreLive k.live (seconds (handles_from k.objects fds))
+loaded_live {k} is fds handle some =
+    let (i, fd, at, opened) = times_named k.objects fds handle some in (named_is_live is fd opened).live
 
-module _ (have : LoadedMapsHaveShapes) (k : KeptTenant) (part : List ℕ) (insns : List Insn) (accepted : IsAccepted insns (targets (state_in part k))) where
+module _ (have : LoadedMapsHaveShapes) (k : KeptTenant) (part : List ℕ) (insns : List Insn)
+    (accepted : IsAccepted insns (targets (state_in part k))) where
   -- the entries have the descriptors of the program's loads
   keys : keys_of (handles_from k.objects (maps_of insns)) ≡ maps_of insns
   keys = handles_keys k.objects (maps_of insns) (λ i fd at.
-      shaped_map (state_in part k) fd (subst (λ (n : ℕ). IsSome (shapes_named (targets (state_in part k)) n)) (get_or_from_slice_get (maps_of insns) i fd 0 at) (have.named insns (targets (state_in part k)) accepted i 0 (slice_get_within (maps_of insns) i fd at))))
+      shaped_map (state_in part k) fd
+      (subst (λ (n : ℕ). IsSome (shapes_named (targets (state_in part k)) n))
+      (get_or_from_slice_get (maps_of insns) i fd 0 at)
+      (have.named insns (targets (state_in part k)) accepted i 0 (slice_get_within (maps_of insns) i fd at))))
 
   pub loaded_count : length (seconds (handles_from k.objects (maps_of insns))) ≡ length (maps_of insns)
-  loaded_count = let ms = handles_from k.objects (maps_of insns) in length-seconds ms ∙ sym (length-firsts ms) ∙ ap length keys
+  loaded_count =
+      let ms = handles_from k.objects (maps_of insns) in length-seconds ms ∙ sym (length-firsts ms) ∙ ap length keys
 
   -- the descriptors and the handles, paired, are the entries of the machine
-  pub loaded_pairs : zip (maps_of insns) (seconds (handles_from k.objects (maps_of insns))) ≡ handles_from k.objects (maps_of insns)
-  loaded_pairs = let ms = handles_from k.objects (maps_of insns) in ap (λ (fds : List ℕ). zip fds (seconds ms)) (sym keys) ∙ paired ms
+  pub loaded_pairs :
+      zip (maps_of insns) (seconds (handles_from k.objects (maps_of insns))) ≡ handles_from k.objects (maps_of insns)
+  loaded_pairs =
+      let ms = handles_from k.objects (maps_of insns) in
+      ap (λ (fds : List ℕ). zip fds (seconds ms)) (sym keys) ∙ paired ms
 
   pub loaded_bound : MapsAreListed → IsWellFormedTenant k → IsBound k.live (loaded_program (state_in part k) insns)
   loaded_bound listed is = record {
@@ -50,6 +63,9 @@ module _ (have : LoadedMapsHaveShapes) (k : KeptTenant) (part : List ℕ) (insns
     once = times_once k.objects (maps_of insns) is.single (λ i j fd a b. listed.once insns i j fd a b);
     shaped = λ fd handle found.
         let (i, at, opened) = lookup_named k.objects (maps_of insns) fd handle found in
-        let here = named_is_live is fd opened in
-        (here.live, shapes_picked (maps_of insns) (targets (state_in part k)) i fd at ∙ shape_is (state_in part k) fd handle (map_in part k.live handle) opened (live_named part here));
+        let here = named_is_live is fd opened in (
+          here.live,
+          shapes_picked (maps_of insns) (targets (state_in part k)) i fd at
+              ∙ shape_is (state_in part k) fd handle (map_in part k.live handle) opened (live_named part here),
+        );
   }

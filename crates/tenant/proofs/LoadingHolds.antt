@@ -22,16 +22,26 @@ unfolding offset
 same_map part None = refl
 same_map part (Some l) = refl
 
-module _ {old new : LiveMaps} {handle : ℕ} (is : AreHeld old) (there : IsSome (live_at old handle)) (h : IsHeld old new handle) where
+module _ {old new : LiveMaps} {handle : ℕ} (is : AreHeld old) (there : IsSome (live_at old handle))
+    (h : IsHeld old new handle) where
   was_live : (q : ℕ) → IsSome (live_at new q) → IsSome (live_at old q)
-  was_live = at_each (λ q. IsSome (live_at new q) → IsSome (live_at old q)) handle (λ live. there) (λ q other live. ap (λ (o : Option LiveMap). is_some o) (sym (h.others q other)) ∙ live)
+  was_live =
+      at_each (λ q. IsSome (live_at new q) → IsSome (live_at old q)) handle (λ live. there)
+      (λ q other live. ap (λ (o : Option LiveMap). is_some o) (sym (h.others q other)) ∙ live)
 
   same_keys_at : (q : ℕ) → keys_at new q ≡ keys_at old q
-  same_keys_at = at_each (λ q. keys_at new q ≡ keys_at old q) handle h.keys (λ q other. ap (λ (o : Option LiveMap). (live_or o).keys) (h.others q other))
+  same_keys_at =
+      at_each (λ q. keys_at new q ≡ keys_at old q) handle h.keys
+      (λ q other. ap (λ (o : Option LiveMap). (live_or o).keys) (h.others q other))
 
   pub holds_one : (q : ℕ) → holds_at new q ≡ holds_at old q + one_at handle q
-  holds_one = at_each (λ q. holds_at new q ≡ holds_at old q + one_at handle q) handle (let one = here_one handle handle refl in let more = h.holds in omega arith)
-      (λ q other. let same = ap (λ (o : Option LiveMap). (live_or o).holds) (h.others q other) in let none = none_one handle q other in omega arith)
+  holds_one =
+      at_each (λ q. holds_at new q ≡ holds_at old q + one_at handle q) handle
+      (let one = here_one handle handle refl in let more = h.holds in omega arith)
+      (λ q other.
+      let same = ap (λ (o : Option LiveMap). (live_or o).holds) (h.others q other) in
+      let none = none_one handle q other in
+      omega arith)
 
   pub held_one : IsHeldMore old new
   held_one = record {
@@ -40,9 +50,14 @@ module _ {old new : LiveMaps} {handle : ℕ} (is : AreHeld old) (there : IsSome 
       some = λ q live. let was = is.some q (was_live q live) in let more = holds_one q in omega arith;
       ended = λ q. ap (λ (p : KeyTable). p.kept) (same_keys_at q) ∙ is.ended q;
     };
-    live = at_each (λ q. IsSome (live_at old q) → IsSome (live_at new q)) handle (λ was. h.live) (λ q other was. ap (λ (o : Option LiveMap). is_some o) (h.others q other) ∙ was);
+    live =
+        at_each (λ q. IsSome (live_at old q) → IsSome (live_at new q)) handle (λ was. h.live)
+        (λ q other was. ap (λ (o : Option LiveMap). is_some o) (h.others q other) ∙ was);
     shape = λ q. ap (λ (p : KeyTable). p.shape) (same_keys_at q);
-    same = λ part. at_each (λ q. map_at part new q ≡ map_at part old q) handle (ap (map_if part) h.more ∙ same_map part (live_at old handle)) (λ q other. same_live part old new q (h.others q other));
+    same = λ part.
+        at_each (λ q. map_at part new q ≡ map_at part old q) handle
+        (ap (map_if part) h.more ∙ same_map part (live_at old handle))
+        (λ q other. same_live part old new q (h.others q other));
     refused = h.refused;
   }
 

@@ -23,11 +23,16 @@ one_at_most : (b : Bool) → (if b then 1 else 0) ≤ 1
 one_at_most true = omega arith
 one_at_most false = omega arith
 
-weight-most : (k : KeptTenant) → IsWellFormedTenant k → (q i : ℕ) (o : OpenObject) → get_or k.objects i None ≡ Some o → times_named q o ≤ 1
+weight-most : (k : KeptTenant)
+    → IsWellFormedTenant k
+    → (q i : ℕ) (o : OpenObject) → get_or k.objects i None ≡ Some o
+    → times_named q o ≤ 1
 weight-most k is q i (object.Map p) there = one_at_most (p == q)
 weight-most k is q i (object.Program l) there = (is.bound i l there).once q
 
-pub few_hold : {k : KeptTenant} {l : LoadedProgram} → IsWellFormedTenant k → IsBound k.live l → (q : ℕ) → holds_at k.live q + times_listed q (map_handles l) < 4294967296
+pub few_hold : {k : KeptTenant} {l : LoadedProgram}
+    → IsWellFormedTenant k → IsBound k.live l
+    → (q : ℕ) → holds_at k.live q + times_listed q (map_handles l) < 4294967296
 few_hold {k} {l} is bound q =
     let held = is.held q in
     let most = total-most (times_named q) k.objects (λ i o there. weight-most k is q i o there) in
@@ -43,26 +48,46 @@ still_bound more was = bound_along was more.live (λ handle live. more.shape han
 same_program : (l m : LoadedProgram) → object.Program m ≡ object.Program l → l ≡ m
 same_program l m e = cc
 
-pub opened_kept : {k : KeptTenant} {t : LiveMaps} {fd : ℕ} {l : LoadedProgram} → IsWellFormedTenant k → lowest k.objects ≡ Some fd → IsBound k.live l → IsHeldMore k.live t
-    → ((q : ℕ) → holds_at t q ≡ holds_at k.live q + times_listed q (map_handles l)) → IsWellFormedTenant (kept_opened k t fd l)
+pub opened_kept : {k : KeptTenant} {t : LiveMaps} {fd : ℕ} {l : LoadedProgram}
+    → IsWellFormedTenant k → lowest k.objects ≡ Some fd
+    → IsBound k.live l → IsHeldMore k.live t
+    → ((q : ℕ) → holds_at t q ≡ holds_at k.live q + times_listed q (map_handles l))
+    → IsWellFormedTenant (kept_opened k t fd l)
 opened_kept {k} {t} {fd} {l} is low bound more holds = record {
   all = length-set {A = Option OpenObject} k.objects (fd - first_descriptor) (Some (object.Program l)) ∙ is.all;
   maps = more.held;
-  held = λ q. holds q ∙ ap (λ (n : ℕ). n + times_listed q (map_handles l)) (is.held q) ∙ sym (opened_sum (times_named q) k.objects fd (object.Program l) low);
-  single = λ q. let was = is.single q in let sum = opened_sum (by_descriptor q) k.objects fd (object.Program l) low in omega arith;
-  bound = λ n m there. bound_of m n (set_cases k.objects (fd - first_descriptor) n (object.Program l) (object.Program m) (descriptor_free k.objects fd low).0 there);
+  held = λ q.
+      holds q
+      ∙ ap (λ (n : ℕ). n + times_listed q (map_handles l)) (is.held q)
+      ∙ sym (opened_sum (times_named q) k.objects fd (object.Program l) low);
+  single = λ q.
+      let was = is.single q in
+      let sum = opened_sum (by_descriptor q) k.objects fd (object.Program l) low in
+      omega arith;
+  bound = λ n m there.
+      bound_of m n
+      (set_cases k.objects (fd - first_descriptor) n (object.Program l) (object.Program m)
+      (descriptor_free k.objects fd low).0 there);
 }
   where
-    bound_of : (m : LoadedProgram) (n : ℕ) → ((n ≡ fd - first_descriptor) × (object.Program m ≡ object.Program l)) ⊎ ((n ≢ fd - first_descriptor) × (get_or k.objects n None ≡ Some (object.Program m))) → IsBound t m
+    bound_of : (m : LoadedProgram) (n : ℕ)
+        → ((n ≡ fd - first_descriptor) × (object.Program m ≡ object.Program l))
+        ⊎ ((n ≢ fd - first_descriptor) × (get_or k.objects n None ≡ Some (object.Program m)))
+        → IsBound t m
     bound_of m n (inl (here, same)) = subst (IsBound t) (same_program l m same) (still_bound more bound)
     bound_of m n (inr (other, there)) = still_bound more (is.bound n m there)
 
 -- the state after the load
-pub state_opened : (part : List ℕ) (k : KeptTenant) {t : LiveMaps} (fd : ℕ) (l : LoadedProgram) → IsHeldMore k.live t → state_in part (kept_opened k t fd l) ≡ with_program (state_in part k) fd l
+pub state_opened : (part : List ℕ) (k : KeptTenant) {t : LiveMaps} (fd : ℕ) (l : LoadedProgram)
+    → IsHeldMore k.live t
+    → state_in part (kept_opened k t fd l) ≡ with_program (state_in part k) fd l
 state_opened part k {t} fd l more =
-    ap₂ (λ (ms : List (Option Map)) (b : Bool). record { objects = with_open k.objects fd (object.Program l); maps = ms; refused = k.refused || b })
+    ap₂ (λ (ms : List (Option Map)) (b : Bool).
+    record { objects = with_open k.objects fd (object.Program l); maps = ms; refused = k.refused || b })
     (same_at (map_at part t) (map_at part k.live) (more.same part)) more.refused
 
 -- the invariant after a refusal of memory
-pub flagged_kept : {k : KeptTenant} → IsWellFormedTenant k → IsWellFormedTenant (record { objects = k.objects; live = k.live; refused = true })
+pub flagged_kept : {k : KeptTenant}
+    → IsWellFormedTenant k
+    → IsWellFormedTenant (record { objects = k.objects; live = k.live; refused = true })
 flagged_kept is = record { all = is.all; maps = is.maps; held = is.held; single = is.single; bound = is.bound }

@@ -16,19 +16,25 @@ use Rattle.tenant.specs.inside.Named.{IsMapOf}
 use Rattle.tenant.proofs.AtHandles.{at-within, map_there}
 
 -- the map of a handle
-pub live_is : (part : List ℕ) (k : KeptTenant) (handle : ℕ) → handle < most_maps → live (state_in part k) handle ≡ map_at part k.live handle
+pub live_is : (part : List ℕ) (k : KeptTenant) (handle : ℕ)
+    → handle < most_maps → live (state_in part k) handle ≡ map_at part k.live handle
 live_is part k handle within = at-within (map_at part k.live) handle within
 
-pub live_named : (part : List ℕ) {k : KeptTenant} {fd handle : ℕ} → IsMapOf k fd handle → live (state_in part k) handle ≡ Some (map_in part k.live handle)
+pub live_named : (part : List ℕ) {k : KeptTenant} {fd handle : ℕ}
+    → IsMapOf k fd handle → live (state_in part k) handle ≡ Some (map_in part k.live handle)
 live_named part {k} {fd} {handle} found = live_is part k handle found.within ∙ map_there part k.live handle found.live
 
 -- a command on the map is one on this map, if its key and its value have the map's sizes
-pub on_map_is : (part : List ℕ) {k : KeptTenant} {fd handle : ℕ} (fits : Map → Bool) (f : ℕ → Map → Answer) {b : Bool} → IsMapOf k fd handle → fits (map_in part k.live handle) ≡ b
-    → on_map (state_in part k) fd (λ p t. if fits t then f p t else refuses Invalid (state_in part k)) ≡ (if b then f handle (map_in part k.live handle) else refuses Invalid (state_in part k))
+pub on_map_is : (part : List ℕ) {k : KeptTenant} {fd handle : ℕ} (fits : Map → Bool)
+    (f : ℕ → Map → Answer) {b : Bool}
+    → IsMapOf k fd handle → fits (map_in part k.live handle) ≡ b
+    → on_map (state_in part k) fd (λ p t. if fits t then f p t else refuses Invalid (state_in part k))
+    ≡ (if b then f handle (map_in part k.live handle) else refuses Invalid (state_in part k))
 on_map_is part {k} {fd} {handle} fits f {b} found is =
     let s = state_in part k in
     ap (λ (o : Option OpenObject). of_object s (λ p t. if fits t then f p t else refuses Invalid s) o) found.opened
-    ∙ ap (λ (o : Option Map). of_handle s handle (λ p t. if fits t then f p t else refuses Invalid s) o) (live_named part found)
+    ∙ ap (λ (o : Option Map). of_handle s handle (λ p t. if fits t then f p t else refuses Invalid s) o)
+    (live_named part found)
     ∙ ap (λ (x : Bool). if x then f handle (map_in part k.live handle) else refuses Invalid s) is
 
 -- a key has the map's size
@@ -43,9 +49,13 @@ pub other_size : (n : ℕ) {a m : ℕ} → n ≢ a → a ≡ m → (n == m) ≡ 
 other_size n {a} {m} other same = ne_eqb n m (λ e. other (e ∙ sym same))
 
 -- the value of the element that was found, if one was found
-pub found_at : CallsRefineValues ℕ (List ℕ) → (part : List ℕ) {k : KeptTenant} {fd handle : ℕ} (key : List ℕ) {r : Option ℕ} → IsMapOf k fd handle
-    → length key ≡ (shape_at k.live handle).key_size → r ≡ look_up (table_of (keys_at k.live handle)) key
-    → gives_if_found (state_in part k) (option_map (value_in part k.live handle) r) ≡ element_looked_up (state_in part k) fd key
+pub found_at : CallsRefineValues ℕ (List ℕ)
+    → (part : List ℕ) {k : KeptTenant} {fd handle : ℕ} (key : List ℕ) {r : Option ℕ}
+    → IsMapOf k fd handle
+    → length key ≡ (shape_at k.live handle).key_size
+    → r ≡ look_up (table_of (keys_at k.live handle)) key
+    → gives_if_found (state_in part k) (option_map (value_in part k.live handle) r)
+    ≡ element_looked_up (state_in part k) fd key
 found_at along part {k} {fd} {handle} key {r} found size is =
     let s = state_in part k in
     let v = value_in part k.live handle in

@@ -12,11 +12,18 @@ use Rattle.tenant.proofs.AtHandles.{map_there, live_is as lives}
 use Rattle.tenant.proofs.LookUps.{live_is}
 
 -- a live map is in the state
-pub live_in_state : (part : List ℕ) (k : KeptTenant) → AreHeld k.live → (handle : ℕ) → IsSome (live_at k.live handle) → live (state_in part k) handle ≡ Some (map_in part k.live handle)
-live_in_state part k held handle some = live_is part k handle (held.within handle some) ∙ map_there part k.live handle some
+pub live_in_state : (part : List ℕ) (k : KeptTenant)
+    → AreHeld k.live
+    → (handle : ℕ) → IsSome (live_at k.live handle)
+    → live (state_in part k) handle ≡ Some (map_in part k.live handle)
+live_in_state part k held handle some =
+    live_is part k handle (held.within handle some) ∙ map_there part k.live handle some
 
 -- a map that is not live is not in the state
-pub gone_in_state : (part : List ℕ) (k : KeptTenant) → length k.live.maps ≡ most_maps → (handle : ℕ) → is_some (live_at k.live handle) ≡ false → live (state_in part k) handle ≡ None
+pub gone_in_state : (part : List ℕ) (k : KeptTenant)
+    → length k.live.maps ≡ most_maps
+    → (handle : ℕ) → is_some (live_at k.live handle) ≡ false
+    → live (state_in part k) handle ≡ None
 gone_in_state part k long handle none = by (live (state_in part k) handle) refl
   where
     by : (o : Option Map) → live (state_in part k) handle ≡ o → live (state_in part k) handle ≡ None
@@ -37,12 +44,16 @@ module _ {K : Type 0} {J : Type 0} (f : K × ℕ → J) where
   behind_moved p [] = refl
   behind_moved p (e ∷ es) = by (nat_eq p e.1) (first_moved es) (behind_moved p es)
     where
-      by : (b : Bool) → first_entry (map moved es) ≡ option_map moved (first_entry es) → entry_behind p (map moved es) ≡ option_map moved (entry_behind p es)
-          → (if b then first_entry (map moved es) else entry_behind p (map moved es)) ≡ option_map moved (if b then first_entry es else entry_behind p es)
+      by : (b : Bool)
+          → first_entry (map moved es) ≡ option_map moved (first_entry es)
+          → entry_behind p (map moved es) ≡ option_map moved (entry_behind p es)
+          → (if b then first_entry (map moved es) else entry_behind p (map moved es))
+          ≡ option_map moved (if b then first_entry es else entry_behind p es)
       by true g r = g
       by false g r = r
 
-  pub next_moved : (element : Option ℕ) (es : List (K × ℕ)) → next_entry element (map moved es) ≡ option_map moved (next_entry element es)
+  pub next_moved : (element : Option ℕ) (es : List (K × ℕ))
+      → next_entry element (map moved es) ≡ option_map moved (next_entry element es)
   next_moved None es = first_moved es
   next_moved (Some p) es = behind_moved p es
 
@@ -56,17 +67,22 @@ abbrev with_value : List ℕ → LiveMaps → ℕ → List ℕ × ℕ → List �
 with_value part t k e = (e.0, value_in part t k e.1)
 
 pub next_numbered : (part : List ℕ) (t : LiveMaps) (k : ℕ) (element : Option ℕ)
-    → next_entry element (numbered_entries part t k) ≡ option_map (λ (e : List ℕ × ℕ). (with_value part t k e, e.1)) (next_entry element (keys_at t k).entries)
+    → next_entry element (numbered_entries part t k)
+    ≡ option_map (λ (e : List ℕ × ℕ). (with_value part t k e, e.1)) (next_entry element (keys_at t k).entries)
 next_numbered part t k element = next_moved (with_value part t k) element (keys_at t k).entries
 
 at_most_one : (b : Bool) (n m : ℕ) → n + m ≤ (if b then 1 else 0) → n ≤ 1
 at_most_one true n m le = omega (arith, le)
 at_most_one false n m le = omega (arith, le)
 
-numbered_once_live : (part : List ℕ) (t : LiveMaps) (k : ℕ) → IsSound (keys_at t k) → (p : ℕ) → occurrences p (values_of (numbered_entries part t k)) ≤ 1
+numbered_once_live : (part : List ℕ) (t : LiveMaps) (k : ℕ)
+    → IsSound (keys_at t k)
+    → (p : ℕ) → occurrences p (values_of (numbered_entries part t k)) ≤ 1
 numbered_once_live part t k sound p =
     subst (λ (ps : List ℕ). occurrences p ps ≤ 1) (sym (elements_moved (with_value part t k) (keys_at t k).entries))
-    (at_most_one (nat_lt p (keys_at t k).shape.max_entries) (occurrences p (values_of (keys_at t k).entries)) (occurrences p (keys_at t k).kept) (sound.once p))
+    (at_most_one (nat_lt p (keys_at t k).shape.max_entries)
+    (occurrences p (values_of (keys_at t k).entries)) (occurrences p (keys_at t k).kept)
+    (sound.once p))
 
 -- a map that is not live has no entries
 no_entries : (l : Option LiveMap) → is_some l ≡ false → (live_or l).keys.entries ≡ []
@@ -77,18 +93,24 @@ none_follows : (element : Option ℕ) → next_entry {K = List ℕ} element [] �
 none_follows None = refl
 none_follows (Some p) = refl
 
-pub none_numbered : (part : List ℕ) (t : LiveMaps) (k : ℕ) (element : Option ℕ) → is_some (live_at t k) ≡ false → None ≡ next_entry element (numbered_entries part t k)
+pub none_numbered : (part : List ℕ) (t : LiveMaps) (k : ℕ) (element : Option ℕ)
+    → is_some (live_at t k) ≡ false → None ≡ next_entry element (numbered_entries part t k)
 none_numbered part t k element none =
     sym (next_numbered part t k element
-    ∙ ap (λ (es : List (List ℕ × ℕ)). option_map (λ (e : List ℕ × ℕ). (with_value part t k e, e.1)) (next_entry element es)) (no_entries (live_at t k) none)
+    ∙ ap (λ (es : List (List ℕ × ℕ)).
+    option_map (λ (e : List ℕ × ℕ). (with_value part t k e, e.1)) (next_entry element es))
+    (no_entries (live_at t k) none)
     ∙ ap (option_map (λ (e : List ℕ × ℕ). (with_value part t k e, e.1))) (none_follows element))
 
-pub numbered_once : (part : List ℕ) (t : LiveMaps) (k : ℕ) → AreSound t → (p : ℕ) → occurrences p (values_of (numbered_entries part t k)) ≤ 1
+pub numbered_once : (part : List ℕ) (t : LiveMaps) (k : ℕ)
+    → AreSound t
+    → (p : ℕ) → occurrences p (values_of (numbered_entries part t k)) ≤ 1
 numbered_once part t k sound p = by (live_at t k) refl
   where
     by : (o : Option LiveMap) → live_at t k ≡ o → occurrences p (values_of (numbered_entries part t k)) ≤ 1
     by None none =
         subst (λ (ps : List ℕ). occurrences p ps ≤ 1)
-        (sym (elements_moved (with_value part t k) (keys_at t k).entries ∙ ap values_of (no_entries (live_at t k) (ap is_some none))))
+        (sym (elements_moved (with_value part t k) (keys_at t k).entries
+        ∙ ap values_of (no_entries (live_at t k) (ap is_some none))))
         (omega arith)
     by (Some l) some = numbered_once_live part t k (sound k (ap is_some some)) p

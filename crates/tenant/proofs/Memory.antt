@@ -46,11 +46,13 @@ use Rattle.tenant.proofs.Updates.{has_sizes, key_of, value_of, put_of}
 abbrev OrRefused : TenantState → Answer → Answer → Type 0
 OrRefused s told refused = (refused ≡ told) ⊎ (refused ≡ refuses_for_memory s)
 
-refused_as : (s : TenantState) (shape : MapShape) (fd : ℕ) (o : Option ℕ) → OrRefused s (created_as false s shape fd o) (created_as true s shape fd o)
+refused_as : (s : TenantState) (shape : MapShape) (fd : ℕ) (o : Option ℕ)
+    → OrRefused s (created_as false s shape fd o) (created_as true s shape fd o)
 refused_as s shape fd None = inl refl
 refused_as s shape fd (Some handle) = inr refl
 
-refused_under : (s : TenantState) (shape : MapShape) (o : Option ℕ) → OrRefused s (created_under false s shape o) (created_under true s shape o)
+refused_under : (s : TenantState) (shape : MapShape) (o : Option ℕ)
+    → OrRefused s (created_under false s shape o) (created_under true s shape o)
 refused_under s shape None = inl refl
 refused_under s shape (Some fd) = refused_as s shape fd (room_for s (shape_area shape))
 
@@ -58,15 +60,20 @@ refused_create : (s : TenantState) (r : Result MapShape Errno) → OrRefused s (
 refused_create s (Err errno) = inl refl
 refused_create s (Ok shape) = refused_under s shape (table.lowest s.objects)
 
-create_told : (s : TenantState) (a told refused : Answer) → a ≡ refused → OrRefused s told refused → (a ≡ told) ⊎ ((true ≡ true) × (a ≡ refuses_for_memory s))
+create_told : (s : TenantState) (a told refused : Answer)
+    → a ≡ refused → OrRefused s told refused
+    → (a ≡ told) ⊎ ((true ≡ true) × (a ≡ refuses_for_memory s))
 create_told s a told refused is (inl same) = inl (is ∙ same)
 create_told s a told refused is (inr same) = inr (refl, is ∙ same)
 
-load_told : (s : TenantState) (o : Option ℕ) (slots : List ℕ) (a : Answer) → LoadsUnder true s o slots a → LoadsUnder false s o slots a ⊎ ((true ≡ true) × (a ≡ refuses_for_memory s))
+load_told : (s : TenantState) (o : Option ℕ) (slots : List ℕ) (a : Answer)
+    → LoadsUnder true s o slots a
+    → LoadsUnder false s o slots a ⊎ ((true ≡ true) × (a ≡ refuses_for_memory s))
 load_told s None slots a is = inl is
 load_told s (Some fd) slots a is = inr (refl, is)
 
-load_by : (socket : Bool) (s : TenantState) (o : Option ℕ) (slots : List ℕ) (a x : Answer) → MatchBool socket (LoadsUnder true s o slots a) (a ≡ x)
+load_by : (socket : Bool) (s : TenantState) (o : Option ℕ) (slots : List ℕ) (a x : Answer)
+    → MatchBool socket (LoadsUnder true s o slots a) (a ≡ x)
     → MatchBool socket (LoadsUnder false s o slots a) (a ≡ x) ⊎ ((true ≡ true) × (a ≡ refuses_for_memory s))
 load_by true s o slots a x is = load_told s o slots a is
 load_by false s o slots a x is = inl is
@@ -75,7 +82,8 @@ load_by false s o slots a x is = inl is
 pub told_or_refused : (refused : Bool) (s : TenantState) (command : Command) (a : Answer) → Answers refused s command a
     → Answers false s command a ⊎ ((takes_memory command ≡ true) × (a ≡ refuses_for_memory s))
 told_or_refused false s command a is = inl is
-told_or_refused true s (map_create kind key value max flags) a is = create_told s a _ _ is (refused_create s (asked_shape (kind_of kind) key value max flags))
+told_or_refused true s (map_create kind key value max flags) a is =
+    create_told s a _ _ is (refused_create s (asked_shape (kind_of kind) key value max flags))
 told_or_refused true s (prog_load kind slots) a is = load_by (kind == 1) s (table.lowest s.objects) slots a _ is
 told_or_refused true s other a is = inl is
 
@@ -112,7 +120,8 @@ module _ (s : TenantState) where
 
   -- ---- the calls of a map
 
-  on_map_other : (fd : ℕ) (f : ℕ → Map → Answer) → ((handle : ℕ) (t : Map) → IsOther s (f handle t)) → IsOther s (on_map s fd f)
+  on_map_other : (fd : ℕ) (f : ℕ → Map → Answer)
+      → ((handle : ℕ) (t : Map) → IsOther s (f handle t)) → IsOther s (on_map s fd f)
   on_map_other fd f each = of_objects (table.named s.objects fd)
     where
       of_handles : (handle : ℕ) (o : Option Map) → IsOther s (of_handle s handle f o)
@@ -125,7 +134,9 @@ module _ (s : TenantState) where
       of_objects (Some (object.Map handle)) = of_handles handle (live s handle)
 
   -- a command on a map that tests sizes
-  tested_other : (fd : ℕ) (fits : Map → Bool) (f : ℕ → Map → Answer) → ((handle : ℕ) (t : Map) → IsOther s (f handle t)) → IsOther s (on_map s fd (λ p t. if fits t then f p t else refuses Invalid s))
+  tested_other : (fd : ℕ) (fits : Map → Bool) (f : ℕ → Map → Answer)
+      → ((handle : ℕ) (t : Map) → IsOther s (f handle t))
+      → IsOther s (on_map s fd (λ p t. if fits t then f p t else refuses Invalid s))
   tested_other fd fits f each = on_map_other fd _ (λ handle t. by (fits t) (f handle t) (each handle t))
     where
       by : (right : Bool) (a : Answer) → IsOther s a → IsOther s (if right then a else refuses Invalid s)
@@ -141,7 +152,8 @@ module _ (s : TenantState) where
     abbrev IsOtherPut : call.Verdict (List ℕ) → Type 0
     IsOtherPut v = IsOther s (element_put s handle t key value v)
 
-    of_hash : (must full : Bool) → IsOtherPut (if must then call.Refused map.NoEntry else (if full then call.Refused map.TooBig else call.New))
+    of_hash : (must full : Bool)
+        → IsOtherPut (if must then call.Refused map.NoEntry else (if full then call.Refused map.TooBig else call.New))
     of_hash true full = no_entry
     of_hash false true = too_big
     of_hash false false = (unlike 0 refl, refl)
@@ -158,7 +170,8 @@ module _ (s : TenantState) where
     of_look_up None = of_absence t.shape.kind
     of_look_up (Some a) = of_presence (flags == no_exist) a
 
-    by_flags : (right : Bool) → IsOtherPut (if right then of_found t flags (look_up t key) else call.Refused map.Invalid)
+    by_flags : (right : Bool)
+        → IsOtherPut (if right then of_found t flags (look_up t key) else call.Refused map.Invalid)
     by_flags true = of_look_up (look_up t key)
     by_flags false = invalid
 
@@ -189,22 +202,31 @@ module _ (s : TenantState) where
       by_length false =
           let context = length packet ∷ words in
           let given = maps_given s l in
-          ended (result_of l.insns given context packet) (maps_left (left_of l.insns given context packet) l.maps s.maps)
+          ended (result_of l.insns given context packet)
+          (maps_left (left_of l.insns given context packet) l.maps s.maps)
 
   closed_other : (fd : ℕ) (o : Option OpenObject) → IsOther s (closed s fd o)
   closed_other fd None = not_open
   closed_other fd (Some o) = (unlike 0 refl, refl)
 
   -- a command other than a creation or a load
-  pub answer_other : (refused : Bool) (command : Command) (a : Answer) → Answers refused s command a → takes_memory command ≡ false → IsOther s a
-  answer_other refused (map_create kind key value max flags) a is differs = absurd (let wrong : true ≡ false = differs in cc wrong)
-  answer_other refused (map_lookup fd key) a is differs = is_other s a _ is (tested_other fd (has_size key) _ (λ handle t. found_other (look_up t key)))
+  pub answer_other : (refused : Bool) (command : Command) (a : Answer)
+      → Answers refused s command a → takes_memory command ≡ false → IsOther s a
+  answer_other refused (map_create kind key value max flags) a is differs =
+      absurd (let wrong : true ≡ false = differs in cc wrong)
+  answer_other refused (map_lookup fd key) a is differs =
+      is_other s a _ is (tested_other fd (has_size key) _ (λ handle t. found_other (look_up t key)))
   answer_other refused (map_update fd flags bytes) a is differs =
-      is_other s a _ is (tested_other fd (has_sizes bytes) (put_of s flags bytes) (λ handle t. put_other handle t (key_of t.shape bytes) (value_of t.shape bytes) flags))
-  answer_other refused (map_delete fd key) a is differs = is_other s a _ is (tested_other fd (has_size key) _ (λ handle t. taken_other handle t key))
-  answer_other refused (map_next_key fd key) a is differs = is_other s a _ is (tested_other fd (is_empty_or_fits key) _ (λ handle t. found_other (next_of t key)))
+      is_other s a _ is
+      (tested_other fd (has_sizes bytes) (put_of s flags bytes)
+      (λ handle t. put_other handle t (key_of t.shape bytes) (value_of t.shape bytes) flags))
+  answer_other refused (map_delete fd key) a is differs =
+      is_other s a _ is (tested_other fd (has_size key) _ (λ handle t. taken_other handle t key))
+  answer_other refused (map_next_key fd key) a is differs =
+      is_other s a _ is (tested_other fd (is_empty_or_fits key) _ (λ handle t. found_other (next_of t key)))
   answer_other refused (prog_load kind slots) a is differs = absurd (let wrong : true ≡ false = differs in cc wrong)
-  answer_other refused (prog_test_run fd words packet) a is differs = is_other s a _ is (run_other words packet (table.named s.objects fd))
+  answer_other refused (prog_test_run fd words packet) a is differs =
+      is_other s a _ is (run_other words packet (table.named s.objects fd))
   answer_other refused (close fd) a is differs = is_other s a _ is (closed_other fd (table.named s.objects fd))
 
 -- ---- without a refusal
@@ -221,10 +243,12 @@ too_many s = spared s (refuses TooManyOpen s) (unlike 232 refl, refl)
 is_spared : (s : TenantState) (a b : Answer) → a ≡ b → IsNoRefusal s b → IsNoRefusal s a
 is_spared s a b same h = subst (IsNoRefusal s) (sym same) h
 
-create_spared : (s : TenantState) (k : Option MapKind) (key value max flags : ℕ) → IsNoRefusal s (created false s (asked_shape k key value max flags))
+create_spared : (s : TenantState) (k : Option MapKind) (key value max flags : ℕ)
+    → IsNoRefusal s (created false s (asked_shape k key value max flags))
 create_spared s None key value max flags = spared s (refuses Invalid s) (invalid s)
 create_spared s (Some k) key value max flags =
-    by_fields (is_valid k key value max flags) (λ listed. record { kind = k; key_size = key; value_size = value; max_entries = max; listed = listed })
+    by_fields (is_valid k key value max flags)
+    (λ listed. record { kind = k; key_size = key; value_size = value; max_entries = max; listed = listed })
   where
     by_room : (made : MapShape) (fd : ℕ) (o : Option ℕ) → IsNoRefusal s (created_as false s made fd o)
     by_room made fd None = spared s (refuses NoSpace s) (unlike 228 refl, refl)
@@ -238,34 +262,42 @@ create_spared s (Some k) key value max flags =
     by_area true made = by_free (made refl) (table.lowest s.objects)
     by_area false made = spared s (refuses TooBig s) (too_big s)
 
-    by_fields : (valid : Bool) (made : is_shape k key value max ≡ true → MapShape) → IsNoRefusal s (created false s (if valid then shape_where (is_shape k key value max) made else Err Invalid))
+    by_fields : (valid : Bool) (made : is_shape k key value max ≡ true → MapShape)
+        → IsNoRefusal s (created false s (if valid then shape_where (is_shape k key value max) made else Err Invalid))
     by_fields true made = by_area (is_shape k key value max) made
     by_fields false made = spared s (refuses Invalid s) (invalid s)
 
 -- ---- a load
 
-judged_flag : (s : TenantState) (fd : ℕ) (j : Result (List Insn) Refusal) → (answer_of_judgement s fd j).after.refused ≡ s.refused
+judged_flag : (s : TenantState) (fd : ℕ) (j : Result (List Insn) Refusal)
+    → (answer_of_judgement s fd j).after.refused ≡ s.refused
 judged_flag s fd (Ok insns) = refl
 judged_flag s fd (Err refusal) = refl
 
-load_flag : (s : TenantState) (o : Option ℕ) (slots : List ℕ) (a : Answer) → LoadsUnder false s o slots a → a.after.refused ≡ s.refused
+load_flag : (s : TenantState) (o : Option ℕ) (slots : List ℕ) (a : Answer)
+    → LoadsUnder false s o slots a → a.after.refused ≡ s.refused
 load_flag s None slots a is = ap (λ (x : Answer). x.after.refused) is
 load_flag s (Some fd) slots a (j, judges, is) = ap (λ (x : Answer). x.after.refused) is ∙ judged_flag s fd j
 
-loads_flag : (socket : Bool) (s : TenantState) (o : Option ℕ) (slots : List ℕ) (a : Answer) → MatchBool socket (LoadsUnder false s o slots a) (a ≡ refuses Invalid s) → a.after.refused ≡ s.refused
+loads_flag : (socket : Bool) (s : TenantState) (o : Option ℕ) (slots : List ℕ) (a : Answer)
+    → MatchBool socket (LoadsUnder false s o slots a) (a ≡ refuses Invalid s)
+    → a.after.refused ≡ s.refused
 loads_flag true s o slots a is = load_flag s o slots a is
 loads_flag false s o slots a is = ap (λ (x : Answer). x.after.refused) is
 
 -- a command that is refused no memory leaves the flag as it was
-pub flag_kept : (s : TenantState) (command : Command) (a : Answer) → Answers false s command a → a.after.refused ≡ s.refused
-flag_kept s (map_create kind key value max flags) a is = (is_spared s a _ is (create_spared s (kind_of kind) key value max flags)).1
+pub flag_kept : (s : TenantState) (command : Command) (a : Answer)
+    → Answers false s command a → a.after.refused ≡ s.refused
+flag_kept s (map_create kind key value max flags) a is =
+    (is_spared s a _ is (create_spared s (kind_of kind) key value max flags)).1
 flag_kept s (prog_load kind slots) a is = loads_flag (kind == 1) s (table.lowest s.objects) slots a is
 flag_kept s other a is = (answer_other s false other a is refl).1
 
 -- slots are rejected for a fault, and a program by a rule, never since memory is refused
 pub record NoVerdictIsMemory : Type 0 where
   pub slots : (bytes : List ℕ) (fault : CodecFault) → IsProgramFault bytes fault → fault.kind ≢ kind.Memory
-  pub rules : (code : List Insn) (named : List Named) (slot : ℕ) (why : Reason) → IsRefused code named slot why → why ≢ reason.Memory
+  pub rules : (code : List Insn) (named : List Named) (slot : ℕ) (why : Reason)
+      → IsRefused code named slot why → why ≢ reason.Memory
 
 codec_unlike : (k : FaultKind) → k ≢ kind.Memory → low (status_of (codec_errno k)) ≢ 244
 codec_unlike kind.Empty differs = unlike 249 refl
@@ -286,24 +318,34 @@ verdict_unlike reason.Memory differs = absurd (differs refl)
 verdict_unlike other differs = unlike 243 refl
 
 module _ (law : NoVerdictIsMemory) (s : TenantState) where
-  cause_unlike : (named : List Named) (slots : List ℕ) (slot : ℕ) (c : Cause) → IsRefusedFor named slots slot c → low (status_of (cause_errno c)) ≢ 244
-  cause_unlike named slots slot (cause.Slots k) is = codec_unlike k (law.slots slots (record { slot = slot; kind = k }) is)
-  cause_unlike named slots slot (cause.Verdict why) (insns, program, spelled, is) = verdict_unlike why (law.rules insns named slot why is)
+  cause_unlike : (named : List Named) (slots : List ℕ) (slot : ℕ) (c : Cause)
+      → IsRefusedFor named slots slot c → low (status_of (cause_errno c)) ≢ 244
+  cause_unlike named slots slot (cause.Slots k) is =
+      codec_unlike k (law.slots slots (record { slot = slot; kind = k }) is)
+  cause_unlike named slots slot (cause.Verdict why) (insns, program, spelled, is) =
+      verdict_unlike why (law.rules insns named slot why is)
 
-  judged_spared : (fd : ℕ) (slots : List ℕ) (j : Result (List Insn) Refusal) → Judges (targets s) slots j → IsNoRefusal s (answer_of_judgement s fd j)
+  judged_spared : (fd : ℕ) (slots : List ℕ) (j : Result (List Insn) Refusal)
+      → Judges (targets s) slots j → IsNoRefusal s (answer_of_judgement s fd j)
   judged_spared fd slots (Ok insns) is = (not_refused fd, refl)
-  judged_spared fd slots (Err refusal) is = (λ e. cause_unlike (targets s) slots refusal.slot refusal.cause is (ap low e), refl)
+  judged_spared fd slots (Err refusal) is = (
+    λ e.
+        cause_unlike (targets s) slots refusal.slot refusal.cause is (ap low e),
+    refl,
+  )
 
   load_spared : (o : Option ℕ) (slots : List ℕ) (a : Answer) → LoadsUnder false s o slots a → IsNoRefusal s a
   load_spared None slots a is = is_spared s a _ is (too_many s)
   load_spared (Some fd) slots a (j, judges, is) = is_spared s a _ is (judged_spared fd slots j judges)
 
-  loads_spared : (socket : Bool) (o : Option ℕ) (slots : List ℕ) (a : Answer) → MatchBool socket (LoadsUnder false s o slots a) (a ≡ refuses Invalid s) → IsNoRefusal s a
+  loads_spared : (socket : Bool) (o : Option ℕ) (slots : List ℕ) (a : Answer)
+      → MatchBool socket (LoadsUnder false s o slots a) (a ≡ refuses Invalid s) → IsNoRefusal s a
   loads_spared true o slots a is = load_spared o slots a is
   loads_spared false o slots a is = is_spared s a _ is (spared s (refuses Invalid s) (invalid s))
 
   answer_spared : (command : Command) (a : Answer) → Answers false s command a → IsNoRefusal s a
-  answer_spared (map_create kind key value max flags) a is = is_spared s a _ is (create_spared s (kind_of kind) key value max flags)
+  answer_spared (map_create kind key value max flags) a is =
+      is_spared s a _ is (create_spared s (kind_of kind) key value max flags)
   answer_spared (prog_load kind slots) a is = loads_spared (kind == 1) (table.lowest s.objects) slots a is
   answer_spared other a is = spared s a (answer_other s false other a is refl)
 

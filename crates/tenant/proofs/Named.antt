@@ -11,11 +11,16 @@ use Rattle.tenant.proofs.Releases.{here_one}
 use Rattle.tenant.proofs.Sums.{total-part}
 
 -- an open object has its holds among the holders
-pub named_held : (objects : List (Option OpenObject)) (fd : ℕ) (o : OpenObject) → named objects fd ≡ Some o → (q : ℕ) → times_named q o ≤ holders q objects
-named_held objects fd o opened q = total-part (times_named q) objects (fd - first_descriptor) o (closed_at objects fd o opened).1
+pub named_held : (objects : List (Option OpenObject)) (fd : ℕ) (o : OpenObject)
+    → named objects fd ≡ Some o → (q : ℕ) → times_named q o ≤ holders q objects
+named_held objects fd o opened q =
+    total-part (times_named q) objects (fd - first_descriptor) o (closed_at objects fd o opened).1
 
 -- a map that a descriptor names is live
-pub named_is_live : {k : KeptTenant} {handle : ℕ} → IsWellFormedTenant k → (fd : ℕ) → named k.objects fd ≡ Some (object.Map handle) → IsMapOf k fd handle
+pub named_is_live : {k : KeptTenant} {handle : ℕ}
+    → IsWellFormedTenant k
+    → (fd : ℕ) → named k.objects fd ≡ Some (object.Map handle)
+    → IsMapOf k fd handle
 named_is_live {k} {handle} is fd opened =
     let some = named_held k.objects fd (object.Map handle) opened handle in
     let one = here_one handle handle refl in

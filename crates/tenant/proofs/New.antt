@@ -33,22 +33,32 @@ new_is_kept live none = record {
     some = λ handle there. absurd (not_live (live_at live handle) there (none_live live none handle));
     ended = λ handle. ap (λ (o : Option LiveMap). (live_or o).keys.kept) (none_live live none handle);
   };
-  held = λ handle. ap (λ (o : Option LiveMap). (live_or o).holds) (none_live live none handle) ∙ sym (total-none (times_named handle) most);
-  single = λ handle. let nothing : descriptors handle nothing_open ≡ 0 = total-none (by_descriptor handle) most in omega arith;
+  held = λ handle.
+      ap (λ (o : Option LiveMap). (live_or o).holds) (none_live live none handle)
+      ∙ sym (total-none (times_named handle) most);
+  single = λ handle.
+      let nothing : descriptors handle nothing_open ≡ 0 = total-none (by_descriptor handle) most in omega arith;
   bound = λ n l there. absurd (none-some (object.Program l) (sym (get_or-none most n) ∙ there));
 }
 
-pub empty_is_kept : (objects : List (Option OpenObject)) (live : LiveMaps) → objects ≡ nothing_open → live.maps ≡ replicate MAPS None → IsWellFormedTenant (record { objects = objects; live = live; refused = false })
-empty_is_kept objects live nothing none = subst (λ (os : List (Option OpenObject)). IsWellFormedTenant (record { objects = os; live = live; refused = false })) (sym nothing) (new_is_kept live none)
+pub empty_is_kept : (objects : List (Option OpenObject)) (live : LiveMaps)
+    → objects ≡ nothing_open → live.maps ≡ replicate MAPS None
+    → IsWellFormedTenant (record { objects = objects; live = live; refused = false })
+empty_is_kept objects live nothing none =
+    subst (λ (os : List (Option OpenObject)). IsWellFormedTenant (record { objects = os; live = live; refused = false }))
+    (sym nothing) (new_is_kept live none)
 
 no_maps : at_handles (λ i. None) ≡ replicate most_maps None
 unfolding at_handles
 no_maps = refl
 
 -- the state of a new tenant is the machine's
-pub empty_is_new : (part : List ℕ) (objects : List (Option OpenObject)) (live : LiveMaps) → objects ≡ nothing_open → live.maps ≡ replicate MAPS None → live.refused ≡ false
+pub empty_is_new : (part : List ℕ) (objects : List (Option OpenObject)) (live : LiveMaps)
+    → objects ≡ nothing_open → live.maps ≡ replicate MAPS None
+    → live.refused ≡ false
     → state_in part (record { objects = objects; live = live; refused = false }) ≡ new_tenant
 empty_is_new part objects live nothing none clear =
-    ap (λ (os : List (Option OpenObject)). state_in part (record { objects = os; live = live; refused = false })) nothing
+    ap (λ (os : List (Option OpenObject)). state_in part (record { objects = os; live = live; refused = false }))
+    nothing
     ∙ ap₂ (λ (ms : List (Option Map)) (b : Bool). record { objects = nothing_open; maps = ms; refused = false || b })
     (same_at (map_at part live) (λ i. None) (λ i. none_there part live i (none_live live none i)) ∙ no_maps) clear

@@ -17,20 +17,33 @@ use Rattle.tenant.proofs.LookUps.{on_map_is, has_size}
 abbrev pub is_empty_or_fits : List ℕ → Map → Bool
 is_empty_or_fits key t = length key == 0 || has_size key t
 
-right_size : (n m size : ℕ) (empty : Bool) → empty ≡ (n == 0) → size ≡ m → ((empty ≡ false) × (n ≡ size)) ⊎ (empty ≡ true) → (n == 0 || n == m) ≡ true
+right_size : (n m size : ℕ) (empty : Bool)
+    → empty ≡ (n == 0) → size ≡ m
+    → ((empty ≡ false) × (n ≡ size)) ⊎ (empty ≡ true)
+    → (n == 0 || n == m) ≡ true
 right_size n m size empty e is (inl (full, same)) = rw (sym e ∙ full) (eq-eqb n m (same ∙ is))
 right_size n m size empty e is (inr none) = rw (sym e ∙ none) refl
 
 -- the reply is the next key in the table of keys
-pub next_is : CallsRefineValues ℕ (List ℕ) → (part : List ℕ) {k : KeptTenant} {fd handle : ℕ} (key : List ℕ) {size : ℕ} {empty : Bool} {r : Option (List ℕ)} → IsMapOf k fd handle
-    → size ≡ (shape_at k.live handle).key_size → empty ≡ (length key == 0) → ((empty ≡ false) × (length key ≡ size)) ⊎ (empty ≡ true) → r ≡ next_of (table_of (keys_at k.live handle)) key
+pub next_is : CallsRefineValues ℕ (List ℕ)
+    → (part : List ℕ) {k : KeptTenant} {fd handle : ℕ} (key : List ℕ) {size : ℕ} {empty : Bool} {r : Option (List ℕ)}
+    → IsMapOf k fd handle → size ≡ (shape_at k.live handle).key_size
+    → empty ≡ (length key == 0)
+    → ((empty ≡ false) × (length key ≡ size)) ⊎ (empty ≡ true)
+    → r ≡ next_of (table_of (keys_at k.live handle)) key
     → gives_if_found (state_in part k) r ≡ given_next (state_in part k) fd key
 next_is along part {k} {fd} {handle} key {size} {empty} {r} found size_is e either is =
     let s = state_in part k in
     ap (gives_if_found s) (is ∙ sym (along.next (value_in part k.live handle) (table_of (keys_at k.live handle)) key))
-    ∙ sym (on_map_is part (is_empty_or_fits key) (λ p t. gives_if_found s (next_of t key)) found (right_size (length key) (shape_at k.live handle).key_size size empty e size_is either))
+    ∙ sym (on_map_is part (is_empty_or_fits key) (λ p t. gives_if_found s (next_of t key)) found
+    (right_size (length key) (shape_at k.live handle).key_size size empty e size_is either))
 
 -- a key of another size
-pub refused_key : (part : List ℕ) {k : KeptTenant} {fd handle : ℕ} (key : List ℕ) → IsMapOf k fd handle → (length key == 0) ≡ false → (length key == (shape_at k.live handle).key_size) ≡ false
+pub refused_key : (part : List ℕ) {k : KeptTenant} {fd handle : ℕ} (key : List ℕ)
+    → IsMapOf k fd handle → (length key == 0) ≡ false
+    → (length key == (shape_at k.live handle).key_size) ≡ false
     → refuses Invalid (state_in part k) ≡ given_next (state_in part k) fd key
-refused_key part {k} key found full other = sym (on_map_is part (is_empty_or_fits key) (λ p t. gives_if_found (state_in part k) (next_of t key)) found (ap₂ (λ (a b : Bool). a || b) full other))
+refused_key part {k} key found full other =
+    sym (on_map_is part (is_empty_or_fits key)
+    (λ p t. gives_if_found (state_in part k) (next_of t key))
+    found (ap₂ (λ (a b : Bool). a || b) full other))

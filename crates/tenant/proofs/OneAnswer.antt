@@ -11,34 +11,50 @@ use Rattle.tenant.specs.Machine.{Answer, answer_of_judgement, targets, LoadsAs, 
 use Rattle.tenant.specs.Alone.{AnswersFrame, IsToldAlone}
 use Rattle.tenant.specs.Laws.{OneAnswer, OneReply, OneAlone}
 
-loads_as : OneJudgement → (refused : Bool) (s : TenantState) (fd : ℕ) (slots : List ℕ) (a b : Answer) → LoadsAs refused s fd slots a → LoadsAs refused s fd slots b → a ≡ b
+loads_as : OneJudgement
+    → (refused : Bool) (s : TenantState) (fd : ℕ) (slots : List ℕ) (a b : Answer)
+    → LoadsAs refused s fd slots a → LoadsAs refused s fd slots b
+    → a ≡ b
 loads_as one true s fd slots a b x y = x ∙ sym y
-loads_as one false s fd slots a b (j, is, told) (k, is_too, told_too) = told ∙ ap (answer_of_judgement s fd) (one (targets s) slots j k is is_too) ∙ sym told_too
+loads_as one false s fd slots a b (j, is, told) (k, is_too, told_too) =
+    told ∙ ap (answer_of_judgement s fd) (one (targets s) slots j k is is_too) ∙ sym told_too
 
-loads_under : OneJudgement → (refused : Bool) (s : TenantState) (o : Option ℕ) (slots : List ℕ) (a b : Answer) → LoadsUnder refused s o slots a → LoadsUnder refused s o slots b → a ≡ b
+loads_under : OneJudgement
+    → (refused : Bool) (s : TenantState) (o : Option ℕ) (slots : List ℕ) (a b : Answer)
+    → LoadsUnder refused s o slots a → LoadsUnder refused s o slots b
+    → a ≡ b
 loads_under one refused s None slots a b x y = x ∙ sym y
 loads_under one refused s (Some fd) slots a b x y = loads_as one refused s fd slots a b x y
 
-loads_by : OneJudgement → (socket refused : Bool) (s : TenantState) (o : Option ℕ) (slots : List ℕ) (x a b : Answer) → MatchBool socket (LoadsUnder refused s o slots a) (a ≡ x)
-    → MatchBool socket (LoadsUnder refused s o slots b) (b ≡ x) → a ≡ b
+loads_by : OneJudgement
+    → (socket refused : Bool) (s : TenantState) (o : Option ℕ) (slots : List ℕ) (x a b : Answer)
+    → MatchBool socket (LoadsUnder refused s o slots a) (a ≡ x)
+    → MatchBool socket (LoadsUnder refused s o slots b) (b ≡ x)
+    → a ≡ b
 loads_by one true refused s o slots x a b h k = loads_under one refused s o slots a b h k
 loads_by one false refused s o slots x a b h k = h ∙ sym k
 
 pub one_answer_is : OneJudgement → OneAnswer
-one_answer_is one refused s (prog_load kind slots) a b x y = loads_by one (kind == 1) refused s (table.lowest s.objects) slots _ a b x y
+one_answer_is one refused s (prog_load kind slots) a b x y =
+    loads_by one (kind == 1) refused s (table.lowest s.objects) slots _ a b x y
 one_answer_is one refused s other a b x y = x ∙ sym y
 
 -- ---- frames
 
-one_frame : OneAnswer → (refused : Bool) (s : TenantState) (r : Result Command BadFrame) (a b : Answer) → AnswersFrame refused s r a → AnswersFrame refused s r b → a ≡ b
+one_frame : OneAnswer
+    → (refused : Bool) (s : TenantState) (r : Result Command BadFrame) (a b : Answer)
+    → AnswersFrame refused s r a → AnswersFrame refused s r b
+    → a ≡ b
 one_frame one refused s (Err fault) a b x y = x ∙ sym y
 one_frame one refused s (Ok command) a b x y = one refused s command a b x y
 
 pub one_reply_is : OneAnswer → OneReply
 one_reply_is one refused frame x y None a b h k = (h.1 ∙ sym k.1, h.0 ∙ sym k.0)
 one_reply_is one refused frame x y (Some s) a b (p, h, x_is, a_is) (q, k, y_is, b_is) =
-    let same : p ≡ q = one_frame one refused s (parsed frame) p q h k in
-    (x_is ∙ ap (λ (r : Answer). reply_to frame r.status r.payload) same ∙ sym y_is, a_is ∙ ap (λ (r : Answer). Some r.after) same ∙ sym b_is)
+    let same : p ≡ q = one_frame one refused s (parsed frame) p q h k in (
+      x_is ∙ ap (λ (r : Answer). reply_to frame r.status r.payload) same ∙ sym y_is,
+      a_is ∙ ap (λ (r : Answer). Some r.after) same ∙ sym b_is,
+    )
 
 pub one_alone_is : OneReply → OneAlone
 one_alone_is one before a b [] [] [] h k = (refl, h ∙ sym k)
@@ -48,5 +64,6 @@ one_alone_is one before a b (f ∷ fs) [] ys h k = absurd h
 one_alone_is one before a b (f ∷ fs) (x ∷ xs) [] h k = absurd k
 one_alone_is one before a b (f ∷ fs) (x ∷ xs) (y ∷ ys) (m, told, h) (n, told_too, k) =
     let here = one false f x y before m n told told_too in
-    let rest = one_alone_is one m a b fs xs ys h (subst (λ (o : Option TenantState). IsToldAlone o fs ys b) (sym here.1) k) in
+    let rest =
+    one_alone_is one m a b fs xs ys h (subst (λ (o : Option TenantState). IsToldAlone o fs ys b) (sym here.1) k) in
     (ap₂ (λ (z : List ℕ) (zs : List (List ℕ)). z ∷ zs) here.0 rest.0, rest.1)

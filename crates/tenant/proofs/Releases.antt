@@ -40,8 +40,14 @@ live_held : (o : Option LiveMap) → is_some (option_map without_area o) ≡ is_
 live_held None = refl
 live_held (Some l) = refl
 
-was_live : (old new : LiveMaps) (handle : ℕ) → held_at new handle ≡ held_at old handle → IsSome (live_at new handle) → IsSome (live_at old handle)
-was_live old new handle e live = sym (live_held (live_at old handle)) ∙ ap (λ (o : Option MapWithoutArea). is_some o) (sym e) ∙ live_held (live_at new handle) ∙ live
+was_live : (old new : LiveMaps) (handle : ℕ)
+    → held_at new handle ≡ held_at old handle → IsSome (live_at new handle)
+    → IsSome (live_at old handle)
+was_live old new handle e live =
+    sym (live_held (live_at old handle))
+    ∙ ap (λ (o : Option MapWithoutArea). is_some o) (sym e)
+    ∙ live_held (live_at new handle)
+    ∙ live
 
 -- ---- a release of the map of a handle
 
@@ -54,19 +60,29 @@ pub record IsReleased (old new : LiveMaps) (part later : List ℕ) (handle : ℕ
   pub kept : 1 < holds_at old handle → KeepsMap handle old part new later
   pub whole : length later ≡ PART
 
-less_one : (o : Option MapWithoutArea) → 1 < held_holds o → (held_holds (one_less o) + 1 ≡ held_holds o) × (held_keys (one_less o) ≡ held_keys o)
+less_one : (o : Option MapWithoutArea)
+    → 1 < held_holds o
+    → (held_holds (one_less o) + 1 ≡ held_holds o) × (held_keys (one_less o) ≡ held_keys o)
 unfolding held_holds held_keys
 less_one None more = absurd (omega arith)
 less_one (Some h) more = by_test (nat_le h.holds 1) refl
   where
-    by_test : (last : Bool) → nat_le h.holds 1 ≡ last → (held_holds (if last then None else Some (record { keys = h.keys; holds = h.holds - 1 })) + 1 ≡ h.holds) × (held_keys (if last then None else Some (record { keys = h.keys; holds = h.holds - 1 })) ≡ h.keys)
+    by_test : (last : Bool)
+        → nat_le h.holds 1 ≡ last
+        → (held_holds (if last then None else Some (record { keys = h.keys; holds = h.holds - 1 })) + 1 ≡ h.holds)
+        × (held_keys (if last then None else Some (record { keys = h.keys; holds = h.holds - 1 })) ≡ h.keys)
     by_test true e = absurd (let le : h.holds ≤ 1 = grind (arith, nat_tests) in omega arith)
     by_test false e = (omega arith, refl)
 
-one_fewer : (old new : LiveMaps) (key : ℕ) → held_at new key ≡ one_less (held_at old key) → 1 < holds_at old key → (holds_at new key + 1 ≡ holds_at old key) × (keys_at new key ≡ keys_at old key)
+one_fewer : (old new : LiveMaps) (key : ℕ)
+    → held_at new key ≡ one_less (held_at old key)
+    → 1 < holds_at old key
+    → (holds_at new key + 1 ≡ holds_at old key) × (keys_at new key ≡ keys_at old key)
 one_fewer old new key less more =
     let both = less_one (held_at old key) (subst (λ (n : ℕ). 1 < n) (sym (holds_held (live_at old key))) more) in (
-      ap (λ (n : ℕ). n + 1) (sym (holds_held (live_at new key)) ∙ ap held_holds less) ∙ both.0 ∙ holds_held (live_at old key),
+      ap (λ (n : ℕ). n + 1) (sym (holds_held (live_at new key)) ∙ ap held_holds less)
+          ∙ both.0
+          ∙ holds_held (live_at old key),
       sym (keys_held (live_at new key)) ∙ ap held_keys less ∙ both.1 ∙ keys_held (live_at old key),
     )
 
@@ -81,17 +97,21 @@ here_one handle q same = let yes : (handle == q) ≡ true = eq-eqb handle q (sym
 pub none_one : (handle q : ℕ) → q ≢ handle → one_at handle q ≡ 0
 none_one handle q other = let no : (handle == q) ≡ false = ne_eqb handle q (λ e. other (sym e)) in rw no refl
 
-module _ {old new : LiveMaps} {part later : List ℕ} {handle : ℕ} (is : AreHeld old) (there : IsSome (live_at old handle)) (r : IsReleased old new part later handle) where
+module _ {old new : LiveMaps} {part later : List ℕ} {handle : ℕ} (is : AreHeld old)
+    (there : IsSome (live_at old handle)) (r : IsReleased old new part later handle) where
   -- the hold was the last one, or not
   abbrev Either : Type 0
   Either = (1 < holds_at old handle) ⊎ (holds_at old handle ≤ 1)
 
   pub holds_released : (q : ℕ) → holds_at new q + one_at handle q ≡ holds_at old q
-  holds_released = at_each (λ q. holds_at new q + one_at handle q ≡ holds_at old q) handle (by (cases_lt 1 (holds_at old handle)))
-      (λ q other. let same = same_holds old new q (r.others q other) in let none = none_one handle q other in omega arith)
+  holds_released =
+      at_each (λ q. holds_at new q + one_at handle q ≡ holds_at old q) handle (by (cases_lt 1 (holds_at old handle)))
+      (λ q other.
+      let same = same_holds old new q (r.others q other) in let none = none_one handle q other in omega arith)
     where
       by : Either → holds_at new handle + one_at handle handle ≡ holds_at old handle
-      by (inl more) = let fewer = (one_fewer old new handle r.less more).0 in let one = here_one handle handle refl in omega arith
+      by (inl more) =
+          let fewer = (one_fewer old new handle r.less more).0 in let one = here_one handle handle refl in omega arith
       by (inr last) =
           let none : holds_at new handle ≡ 0 = ap (λ (o : Option LiveMap). (live_or o).holds) (r.gone last) in
           let some = is.some handle there in
@@ -99,7 +119,9 @@ module _ {old new : LiveMaps} {part later : List ℕ} {handle : ℕ} (is : AreHe
           omega arith
 
   was_there : (q : ℕ) → IsSome (live_at new q) → IsSome (live_at old q)
-  was_there = at_each (λ q. IsSome (live_at new q) → IsSome (live_at old q)) handle (λ live. there) (λ q other. was_live old new q (r.others q other))
+  was_there =
+      at_each (λ q. IsSome (live_at new q) → IsSome (live_at old q)) handle (λ live. there)
+      (λ q other. was_live old new q (r.others q other))
 
   -- a map that is still live had more than one hold
   more_held : IsSome (live_at new handle) → Either → 1 < holds_at old handle
@@ -108,18 +130,27 @@ module _ {old new : LiveMaps} {part later : List ℕ} {handle : ℕ} (is : AreHe
 
   some_hold : (q : ℕ) → IsSome (live_at new q) → 1 ≤ holds_at new q
   some_hold = at_each (λ q. IsSome (live_at new q) → 1 ≤ holds_at new q) handle
-      (λ live. let more = more_held live (cases_lt 1 (holds_at old handle)) in let fewer = (one_fewer old new handle r.less more).0 in omega arith)
-      (λ q other live. subst (λ (n : ℕ). 1 ≤ n) (sym (same_holds old new q (r.others q other))) (is.some q (was_live old new q (r.others q other) live)))
+      (λ live.
+      let more = more_held live (cases_lt 1 (holds_at old handle)) in
+      let fewer = (one_fewer old new handle r.less more).0 in
+      omega arith)
+      (λ q other live.
+      subst (λ (n : ℕ). 1 ≤ n) (sym (same_holds old new q (r.others q other)))
+      (is.some q (was_live old new q (r.others q other) live)))
 
   no_run : (q : ℕ) → (keys_at new q).kept ≡ []
-  no_run = at_each (λ q. (keys_at new q).kept ≡ []) handle (by (cases_lt 1 (holds_at old handle))) (λ q other. ap (λ (p : KeyTable). p.kept) (same_keys old new q (r.others q other)) ∙ is.ended q)
+  no_run =
+      at_each (λ q. (keys_at new q).kept ≡ []) handle (by (cases_lt 1 (holds_at old handle)))
+      (λ q other. ap (λ (p : KeyTable). p.kept) (same_keys old new q (r.others q other)) ∙ is.ended q)
     where
       by : Either → (keys_at new handle).kept ≡ []
       by (inl more) = ap (λ (p : KeyTable). p.kept) (one_fewer old new handle r.less more).1 ∙ is.ended handle
       by (inr last) = ap (λ (o : Option LiveMap). (live_or o).keys.kept) (r.gone last)
 
   same_pairs : (q : ℕ) → IsSome (live_at new q) → map_in later new q ≡ map_in part old q
-  same_pairs = at_each (λ q. IsSome (live_at new q) → map_in later new q ≡ map_in part old q) handle (λ live. (r.kept (more_held live (cases_lt 1 (holds_at old handle))) there).1)
+  same_pairs =
+      at_each (λ q. IsSome (live_at new q) → map_in later new q ≡ map_in part old q) handle
+      (λ live. (r.kept (more_held live (cases_lt 1 (holds_at old handle))) there).1)
       (λ q other live. (r.maps q other (was_live old new q (r.others q other) live)).1)
 
   pub left_released : LeavesHeldMaps (record { live = old; part = part }) (record { live = new; part = later })

@@ -27,15 +27,21 @@ pub record IsStill (old new : LiveMaps) : Type 0 where
   pub shape : (handle : ℕ) → IsSome (live_at old handle) → shape_at new handle ≡ shape_at old handle
   pub ended : (handle : ℕ) → (keys_at new handle).kept ≡ []
 
-pub bound_along : {old new : LiveMaps} {l : LoadedProgram} → IsBound old l → ((handle : ℕ) → IsSome (live_at old handle) → IsSome (live_at new handle)) → ((handle : ℕ) → IsSome (live_at old handle) → shape_at new handle ≡ shape_at old handle)
+pub bound_along : {old new : LiveMaps} {l : LoadedProgram}
+    → IsBound old l
+    → ((handle : ℕ) → IsSome (live_at old handle) → IsSome (live_at new handle))
+    → ((handle : ℕ) → IsSome (live_at old handle) → shape_at new handle ≡ shape_at old handle)
     → IsBound new l
 bound_along was stays shape = record {
   each = was.each;
   once = was.once;
-  shaped = λ fd handle found. let (live, shaped) = was.shaped fd handle found in (stays handle live, shaped ∙ ap (λ (s : MapShape). Some s) (sym (shape handle live)));
+  shaped = λ fd handle found.
+      let (live, shaped) = was.shaped fd handle found in
+      (stays handle live, shaped ∙ ap (λ (s : MapShape). Some s) (sym (shape handle live)));
 }
 
-pub still_kept : {k : KeptTenant} {t : LiveMaps} → IsWellFormedTenant k → IsStill k.live t → IsWellFormedTenant (with_live k t)
+pub still_kept : {k : KeptTenant} {t : LiveMaps}
+    → IsWellFormedTenant k → IsStill k.live t → IsWellFormedTenant (with_live k t)
 still_kept {k} {t} is s = record {
   all = is.all;
   maps = record {
@@ -49,11 +55,25 @@ still_kept {k} {t} is s = record {
 }
 
 -- if only the keys of one map change, and no element of it is kept apart
-pub keys_kept : {k : KeptTenant} {t : LiveMaps} {m : ℕ} → IsWellFormedTenant k → IsSome (live_at k.live m) → OnlyKeysChange m k.live t → (keys_at t m).kept ≡ [] → IsWellFormedTenant (with_live k t)
+pub keys_kept : {k : KeptTenant} {t : LiveMaps} {m : ℕ}
+    → IsWellFormedTenant k → IsSome (live_at k.live m)
+    → OnlyKeysChange m k.live t → (keys_at t m).kept ≡ []
+    → IsWellFormedTenant (with_live k t)
 keys_kept {k} {t} {m} is live rest ended = still_kept is (record {
-  was = at_each (λ q. IsSome (live_at t q) → IsSome (live_at k.live q)) m (λ now. live) (λ q other now. ap (λ (o : Option LiveMap). is_some o) (sym (rest.others q other)) ∙ now);
-  stays = at_each (λ q. IsSome (live_at k.live q) → IsSome (live_at t q)) m (λ was. rest.live) (λ q other was. ap (λ (o : Option LiveMap). is_some o) (rest.others q other) ∙ was);
-  holds = at_each (λ q. holds_at t q ≡ holds_at k.live q) m rest.holds (λ q other. ap (λ (o : Option LiveMap). (live_or o).holds) (rest.others q other));
-  shape = at_each (λ q. IsSome (live_at k.live q) → shape_at t q ≡ shape_at k.live q) m (λ was. rest.shape) (λ q other was. ap (λ (o : Option LiveMap). (live_or o).keys.shape) (rest.others q other));
-  ended = at_each (λ q. (keys_at t q).kept ≡ []) m ended (λ q other. ap (λ (o : Option LiveMap). (live_or o).keys.kept) (rest.others q other) ∙ is.maps.ended q);
+  was =
+      at_each (λ q. IsSome (live_at t q) → IsSome (live_at k.live q)) m (λ now. live)
+      (λ q other now. ap (λ (o : Option LiveMap). is_some o) (sym (rest.others q other)) ∙ now);
+  stays =
+      at_each (λ q. IsSome (live_at k.live q) → IsSome (live_at t q)) m (λ was. rest.live)
+      (λ q other was. ap (λ (o : Option LiveMap). is_some o) (rest.others q other) ∙ was);
+  holds =
+      at_each (λ q. holds_at t q ≡ holds_at k.live q) m rest.holds
+      (λ q other. ap (λ (o : Option LiveMap). (live_or o).holds) (rest.others q other));
+  shape =
+      at_each (λ q. IsSome (live_at k.live q) → shape_at t q ≡ shape_at k.live q) m
+      (λ was. rest.shape)
+      (λ q other was. ap (λ (o : Option LiveMap). (live_or o).keys.shape) (rest.others q other));
+  ended =
+      at_each (λ q. (keys_at t q).kept ≡ []) m ended
+      (λ q other. ap (λ (o : Option LiveMap). (live_or o).keys.kept) (rest.others q other) ∙ is.maps.ended q);
 })

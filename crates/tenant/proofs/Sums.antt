@@ -10,7 +10,9 @@ total-none f zero = refl
 total-none f (suc n) = let rest = total-none f n in omega arith
 
 -- two lists with equal numbers at each index have equal sums
-pub total-each : {A B : Type 0} (f : A → ℕ) (g : B → ℕ) (xs : List (Option A)) (ys : List (Option B)) → ((j : ℕ) → weight f (get_or xs j None) ≡ weight g (get_or ys j None)) → total f xs ≡ total g ys
+pub total-each : {A B : Type 0} (f : A → ℕ) (g : B → ℕ) (xs : List (Option A)) (ys : List (Option B))
+    → ((j : ℕ) → weight f (get_or xs j None) ≡ weight g (get_or ys j None))
+    → total f xs ≡ total g ys
 unfolding total
 total-each f g [] [] h = refl
 total-each f g [] (y ∷ ys) h = let rest = total-each f g [] ys (λ j. h (suc j)) in let here = h 0 in omega arith
@@ -18,28 +20,35 @@ total-each f g (x ∷ xs) [] h = let rest = total-each f g xs [] (λ j. h (suc j
 total-each f g (x ∷ xs) (y ∷ ys) h = ap₂ (λ (m n : ℕ). m + n) (h 0) (total-each f g xs ys (λ j. h (suc j)))
 
 -- the sum after a free handle gets a map
-pub total-set : {A : Type 0} (f : A → ℕ) (xs : List (Option A)) (n : ℕ) (x : A) → n < length xs → get_or xs n None ≡ None → total f (set xs n (Some x)) ≡ total f xs + f x
+pub total-set : {A : Type 0} (f : A → ℕ) (xs : List (Option A)) (n : ℕ) (x : A)
+    → n < length xs → get_or xs n None ≡ None
+    → total f (set xs n (Some x)) ≡ total f xs + f x
 unfolding total
 total-set f [] n x within free = absurd (omega arith)
-total-set f (o ∷ os) zero x within free = let nothing : option_map_or f o 0 ≡ 0 = ap (λ (p : Option _). option_map_or f p 0) free in omega arith
+total-set f (o ∷ os) zero x within free =
+    let nothing : option_map_or f o 0 ≡ 0 = ap (λ (p : Option _). option_map_or f p 0) free in omega arith
 total-set f (o ∷ os) (suc n) x within free = let rest = total-set f os n x (omega arith) free in omega arith
 
 -- the sum after the map of a handle is gone
-pub total-unset : {A : Type 0} (f : A → ℕ) (xs : List (Option A)) (n : ℕ) (x : A) → get_or xs n None ≡ Some x → total f xs ≡ total f (set xs n None) + f x
+pub total-unset : {A : Type 0} (f : A → ℕ) (xs : List (Option A)) (n : ℕ) (x : A)
+    → get_or xs n None ≡ Some x → total f xs ≡ total f (set xs n None) + f x
 unfolding total
 total-unset f [] n x there = absurd (none-some x there)
-total-unset f (o ∷ os) zero x there = let here : option_map_or f o 0 ≡ f x = ap (λ (p : Option _). option_map_or f p 0) there in omega arith
+total-unset f (o ∷ os) zero x there =
+    let here : option_map_or f o 0 ≡ f x = ap (λ (p : Option _). option_map_or f p 0) there in omega arith
 total-unset f (o ∷ os) (suc n) x there = let rest = total-unset f os n x there in omega arith
 
 -- the number of each element is at most the sum
-pub total-part : {A : Type 0} (f : A → ℕ) (xs : List (Option A)) (n : ℕ) (x : A) → get_or xs n None ≡ Some x → f x ≤ total f xs
+pub total-part : {A : Type 0} (f : A → ℕ) (xs : List (Option A)) (n : ℕ) (x : A)
+    → get_or xs n None ≡ Some x → f x ≤ total f xs
 total-part f xs n x there = let e = total-unset f xs n x there in omega arith
 
 most_first : {A : Type 0} (f : A → ℕ) (o : Option A) → ((x : A) → o ≡ Some x → f x ≤ 1) → option_map_or f o 0 ≤ 1
 most_first f None h = omega arith
 most_first f (Some x) h = h x refl
 
-pub total-most : {A : Type 0} (f : A → ℕ) (xs : List (Option A)) → ((i : ℕ) (x : A) → get_or xs i None ≡ Some x → f x ≤ 1) → total f xs ≤ length xs
+pub total-most : {A : Type 0} (f : A → ℕ) (xs : List (Option A))
+    → ((i : ℕ) (x : A) → get_or xs i None ≡ Some x → f x ≤ 1) → total f xs ≤ length xs
 unfolding total
 total-most f [] h = omega arith
 total-most f (o ∷ os) h =
@@ -48,7 +57,8 @@ total-most f (o ∷ os) h =
     omega arith
 
 -- if each number is at most another, so is the sum
-less_first : {A : Type 0} (f g : A → ℕ) (o : Option A) → ((x : A) → f x ≤ g x) → option_map_or f o 0 ≤ option_map_or g o 0
+less_first : {A : Type 0} (f g : A → ℕ) (o : Option A)
+    → ((x : A) → f x ≤ g x) → option_map_or f o 0 ≤ option_map_or g o 0
 less_first f g None h = omega arith
 less_first f g (Some x) h = h x
 

@@ -21,7 +21,8 @@ stands_or_not : (bind : List ℕ) (key : ℕ) → StandsIn bind key ⊎ IsElsewh
 stands_or_not [] key = inr (λ i lt. absurd (omega arith))
 stands_or_not (b ∷ bs) key = by (cases_eq b key) (stands_or_not bs key)
   where
-    by : (b ≡ key) ⊎ (b ≡ key → ⊥) → StandsIn bs key ⊎ IsElsewhere bs key → StandsIn (b ∷ bs) key ⊎ IsElsewhere (b ∷ bs) key
+    by : (b ≡ key) ⊎ (b ≡ key → ⊥)
+        → StandsIn bs key ⊎ IsElsewhere bs key → StandsIn (b ∷ bs) key ⊎ IsElsewhere (b ∷ bs) key
     by (inl same) rest = inl (0, omega arith, same)
     by (inr other) (inl (i, lt, same)) = inl (suc i, omega arith, same)
     by (inr other) (inr away) = inr (elsewhere_more b key bs other away)
@@ -33,15 +34,21 @@ some_live None h = absurd (true≢false (sym h))
 some_live (Some l) h = (l, refl)
 
 -- it has the same shape as before
-same_shape : (old new : LiveMaps) (key : ℕ) → SameAreas old new → IsSome (live_at new key) → shape_at new key ≡ shape_at old key
+same_shape : (old new : LiveMaps) (key : ℕ)
+    → SameAreas old new → IsSome (live_at new key)
+    → shape_at new key ≡ shape_at old key
 same_shape old new key areas live =
     let (l, now) = some_live (live_at new key) live in
     let (m, was, shape, start, stride) = areas key l now in
-    ap (λ (o : Option LiveMap). (live_or o).keys.shape) now ∙ shape ∙ sym (ap (λ (o : Option LiveMap). (live_or o).keys.shape) was)
+    ap (λ (o : Option LiveMap). (live_or o).keys.shape) now
+    ∙ shape
+    ∙ sym (ap (λ (o : Option LiveMap). (live_or o).keys.shape) was)
 
 -- ---- the invariant
 
-pub kept_after : {k : KeptTenant} {new : LiveMaps} {bind : List ℕ} → IsWellFormedTenant k → RunKeepsMaps bind k.live new → IsWellFormedTenant (with_live k new)
+pub kept_after : {k : KeptTenant} {new : LiveMaps} {bind : List ℕ}
+    → IsWellFormedTenant k → RunKeepsMaps bind k.live new
+    → IsWellFormedTenant (with_live k new)
 kept_after {k} {new} {bind} is keeps = still_kept is (record {
   was = λ handle now. was_of handle (some_live (live_at new handle) now);
   stays = λ handle was. stays_of handle was (stands_or_not bind handle);
@@ -51,12 +58,17 @@ kept_after {k} {new} {bind} is keeps = still_kept is (record {
 })
   where
     was_of : (handle : ℕ) → (l : LiveMap) × (live_at new handle ≡ Some l) → IsSome (live_at k.live handle)
-    was_of handle (l, now) = let (m, was, shape, start, stride) = keeps.areas handle l now in ap (λ (o : Option LiveMap). is_some o) was
+    was_of handle (l, now) =
+        let (m, was, shape, start, stride) = keeps.areas handle l now in ap (λ (o : Option LiveMap). is_some o) was
 
-    stays_of : (handle : ℕ) → IsSome (live_at k.live handle) → StandsIn bind handle ⊎ IsElsewhere bind handle → IsSome (live_at new handle)
+    stays_of : (handle : ℕ)
+        → IsSome (live_at k.live handle)
+        → StandsIn bind handle ⊎ IsElsewhere bind handle
+        → IsSome (live_at new handle)
     stays_of handle was (inl (i, lt, same)) = subst (λ (n : ℕ). IsSome (live_at new n)) same (keeps.live i lt)
     stays_of handle was (inr away) = ap (λ (o : Option LiveMap). is_some o) (keeps.others handle away) ∙ was
 
     ended_of : (handle : ℕ) → StandsIn bind handle ⊎ IsElsewhere bind handle → (keys_at new handle).kept ≡ []
     ended_of handle (inl (i, lt, same)) = subst (λ (n : ℕ). (keys_at new n).kept ≡ []) same (keeps.free i lt)
-    ended_of handle (inr away) = ap (λ (o : Option LiveMap). (live_or o).keys.kept) (keeps.others handle away) ∙ is.maps.ended handle
+    ended_of handle (inr away) =
+        ap (λ (o : Option LiveMap). (live_or o).keys.kept) (keeps.others handle away) ∙ is.maps.ended handle

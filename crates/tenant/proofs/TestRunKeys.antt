@@ -27,28 +27,39 @@ descriptor_at maps i = slice_index (keys_of maps) i
 apart_later : (x : ℕ) (xs : List ℕ) → AreApart (x ∷ xs) → AreApart xs
 apart_later x xs apart i j fd a b = let e = apart (suc i) (suc j) fd a b in omega arith
 
-pub lookup_at : (maps : List (ℕ × ℕ)) → AreApart (keys_of maps) → (i : ℕ) → i < length maps → lookup (λ m. m == descriptor_at maps i) maps ≡ Some (listed_handle maps i)
+pub lookup_at : (maps : List (ℕ × ℕ))
+    → AreApart (keys_of maps) → (i : ℕ) → i < length maps
+    → lookup (λ m. m == descriptor_at maps i) maps ≡ Some (listed_handle maps i)
 lookup_at [] once i lt = absurd (omega arith)
 lookup_at (m ∷ ms) once zero lt = ap (λ (b : Bool). cond b (Some m.1) (lookup (λ k. k == m.0) ms)) (eq-eqb m.0 m.0 refl)
-lookup_at (m ∷ ms) once (suc i) lt = by (m.0 == descriptor_at ms i) refl (lookup_at ms (apart_later m.0 (keys_of ms) once) i (omega arith))
+lookup_at (m ∷ ms) once (suc i) lt =
+    by (m.0 == descriptor_at ms i) refl (lookup_at ms (apart_later m.0 (keys_of ms) once) i (omega arith))
   where
-    by : (b : Bool) → (m.0 == descriptor_at ms i) ≡ b → lookup (λ k. k == descriptor_at ms i) ms ≡ Some (listed_handle ms i)
-        → cond (m.0 == descriptor_at ms i) (Some m.1) (lookup (λ k. k == descriptor_at ms i) ms) ≡ Some (listed_handle ms i)
+    by : (b : Bool)
+        → (m.0 == descriptor_at ms i) ≡ b
+        → lookup (λ k. k == descriptor_at ms i) ms ≡ Some (listed_handle ms i)
+        → cond (m.0 == descriptor_at ms i) (Some m.1) (lookup (λ k. k == descriptor_at ms i) ms)
+        ≡ Some (listed_handle ms i)
     by true e rest =
         let long = length-firsts ms in
-        let here : Some m.0 ≡ Some (descriptor_at ms i) = ap (λ (n : ℕ). Some n) (eqb-true m.0 (descriptor_at ms i) e) in
+        let here : Some m.0 ≡ Some (descriptor_at ms i) =
+        ap (λ (n : ℕ). Some n) (eqb-true m.0 (descriptor_at ms i) e) in
         let there = slice_get-get_or (keys_of ms) i 0 (omega arith) in
         absurd (let wrong = once 0 (suc i) (descriptor_at ms i) here there in omega arith)
     by false e rest = ap (λ (b : Bool). cond b (Some m.1) (lookup (λ k. k == descriptor_at ms i) ms)) e ∙ rest
 
 -- ---- the maps under the handles of a program
 
-module _ {k : KeptTenant} {l : LoadedProgram} (is : IsWellFormedTenant k) (bound : IsBound k.live l) (listed : MapsAreListed) where
+module _ {k : KeptTenant} {l : LoadedProgram} (is : IsWellFormedTenant k) (bound : IsBound k.live l)
+    (listed : MapsAreListed) where
   once : AreApart (keys_of l.maps)
   once = subst (λ (fds : List ℕ). AreApart fds) (sym bound.each) (λ i j fd a b. listed.once l.insns i j fd a b)
 
   -- a live map with the shape with which the program was verified
-  pub entry : (i : ℕ) → i < length l.maps → IsSome (live_at k.live (listed_handle l.maps i)) × (shapes_named l.named (descriptor_at l.maps i) ≡ Some (shape_at k.live (listed_handle l.maps i)))
+  pub entry : (i : ℕ)
+      → i < length l.maps
+      → IsSome (live_at k.live (listed_handle l.maps i))
+      × (shapes_named l.named (descriptor_at l.maps i) ≡ Some (shape_at k.live (listed_handle l.maps i)))
   entry i lt = bound.shaped (descriptor_at l.maps i) (listed_handle l.maps i) (lookup_at l.maps once i lt)
 
   pub handle_within : (i : ℕ) → i < length l.maps → listed_handle l.maps i < most_maps
@@ -58,7 +69,9 @@ module _ {k : KeptTenant} {l : LoadedProgram} (is : IsWellFormedTenant k) (bound
   as_many = length-seconds l.maps ∙ sym (length-firsts l.maps) ∙ ap length bound.each
 
   live_there : (i : ℕ) → i < length (map_handles l) → IsSome (live_at k.live (slice_index (map_handles l) i))
-  live_there i lt = let all = length-seconds l.maps in subst (λ (n : ℕ). IsSome (live_at k.live n)) (sym (handle_at l.maps i)) (entry i (omega arith)).0
+  live_there i lt =
+      let all = length-seconds l.maps in
+      subst (λ (n : ℕ). IsSome (live_at k.live n)) (sym (handle_at l.maps i)) (entry i (omega arith)).0
 
   -- the maps under these handles are bound to the program
   pub are_bound : (a : Accepted) → a.code ≡ l.insns → a.entries ≡ l.named → AreBound a (map_handles l) k.live
@@ -76,5 +89,8 @@ module _ {k : KeptTenant} {l : LoadedProgram} (is : IsWellFormedTenant k) (bound
   }
 
 -- the maps of an open program are bound to it
-pub bound_of : {k : KeptTenant} {l : LoadedProgram} (fd : ℕ) → IsWellFormedTenant k → named k.objects fd ≡ Some (object.Program l) → IsBound k.live l
+pub bound_of : {k : KeptTenant} {l : LoadedProgram} (fd : ℕ)
+    → IsWellFormedTenant k
+    → named k.objects fd ≡ Some (object.Program l)
+    → IsBound k.live l
 bound_of {k} {l} fd is opened = is.bound (fd - first_descriptor) l (closed_at k.objects fd (object.Program l) opened).1

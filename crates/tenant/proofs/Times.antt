@@ -7,14 +7,21 @@ use Rattle.tenant.specs.inside.Leaves.{HeldMaps, LeavesHeldMaps}
 use Rattle.tenant.proofs.Releases.{one_at, here_one}
 
 -- how often a handle is in the first i + 1 handles
-times-next : (ps : List ℕ) (i p d q : ℕ) → i < length ps → p ≡ get_or ps i d → times_listed q (take (suc i) ps) ≡ times_listed q (take i ps) + one_at p q
+times-next : (ps : List ℕ) (i p d q : ℕ)
+    → i < length ps → p ≡ get_or ps i d
+    → times_listed q (take (suc i) ps) ≡ times_listed q (take i ps) + one_at p q
 unfolding times_listed
 times-next [] i p d q within at = absurd (omega arith)
-times-next (x ∷ ps) zero p d q within at = let same : one_at x q ≡ one_at p q = ap (λ (y : ℕ). one_at y q) (sym at) in omega arith
+times-next (x ∷ ps) zero p d q within at =
+    let same : one_at x q ≡ one_at p q = ap (λ (y : ℕ). one_at y q) (sym at) in omega arith
 times-next (x ∷ ps) (suc i) p d q within at = let rest = times-next ps i p d q (omega arith) at in omega arith
 
-pub times-more : (ps : List ℕ) (i p d q : ℕ) → i < length ps → p ≡ get_or ps i d → times_listed q (take (i + 1) ps) ≡ times_listed q (take i ps) + one_at p q
-times-more ps i p d q within at = let e : i + 1 ≡ suc i = omega arith in ap (λ (n : ℕ). times_listed q (take n ps)) e ∙ times-next ps i p d q within at
+pub times-more : (ps : List ℕ) (i p d q : ℕ)
+    → i < length ps → p ≡ get_or ps i d
+    → times_listed q (take (i + 1) ps) ≡ times_listed q (take i ps) + one_at p q
+times-more ps i p d q within at =
+    let e : i + 1 ≡ suc i = omega arith in
+    ap (λ (n : ℕ). times_listed q (take n ps)) e ∙ times-next ps i p d q within at
 
 -- the first i handles have it at most as often as all
 times-first : (ps : List ℕ) (i q : ℕ) → times_listed q (take i ps) ≤ times_listed q ps
@@ -25,7 +32,9 @@ times-first (p ∷ ps) zero q = omega arith
 times-first (p ∷ ps) (suc i) q = let rest = times-first ps i q in omega arith
 
 -- the handle after the first i is one more
-pub times-left : (ps : List ℕ) (i p d : ℕ) → i < length ps → p ≡ get_or ps i d → times_listed p (take i ps) + 1 ≤ times_listed p ps
+pub times-left : (ps : List ℕ) (i p d : ℕ)
+    → i < length ps → p ≡ get_or ps i d
+    → times_listed p (take i ps) + 1 ≤ times_listed p ps
 times-left ps i p d within at =
     let more = times-more ps i p d p within at in
     let one = here_one p p refl in

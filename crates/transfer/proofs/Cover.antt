@@ -58,7 +58,8 @@ pub record Laws : Type 0 where
   pub map_calls : MapCallsKeep
   pub site : SiteAdmits
 
-module _ (laws : Laws) (here : Here) (f : Facts) (s : RunState) (is_known : IsKnown here f s) (below : AreBelow s.at f) where
+module _ (laws : Laws) (here : Here) (f : Facts) (s : RunState) (is_known : IsKnown here f s)
+    (below : AreBelow s.at f) where
   -- the target slot of a jump
   abbrev target_of : View → Option ℕ
   target_of v = natural (pos (s.at + 1) +ℤ offset_by (profile_of v).successors)
@@ -80,61 +81,101 @@ module _ (laws : Laws) (here : Here) (f : Facts) (s : RunState) (is_known : IsKn
 
   -- ---- operands that are read
 
-  register_covered : (On : Edges → RunState → Type 0) (r : ℕ) (go : Kind → Result Edges Reason) (on : Tagged → Step) → ((k : Kind) (v : Tagged) → IsFound here (s.registers r) k v → IsCoveredIf On (go k) (on v)) → IsCoveredIf On (and_then_ok (check_readable (kind_at f r)) go) (or_fault (s.registers r) on)
-  register_covered On r go on next = then_covered On (IsFound here (s.registers r)) _ _ go on (register_found here is_known r) next
+  register_covered : (On : Edges → RunState → Type 0) (r : ℕ) (go : Kind → Result Edges Reason)
+      (on : Tagged → Step)
+      → ((k : Kind) (v : Tagged) → IsFound here (s.registers r) k v → IsCoveredIf On (go k) (on v))
+      → IsCoveredIf On (and_then_ok (check_readable (kind_at f r)) go) (or_fault (s.registers r) on)
+  register_covered On r go on next =
+      then_covered On (IsFound here (s.registers r)) _ _ go on (register_found here is_known r) next
 
-  operand_covered : (On : Edges → RunState → Type 0) (wide : Bool) (src : Operand) (go : Kind → Result Edges Reason) (on : Tagged → Step) → ((k : Kind) (v : Tagged) → IsFound here (operand_value s wide src) k v → IsCoveredIf On (go k) (on v)) → IsCoveredIf On (and_then_ok (check_readable (source_kind f wide src)) go) (or_fault (operand_value s wide src) on)
-  operand_covered On wide src go on next = then_covered On (IsFound here (operand_value s wide src)) _ _ go on (source_found here is_known wide src) next
+  operand_covered : (On : Edges → RunState → Type 0) (wide : Bool) (src : Operand)
+      (go : Kind → Result Edges Reason) (on : Tagged → Step)
+      → ((k : Kind) (v : Tagged) → IsFound here (operand_value s wide src) k v → IsCoveredIf On (go k) (on v))
+      → IsCoveredIf On
+      (and_then_ok (check_readable (source_kind f wide src)) go)
+      (or_fault (operand_value s wide src) on)
+  operand_covered On wide src go on next =
+      then_covered On (IsFound here (operand_value s wide src)) _ _ go on (source_found here is_known wide src) next
 
   -- ---- results in a register
 
   -- from an operand to its value, and then to a register
-  left_in : (dst : ℕ) (r : Result Kind Reason) (o : Option Tagged) → Gives here r o → IsCoveredIf Next (assigns f dst r) (or_fault o (assigned 1 s dst))
-  left_in dst r o h = then_covered Next (IsKindOf here) r o (λ k. falls (with_kind f dst k)) (assigned 1 s dst) h (λ k v is. assigned_covered here 1 dst is_known is)
+  left_in : (dst : ℕ) (r : Result Kind Reason) (o : Option Tagged)
+      → Gives here r o → IsCoveredIf Next (assigns f dst r) (or_fault o (assigned 1 s dst))
+  left_in dst r o h =
+      then_covered Next (IsKindOf here) r o (λ k. falls (with_kind f dst k)) (assigned 1 s dst) h
+      (λ k v is. assigned_covered here 1 dst is_known is)
 
   binary_covered : (wide : Bool) (op : AluOp) (dst : ℕ) (src : Operand) → Covered (binary wide op dst src)
   binary_covered wide op dst src =
       then_covered Next (IsFound here (first_operand op (s.registers dst))) _ _ _ _ (first_found here is_known op dst)
       (λ k v h. operand_covered Next wide src _ _
-      (λ l w g. left_in dst (arithmetic_kind wide op k l) (arithmetic wide op v w) (arithmetic_agrees here laws.results wide op k l v w h.kind g.kind)))
+      (λ l w g.
+      left_in dst (arithmetic_kind wide op k l) (arithmetic wide op v w)
+      (arithmetic_agrees here laws.results wide op k l v w h.kind g.kind)))
 
   unary_covered : (wide : Bool) (op : Operator) (dst src : ℕ) → Covered (unary wide op dst src)
   unary_covered wide op dst src =
       register_covered Next src _ _
-      (λ k v h. left_in dst (of_scalar wide op k) (of_number (λ n. operate (width wide) op n n) v) (number_agrees here laws.results wide op _ (λ n. refl) k v h.kind))
+      (λ k v h.
+      left_in dst (of_scalar wide op k) (of_number (λ n. operate (width wide) op n n) v)
+      (number_agrees here laws.results wide op _ (λ n. refl) k v h.kind))
 
   -- ---- memory
 
   stored_covered : (g : Facts) (t : RunState) → IsStored here s g t → IsCoveredIf Next (falls g) (goes (advanced 1 t))
-  stored_covered g t h = subst (λ n. IsCoveredIf (OnFalling here (n + 1)) (falls g) (goes (advanced 1 t))) h.at (goes_to here (t.at + 1) h.known)
+  stored_covered g t h =
+      subst (λ n. IsCoveredIf (OnFalling here (n + 1)) (falls g) (goes (advanced 1 t))) h.at
+      (goes_to here (t.at + 1) h.known)
 
-  access_covered : (what : Access) (off : ℤ) (k : Kind) (p : Tagged) → IsKindOf here k p → IsCoveredIf Next (access_edges here.shapes f what off k) (accessed s what p off)
+  access_covered : (what : Access) (off : ℤ) (k : Kind) (p : Tagged)
+      → IsKindOf here k p
+      → IsCoveredIf Next (access_edges here.shapes f what off k) (accessed s what p off)
   access_covered (loads size signed dst) off k p is =
-      left_in dst (load_kind here.shapes f size signed off k) (load s size signed p off) (load_agrees is_known laws.accesses size signed off k p is)
+      left_in dst (load_kind here.shapes f size signed off k) (load s size signed p off)
+      (load_agrees is_known laws.accesses size signed off k p is)
   access_covered (stores size src) off k p is =
       operand_covered Next true src _ _
-      (λ l v g. then_covered Next (IsStored here s) (store_facts here.shapes f size off k l) (store s size p off v) falls (λ t. goes (advanced 1 t)) (store_agrees is_known laws.accesses size off k l p v is g.kind g.readable) stored_covered)
+      (λ l v g.
+      then_covered Next (IsStored here s) (store_facts here.shapes f size off k l)
+      (store s size p off v) falls (λ t. goes (advanced 1 t))
+      (store_agrees is_known laws.accesses size off k l p v is g.kind g.readable)
+      stored_covered)
   access_covered (changes size op src) off k p is =
       register_covered Next src _ _
-      (λ l v g. then_covered Next (IsStored here s) (changed_facts here.shapes f (access_size size) off k l) (changed s size op p off v) falls (λ t. goes (advanced 1 t)) (changed_agrees is_known laws.accesses laws.results size op off k l p v is g.kind) stored_covered)
+      (λ l v g.
+      then_covered Next (IsStored here s)
+      (changed_facts here.shapes f (access_size size) off k l)
+      (changed s size op p off v) falls (λ t. goes (advanced 1 t))
+      (changed_agrees is_known laws.accesses laws.results size op off k l p v is g.kind)
+      stored_covered)
 
   -- ---- jumps, and the end
 
   -- a conditional jump is taken if its comparison of the values holds
-  jumps_if_compared : (wide : Bool) (cond : Condition) (dst : ℕ) (src : Operand) (off : ℤ) (v w : Tagged) → s.registers dst ≡ Some v → operand_value s wide src ≡ Some w → jumps_in (branch wide cond dst src off) s ≡ unwrap_or (compared wide cond src v w) false
+  jumps_if_compared : (wide : Bool) (cond : Condition) (dst : ℕ) (src : Operand) (off : ℤ) (v w : Tagged)
+      → s.registers dst ≡ Some v → operand_value s wide src ≡ Some w
+      → jumps_in (branch wide cond dst src off) s ≡ unwrap_or (compared wide cond src v w) false
   jumps_if_compared wide cond dst src off v w first second =
-      ap (λ o. unwrap_or (and_then o (λ a. and_then (operand_value s wide src) (compared wide cond src a))) false) first ∙ ap (λ o. unwrap_or (and_then o (compared wide cond src v)) false) second
+      ap (λ o. unwrap_or (and_then o (λ a. and_then (operand_value s wide src) (compared wide cond src a))) false) first
+      ∙ ap (λ o. unwrap_or (and_then o (compared wide cond src v)) false) second
 
-  branches_covered : (wide : Bool) (cond : Condition) (dst : ℕ) (src : Operand) (off : ℤ) → IsSome (natural (pos (s.at + 1) +ℤ off)) → Covered (branch wide cond dst src off)
+  branches_covered : (wide : Bool) (cond : Condition) (dst : ℕ) (src : Operand) (off : ℤ)
+      → IsSome (natural (pos (s.at + 1) +ℤ off)) → Covered (branch wide cond dst src off)
   branches_covered wide cond dst src off there =
       let i = branch wide cond dst src off in
       register_covered (OnTaken i 1 (jumps_in i s)) dst _ _
       (λ k v h. operand_covered (OnTaken i 1 (jumps_in i s)) wide src _ _
-      (λ l w g. subst (λ jumps. IsCoveredIf (OnTaken i 1 jumps) (branch_edges wide cond f dst src k l) (or_fault (compared wide cond src v w) (branched s off))) (sym (jumps_if_compared wide cond dst src off v w h.from g.from))
+      (λ l w g.
+      subst (λ jumps.
+      IsCoveredIf (OnTaken i 1 jumps) (branch_edges wide cond f dst src k l)
+      (or_fault (compared wide cond src v w) (branched s off)))
+      (sym (jumps_if_compared wide cond dst src off v w h.from g.from))
       (branch_covered laws.comparisons is_known off there wide cond dst src k l v w h g)))
 
   ended_covered : (k : Kind) (v : Tagged) → IsKindOf here k v → IsCoveredIf Next (exits_with k) (ended v)
-  ended_covered (kind.Scalar r) v h = by_number here r v (λ v. IsCoveredIf Next (exits_with (kind.Scalar r)) (ended v)) h.is (λ n m. omega arith)
+  ended_covered (kind.Scalar r) v h =
+      by_number here r v (λ v. IsCoveredIf Next (exits_with (kind.Scalar r)) (ended v)) h.is (λ n m. omega arith)
   ended_covered k v h = tt
 
   exit_covered : Covered exit
@@ -144,42 +185,83 @@ module _ (laws : Laws) (here : Here) (f : Facts) (s : RunState) (is_known : IsKn
 
   -- ---- maps, and calls
 
-  map_covered : (dst m : ℕ) (o : Option MapShape) → here.shapes m ≡ o → IsCoveredIf (OnFalling here (s.at + 2)) (assigns f dst (map_of m o)) (or_fault (s.maps m) (λ t. assigned 2 s dst (Map m)))
+  map_covered : (dst m : ℕ) (o : Option MapShape)
+      → here.shapes m ≡ o
+      → IsCoveredIf (OnFalling here (s.at + 2)) (assigns f dst (map_of m o))
+      (or_fault (s.maps m) (λ t. assigned 2 s dst (Map m)))
   map_covered dst m None e = tt
   map_covered dst m (Some shape) e =
       let h = is_known.maps m shape e in
-      subst (λ o. IsCoveredIf (OnFalling here (s.at + 2)) (assigns f dst (Ok (kind.MapRef m))) (or_fault o (λ t. assigned 2 s dst (Map m)))) (sym h.1)
+      subst (λ o.
+      IsCoveredIf (OnFalling here (s.at + 2)) (assigns f dst (Ok (kind.MapRef m)))
+      (or_fault o (λ t. assigned 2 s dst (Map m))))
+      (sym h.1)
       (assigned_covered here {k = kind.MapRef m} {v = Map m} 2 dst is_known (record { is = refl; words = tt }))
 
   -- a load of a direct value, if the witness has the number of objects of each map
-  value_covered : (dst m offset : ℕ) (o : Option MapShape) → here.shapes m ≡ o → IsCoveredIf (OnFalling here (s.at + 2)) (assigns f dst (value_of m offset o)) (or_fault (s.maps m) (λ t. or_fault (direct_object t.table offset) (λ number. assigned 2 s dst (Pointer (object.Value m number) (pos offset)))))
+  value_covered : (dst m offset : ℕ) (o : Option MapShape)
+      → here.shapes m ≡ o
+      → IsCoveredIf (OnFalling here (s.at + 2)) (assigns f dst (value_of m offset o))
+      (or_fault (s.maps m)
+      (λ t.
+      or_fault (direct_object t.table offset)
+      (λ number. assigned 2 s dst (Pointer (object.Value m number) (pos offset)))))
   unfolding value_of
   value_covered dst m offset None e = tt
   value_covered dst m offset (Some shape) e = by (has_direct_value shape offset) refl
     where
-      by : (b : Bool) → has_direct_value shape offset ≡ b
-          → IsCoveredIf (OnFalling here (s.at + 2)) (assigns f dst (if b then Ok (kind.Value (value_span m (pos offset) (pos offset))) else Err NoDirectValue)) (or_fault (s.maps m) (λ t. or_fault (direct_object t.table offset) (λ number. assigned 2 s dst (Pointer (object.Value m number) (pos offset)))))
+      by : (b : Bool)
+          → has_direct_value shape offset ≡ b
+          → IsCoveredIf (OnFalling here (s.at + 2))
+          (assigns f dst (if b then Ok (kind.Value (value_span m (pos offset) (pos offset))) else Err NoDirectValue))
+          (or_fault (s.maps m)
+          (λ t.
+          or_fault (direct_object t.table offset)
+          (λ number. assigned 2 s dst (Pointer (object.Value m number) (pos offset)))))
       by false g = tt
       by true g =
           let p = value_span m (pos offset) (pos offset) in
           let h = is_known.maps m shape e in
           let there = laws.map_calls.direct shape h.0 offset h.2 g in
-          let after : Here = record { shapes = here.shapes; witness = witness_at here.witness s s.at (Scalar 0); slot = here.slot } in
+          let after : Here = record {
+            shapes = here.shapes;
+            witness = witness_at here.witness s s.at (Scalar 0);
+            slot = here.slot;
+          } in
           let still = laws.site here.witness f here.shapes s s.at (Scalar 0) below (still_of is_known) in
           let owned : there.0 < after.witness.objects m = subst (λ o. there.0 < objects_of o) (sym h.1) there.2 in
           let low : pos offset ≤ℤ pos offset = omega (arith, ints) in
-          subst (λ o. IsCoveredIf (OnFalling here (s.at + 2)) (assigns f dst (Ok (kind.Value p))) (or_fault o (λ t. or_fault (direct_object t.table offset) (λ number. assigned 2 s dst (Pointer (object.Value m number) (pos offset)))))) (sym h.1)
-          (subst (λ o. IsCoveredIf (OnFalling here (s.at + 2)) (assigns f dst (Ok (kind.Value p))) (or_fault o (λ number. assigned 2 s dst (Pointer (object.Value m number) (pos offset))))) (sym there.1)
-          (assigned_covered after {f = f} {s = s} {k = kind.Value p} {v = Pointer (object.Value m there.0) (pos offset)} 2 dst
+          subst (λ o.
+          IsCoveredIf (OnFalling here (s.at + 2)) (assigns f dst (Ok (kind.Value p)))
+          (or_fault o
+          (λ t.
+          or_fault (direct_object t.table offset)
+          (λ number. assigned 2 s dst (Pointer (object.Value m number) (pos offset))))))
+          (sym h.1)
+          (subst (λ o.
+          IsCoveredIf (OnFalling here (s.at + 2)) (assigns f dst (Ok (kind.Value p)))
+          (or_fault o (λ number. assigned 2 s dst (Pointer (object.Value m number) (pos offset)))))
+          (sym there.1)
+          (assigned_covered after {f = f} {s = s} {k = kind.Value p}
+          {v = Pointer (object.Value m there.0) (pos offset)}
+          2 dst
           (record { admits = still.admits; words = is_known.words; proper = still.proper; maps = still.maps })
           (record { is = (there.0, pos offset, refl, low, p.ordered, owned); words = tt })))
 
-  called_covered : (h : Helper) → IsCoveredIf Next (and_then_ok (call_facts here.shapes s.at h f) falls) (or_fault (called h s) (λ t. goes (advanced 1 t)))
+  called_covered : (h : Helper)
+      → IsCoveredIf Next
+      (and_then_ok (call_facts here.shapes s.at h f) falls)
+      (or_fault (called h s) (λ t. goes (advanced 1 t)))
   called_covered h =
-      then_covered Next (λ g u. CallIsAdmitted g here.shapes s u) _ _ falls (λ t. goes (advanced 1 t)) (by_law _ _ _ (λ g ok. laws.calls here.witness here.shapes h f g s below (still_of is_known) ok))
+      then_covered Next (λ g u. CallIsAdmitted g here.shapes s u) _ _ falls
+      (λ t. goes (advanced 1 t))
+      (by_law _ _ _ (λ g ok. laws.calls here.witness here.shapes h f g s below (still_of is_known) ok))
       (λ g u is. (ap (λ (n : ℕ). Some (n + 1)) (sym is.at), is.witness, still_at is.still (u.at + 1)))
 
-  helper_covered : (o : Option Helper) → IsCoveredIf Next (and_then_ok (known o) (λ h. and_then_ok (call_facts here.shapes s.at h f) falls)) (or_fault o (λ h. or_fault (called h s) (λ t. goes (advanced 1 t))))
+  helper_covered : (o : Option Helper)
+      → IsCoveredIf Next
+      (and_then_ok (known o) (λ h. and_then_ok (call_facts here.shapes s.at h f) falls))
+      (or_fault o (λ h. or_fault (called h s) (λ t. goes (advanced 1 t))))
   helper_covered None = tt
   helper_covered (Some h) = called_covered h
 
@@ -193,9 +275,11 @@ module _ (laws : Laws) (here : Here) (f : Facts) (s : RunState) (is_known : IsKn
   view_covered : (v : View) → IsView v → IsSome (target_of v) → Covered v
   view_covered (binary wide op dst src) is there = binary_covered wide op dst src
   view_covered (unary wide op dst src) is there = unary_covered wide op dst src
-  view_covered (jump off) is there = jump_covered here (natural (pos (s.at + 1) +ℤ off)) (record { falling = None; jumping = Some f }) s there is_known
+  view_covered (jump off) is there =
+      jump_covered here (natural (pos (s.at + 1) +ℤ off)) (record { falling = None; jumping = Some f }) s there is_known
   view_covered (branch wide cond dst src off) is there = branches_covered wide cond dst src off there
-  view_covered (access what base off) is there = register_covered Next base _ _ (λ k p h. access_covered what off k p h.kind)
+  view_covered (access what base off) is there =
+      register_covered Next base _ _ (λ k p h. access_covered what off k p h.kind)
   view_covered (wide_load dst value) is there = wide_covered dst value is
   view_covered (call id) is there = helper_covered (helper_of id)
   view_covered exit is there = exit_covered
@@ -215,6 +299,12 @@ slot_below n (Spill k) h = kind_below n k h
 pub effects_covered : Laws → TransferIsSound
 effects_covered laws witness shapes i f s edges is there words still e =
     let here : Here = record { shapes = shapes; witness = witness; slot = s.at } in
-    let below : AreBelow s.at f = record { registers = λ r. kind_below s.at (kind_at f r) (words.registers r); slots = λ j. slot_below s.at (slot_at f j) (words.slots j) } in
+    let below : AreBelow s.at f = record {
+      registers = λ r. kind_below s.at (kind_at f r) (words.registers r);
+      slots = λ j. slot_below s.at (slot_at f j) (words.slots j);
+    } in
     ok_is (λ e. CoversStep shapes i s e (act i s)) (effect shapes s.at i f) edges
-    (insn_covered laws here f s (record { admits = still.admits; words = words; proper = still.proper; maps = still.maps }) below i is there) e
+    (insn_covered laws here f s
+    (record { admits = still.admits; words = words; proper = still.proper; maps = still.maps })
+    below i is there)
+    e

@@ -38,7 +38,9 @@ abbrev pub OkIs : {A : Type 0} → (A → Type 0) → Result A Reason → Type 0
 OkIs P (Err r) = Unit {0}
 OkIs P (Ok x) = P x
 
-pub then_ok : {A B : Type 0} (P : A → Type 0) (Q : B → Type 0) (r : Result A Reason) (go : A → Result B Reason) → OkIs P r → ((x : A) → P x → OkIs Q (go x)) → OkIs Q (and_then_ok r go)
+pub then_ok : {A B : Type 0} (P : A → Type 0) (Q : B → Type 0) (r : Result A Reason)
+    (go : A → Result B Reason)
+    → OkIs P r → ((x : A) → P x → OkIs Q (go x)) → OkIs Q (and_then_ok r go)
 then_ok P Q (Err e) go h next = tt
 then_ok P Q (Ok x) go h next = next x h
 
@@ -59,7 +61,8 @@ Agree P (Ok x) None = ⊥
 Agree P (Ok x) (Some y) = P x y
 
 -- agreement from a law that has the result of the facts as its premise
-pub by_law : {A B : Type 0} (P : A → B → Type 0) (r : Result A Reason) (o : Option B) → ((x : A) → r ≡ Ok x → (y : B) × (o ≡ Some y) × P x y) → Agree P r o
+pub by_law : {A B : Type 0} (P : A → B → Type 0) (r : Result A Reason) (o : Option B)
+    → ((x : A) → r ≡ Ok x → (y : B) × (o ≡ Some y) × P x y) → Agree P r o
 by_law P (Err e) o h = tt
 by_law P (Ok x) o h = let found = h x refl in subst (Agree P (Ok x)) (sym found.1) found.2
 
@@ -103,11 +106,23 @@ pub still_of : {here : Here} {f : Facts} {s : RunState} → IsKnown here f s →
 still_of known = record { admits = known.admits; proper = known.proper; maps = known.maps }
 
 -- this still holds at another slot
-pub still_at : {witness : Witness} {f : Facts} {shapes : Shapes} {s : RunState} → Describes witness f shapes s → (n : ℕ) → Describes witness f shapes (at_slot n s)
+pub still_at : {witness : Witness} {f : Facts} {shapes : Shapes} {s : RunState}
+    → Describes witness f shapes s
+    → (n : ℕ) → Describes witness f shapes (at_slot n s)
 still_at still n =
     record {
-      admits = record { registers = still.admits.registers; slots = still.admits.slots; objects = still.admits.objects };
-      proper = record { bytes = still.proper.bytes; words = still.proper.words; count = still.proper.count; values = still.proper.values; packet = still.proper.packet };
+      admits = record {
+        registers = still.admits.registers;
+        slots = still.admits.slots;
+        objects = still.admits.objects;
+      };
+      proper = record {
+        bytes = still.proper.bytes;
+        words = still.proper.words;
+        count = still.proper.count;
+        values = still.proper.values;
+        packet = still.proper.packet;
+      };
       maps = still.maps;
     }
 
@@ -130,7 +145,11 @@ IsCovered On e faults = ⊥
 abbrev pub IsCoveredIf : (Edges → RunState → Type 0) → Result Edges Reason → Step → Type 0
 IsCoveredIf On r step = OkIs (λ e. IsCovered On e step) r
 
-pub then_covered : {A B : Type 0} (On : Edges → RunState → Type 0) (P : A → B → Type 0) (r : Result A Reason) (o : Option B) (go : A → Result Edges Reason) (on : B → Step) → Agree P r o → ((x : A) (y : B) → P x y → IsCoveredIf On (go x) (on y)) → IsCoveredIf On (and_then_ok r go) (or_fault o on)
+pub then_covered : {A B : Type 0} (On : Edges → RunState → Type 0) (P : A → B → Type 0)
+    (r : Result A Reason) (o : Option B) (go : A → Result Edges Reason) (on : B → Step)
+    → Agree P r o
+    → ((x : A) (y : B) → P x y → IsCoveredIf On (go x) (on y))
+    → IsCoveredIf On (and_then_ok r go) (or_fault o on)
 then_covered On P (Err e) o go on h further = tt
 then_covered On P (Ok x) None go on h further = absurd h
 then_covered On P (Ok x) (Some y) go on h further = further x y h

@@ -43,7 +43,10 @@ low_between lo n hi a b h =
     let start = signed_low lo (omega arith) in
     record { from = omega (arith, ints); to = omega (arith, ints); least = sym start }
 
-high_between : (lo n hi : ℕ) → lo ≤ n → n ≤ hi → 2 ^ 63 ≤ lo → IsBetween lo n (pos lo -ℤ pos (2 ^ 64), pos hi -ℤ pos (2 ^ 64))
+high_between : (lo n hi : ℕ)
+    → lo ≤ n → n ≤ hi
+    → 2 ^ 63 ≤ lo
+    → IsBetween lo n (pos lo -ℤ pos (2 ^ 64), pos hi -ℤ pos (2 ^ 64))
 high_between lo n hi a b h =
     let at = signed_high n (omega arith) in
     let start = signed_high lo h in
@@ -64,7 +67,8 @@ near_between x z y e f h g =
     let a = near_parts x e in let b = near_parts y f in
     let low : neg_ℤ (pos farthest_offset) ≤ℤ z = omega (arith, ints) in
     let high : z ≤ℤ pos farthest_offset = omega (arith, ints) in
-    and_from (int_le (neg_ℤ (pos farthest_offset)) z) (int_le z (pos farthest_offset)) (grind (arith, ints)) (grind (arith, ints))
+    and_from (int_le (neg_ℤ (pos farthest_offset)) z) (int_le z (pos farthest_offset))
+    (grind (arith, ints)) (grind (arith, ints))
 
 at_most_max : (a b z : ℤ) → z ≤ℤ b → z ≤ℤ int_max a b
 at_most_max a b z h = omega (arith, ints, clamps)
@@ -81,15 +85,22 @@ value_kind o = and_then_ok (near o) (λ q. Ok (kind.Value q))
 module _ (here : Here) where
   stack_at : (y : ℤ) → Gives here (stack_kind (near_offset y)) (moved object.Stack y)
   stack_at y =
-      elim (is_near y) as (λ b. Gives here (stack_kind (if b then Some y else None)) (if b then Some (Pointer object.Stack y) else None)) [
+      elim (is_near y) as
+      (λ b. Gives here (stack_kind (if b then Some y else None)) (if b then Some (Pointer object.Stack y) else None)) [
         | true ↦ record { is = refl; words = tt }
         | false ↦ tt
       ]
 
-  stack_by : (way : Direction) (x : ℤ) (o : Option Distance) (z : ℤ) → SomeIs (λ d. d.0 ≡ z) o → Gives here (stack_kind (and_then o (λ d. moved_offset way x d.0))) (moved object.Stack (shifted way x z))
+  stack_by : (way : Direction) (x : ℤ) (o : Option Distance) (z : ℤ)
+      → SomeIs (λ d. d.0 ≡ z) o
+      → Gives here (stack_kind (and_then o (λ d. moved_offset way x d.0))) (moved object.Stack (shifted way x z))
   stack_by way x None z h = tt
-  stack_by Forwards x (Some d) z h = subst (λ e. Gives here (stack_kind (near_offset (x +ℤ d.0))) (moved object.Stack (x +ℤ e))) h (stack_at (x +ℤ d.0))
-  stack_by Backwards x (Some d) z h = subst (λ e. Gives here (stack_kind (near_offset (x -ℤ d.0))) (moved object.Stack (x -ℤ e))) h (stack_at (x -ℤ d.0))
+  stack_by Forwards x (Some d) z h =
+      subst (λ e. Gives here (stack_kind (near_offset (x +ℤ d.0))) (moved object.Stack (x +ℤ e))) h
+      (stack_at (x +ℤ d.0))
+  stack_by Backwards x (Some d) z h =
+      subst (λ e. Gives here (stack_kind (near_offset (x -ℤ d.0))) (moved object.Stack (x -ℤ e))) h
+      (stack_at (x -ℤ d.0))
 
   least_is : (lo n : ℕ) (o : Option Distance) → lo ≡ n → SomeIs (IsBetween lo n) o → SomeIs (λ d. d.0 ≡ signed 64 n) o
   least_is lo n None e h = tt
@@ -98,18 +109,32 @@ module _ (here : Here) where
   same_number : (lo hi n : ℕ) → lo ≤ n → n ≤ hi → lo ≡ hi → lo ≡ n
   same_number lo hi n a b e = omega arith
 
-  pub stack_agrees : (way : Direction) (x : ℤ) (r : Range) (n : ℕ) → IsMember n r → Gives here (pointer_moved way (kind.Stack x) r) (moved object.Stack (shifted way x (signed 64 n)))
+  pub stack_agrees : (way : Direction) (x : ℤ) (r : Range) (n : ℕ)
+      → IsMember n r
+      → Gives here (pointer_moved way (kind.Stack x) r) (moved object.Stack (shifted way x (signed 64 n)))
   stack_agrees way x r n m =
-      cond_both (is_constant r) (stack_moved way x r) (Err PointerArithmetic) (λ a. Gives here a (moved object.Stack (shifted way x (signed 64 n))))
-      (λ e. stack_by way x (distance r) (signed 64 n) (least_is r.lo n (distance r) (same_number r.lo r.hi n m.from m.to (eqb-true r.lo r.hi e)) (distance_holds r n m)))
+      cond_both (is_constant r) (stack_moved way x r) (Err PointerArithmetic)
+      (λ a. Gives here a (moved object.Stack (shifted way x (signed 64 n))))
+      (λ e.
+      stack_by way x (distance r) (signed 64 n)
+      (least_is r.lo n (distance r) (same_number r.lo r.hi n m.from m.to (eqb-true r.lo r.hi e)) (distance_holds r n m)))
       (λ _. tt)
 
   -- an offset between two offsets within the limit
-  span_agrees : (map number : ℕ) (a b z : ℤ) → number < here.witness.objects map → a ≤ℤ z → z ≤ℤ b → Gives here (value_kind (spanned map (near_offset a) (near_offset b))) (moved (object.Value map number) z)
+  span_agrees : (map number : ℕ) (a b z : ℤ)
+      → number < here.witness.objects map → a ≤ℤ z
+      → z ≤ℤ b
+      → Gives here (value_kind (spanned map (near_offset a) (near_offset b))) (moved (object.Value map number) z)
   span_agrees map number a b z owned from to =
-      cond_both (is_near a) (Some a) None (λ o. Gives here (value_kind (spanned map o (near_offset b))) (moved (object.Value map number) z))
-      (λ e. cond_both (is_near b) (Some b) None (λ o. Gives here (value_kind (spanned map (Some a) o)) (moved (object.Value map number) z))
-      (λ f. subst (Gives here (Ok (kind.Value (value_span map a b)))) (sym (cond-true (is_near z) (Some (Pointer (object.Value map number) z)) None (near_between a z b e f from to))) (record { is = (number, z, refl, from, at_most_max a b z to, owned); words = tt }))
+      cond_both (is_near a) (Some a) None
+      (λ o. Gives here (value_kind (spanned map o (near_offset b))) (moved (object.Value map number) z))
+      (λ e.
+      cond_both (is_near b) (Some b) None
+      (λ o. Gives here (value_kind (spanned map (Some a) o)) (moved (object.Value map number) z))
+      (λ f.
+      subst (Gives here (Ok (kind.Value (value_span map a b))))
+      (sym (cond-true (is_near z) (Some (Pointer (object.Value map number) z)) None (near_between a z b e f from to)))
+      (record { is = (number, z, refl, from, at_most_max a b z to, owned); words = tt }))
       (λ _. tt))
       (λ _. tt)
 
@@ -119,12 +144,24 @@ module _ (here : Here) where
   difference_from : (x y c d : ℤ) → x ≤ℤ y → c ≤ℤ d → (x -ℤ d) ≤ℤ (y -ℤ c)
   difference_from x y c d h g = omega (arith, ints)
 
-  value_at : (way : Direction) (p : ValuePointer) (lo n number : ℕ) (o : Option Distance) (x : ℤ) → number < here.witness.objects p.map → p.lo ≤ℤ x → x ≤ℤ p.hi → SomeIs (IsBetween lo n) o → Gives here (value_kind (and_then o (value_by way p))) (moved (object.Value p.map number) (shifted way x (signed 64 n)))
+  value_at : (way : Direction) (p : ValuePointer) (lo n number : ℕ) (o : Option Distance) (x : ℤ)
+      → number < here.witness.objects p.map → p.lo ≤ℤ x
+      → x ≤ℤ p.hi → SomeIs (IsBetween lo n) o
+      → Gives here (value_kind (and_then o (value_by way p)))
+      (moved (object.Value p.map number) (shifted way x (signed 64 n)))
   value_at way p lo n number None x owned a b h = tt
   value_at Forwards p lo n number (Some d) x owned a b h =
-      span_agrees p.map number (p.lo +ℤ d.0) (p.hi +ℤ d.1) (x +ℤ signed 64 n) owned (sum_from p.lo x d.0 (signed 64 n) a h.from) (sum_from x p.hi (signed 64 n) d.1 b h.to)
+      span_agrees p.map number (p.lo +ℤ d.0) (p.hi +ℤ d.1) (x +ℤ signed 64 n) owned
+      (sum_from p.lo x d.0 (signed 64 n) a h.from) (sum_from x p.hi (signed 64 n) d.1 b h.to)
   value_at Backwards p lo n number (Some d) x owned a b h =
-      span_agrees p.map number (p.lo -ℤ d.1) (p.hi -ℤ d.0) (x -ℤ signed 64 n) owned (difference_from p.lo x (signed 64 n) d.1 a h.to) (difference_from x p.hi d.0 (signed 64 n) b h.from)
+      span_agrees p.map number (p.lo -ℤ d.1) (p.hi -ℤ d.0) (x -ℤ signed 64 n) owned
+      (difference_from p.lo x (signed 64 n) d.1 a h.to)
+      (difference_from x p.hi d.0 (signed 64 n) b h.from)
 
-  pub value_agrees : (way : Direction) (p : ValuePointer) (r : Range) (n number : ℕ) (x : ℤ) → IsMember n r → number < here.witness.objects p.map → p.lo ≤ℤ x → x ≤ℤ p.hi → Gives here (pointer_moved way (kind.Value p) r) (moved (object.Value p.map number) (shifted way x (signed 64 n)))
-  value_agrees way p r n number x m owned a b = value_at way p r.lo n number (distance r) x owned a b (distance_holds r n m)
+  pub value_agrees : (way : Direction) (p : ValuePointer) (r : Range) (n number : ℕ) (x : ℤ)
+      → IsMember n r → number < here.witness.objects p.map
+      → p.lo ≤ℤ x → x ≤ℤ p.hi
+      → Gives here (pointer_moved way (kind.Value p) r)
+      (moved (object.Value p.map number) (shifted way x (signed 64 n)))
+  value_agrees way p r n number x m owned a b =
+      value_at way p r.lo n number (distance r) x owned a b (distance_holds r n m)

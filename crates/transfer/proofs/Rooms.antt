@@ -15,10 +15,15 @@ use Rattle.transfer.specs.Calls.{room_of}
 use Rattle.transfer.proofs.Parts.{refused}
 
 -- an object to which a pointer points
-pub owned : {witness : Witness} {shapes : Shapes} {f : Facts} {s : RunState} → Describes witness f shapes s → (m number : ℕ) (shape : MapShape) → shapes m ≡ Some shape → number < witness.objects m → IsObject s m number shape
+pub owned : {witness : Witness} {shapes : Shapes} {f : Facts} {s : RunState}
+    → Describes witness f shapes s
+    → (m number : ℕ) (shape : MapShape) → shapes m ≡ Some shape
+    → number < witness.objects m
+    → IsObject s m number shape
 owned {witness = witness} still m number shape e lt =
     let h = still.maps m shape e in
-    let le : witness.objects m ≤ h.0.count = subst (λ o. witness.objects m ≤ objects_of o) h.1 (still.admits.objects m) in
+    let le : witness.objects m ≤ h.0.count =
+    subst (λ o. witness.objects m ≤ objects_of o) h.1 (still.admits.objects m) in
     record { map = h.0; there = h.1; is = h.2; owned = omega arith }
 
 -- n bytes from an offset on lie in a value
@@ -27,7 +32,10 @@ pub record HasRoom (n : ℕ) (y : ℤ) (shape : MapShape) : Type 0 where
   pub high : (y +ℤ pos n) ≤ℤ pos shape.value_size
 
 -- if n bytes from each offset of the pointer lie in a value, so do n bytes from this one
-pub room_at : (p : ValuePointer) (off : ℤ) (n : ℕ) (x : ℤ) (shape : MapShape) → p.lo ≤ℤ x → x ≤ℤ p.hi → room_of p off n (Some shape) ≡ Ok tt → HasRoom n (x +ℤ off) shape
+pub room_at : (p : ValuePointer) (off : ℤ) (n : ℕ) (x : ℤ) (shape : MapShape)
+    → p.lo ≤ℤ x → x ≤ℤ p.hi
+    → room_of p off n (Some shape) ≡ Ok tt
+    → HasRoom n (x +ℤ off) shape
 room_at p off n x shape from to e =
     let c = passed (int_le (pos 0) (p.lo +ℤ off) && int_le ((p.hi +ℤ off) +ℤ pos n) (pos shape.value_size)) e in
     let h = and_parts (int_le (pos 0) (p.lo +ℤ off)) (int_le ((p.hi +ℤ off) +ℤ pos n) (pos shape.value_size)) c in
@@ -41,7 +49,10 @@ room_at p off n x shape from to e =
     passed true e = refl
     passed false e = absurd (refused OutsideValue tt e)
 
-pub room_here : (p : ValuePointer) (n : ℕ) (x : ℤ) (shape : MapShape) → p.lo ≤ℤ x → x ≤ℤ p.hi → room_of p (pos 0) n (Some shape) ≡ Ok tt → HasRoom n x shape
+pub room_here : (p : ValuePointer) (n : ℕ) (x : ℤ) (shape : MapShape)
+    → p.lo ≤ℤ x → x ≤ℤ p.hi
+    → room_of p (pos 0) n (Some shape) ≡ Ok tt
+    → HasRoom n x shape
 room_here p n x shape from to e =
     let back : x +ℤ pos 0 ≡ x = omega (arith, ints) in
     subst (λ y. HasRoom n y shape) back (room_at p (pos 0) n x shape from to e)

@@ -51,7 +51,8 @@ abbrev ByRule : {A : Type 0} → Result A Reason → Type 0
 ByRule (Ok x) = Unit {0}
 ByRule (Err reason) = IsSafetyReason reason
 
-then_rule : {A B : Type 0} (r : Result A Reason) (go : A → Result B Reason) → ByRule r → ((x : A) → ByRule (go x)) → ByRule (and_then_ok r go)
+then_rule : {A B : Type 0} (r : Result A Reason) (go : A → Result B Reason)
+    → ByRule r → ((x : A) → ByRule (go x)) → ByRule (and_then_ok r go)
 then_rule (Ok x) go h next = next x
 then_rule (Err reason) go h next = h
 
@@ -61,7 +62,8 @@ readable_rule : (k : Kind) → ByRule (check_readable k)
 readable_rule kind.Unreadable = tt
 readable_rule k = tt
 
-register_rule : {A : Type 0} (f : Facts) (r : ℕ) (go : Kind → Result A Reason) → ((k : Kind) → ByRule (go k)) → ByRule (and_then_ok (check_readable (kind_at f r)) go)
+register_rule : {A : Type 0} (f : Facts) (r : ℕ) (go : Kind → Result A Reason)
+    → ((k : Kind) → ByRule (go k)) → ByRule (and_then_ok (check_readable (kind_at f r)) go)
 register_rule f r go next = then_rule _ _ (readable_rule (kind_at f r)) next
 
 first_rule : (op : AluOp) (k : Kind) → ByRule (first_kind op k)
@@ -75,10 +77,13 @@ near_rule None = tt
 near_rule (Some x) = tt
 
 stack_moved_rule : (way : Direction) (x : ℤ) (r : Range) → ByRule (stack_moved way x r)
-stack_moved_rule way x r = then_rule (near (and_then (distance r) (λ d. moved_offset way x d.0))) _ (near_rule _) (λ y. tt)
+stack_moved_rule way x r =
+    then_rule (near (and_then (distance r) (λ d. moved_offset way x d.0))) _ (near_rule _) (λ y. tt)
 
 moved_rule : (way : Direction) (k : Kind) (r : Range) → ByRule (pointer_moved way k r)
-moved_rule way (kind.Stack x) r = cond_both (is_constant r) (stack_moved way x r) (Err PointerArithmetic) ByRule (λ _. stack_moved_rule way x r) (λ _. tt)
+moved_rule way (kind.Stack x) r =
+    cond_both (is_constant r) (stack_moved way x r) (Err PointerArithmetic) ByRule
+    (λ _. stack_moved_rule way x r) (λ _. tt)
 moved_rule way (kind.Value p) r = then_rule (near (and_then (distance r) (value_by way p))) _ (near_rule _) (λ q. tt)
 moved_rule way k r = tt
 
@@ -110,7 +115,8 @@ arithmetic_rule wide op k l = numbers_rule wide (Binary op) k l
 -- ---- memory
 
 context_rule : (y : ℤ) (size : AccessSize) (signed : Bool) → ByRule (context_read y size signed)
-context_rule y Word false = cond_both (is_word y) (Ok (kind.Scalar (full 32))) (Err ContextAccess) ByRule (λ _. tt) (λ _. tt)
+context_rule y Word false =
+    cond_both (is_word y) (Ok (kind.Scalar (full 32))) (Err ContextAccess) ByRule (λ _. tt) (λ _. tt)
 context_rule y size signed = tt
 
 touched_rule : (offset : ℤ) (size : AccessSize) → ByRule (touched offset size)
@@ -119,8 +125,10 @@ touched_rule offset size =
     (λ _. cond_both (not (is_aligned offset (bytes_of size))) _ _ ByRule (λ _. tt) (λ _. tt))
 
 read_slot_rule : (s : Slot) (bits : ℕ) (size : AccessSize) (signed : Bool) → ByRule (read_slot s bits size signed)
-read_slot_rule (Spill k) bits size signed = cond_both (is_double size) (Ok k) (Err PartOfSpill) ByRule (λ _. tt) (λ _. tt)
-read_slot_rule (Bytes mask) bits size signed = cond_both (bit_and mask bits == bits) (Ok (loaded size signed)) (Err UnwrittenStack) ByRule (λ _. tt) (λ _. tt)
+read_slot_rule (Spill k) bits size signed =
+    cond_both (is_double size) (Ok k) (Err PartOfSpill) ByRule (λ _. tt) (λ _. tt)
+read_slot_rule (Bytes mask) bits size signed =
+    cond_both (bit_and mask bits == bits) (Ok (loaded size signed)) (Err UnwrittenStack) ByRule (λ _. tt) (λ _. tt)
 
 read_rule : (f : Facts) (offset : ℤ) (size : AccessSize) (signed : Bool) → ByRule (stack_read f offset size signed)
 read_rule f offset size signed =
@@ -128,12 +136,16 @@ read_rule f offset size signed =
 
 room_rule : (p : ValuePointer) (off : ℤ) (n : ℕ) (o : Option MapShape) → ByRule (room_of p off n o)
 room_rule p off n None = tt
-room_rule p off n (Some shape) = cond_both (int_le (pos 0) (p.lo +ℤ off) && int_le ((p.hi +ℤ off) +ℤ pos n) (pos shape.value_size)) (Ok tt) (Err OutsideValue) ByRule (λ _. tt) (λ _. tt)
+room_rule p off n (Some shape) =
+    cond_both (int_le (pos 0) (p.lo +ℤ off) && int_le ((p.hi +ℤ off) +ℤ pos n) (pos shape.value_size))
+    (Ok tt) (Err OutsideValue) ByRule (λ _. tt) (λ _. tt)
 
-load_rule : (shapes : Shapes) (f : Facts) (size : AccessSize) (signed : Bool) (off : ℤ) (k : Kind) → ByRule (load_kind shapes f size signed off k)
+load_rule : (shapes : Shapes) (f : Facts) (size : AccessSize) (signed : Bool) (off : ℤ) (k : Kind)
+    → ByRule (load_kind shapes f size signed off k)
 load_rule shapes f size signed off (kind.Stack x) = read_rule f (x +ℤ off) size signed
 load_rule shapes f size signed off kind.Ctx = context_rule off size signed
-load_rule shapes f size signed off (kind.Value p) = then_rule _ _ (room_rule p off (bytes_of size) (shapes p.map)) (λ _. tt)
+load_rule shapes f size signed off (kind.Value p) =
+    then_rule _ _ (room_rule p off (bytes_of size) (shapes p.map)) (λ _. tt)
 load_rule shapes f size signed off k = tt
 
 slot_rule : (s : Slot) (bits : ℕ) (size : AccessSize) (k : Kind) → ByRule (slot_written s bits size k)
@@ -149,7 +161,8 @@ write_rule : (f : Facts) (offset : ℤ) (size : AccessSize) (k : Kind) → ByRul
 write_rule f offset size kind.Unreadable = tt
 write_rule f offset size k = then_rule _ _ (touched_rule offset size) (facts_rule f size k)
 
-store_rule : (shapes : Shapes) (f : Facts) (size : AccessSize) (off : ℤ) (k v : Kind) → ByRule (store_facts shapes f size off k v)
+store_rule : (shapes : Shapes) (f : Facts) (size : AccessSize) (off : ℤ) (k v : Kind)
+    → ByRule (store_facts shapes f size off k v)
 store_rule shapes f size off (kind.Stack x) v = write_rule f (x +ℤ off) size v
 store_rule shapes f size off (kind.Value p) v =
     then_rule _ _ (room_rule p off (bytes_of size) (shapes p.map))
@@ -160,7 +173,8 @@ number_or_rule : (reason : Reason) (v : Kind) → IsSafetyReason reason → ByRu
 number_or_rule reason (kind.Scalar r) h = tt
 number_or_rule reason v h = h
 
-changed_rule : (shapes : Shapes) (f : Facts) (size : AccessSize) (off : ℤ) (k v : Kind) → ByRule (changed_facts shapes f size off k v)
+changed_rule : (shapes : Shapes) (f : Facts) (size : AccessSize) (off : ℤ) (k v : Kind)
+    → ByRule (changed_facts shapes f size off k v)
 changed_rule shapes f size off (kind.Stack x) v =
     then_rule _ _ (number_or_rule PointerArithmetic v tt)
     (λ _. then_rule _ _ (read_rule f (x +ℤ off) size false)
@@ -184,8 +198,11 @@ map_kind_rule shapes k = tt
 stack_input_rule : (f : Facts) (x : ℤ) (n : ℕ) → ByRule (stack_input f x n)
 stack_input_rule f x n =
     cond_both (not (is_in_stack x n)) _ _ ByRule (λ _. tt)
-    (λ _. cond_both (any_below 64 (λ i. is_touched_spill (slot_at f i) (touches (byte_index x) n i))) _ _ ByRule (λ _. tt)
-    (λ _. cond_both (any_below 64 (λ i. lacks (slot_at f i) (bits_in (byte_index x) n i))) (Err UnwrittenStack) (Ok tt) ByRule (λ _. tt) (λ _. tt)))
+    (λ _.
+    cond_both (any_below 64 (λ i. is_touched_spill (slot_at f i) (touches (byte_index x) n i))) _ _ ByRule (λ _. tt)
+    (λ _.
+    cond_both (any_below 64 (λ i. lacks (slot_at f i) (bits_in (byte_index x) n i)))
+    (Err UnwrittenStack) (Ok tt) ByRule (λ _. tt) (λ _. tt)))
 
 input_rule : (shapes : Shapes) (f : Facts) (n : ℕ) (k : Kind) → ByRule (input_kind shapes f n k)
 input_rule shapes f n (kind.Stack x) = stack_input_rule f x n
@@ -193,7 +210,8 @@ input_rule shapes f n (kind.Value p) = room_rule p (pos 0) n (shapes p.map)
 input_rule shapes f n k = tt
 
 output_rule : (shapes : Shapes) (f : Facts) (r : Range) (k : Kind) → ByRule (output_facts shapes f r k)
-output_rule shapes f r (kind.Stack x) = cond_both (is_in_stack x r.hi) (Ok (filled f x r.lo r.hi)) (Err OutsideStack) ByRule (λ _. tt) (λ _. tt)
+output_rule shapes f r (kind.Stack x) =
+    cond_both (is_in_stack x r.hi) (Ok (filled f x r.lo r.hi)) (Err OutsideStack) ByRule (λ _. tt) (λ _. tt)
 output_rule shapes f r (kind.Value p) = then_rule _ _ (room_rule p (pos 0) r.hi (shapes p.map)) (λ _. tt)
 output_rule shapes f r k = tt
 
@@ -202,21 +220,26 @@ number_rule (kind.Scalar r) = tt
 number_rule k = tt
 
 length_rule : (k : Kind) → ByRule (length_kind k)
-length_rule (kind.Scalar r) = cond_both (r.lo == 0 || nat_le lengths_end r.hi) (Err LengthUnbounded) (Ok r) ByRule (λ _. tt) (λ _. tt)
+length_rule (kind.Scalar r) =
+    cond_both (r.lo == 0 || nat_le lengths_end r.hi) (Err LengthUnbounded) (Ok r) ByRule (λ _. tt) (λ _. tt)
 length_rule k = tt
 
 context_kind_rule : (k : Kind) → ByRule (context_kind k)
 context_kind_rule kind.Ctx = tt
 context_kind_rule k = tt
 
-two_rule : (f : Facts) (go : Kind → Kind → Result Facts Reason) → ((a b : Kind) → ByRule (go a b)) → ByRule (readable_two f go)
+two_rule : (f : Facts) (go : Kind → Kind → Result Facts Reason)
+    → ((a b : Kind) → ByRule (go a b)) → ByRule (readable_two f go)
 two_rule f go next = register_rule f 1 _ (λ a. register_rule f 2 _ (next a))
 
-four_rule : (f : Facts) (go : Kind → Kind → Kind → Kind → Result Facts Reason) → ((a b c d : Kind) → ByRule (go a b c d)) → ByRule (readable_four f go)
+four_rule : (f : Facts) (go : Kind → Kind → Kind → Kind → Result Facts Reason)
+    → ((a b c d : Kind) → ByRule (go a b c d)) → ByRule (readable_four f go)
 four_rule f go next = two_rule f _ (λ a b. register_rule f 3 _ (λ c. register_rule f 4 _ (next a b c)))
 
 -- a map and one of its keys
-key_rule : (shapes : Shapes) (f : Facts) (a b : Kind) (go : ShapedMap → Result Facts Reason) → ((m : ShapedMap) → ByRule (go m)) → ByRule (and_then_ok (map_kind shapes a) (λ m. and_then_ok (input_kind shapes f m.shape.key_size b) (λ _. go m)))
+key_rule : (shapes : Shapes) (f : Facts) (a b : Kind) (go : ShapedMap → Result Facts Reason)
+    → ((m : ShapedMap) → ByRule (go m))
+    → ByRule (and_then_ok (map_kind shapes a) (λ m. and_then_ok (input_kind shapes f m.shape.key_size b) (λ _. go m)))
 key_rule shapes f a b go next =
     then_rule _ _ (map_kind_rule shapes a)
     (λ m. then_rule _ _ (input_rule shapes f m.shape.key_size b) (λ _. next m))
@@ -233,10 +256,13 @@ call_rule shapes at LoadBytes f =
 
 -- ---- the edges of comparisons, and the end
 
-branch_rule : (wide : Bool) (cond : Condition) (f : Facts) (dst : ℕ) (src : Operand) (k l : Kind) → ByRule (branch_edges wide cond f dst src k l)
+branch_rule : (wide : Bool) (cond : Condition) (f : Facts) (dst : ℕ) (src : Operand) (k l : Kind)
+    → ByRule (branch_edges wide cond f dst src k l)
 branch_rule wide cond f dst src (kind.Scalar a) (kind.Scalar b) = tt
 branch_rule wide cond f dst src (kind.Scalar a) l = tt
-branch_rule wide cond f dst src k l = cond_both (is_null_test wide cond src) (Ok (pointer_edges cond f k)) (Err PointerComparison) ByRule (λ _. tt) (λ _. tt)
+branch_rule wide cond f dst src k l =
+    cond_both (is_null_test wide cond src) (Ok (pointer_edges cond f k)) (Err PointerComparison)
+    ByRule (λ _. tt) (λ _. tt)
 
 ends_rule : (k : Kind) → ByRule (exits_with k)
 ends_rule (kind.Scalar r) = tt
@@ -248,13 +274,18 @@ module _ (shapes : Shapes) (at : ℕ) (f : Facts) where
   assigns_rule : (dst : ℕ) (r : Result Kind Reason) → ByRule r → ByRule (assigns f dst r)
   assigns_rule dst r h = then_rule _ _ h (λ k. tt)
 
-  operand_rule : (wide : Bool) (src : Operand) (go : Kind → Result Edges Reason) → ((k : Kind) → ByRule (go k)) → ByRule (and_then_ok (check_readable (source_kind f wide src)) go)
+  operand_rule : (wide : Bool) (src : Operand) (go : Kind → Result Edges Reason)
+      → ((k : Kind) → ByRule (go k))
+      → ByRule (and_then_ok (check_readable (source_kind f wide src)) go)
   operand_rule wide src go next = then_rule _ _ (readable_rule (source_kind f wide src)) next
 
   access_rule : (what : Access) (off : ℤ) (k : Kind) → ByRule (access_edges shapes f what off k)
-  access_rule (loads size signed dst) off k = assigns_rule dst (load_kind shapes f size signed off k) (load_rule shapes f size signed off k)
-  access_rule (stores size src) off k = operand_rule true src _ (λ v. then_rule _ _ (store_rule shapes f size off k v) (λ g. tt))
-  access_rule (changes size op src) off k = register_rule f src _ (λ v. then_rule _ _ (changed_rule shapes f (access_size size) off k v) (λ g. tt))
+  access_rule (loads size signed dst) off k =
+      assigns_rule dst (load_kind shapes f size signed off k) (load_rule shapes f size signed off k)
+  access_rule (stores size src) off k =
+      operand_rule true src _ (λ v. then_rule _ _ (store_rule shapes f size off k v) (λ g. tt))
+  access_rule (changes size op src) off k =
+      register_rule f src _ (λ v. then_rule _ _ (changed_rule shapes f (access_size size) off k v) (λ g. tt))
 
   -- ---- the reasons of each instruction
 
@@ -272,10 +303,13 @@ module _ (shapes : Shapes) (at : ℕ) (f : Facts) where
   by_operands i (Ok edges) h = tt
   by_operands i (Err reason) h = of_operands i reason h
 
-  call_tells : (id : ℤ) (o : Option Helper) → helper_of id ≡ o → Tells (call id) (and_then_ok (known o) (λ h. and_then_ok (call_facts shapes at h f) falls))
+  call_tells : (id : ℤ) (o : Option Helper)
+      → helper_of id ≡ o
+      → Tells (call id) (and_then_ok (known o) (λ h. and_then_ok (call_facts shapes at h f) falls))
   call_tells id None e = e
   call_tells id (Some h) e =
-      by_operands (call id) (and_then_ok (call_facts shapes at h f) falls) (then_rule _ _ (call_rule shapes at h f) (λ g. tt))
+      by_operands (call id) (and_then_ok (call_facts shapes at h f) falls)
+      (then_rule _ _ (call_rule shapes at h f) (λ g. tt))
 
   wide_tells : (dst : ℕ) (value : WideValue) → Tells (wide_load dst value) (assigns f dst (wide_kind shapes value))
   unfolding value_of
@@ -287,32 +321,46 @@ module _ (shapes : Shapes) (at : ℕ) (f : Facts) where
       map_tells (Some shape) e = tt
   wide_tells dst (value_ref m off) = value_tells (shapes m) refl
     where
-      value_tells : (o : Option MapShape) → shapes m ≡ o → Tells (wide_load dst (value_ref m off)) (assigns f dst (value_of m off o))
+      value_tells : (o : Option MapShape)
+          → shapes m ≡ o
+          → Tells (wide_load dst (value_ref m off)) (assigns f dst (value_of m off o))
       value_tells None e = e
       value_tells (Some shape) e =
-          cond_both (has_direct_value shape off) (Ok (kind.Value (value_span m (pos off) (pos off)))) (Err NoDirectValue) (λ r. Tells (wide_load dst (value_ref m off)) (assigns f dst r)) (λ _. tt) (λ none. (shape, e, none))
+          cond_both (has_direct_value shape off)
+          (Ok (kind.Value (value_span m (pos off) (pos off))))
+          (Err NoDirectValue)
+          (λ r. Tells (wide_load dst (value_ref m off)) (assigns f dst r))
+          (λ _. tt) (λ none. (shape, e, none))
 
   view_tells : (v : View) → Tells v (effect_of shapes at v f)
   view_tells (binary wide op dst src) =
       by_operands (binary wide op dst src) _
       (then_rule _ _ (first_rule op (kind_at f dst))
       (λ a. operand_rule wide src _ (λ b. assigns_rule dst (arithmetic_kind wide op a b) (arithmetic_rule wide op a b))))
-  view_tells (unary wide op dst src) = by_operands (unary wide op dst src) _ (register_rule f src _ (λ k. assigns_rule dst (of_scalar wide op k) (numbers_rule wide op k k)))
+  view_tells (unary wide op dst src) =
+      by_operands (unary wide op dst src) _
+      (register_rule f src _ (λ k. assigns_rule dst (of_scalar wide op k) (numbers_rule wide op k k)))
   view_tells (jump off) = tt
   view_tells (branch wide cond dst src off) =
       by_operands (branch wide cond dst src off) _
       (register_rule f dst _ (λ a. operand_rule wide src _ (λ b. branch_rule wide cond f dst src a b)))
-  view_tells (access what base off) = by_operands (access what base off) _ (register_rule f base _ (access_rule what off))
+  view_tells (access what base off) =
+      by_operands (access what base off) _ (register_rule f base _ (access_rule what off))
   view_tells (wide_load dst value) = wide_tells dst value
   view_tells (call id) = call_tells id (helper_of id) refl
   view_tells exit = by_operands exit _ (register_rule f 0 exits_with ends_rule)
 
-  witness : (v : View) (r : Result Edges Reason) (reason : Reason) → Tells v r → r ≡ Err reason → IsReasonFor shapes v reason
+  witness : (v : View) (r : Result Edges Reason) (reason : Reason)
+      → Tells v r → r ≡ Err reason → IsReasonFor shapes v reason
   witness i (Ok edges) reason h e = absurd (let z : ⊥ = cc in z)
   witness i (Err other) reason h e = let same : other ≡ reason = cc in subst (IsReasonFor shapes i) same h
 
 pub reasons_told : TransferReasons
-reasons_told shapes at i f reason e = witness shapes at f (view i) (effect shapes at i f) reason (view_tells shapes at f (view i)) e
+reasons_told shapes at i f reason e =
+    witness shapes at f (view i) (effect shapes at i f) reason (view_tells shapes at f (view i)) e
 
-pub need_no_memory : TransferReasons → (shapes : Shapes) (at : ℕ) (i : Insn) (f : Facts) (reason : Reason) → effect shapes at i f ≡ Err reason → reason ≢ Memory
+pub need_no_memory : TransferReasons
+    → (shapes : Shapes) (at : ℕ) (i : Insn) (f : Facts) (reason : Reason)
+    → effect shapes at i f ≡ Err reason
+    → reason ≢ Memory
 need_no_memory law shapes at i f reason e same = subst (IsReasonOf shapes i) same (law shapes at i f reason e)

@@ -54,10 +54,17 @@ module _ (here : Here) where
   some_kind k v h = (v, refl, h)
 
   -- a register of a readable kind has a value
-  there : (o : Option Tagged) (k : Kind) (v : Tagged) → o ≡ Some v → IsReadable k → IsOfKind here.witness k v → IsKindAt here.slot k → Agree (IsFound here o) (Ok k) o
-  there o k v e r h w = subst (Agree (IsFound here o) (Ok k)) (sym e) (record { kind = record { is = h; words = w }; from = e; readable = r })
+  there : (o : Option Tagged) (k : Kind) (v : Tagged)
+      → o ≡ Some v → IsReadable k
+      → IsOfKind here.witness k v → IsKindAt here.slot k
+      → Agree (IsFound here o) (Ok k) o
+  there o k v e r h w =
+      subst (Agree (IsFound here o) (Ok k)) (sym e)
+      (record { kind = record { is = h; words = w }; from = e; readable = r })
 
-  pub found : (o : Option Tagged) (k : Kind) → HasKind here.witness k o → IsKindAt here.slot k → Agree (IsFound here o) (check_readable k) o
+  pub found : (o : Option Tagged) (k : Kind)
+      → HasKind here.witness k o → IsKindAt here.slot k
+      → Agree (IsFound here o) (check_readable k) o
   found o kind.Unreadable h w = tt
   found o k h w = there o k h.0 h.1 tt h.2 w
 
@@ -65,37 +72,54 @@ module _ (here : Here) where
     pub register_found : (r : ℕ) → Agree (IsFound here (s.registers r)) (check_readable (kind_at f r)) (s.registers r)
     register_found r = found (s.registers r) (kind_at f r) (known.admits.registers r) (known.words.registers r)
 
-    pub source_found : (wide : Bool) (src : Operand) → Agree (IsFound here (operand_value s wide src)) (check_readable (source_kind f wide src)) (operand_value s wide src)
-    source_found wide (Imm z) = let k = constant_of here (unsigned (width wide) z) (word_of wide z) in record { kind = k; from = refl; readable = tt }
+    pub source_found : (wide : Bool) (src : Operand)
+        → Agree (IsFound here (operand_value s wide src)) (check_readable (source_kind f wide src))
+        (operand_value s wide src)
+    source_found wide (Imm z) =
+        let k = constant_of here (unsigned (width wide) z) (word_of wide z) in
+        record { kind = k; from = refl; readable = tt }
     source_found wide (Reg r) = register_found r
 
     -- a move does not read its destination
-    pub first_found : (op : AluOp) (r : ℕ) → Agree (IsFound here (first_operand op (s.registers r))) (first_kind op (kind_at f r)) (first_operand op (s.registers r))
+    pub first_found : (op : AluOp) (r : ℕ)
+        → Agree (IsFound here (first_operand op (s.registers r))) (first_kind op (kind_at f r))
+        (first_operand op (s.registers r))
     first_found alu.Mov r = let k = constant_of here 0 (omega arith) in record { kind = k; from = refl; readable = tt }
     first_found op r = register_found r
 
     -- ---- a register gets a value
 
-    pub given_value : (r : ℕ) (k : Kind) (v : Tagged) → IsKindOf here k v → IsKnown here (with_kind f r k) (with_register s r v)
+    pub given_value : (r : ℕ) (k : Kind) (v : Tagged)
+        → IsKindOf here k v → IsKnown here (with_kind f r k) (with_register s r v)
     given_value r k v h =
         record {
           admits = record {
-            registers = in_written (HasKind here.witness) f.registers s.registers r k kind.Unreadable (Some v) (some_kind k v h.is) tt known.admits.registers;
+            registers =
+                in_written (HasKind here.witness) f.registers s.registers r k kind.Unreadable
+                (Some v) (some_kind k v h.is) tt known.admits.registers;
             slots = known.admits.slots;
             objects = known.admits.objects;
           };
           words = kind_words here.slot f r k known.words h.words;
-          proper = record { bytes = known.proper.bytes; words = known.proper.words; count = known.proper.count; values = known.proper.values; packet = known.proper.packet };
+          proper = record {
+            bytes = known.proper.bytes;
+            words = known.proper.words;
+            count = known.proper.count;
+            values = known.proper.values;
+            packet = known.proper.packet;
+          };
           maps = known.maps;
         }
 
     -- more is known of a register
-    pub known_more : (r : ℕ) (k : Kind) (v : Tagged) → s.registers r ≡ Some v → IsKindOf here k v → IsKnown here (with_kind f r k) s
+    pub known_more : (r : ℕ) (k : Kind) (v : Tagged)
+        → s.registers r ≡ Some v → IsKindOf here k v → IsKnown here (with_kind f r k) s
     known_more r k v e h =
         let after = given_value r k v h in
         record {
           admits = record {
-            registers = λ q. subst (HasKind here.witness (kind_at (with_kind f r k) q)) (same q) (after.admits.registers q);
+            registers = λ q.
+                subst (HasKind here.witness (kind_at (with_kind f r k) q)) (same q) (after.admits.registers q);
             slots = known.admits.slots;
             objects = known.admits.objects;
           };
@@ -116,14 +140,27 @@ module _ (here : Here) where
     pub moved_to : (n : ℕ) → IsKnown here f (at_slot n s)
     moved_to n =
         record {
-          admits = record { registers = known.admits.registers; slots = known.admits.slots; objects = known.admits.objects };
+          admits = record {
+            registers = known.admits.registers;
+            slots = known.admits.slots;
+            objects = known.admits.objects;
+          };
           words = known.words;
-          proper = record { bytes = known.proper.bytes; words = known.proper.words; count = known.proper.count; values = known.proper.values; packet = known.proper.packet };
+          proper = record {
+            bytes = known.proper.bytes;
+            words = known.proper.words;
+            count = known.proper.count;
+            values = known.proper.values;
+            packet = known.proper.packet;
+          };
           maps = known.maps;
         }
 
-  pub goes_to : {f : Facts} {s : RunState} (n : ℕ) → IsKnown here f s → EdgeAdmits here.shapes (Some f) (Some n) (at_slot n s)
+  pub goes_to : {f : Facts} {s : RunState} (n : ℕ)
+      → IsKnown here f s → EdgeAdmits here.shapes (Some f) (Some n) (at_slot n s)
   goes_to n known = (refl, here.witness, still_of (moved_to known n))
 
-  pub assigned_covered : {f : Facts} {s : RunState} {k : Kind} {v : Tagged} (n r : ℕ) → IsKnown here f s → IsKindOf here k v → IsCoveredIf (OnFalling here (s.at + n)) (falls (with_kind f r k)) (assigned n s r v)
+  pub assigned_covered : {f : Facts} {s : RunState} {k : Kind} {v : Tagged} (n r : ℕ)
+      → IsKnown here f s → IsKindOf here k v
+      → IsCoveredIf (OnFalling here (s.at + n)) (falls (with_kind f r k)) (assigned n s r v)
   assigned_covered {s = s} n r known h = goes_to (s.at + n) (given_value known r _ _ h)

@@ -31,11 +31,15 @@ either_there (Some f) b h = inl tt
 on_there : (leads : Bool) (o : Option Facts) → AreThere (only_if leads o) → leads ≡ true
 on_there leads o = cond_both leads o None (λ z. AreThere z → leads ≡ true) (λ t _. t) (λ _ h. absurd h)
 
-module _ (shapes : Shapes) (code : List Insn) (named : List Named) (program : IsProgram code) (fine : HasNoFault (structure_fault code named)) where
+module _ (shapes : Shapes) (code : List Insn) (named : List Named) (program : IsProgram code)
+    (fine : HasNoFault (structure_fault code named)) where
   pub shape_at : (n : ℕ) (i : Insn) → begins_at code n ≡ Some i → IsShaped code i n
   shape_at = shaped code named fine
 
-  edges_begin : (n m : ℕ) (i : Insn) → begins_at code n ≡ Some i → (r : Result Edges Reason) → AreThere (edges_into i n m r) → IsSome (begins_at code m)
+  edges_begin : (n m : ℕ) (i : Insn)
+      → begins_at code n ≡ Some i
+      → (r : Result Edges Reason) → AreThere (edges_into i n m r)
+      → IsSome (begins_at code m)
   edges_begin n m i begins (Err reason) h = absurd h
   edges_begin n m i begins (Ok edges) h =
       let shape = shape_at n i begins in
@@ -44,11 +48,15 @@ module _ (shapes : Shapes) (code : List Insn) (named : List Named) (program : Is
       (λ b. jumps_begins code n i shape m (on_there (jumps_into i n m) edges.jumping b))
       (either_there (only_if (falls_into i n m) edges.falling) (only_if (jumps_into i n m) edges.jumping) h)
 
-  begun_begin : (n m : ℕ) (f : Facts) (o : Option Insn) → begins_at code n ≡ o → AreThere (and_then o (λ i. edges_into i n m (effect shapes n i f))) → IsSome (begins_at code m)
+  begun_begin : (n m : ℕ) (f : Facts) (o : Option Insn)
+      → begins_at code n ≡ o
+      → AreThere (and_then o (λ i. edges_into i n m (effect shapes n i f)))
+      → IsSome (begins_at code m)
   begun_begin n m f None e h = absurd h
   begun_begin n m f (Some i) e h = edges_begin n m i e (effect shapes n i f) h
 
-  sent_begin : (n m : ℕ) (known : Option Facts) → AreThere (facts_sent shapes code n m known) → IsSome (begins_at code m)
+  sent_begin : (n m : ℕ) (known : Option Facts)
+      → AreThere (facts_sent shapes code n m known) → IsSome (begins_at code m)
   sent_begin n m None h = absurd h
   sent_begin n m (Some f) h = begun_begin n m f (begins_at code n) refl h
 
@@ -77,7 +85,8 @@ pub are_there : (witness : Witness) (o : Option Facts) (s : RunState) → AdmitO
 are_there witness None s h = h
 are_there witness (Some f) s h = tt
 
-on_edge : (witness : Witness) (leads : Bool) (o : Option Facts) (s : RunState) → leads ≡ true → AdmitOn witness o s → AdmitOn witness (only_if leads o) s
+on_edge : (witness : Witness) (leads : Bool) (o : Option Facts) (s : RunState)
+    → leads ≡ true → AdmitOn witness o s → AdmitOn witness (only_if leads o) s
 on_edge witness leads o s t h = subst (λ o. AdmitOn witness o s) (sym (cond-true leads o None t)) h
 
 module _ (law : JoinAdmits) (witness : Witness) (s : RunState) where
@@ -93,37 +102,63 @@ module _ (law : JoinAdmits) (witness : Witness) (s : RunState) where
 
   -- ---- from an edge to the facts before a slot
 
-  pub fallen : (i : Insn) (n m : ℕ) (edges : Edges) → falls_into i n m ≡ true → AdmitOn witness edges.falling s → AdmitOn witness (edges_into i n m (Ok edges)) s
+  pub fallen : (i : Insn) (n m : ℕ) (edges : Edges)
+      → falls_into i n m ≡ true → AdmitOn witness edges.falling s
+      → AdmitOn witness (edges_into i n m (Ok edges)) s
   fallen i n m edges t h =
-      joined_left (only_if (falls_into i n m) edges.falling) (only_if (jumps_into i n m) edges.jumping) (on_edge witness (falls_into i n m) edges.falling s t h)
+      joined_left (only_if (falls_into i n m) edges.falling)
+      (only_if (jumps_into i n m) edges.jumping)
+      (on_edge witness (falls_into i n m) edges.falling s t h)
 
-  pub jumped : (i : Insn) (n m : ℕ) (edges : Edges) → jumps_into i n m ≡ true → AdmitOn witness edges.jumping s → AdmitOn witness (edges_into i n m (Ok edges)) s
+  pub jumped : (i : Insn) (n m : ℕ) (edges : Edges)
+      → jumps_into i n m ≡ true → AdmitOn witness edges.jumping s
+      → AdmitOn witness (edges_into i n m (Ok edges)) s
   jumped i n m edges t h =
-      joined_right (only_if (falls_into i n m) edges.falling) (only_if (jumps_into i n m) edges.jumping) (on_edge witness (jumps_into i n m) edges.jumping s t h)
+      joined_right (only_if (falls_into i n m) edges.falling)
+      (only_if (jumps_into i n m) edges.jumping)
+      (on_edge witness (jumps_into i n m) edges.jumping s t h)
 
   module _ (shapes : Shapes) (code : List Insn) where
-    sent_is : (n m : ℕ) (i : Insn) (f : Facts) (edges : Edges) → begins_at code n ≡ Some i → facts_before shapes code n ≡ Some f → effect shapes n i f ≡ Ok edges → facts_sent shapes code n m (facts_from_below shapes code n n) ≡ edges_into i n m (Ok edges)
+    sent_is : (n m : ℕ) (i : Insn) (f : Facts) (edges : Edges)
+        → begins_at code n ≡ Some i → facts_before shapes code n ≡ Some f
+        → effect shapes n i f ≡ Ok edges
+        → facts_sent shapes code n m (facts_from_below shapes code n n) ≡ edges_into i n m (Ok edges)
     sent_is n m i f edges begins known e =
         ap (facts_sent shapes code n m) known
         ∙ ap (λ o. and_then o (λ i. edges_into i n m (effect shapes n i f))) begins
         ∙ ap (edges_into i n m) e
 
-    one_more : (n m : ℕ) → AdmitOn witness (facts_from_below shapes code m n) s → AdmitOn witness (facts_from_below shapes code m (suc n)) s
+    one_more : (n m : ℕ)
+        → AdmitOn witness (facts_from_below shapes code m n) s
+        → AdmitOn witness (facts_from_below shapes code m (suc n)) s
     unfolding facts_from_below
-    one_more n m h = joined_left (facts_from_below shapes code m n) (facts_sent shapes code n m (facts_from_below shapes code n n)) h
+    one_more n m h =
+        joined_left (facts_from_below shapes code m n) (facts_sent shapes code n m (facts_from_below shapes code n n)) h
 
-    sent_more : (n m : ℕ) → AdmitOn witness (facts_sent shapes code n m (facts_from_below shapes code n n)) s → AdmitOn witness (facts_from_below shapes code m (suc n)) s
+    sent_more : (n m : ℕ)
+        → AdmitOn witness (facts_sent shapes code n m (facts_from_below shapes code n n)) s
+        → AdmitOn witness (facts_from_below shapes code m (suc n)) s
     unfolding facts_from_below
-    sent_more n m h = joined_right (facts_from_below shapes code m n) (facts_sent shapes code n m (facts_from_below shapes code n n)) h
+    sent_more n m h =
+        joined_right (facts_from_below shapes code m n)
+        (facts_sent shapes code n m (facts_from_below shapes code n n))
+        h
 
-    stays : (d n m : ℕ) → AdmitOn witness (facts_from_below shapes code m n) s → AdmitOn witness (facts_from_below shapes code m (n + d)) s
-    stays zero n m h = let e : n ≡ n + 0 = omega arith in subst (λ k. AdmitOn witness (facts_from_below shapes code m k) s) e h
+    stays : (d n m : ℕ)
+        → AdmitOn witness (facts_from_below shapes code m n) s
+        → AdmitOn witness (facts_from_below shapes code m (n + d)) s
+    stays zero n m h =
+        let e : n ≡ n + 0 = omega arith in subst (λ k. AdmitOn witness (facts_from_below shapes code m k) s) e h
     stays (suc d) n m h =
         let e : suc (n + d) ≡ n + suc d = omega arith in
         subst (λ k. AdmitOn witness (facts_from_below shapes code m k) s) e (one_more (n + d) m (stays d n m h))
 
     -- the facts that a slot sends to a later slot are in the facts before that slot
-    pub arrives : (n m : ℕ) (i : Insn) (f : Facts) (edges : Edges) → n < m → begins_at code n ≡ Some i → facts_before shapes code n ≡ Some f → effect shapes n i f ≡ Ok edges → AdmitOn witness (edges_into i n m (Ok edges)) s → AdmitOn witness (facts_before shapes code m) s
+    pub arrives : (n m : ℕ) (i : Insn) (f : Facts) (edges : Edges)
+        → n < m → begins_at code n ≡ Some i
+        → facts_before shapes code n ≡ Some f → effect shapes n i f ≡ Ok edges
+        → AdmitOn witness (edges_into i n m (Ok edges)) s
+        → AdmitOn witness (facts_before shapes code m) s
     arrives n m i f edges lt begins known e h =
         let come = sent_more n m (subst (λ o. AdmitOn witness o s) (sym (sent_is n m i f edges begins known e)) h) in
         let end : suc n + (m - suc n) ≡ m = omega arith in

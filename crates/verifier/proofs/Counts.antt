@@ -29,7 +29,10 @@ slot_if true o i = refl
 slot_if false o i = refl
 
 -- on the falling edge, or on the jumping one
-merged : (fall here jump later : Bool) (k old : ℕ) → later ≡ true → max (if here then (if fall then k else 0) else 0) (max old (if jump then k else 0)) ≡ max old (if ((fall && here) || (jump && later)) then k else 0)
+merged : (fall here jump later : Bool) (k old : ℕ)
+    → later ≡ true
+    → max (if here then (if fall then k else 0) else 0) (max old (if jump then k else 0))
+    ≡ max old (if ((fall && here) || (jump && later)) then k else 0)
 merged fall here jump false k old is = absurd (false≢true is)
 merged true true true true k old is = omega arith
 merged true true false true k old is = omega arith
@@ -40,7 +43,11 @@ merged false true false true k old is = omega arith
 merged false false true true k old is = omega arith
 merged false false false true k old is = omega arith
 
-pub along : (weight : Insn → ℕ) (insn : Insn) (row : Profile) (slot i before k fall old new : ℕ) → row ≡ profile insn → slot < i → k ≡ before + weight insn → fall ≡ (if falls_by row.successors then k else 0) → new ≡ max old (if is_slot (target_by row.successors slot) i then k else 0)
+pub along : (weight : Insn → ℕ) (insn : Insn) (row : Profile) (slot i before k fall old new : ℕ)
+    → row ≡ profile insn → slot < i
+    → k ≡ before + weight insn
+    → fall ≡ (if falls_by row.successors then k else 0)
+    → new ≡ max old (if is_slot (target_by row.successors slot) i then k else 0)
     → max (if falls_to insn slot == i then fall else 0) new ≡ max old (passed_on weight (Some insn) slot i before)
 along weight insn row slot i before k fall old new is_row after is_k is_fall is_new =
     let jump = jumps insn && is_slot (jumps_to insn slot) i in
@@ -53,7 +60,10 @@ along weight insn row slot i before k fall old new is_row after is_k is_fall is_
     ∙ merged (falls insn) (falls_to insn slot == i) jump (nat_lt slot i) k old (lt-ltb slot i after)
     ∙ ap (λ (n : ℕ). max old (if leads_into (Some insn) slot i then n else 0)) is_k
 
-pub at_end : (weight : Insn → ℕ) (insn : Insn) (row : Profile) (before k old new : ℕ) → row ≡ profile insn → k ≡ before + weight insn → new ≡ max old (if not (falls_by row.successors || jumps_by row.successors) then k else 0) → new ≡ max old (at_exit weight (Some insn) before)
+pub at_end : (weight : Insn → ℕ) (insn : Insn) (row : Profile) (before k old new : ℕ)
+    → row ≡ profile insn → k ≡ before + weight insn
+    → new ≡ max old (if not (falls_by row.successors || jumps_by row.successors) then k else 0)
+    → new ≡ max old (at_exit weight (Some insn) before)
 at_end weight insn row before k old new is_row is_k is_new =
     is_new
     ∙ ap (λ (r : Profile). max old (if not (falls_by r.successors || jumps_by r.successors) then k else 0)) is_row
@@ -64,41 +74,63 @@ at_end weight insn row before k old new is_row is_k is_new =
 max_none : (n : ℕ) → max n 0 ≡ n
 max_none n = omega arith
 
-simple_along : (weight : Insn → ℕ) (insn : Insn) (row : Profile) (slot to before k fall old : ℕ) → row ≡ profile insn → row.successors ≡ Next → k ≡ before + weight insn → fall ≡ k → slot < to → max (if falls_to insn slot == to then fall else 0) old ≡ max old (passed_on weight (Some insn) slot to before)
+simple_along : (weight : Insn → ℕ) (insn : Insn) (row : Profile) (slot to before k fall old : ℕ)
+    → row ≡ profile insn → row.successors ≡ Next
+    → k ≡ before + weight insn → fall ≡ k
+    → slot < to
+    → max (if falls_to insn slot == to then fall else 0) old ≡ max old (passed_on weight (Some insn) slot to before)
 simple_along weight insn row slot to before k fall old is_row next is_k is_fall after =
     along weight insn row slot to before k fall old old is_row after is_k
     (is_fall ∙ sym (ap (λ (s : Successors). if falls_by s then k else 0) next))
     (sym (ap (λ (s : Successors). max old (if is_slot (target_by s slot) to then k else 0)) next ∙ max_none old))
 
-simple_end : (weight : Insn → ℕ) (insn : Insn) (row : Profile) (before old new : ℕ) → row ≡ profile insn → row.successors ≡ Next → new ≡ old → new ≡ max old (at_exit weight (Some insn) before)
+simple_end : (weight : Insn → ℕ) (insn : Insn) (row : Profile) (before old new : ℕ)
+    → row ≡ profile insn → row.successors ≡ Next
+    → new ≡ old
+    → new ≡ max old (at_exit weight (Some insn) before)
 simple_end weight insn row before old new is_row next is =
     at_end weight insn row before (before + weight insn) old new is_row refl
-    (is ∙ sym (ap (λ (s : Successors). max old (if not (falls_by s || jumps_by s) then before + weight insn else 0)) next ∙ max_none old))
+    (is
+    ∙ sym (ap (λ (s : Successors). max old (if not (falls_by s || jumps_by s) then before + weight insn else 0)) next
+    ∙ max_none old))
 
-pub simple_added : (insn : Insn) (row : Profile) (slot : ℕ) (old new : Paths) (jumping : List Counts) → row ≡ profile insn → row.successors ≡ Next → row.reference ≡ names.Nothing → new.here.instructions ≡ old.here.instructions + 1 → new.here.calls ≡ old.here.calls → new.ended ≡ old.ended
+pub simple_added : (insn : Insn) (row : Profile) (slot : ℕ) (old new : Paths) (jumping : List Counts)
+    → row ≡ profile insn → row.successors ≡ Next
+    → row.reference ≡ names.Nothing
+    → new.here.instructions ≡ old.here.instructions + 1
+    → new.here.calls ≡ old.here.calls → new.ended ≡ old.ended
     → IsAdded insn slot old new jumping jumping
 simple_added insn row slot old new jumping is_row next nothing instructions calls ended =
-    let none : one_if_call insn ≡ 0 = sym (ap (λ (r : Profile). if is_helper r.reference then 1 else 0) is_row) ∙ ap (λ (r : Reference). if is_helper r then 1 else 0) nothing in
+    let none : one_if_call insn ≡ 0 =
+    sym (ap (λ (r : Profile). if is_helper r.reference then 1 else 0) is_row)
+    ∙ ap (λ (r : Reference). if is_helper r then 1 else 0) nothing in
     record {
       instructions = λ to after. simple_along one insn row slot to _ _ _ _ is_row next refl instructions after;
-      calls = λ to after. simple_along one_if_call insn row slot to _ old.here.calls _ _ is_row next (omega arith) calls after;
+      calls = λ to after.
+          simple_along one_if_call insn row slot to _ old.here.calls _ _ is_row next (omega arith) calls after;
       ended_instructions = simple_end one insn row _ _ _ is_row next (ap (λ (c : Counts). c.instructions) ended);
       ended_calls = simple_end one_if_call insn row _ _ _ is_row next (ap (λ (c : Counts). c.calls) ended);
     }
 
 -- ---- the counts that arrive
 
-pub arrives_here : (slot fall jump most here : ℕ) → max (if slot == slot then fall else 0) jump ≡ most → here ≡ max fall jump → here ≡ most
-arrives_here slot fall jump most here is sum = sum ∙ sym (ap (λ (b : Bool). max (if b then fall else 0) jump) (eq-eqb slot slot refl)) ∙ is
+pub arrives_here : (slot fall jump most here : ℕ)
+    → max (if slot == slot then fall else 0) jump ≡ most
+    → here ≡ max fall jump
+    → here ≡ most
+arrives_here slot fall jump most here is sum =
+    sum ∙ sym (ap (λ (b : Bool). max (if b then fall else 0) jump) (eq-eqb slot slot refl)) ∙ is
 
 pub arrives_none : (b : Bool) (fall jump : ℕ) → fall ≡ 0 → jump ≡ 0 → max (if b then fall else 0) jump ≡ 0
 arrives_none true fall jump is_fall is_jump = omega arith
 arrives_none false fall jump is_fall is_jump = omega arith
 
-pub arrives_later : (slot i fall jump most : ℕ) → slot < i → max (if slot == i then fall else 0) jump ≡ most → jump ≡ most
+pub arrives_later : (slot i fall jump most : ℕ)
+    → slot < i → max (if slot == i then fall else 0) jump ≡ most → jump ≡ most
 arrives_later slot i fall jump most after is =
     let other : (slot == i) ≡ false = ne_eqb slot i (λ e. omega arith) in
-    let none : max (if slot == i then fall else 0) jump ≡ max 0 jump = ap (λ (b : Bool). max (if b then fall else 0) jump) other in
+    let none : max (if slot == i then fall else 0) jump ≡ max 0 jump =
+    ap (λ (b : Bool). max (if b then fall else 0) jump) other in
     omega arith
 
 -- ---- from one slot to the next
@@ -113,38 +145,53 @@ module _ (weight : Insn → ℕ) (code : List Insn) where
   unfolding most_ended
   ended_first = refl
 
-  pub most_next : (i n old new before : ℕ) (insn : Insn) → begins_at code n ≡ Some insn → before ≡ most_from weight code n n → old ≡ most_from weight code i n → new ≡ max old (passed_on weight (Some insn) n i before) → new ≡ most_from weight code i (n + 1)
+  pub most_next : (i n old new before : ℕ) (insn : Insn)
+      → begins_at code n ≡ Some insn → before ≡ most_from weight code n n
+      → old ≡ most_from weight code i n
+      → new ≡ max old (passed_on weight (Some insn) n i before)
+      → new ≡ most_from weight code i (n + 1)
   unfolding most_from
   most_next i n old new before insn begins is_before is_old is =
       is
       ∙ ap (λ (k : ℕ). max k (passed_on weight (Some insn) n i before)) is_old
       ∙ ap (λ (k : ℕ). max (most_from weight code i n) (passed_on weight (Some insn) n i k)) is_before
-      ∙ sym (ap (λ (o : Option Insn). max (most_from weight code i n) (passed_on weight o n i (most_from weight code n n))) begins)
+      ∙ sym (ap (λ (o : Option Insn).
+      max (most_from weight code i n) (passed_on weight o n i (most_from weight code n n)))
+      begins)
       ∙ ap (most_from weight code i) (sym (add-one n))
 
-  pub ended_next : (n old new before : ℕ) (insn : Insn) → begins_at code n ≡ Some insn → before ≡ most_from weight code n n → old ≡ most_ended weight code n → new ≡ max old (at_exit weight (Some insn) before) → new ≡ most_ended weight code (n + 1)
+  pub ended_next : (n old new before : ℕ) (insn : Insn)
+      → begins_at code n ≡ Some insn → before ≡ most_from weight code n n
+      → old ≡ most_ended weight code n
+      → new ≡ max old (at_exit weight (Some insn) before)
+      → new ≡ most_ended weight code (n + 1)
   unfolding most_ended
   ended_next n old new before insn begins is_before is_old is =
       is
       ∙ ap (λ (k : ℕ). max k (at_exit weight (Some insn) before)) is_old
       ∙ ap (λ (k : ℕ). max (most_ended weight code n) (at_exit weight (Some insn) k)) is_before
-      ∙ sym (ap (λ (o : Option Insn). max (most_ended weight code n) (at_exit weight o (most_from weight code n n))) begins)
+      ∙ sym (ap (λ (o : Option Insn). max (most_ended weight code n) (at_exit weight o (most_from weight code n n)))
+      begins)
       ∙ ap (most_ended weight code) (sym (add-one n))
 
   -- a slot at which no instruction begins changes nothing
   most_past : (i n : ℕ) → begins_at code n ≡ None → most_from weight code i (n + 1) ≡ most_from weight code i n
   unfolding most_from
   most_past i n begins =
-      let none : passed_on weight (begins_at code n) n i (most_from weight code n n) ≡ 0 = ap (λ (o : Option Insn). passed_on weight o n i (most_from weight code n n)) begins in
+      let none : passed_on weight (begins_at code n) n i (most_from weight code n n) ≡ 0 =
+      ap (λ (o : Option Insn). passed_on weight o n i (most_from weight code n n)) begins in
       ap (most_from weight code i) (add-one n) ∙ omega arith
 
   ended_past : (n : ℕ) → begins_at code n ≡ None → most_ended weight code (n + 1) ≡ most_ended weight code n
   unfolding most_ended
   ended_past n begins =
-      let none : at_exit weight (begins_at code n) (most_from weight code n n) ≡ 0 = ap (λ (o : Option Insn). at_exit weight o (most_from weight code n n)) begins in
+      let none : at_exit weight (begins_at code n) (most_from weight code n n) ≡ 0 =
+      ap (λ (o : Option Insn). at_exit weight o (most_from weight code n n)) begins in
       ap (most_ended weight code) (add-one n) ∙ omega arith
 
-  pub most_through : (i n m : ℕ) → ((k : ℕ) → n < k → k < n + 1 + m → begins_at code k ≡ None) → most_from weight code i (n + 1) ≡ most_from weight code i (n + 1 + m)
+  pub most_through : (i n m : ℕ)
+      → ((k : ℕ) → n < k → k < n + 1 + m → begins_at code k ≡ None)
+      → most_from weight code i (n + 1) ≡ most_from weight code i (n + 1 + m)
   most_through i n zero none = let same : n + 1 + 0 ≡ n + 1 = omega arith in sym (ap (most_from weight code i) same)
   most_through i n (suc m) none =
       let next : n + 1 + m + 1 ≡ n + 1 + suc m = omega arith in
@@ -152,7 +199,9 @@ module _ (weight : Insn → ℕ) (code : List Insn) where
       ∙ sym (most_past i (n + 1 + m) (none (n + 1 + m) (omega arith) (omega arith)))
       ∙ ap (most_from weight code i) next
 
-  pub ended_through : (n m : ℕ) → ((k : ℕ) → n < k → k < n + 1 + m → begins_at code k ≡ None) → most_ended weight code (n + 1) ≡ most_ended weight code (n + 1 + m)
+  pub ended_through : (n m : ℕ)
+      → ((k : ℕ) → n < k → k < n + 1 + m → begins_at code k ≡ None)
+      → most_ended weight code (n + 1) ≡ most_ended weight code (n + 1 + m)
   ended_through n zero none = let same : n + 1 + 0 ≡ n + 1 = omega arith in sym (ap (most_ended weight code) same)
   ended_through n (suc m) none =
       let next : n + 1 + m + 1 ≡ n + 1 + suc m = omega arith in
@@ -161,16 +210,24 @@ module _ (weight : Insn → ℕ) (code : List Insn) where
       ∙ ap (most_ended weight code) next
 
 -- the same over all the slots of an instruction
-pub carried : (weight : Insn → ℕ) (code : List Insn) (slot size i here old new : ℕ) (insn : Insn) → begins_at code slot ≡ Some insn → 1 ≤ size → ((k : ℕ) → slot < k → k < slot + size → begins_at code k ≡ None)
-    → here ≡ most_from weight code slot slot → old ≡ most_from weight code i slot → new ≡ max old (passed_on weight (Some insn) slot i here) → new ≡ most_from weight code i (slot + size)
+pub carried : (weight : Insn → ℕ) (code : List Insn) (slot size i here old new : ℕ) (insn : Insn)
+    → begins_at code slot ≡ Some insn → 1 ≤ size
+    → ((k : ℕ) → slot < k → k < slot + size → begins_at code k ≡ None)
+    → here ≡ most_from weight code slot slot → old ≡ most_from weight code i slot
+    → new ≡ max old (passed_on weight (Some insn) slot i here)
+    → new ≡ most_from weight code i (slot + size)
 carried weight code slot size i here old new insn begins some inside is_here is_old is =
     let end : slot + 1 + (size - 1) ≡ slot + size = omega arith in
     most_next weight code i slot old new here insn begins is_here is_old is
     ∙ most_through weight code i slot (size - 1) (λ k after before. inside k after (omega arith))
     ∙ ap (most_from weight code i) end
 
-pub ended_carried : (weight : Insn → ℕ) (code : List Insn) (slot size here old new : ℕ) (insn : Insn) → begins_at code slot ≡ Some insn → 1 ≤ size → ((k : ℕ) → slot < k → k < slot + size → begins_at code k ≡ None)
-    → here ≡ most_from weight code slot slot → old ≡ most_ended weight code slot → new ≡ max old (at_exit weight (Some insn) here) → new ≡ most_ended weight code (slot + size)
+pub ended_carried : (weight : Insn → ℕ) (code : List Insn) (slot size here old new : ℕ) (insn : Insn)
+    → begins_at code slot ≡ Some insn → 1 ≤ size
+    → ((k : ℕ) → slot < k → k < slot + size → begins_at code k ≡ None)
+    → here ≡ most_from weight code slot slot → old ≡ most_ended weight code slot
+    → new ≡ max old (at_exit weight (Some insn) here)
+    → new ≡ most_ended weight code (slot + size)
 ended_carried weight code slot size here old new insn begins some inside is_here is_old is =
     let end : slot + 1 + (size - 1) ≡ slot + size = omega arith in
     ended_next weight code slot old new here insn begins is_here is_old is
@@ -197,22 +254,33 @@ if_small : (b : Bool) (k n : ℕ) → k ≤ n → (if b then k else 0) ≤ n
 if_small true k n le = le
 if_small false k n le = omega arith
 
-passes_little : (weight : Insn → ℕ) → IsSmall weight → (o : Option Insn) (n i before : ℕ) → passed_on weight o n i before ≤ before + 1
+passes_little : (weight : Insn → ℕ)
+    → IsSmall weight
+    → (o : Option Insn) (n i before : ℕ) → passed_on weight o n i before ≤ before + 1
 passes_little weight small None n i before = omega arith
-passes_little weight small (Some insn) n i before = if_small (leads_into (Some insn) n i) _ _ (omega (arith, small insn))
+passes_little weight small (Some insn) n i before =
+    if_small (leads_into (Some insn) n i) _ _ (omega (arith, small insn))
 
 pub most_small : (weight : Insn → ℕ) → IsSmall weight → (code : List Insn) (i n : ℕ) → most_from weight code i n ≤ n
 unfolding most_from
 most_small weight small code i zero = omega arith
 most_small weight small code i (suc n) =
-    omega (arith, most_small weight small code i n, most_small weight small code n n, passes_little weight small (begins_at code n) n i (most_from weight code n n))
+    omega (
+      arith,
+      most_small weight small code i n,
+      most_small weight small code n n,
+      passes_little weight small (begins_at code n) n i (most_from weight code n n),
+    )
 
 -- ---- reachable slots
 
 -- the instructions of slots without a fault can be reached
-pub reached_below : (code : List Insn) (named : List Named) (k : ℕ) (i : Insn) → structure_fault code named k ≡ None → begins_at code k ≡ Some i → is_reachable code k ≡ true
+pub reached_below : (code : List Insn) (named : List Named) (k : ℕ) (i : Insn)
+    → structure_fault code named k ≡ None → begins_at code k ≡ Some i
+    → is_reachable code k ≡ true
 unfolding structure_fault
-reached_below code named k i none begins = (unrefused_is_fine code named i k (sym (ap (shape_of code named k) begins) ∙ none)).reached
+reached_below code named k i none begins =
+    (unrefused_is_fine code named i k (sym (ap (shape_of code named k) begins) ∙ none)).reached
 
 abbrev pub AreReachedBelow : ℕ → List Insn → Type 0
 AreReachedBelow n code = (k : ℕ) (i : Insn) → k < n → begins_at code k ≡ Some i → is_reachable code k ≡ true
@@ -222,7 +290,9 @@ or_true true = refl
 or_true false = refl
 
 -- a slot can be reached if an instruction comes before it, or it is the first
-pub reached_is : (code : List Insn) (to n : ℕ) → AreReachedBelow n code → reached_from code to n ≡ (nat_lt 0 (most_from one code to n) || to == 0)
+pub reached_is : (code : List Insn) (to n : ℕ)
+    → AreReachedBelow n code
+    → reached_from code to n ≡ (nat_lt 0 (most_from one code to n) || to == 0)
 unfolding reached_from most_from
 reached_is code to zero all = refl
 reached_is code to (suc n) all =
@@ -250,7 +320,8 @@ reached_is code to (suc n) all =
 -- ---- the cost
 
 -- a measure that is the same on each list has the same most
-most_as : (f g : List Insn → ℕ) (code : List Insn) (n : ℕ) → ((is : List Insn) → f is ≡ g is) → IsMostOf f code n → IsMostOf g code n
+most_as : (f g : List Insn → ℕ) (code : List Insn) (n : ℕ)
+    → ((is : List Insn) → f is ≡ g is) → IsMostOf f code n → IsMostOf g code n
 most_as f g code n same is = (
   λ path path_is. subst (λ (m : ℕ). m ≤ n) (same path) (is.0 path path_is),
   (is.1.0, is.1.1, sym (same is.1.0) ∙ is.1.2),
@@ -269,7 +340,10 @@ total_calls : (is : List Insn) → total one_if_call is ≡ calls_in is
 unfolding total
 total_calls is = is_count_by (total one_if_call) is_call refl (λ i is. counted (is_call i) (total one_if_call is)) is
 
-pub cost_is : (cost : Cost) (code : List Insn) → IsMostOf (total one) code cost.instructions → IsMostOf (total one_if_call) code cost.calls → IsCostOf cost code
+pub cost_is : (cost : Cost) (code : List Insn)
+    → IsMostOf (total one) code cost.instructions
+    → IsMostOf (total one_if_call) code cost.calls
+    → IsCostOf cost code
 cost_is cost code instructions calls = (
   most_as (total one) length code cost.instructions total_length instructions,
   most_as (total one_if_call) calls_in code cost.calls total_calls calls,
@@ -277,11 +351,19 @@ cost_is cost code instructions calls = (
 
 -- ---- a simple instruction has no fault
 
-pub simple_fine : (code : List Insn) (named : List Named) (insn : Insn) (row : Profile) (slot next : ℕ) (paths : Paths) → row ≡ profile insn → next ≡ falls_to insn slot → LeadTo code slot paths → IsSimple row next (slot_count code) paths → shape_reason code named insn slot ≡ None
+pub simple_fine : (code : List Insn) (named : List Named) (insn : Insn) (row : Profile)
+    (slot next : ℕ) (paths : Paths)
+    → row ≡ profile insn → next ≡ falls_to insn slot
+    → LeadTo code slot paths → IsSimple row next (slot_count code) paths
+    → shape_reason code named insn slot ≡ None
 simple_fine code named insn row slot next paths is_row is_next lead is =
     let goes_on : (profile insn).successors ≡ Next = sym (ap (λ (r : Profile). r.successors) is_row) ∙ is.goes_on in
-    let nothing : (profile insn).reference ≡ names.Nothing = sym (ap (λ (r : Profile). r.reference) is_row) ∙ is.names in
-    let writes : is_slot (written_register insn) 10 ≡ false = sym (ap (λ (r : Profile). is_slot r.written 10) is_row) ∙ is.writes in
-    let reached : is_reachable code slot ≡ true = sym lead ∙ or_left (nat_lt 0 paths.here.instructions) (slot == 0) is.reached in
-    let within : nat_le (slot_count code) (falls_to insn slot) ≡ false = lt-leb (slot_count code) (falls_to insn slot) (subst (λ (n : ℕ). n < slot_count code) is_next is.within) in
+    let nothing : (profile insn).reference ≡ names.Nothing =
+    sym (ap (λ (r : Profile). r.reference) is_row) ∙ is.names in
+    let writes : is_slot (written_register insn) 10 ≡ false =
+    sym (ap (λ (r : Profile). is_slot r.written 10) is_row) ∙ is.writes in
+    let reached : is_reachable code slot ≡ true =
+    sym lead ∙ or_left (nat_lt 0 paths.here.instructions) (slot == 0) is.reached in
+    let within : nat_le (slot_count code) (falls_to insn slot) ≡ false =
+    lt-leb (slot_count code) (falls_to insn slot) (subst (λ (n : ℕ). n < slot_count code) is_next is.within) in
     rw (goes_on, nothing, within, reached, writes) refl

@@ -53,16 +53,25 @@ map_is shape t is =
 
 -- ---- the maps of a run
 
-first_of : (P : Table (List ℕ) → Type 0) (o : Option (Table (List ℕ))) (u : RunMap) → ((t : Table (List ℕ)) → o ≡ Some t → P t) → option_map first_map o ≡ Some u → (t : Table (List ℕ)) × (first_map t ≡ u) × P t
+first_of : (P : Table (List ℕ) → Type 0) (o : Option (Table (List ℕ))) (u : RunMap)
+    → ((t : Table (List ℕ)) → o ≡ Some t → P t) → option_map first_map o ≡ Some u
+    → (t : Table (List ℕ)) × (first_map t ≡ u) × P t
 first_of P None u h e = absurd (none-some u e)
 first_of P (Some t) u h e = (t, cc, h t refl)
 
-pub first_values : (maps : MapsByDescriptor) → ((m : ℕ) (t : Table (List ℕ)) → maps m ≡ Some t → All AreBytes (values_of t.entries)) → (m : ℕ) (u : RunMap) → option_map first_map (maps m) ≡ Some u → (number : ℕ) → AreBytes (u.values number)
+pub first_values : (maps : MapsByDescriptor)
+    → ((m : ℕ) (t : Table (List ℕ)) → maps m ≡ Some t → All AreBytes (values_of t.entries))
+    → (m : ℕ) (u : RunMap) → option_map first_map (maps m) ≡ Some u
+    → (number : ℕ) → AreBytes (u.values number)
 first_values maps values m u e number =
     let f = first_of (λ t. All AreBytes (values_of t.entries)) (maps m) u (values m) e in
     subst (λ (u : RunMap). AreBytes (u.values number)) f.1 (all_bytes (values_of f.0.entries) f.2 number)
 
-pub first_maps : (shapes : Shapes) (maps : MapsByDescriptor) → ((m : ℕ) (shape : MapShape) → shapes m ≡ Some shape → (t : Table (List ℕ)) × (maps m ≡ Some t) × IsTableOf shape t) → (m : ℕ) (shape : MapShape) → shapes m ≡ Some shape → (u : RunMap) × (option_map first_map (maps m) ≡ Some u) × IsMapOf shape u
+pub first_maps : (shapes : Shapes) (maps : MapsByDescriptor)
+    → ((m : ℕ) (shape : MapShape) → shapes m ≡ Some shape
+    → (t : Table (List ℕ)) × (maps m ≡ Some t) × IsTableOf shape t)
+    → (m : ℕ) (shape : MapShape) → shapes m ≡ Some shape
+    → (u : RunMap) × (option_map first_map (maps m) ≡ Some u) × IsMapOf shape u
 first_maps shapes maps has m shape e =
     let h = has m shape e in
     (first_map h.0, ap (option_map first_map) h.1, map_is shape h.0 h.2)

@@ -60,30 +60,44 @@ module _ (shapes : Shapes) where
   given_end_falls (Err e) = refl
 
   -- an instruction that does not fall through has no falling edge
-  fall_is : (at : ℕ) (i : Insn) (f : Facts) (b : Bool) → only_if b (falling_of (effect shapes at i f)) ≡ only_if (falls i && b) (falling_of (effect shapes at i f))
+  fall_is : (at : ℕ) (i : Insn) (f : Facts) (b : Bool)
+      → only_if b (falling_of (effect shapes at i f)) ≡ only_if (falls i && b) (falling_of (effect shapes at i f))
   fall_is at (Ja off) f b = on_none b
   fall_is at (Jal off) f b = on_none b
-  fall_is at Exit f b = no_fall b b (falling_of (effect shapes at Exit f)) (sym (given_end_falls (check_readable (kind_at f 0))))
+  fall_is at Exit f b =
+      no_fall b b (falling_of (effect shapes at Exit f)) (sym (given_end_falls (check_readable (kind_at f 0))))
   fall_is at i f b = refl
 
   -- an instruction that does not jump has no target
-  target_is : (b : Bool) (o : Option ℕ) (n i : ℕ) → n < i → is_slot (if b then o else None) i ≡ (b && is_slot o i && nat_lt n i)
+  target_is : (b : Bool) (o : Option ℕ) (n i : ℕ)
+      → n < i → is_slot (if b then o else None) i ≡ (b && is_slot o i && nat_lt n i)
   target_is true o n i lt = sym (ap (λ (x : Bool). is_slot o i && x) (lt-ltb n i lt) ∙ and-true (is_slot o i))
   target_is false o n i lt = refl
 
   neither : (b c : Bool) → joined (only_if b None) (only_if c None) ≡ None
   neither b c = ap (λ (x : Option Facts). joined x (only_if c None)) (on_none b) ∙ on_none c
 
-  both_edges : (insn : Insn) (n i : ℕ) (r : Result Edges Reason) → joined (only_if (falls_into insn n i) (falling_of r)) (only_if (jumps_into insn n i) (jumping_of r)) ≡ edges_into insn n i r
+  both_edges : (insn : Insn) (n i : ℕ) (r : Result Edges Reason)
+      → joined (only_if (falls_into insn n i) (falling_of r)) (only_if (jumps_into insn n i) (jumping_of r))
+      ≡ edges_into insn n i r
   both_edges insn n i (Ok edges) = refl
   both_edges insn n i (Err reason) = neither (falls_into insn n i) (jumps_into insn n i)
 
   -- the edges as the pass sends them
-  edges_are : (insn : Insn) (n i : ℕ) → n < i → (here : Option Facts) → joined (only_if (falls_to insn n == i) (falling_from shapes n insn here)) (only_if (is_slot (jump_target insn n) i) (jumping_from shapes n insn here)) ≡ and_then here (λ f. edges_into insn n i (effect shapes n insn f))
+  edges_are : (insn : Insn) (n i : ℕ)
+      → n < i → (here : Option Facts)
+      → joined (only_if (falls_to insn n == i) (falling_from shapes n insn here))
+      (only_if (is_slot (jump_target insn n) i) (jumping_from shapes n insn here))
+      ≡ and_then here (λ f. edges_into insn n i (effect shapes n insn f))
   edges_are insn n i lt None = neither (falls_to insn n == i) (is_slot (jump_target insn n) i)
   edges_are insn n i lt (Some f) =
-      ap (λ (x : Option Facts). joined x (only_if (is_slot (jump_target insn n) i) (jumping_of (effect shapes n insn f)))) (fall_is n insn f (falls_to insn n == i))
-      ∙ ap (λ (b : Bool). joined (only_if (falls_into insn n i) (falling_of (effect shapes n insn f))) (only_if b (jumping_of (effect shapes n insn f)))) (target_is (jumps insn) (jumps_to insn n) n i lt)
+      ap (λ (x : Option Facts).
+      joined x (only_if (is_slot (jump_target insn n) i) (jumping_of (effect shapes n insn f))))
+      (fall_is n insn f (falls_to insn n == i))
+      ∙ ap (λ (b : Bool).
+      joined (only_if (falls_into insn n i) (falling_of (effect shapes n insn f)))
+      (only_if b (jumping_of (effect shapes n insn f))))
+      (target_is (jumps insn) (jumps_to insn n) n i lt)
       ∙ both_edges insn n i (effect shapes n insn f)
 
   -- ---- the facts of the pass before a slot
@@ -95,20 +109,28 @@ module _ (shapes : Shapes) where
     pub adjoins : Adjoins code due
     pub between : (k : ℕ) → slot ≤ k → k < due → begins_at code k ≡ None
     pub numbered : AreNumbered slot (8 * slot + 2) pass.falling pass.entries
-    pub each : (i : ℕ) → slot ≤ i → i < slot_count code → joined (only_if (due == i) (facts_on pass.falling)) (brought_to i pass.entries) ≡ facts_from_below shapes code i slot
+    pub each : (i : ℕ)
+        → slot ≤ i → i < slot_count code
+        → joined (only_if (due == i) (facts_on pass.falling)) (brought_to i pass.entries)
+        ≡ facts_from_below shapes code i slot
 
   inflow_first : (code : List Insn) (i : ℕ) → facts_from_below shapes code i 0 ≡ (if i == 0 then Some entry else None)
   unfolding facts_from_below
   inflow_first code i = refl
 
-  inflow_next : (code : List Insn) (i n : ℕ) → facts_from_below shapes code i (n + 1) ≡ joined (facts_from_below shapes code i n) (facts_sent shapes code n i (facts_from_below shapes code n n))
+  inflow_next : (code : List Insn) (i n : ℕ)
+      → facts_from_below shapes code i (n + 1)
+      ≡ joined (facts_from_below shapes code i n) (facts_sent shapes code n i (facts_from_below shapes code n n))
   unfolding facts_from_below
   inflow_next code i n = ap (λ (k : ℕ). facts_from_below shapes code i k) (add-one n)
 
   nothing_at : (i : ℕ) (entries : List (Option NumberedFacts)) → entries ≡ [] → entry_of i entries ≡ None
   nothing_at i entries empty = ap (entry_of i) empty ∙ get_or_past [] i None (omega arith)
 
-  pub at_start : (code : List Insn) (pass : Pass) → 1 ≤ slot_count code → pass.falling ≡ Some at_entry → pass.entries ≡ [] → IsBefore code 0 pass
+  pub at_start : (code : List Insn) (pass : Pass)
+      → 1 ≤ slot_count code → pass.falling ≡ Some at_entry
+      → pass.entries ≡ []
+      → IsBefore code 0 pass
   at_start code pass some first empty =
       let known : facts_on pass.falling ≡ Some entry = ap facts_on first in
       let stacks : ℕ → ℕ → Slot = λ i _. slot_at entry i in
@@ -121,23 +143,28 @@ module _ (shapes : Shapes) where
         numbered = record {
           stacks = stacks;
           in_hand = subst (λ (o : Option NumberedFacts). IsNumberedIf stacks 2 o) (sym first) numbered;
-          ahead = λ i above. subst (λ (o : Option NumberedFacts). IsNumberedIf stacks 2 o) (sym (nothing_at i pass.entries empty)) tt;
+          ahead = λ i above.
+              subst (λ (o : Option NumberedFacts). IsNumberedIf stacks 2 o) (sym (nothing_at i pass.entries empty)) tt;
         };
         each = λ i above lt.
             ap (λ (f : Option Facts). joined (only_if (0 == i) f) (brought_to i pass.entries)) known
-            ∙ ap (λ (o : Option NumberedFacts). joined (only_if (0 == i) (Some entry)) (facts_on o)) (nothing_at i pass.entries empty)
+            ∙ ap (λ (o : Option NumberedFacts). joined (only_if (0 == i) (Some entry)) (facts_on o))
+            (nothing_at i pass.entries empty)
             ∙ joined_none (only_if (0 == i) (Some entry))
             ∙ elim (cases_eq i 0) [
               | inl same ↦
-                  ap (λ (b : Bool). only_if b (Some entry)) (eq-eqb 0 i (sym same)) ∙ sym (ap (λ (b : Bool). only_if b (Some entry)) (eq-eqb i 0 same))
+                  ap (λ (b : Bool). only_if b (Some entry)) (eq-eqb 0 i (sym same))
+                  ∙ sym (ap (λ (b : Bool). only_if b (Some entry)) (eq-eqb i 0 same))
               | inr other ↦
-                  ap (λ (b : Bool). only_if b (Some entry)) (ne_eqb 0 i (λ e. other (sym e))) ∙ sym (ap (λ (b : Bool). only_if b (Some entry)) (ne_eqb i 0 other))
+                  ap (λ (b : Bool). only_if b (Some entry)) (ne_eqb 0 i (λ e. other (sym e)))
+                  ∙ sym (ap (λ (b : Bool). only_if b (Some entry)) (ne_eqb i 0 other))
             ]
             ∙ sym (inflow_first code i);
       }
 
   -- if an instruction begins at the slot, the current facts belong to it
-  due_here : {code : List Insn} {slot : ℕ} {pass : Pass} {insn : Insn} (b : IsBefore code slot pass) → begins_at code slot ≡ Some insn → b.due ≡ slot
+  due_here : {code : List Insn} {slot : ℕ} {pass : Pass} {insn : Insn} (b : IsBefore code slot pass)
+      → begins_at code slot ≡ Some insn → b.due ≡ slot
   due_here {slot = slot} {insn = insn} b begins =
       elim (cases_order b.due slot) [
         | inl same ↦ same
@@ -146,24 +173,41 @@ module _ (shapes : Shapes) where
       ]
 
   -- the facts before the instruction
-  pub here_is : {code : List Insn} {slot : ℕ} {pass : Pass} {insn : Insn} → IsBefore code slot pass → begins_at code slot ≡ Some insn → slot < slot_count code → arriving_at slot pass ≡ facts_before shapes code slot
+  pub here_is : {code : List Insn} {slot : ℕ} {pass : Pass} {insn : Insn}
+      → IsBefore code slot pass → begins_at code slot ≡ Some insn
+      → slot < slot_count code
+      → arriving_at slot pass ≡ facts_before shapes code slot
   here_is {slot = slot} {pass = pass} b begins lt =
-      sym (ap (λ (t : Bool). joined (only_if t (facts_on pass.falling)) (brought_to slot pass.entries)) (eq-eqb b.due slot (due_here b begins)))
+      sym (ap (λ (t : Bool). joined (only_if t (facts_on pass.falling)) (brought_to slot pass.entries))
+      (eq-eqb b.due slot (due_here b begins)))
       ∙ b.each slot (omega arith) lt
 
-  entry_is : {code : List Insn} {slot : ℕ} {pass : Pass} (b : IsBefore code slot pass) (i : ℕ) → slot ≤ i → i < slot_count code → (b.due ≡ i → ⊥) → brought_to i pass.entries ≡ facts_from_below shapes code i slot
+  entry_is : {code : List Insn} {slot : ℕ} {pass : Pass} (b : IsBefore code slot pass) (i : ℕ)
+      → slot ≤ i → i < slot_count code
+      → (b.due ≡ i → ⊥)
+      → brought_to i pass.entries ≡ facts_from_below shapes code i slot
   entry_is {pass = pass} b i above lt other =
-      sym (ap (λ (t : Bool). joined (only_if t (facts_on pass.falling)) (brought_to i pass.entries)) (ne_eqb b.due i other)) ∙ b.each i above lt
+      sym (ap (λ (t : Bool). joined (only_if t (facts_on pass.falling)) (brought_to i pass.entries))
+      (ne_eqb b.due i other))
+      ∙ b.each i above lt
 
-  sent_is : (code : List Insn) (n i : ℕ) (insn : Insn) (here : Option Facts) → begins_at code n ≡ Some insn → facts_sent shapes code n i here ≡ and_then here (λ f. edges_into insn n i (effect shapes n insn f))
+  sent_is : (code : List Insn) (n i : ℕ) (insn : Insn) (here : Option Facts)
+      → begins_at code n ≡ Some insn
+      → facts_sent shapes code n i here ≡ and_then here (λ f. edges_into insn n i (effect shapes n insn f))
   sent_is code n i insn None begins = refl
-  sent_is code n i insn (Some f) begins = ap (λ (o : Option Insn). and_then o (λ insn. edges_into insn n i (effect shapes n insn f))) begins
+  sent_is code n i insn (Some f) begins =
+      ap (λ (o : Option Insn). and_then o (λ insn. edges_into insn n i (effect shapes n insn f))) begins
 
   -- after an instruction that may be run
-  pub after_insn : {code : List Insn} {slot : ℕ} {old : Pass} {insn : Insn} → FactsCommute → FactsAssociate → (new : Pass) → IsBefore code slot old → begins_at code slot ≡ Some insn → slot < slot_count code
+  pub after_insn : {code : List Insn} {slot : ℕ} {old : Pass} {insn : Insn}
+      → FactsCommute → FactsAssociate
+      → (new : Pass) → IsBefore code slot old → begins_at code slot ≡ Some insn
+      → slot < slot_count code
       → facts_on new.falling ≡ falling_from shapes slot insn (arriving_at slot old)
-      → ((i : ℕ) → slot < i → Brings (jump_target insn slot) (jumping_from shapes slot insn (arriving_at slot old)) old.entries new.entries i)
-      → AreNumbered (slot + 1) (8 * slot + 10) new.falling new.entries → IsBefore code (slot + 1) new
+      → ((i : ℕ) → slot < i
+      → Brings (jump_target insn slot) (jumping_from shapes slot insn (arriving_at slot old)) old.entries new.entries i)
+      → AreNumbered (slot + 1) (8 * slot + 10) new.falling new.entries
+      → IsBefore code (slot + 1) new
   after_insn {code = code} {slot = slot} {old = old} {insn = insn} comm assoc new b begins lt fall jump numbered =
       let here : Option Facts = arriving_at slot old in
       let falling_edge : Option Facts = falling_from shapes slot insn here in
@@ -174,9 +218,12 @@ module _ (shapes : Shapes) where
         ahead = omega (arith, some_slots insn);
         adjoins = adjoins_after code slot insn begins;
         between = λ k above below. none_begins_inside code slot insn begins k (omega arith) below;
-        numbered = raised (slot + 1) (slot + 1) (8 * slot + 10) (8 * (slot + 1) + 2) new.falling new.entries (omega arith) (omega arith) numbered;
+        numbered =
+            raised (slot + 1) (slot + 1) (8 * slot + 10) (8 * (slot + 1) + 2) new.falling
+            new.entries (omega arith) (omega arith) numbered;
         each = λ i above within.
-            let was : brought_to i old.entries ≡ facts_from_below shapes code i slot = entry_is b i (omega arith) within (λ e. omega arith) in
+            let was : brought_to i old.entries ≡ facts_from_below shapes code i slot =
+            entry_is b i (omega arith) within (λ e. omega arith) in
             let known = here_is b begins lt in
             let fall_edge : Option Facts = only_if (falls_to insn slot == i) falling_edge in
             let jump_edge : Option Facts = only_if (is_slot (jump_target insn slot) i) jumping_edge in
@@ -186,20 +233,27 @@ module _ (shapes : Shapes) where
             ∙ ap (joined (brought_to i old.entries)) (edges_are insn slot i (omega arith) here)
             ∙ ap (joined (brought_to i old.entries)) (sym (sent_is code slot i insn here begins))
             ∙ ap (λ (f : Option Facts). joined f (facts_sent shapes code slot i here)) was
-            ∙ ap (λ (h : Option Facts). joined (facts_from_below shapes code i slot) (facts_sent shapes code slot i h)) known
+            ∙ ap (λ (h : Option Facts). joined (facts_from_below shapes code i slot) (facts_sent shapes code slot i h))
+            known
             ∙ sym (inflow_next code i slot);
       }
 
-  sent_none : (code : List Insn) (n i : ℕ) (here : Option Facts) → begins_at code n ≡ None → facts_sent shapes code n i here ≡ None
+  sent_none : (code : List Insn) (n i : ℕ) (here : Option Facts)
+      → begins_at code n ≡ None → facts_sent shapes code n i here ≡ None
   sent_none code n i None none = refl
-  sent_none code n i (Some f) none = ap (λ (o : Option Insn). and_then o (λ insn. edges_into insn n i (effect shapes n insn f))) none
+  sent_none code n i (Some f) none =
+      ap (λ (o : Option Insn). and_then o (λ insn. edges_into insn n i (effect shapes n insn f))) none
 
-  not_first : (code : List Insn) (slot : ℕ) → Adjoins code slot → slot < slot_count code → begins_at code slot ≡ None → ⊥
+  not_first : (code : List Insn) (slot : ℕ)
+      → Adjoins code slot → slot < slot_count code → begins_at code slot ≡ None → ⊥
   not_first code slot (inl end) lt none = omega arith
   not_first code slot (inr more) lt none = false≢true (sym (ap is_some none) ∙ more.1)
 
   -- after a slot at which no instruction begins
-  pub after_none : {code : List Insn} {slot : ℕ} {pass : Pass} → IsBefore code slot pass → begins_at code slot ≡ None → slot < slot_count code → IsBefore code (slot + 1) pass
+  pub after_none : {code : List Insn} {slot : ℕ} {pass : Pass}
+      → IsBefore code slot pass → begins_at code slot ≡ None
+      → slot < slot_count code
+      → IsBefore code (slot + 1) pass
   after_none {code = code} {slot = slot} {pass = pass} b none lt =
       let later : b.due ≡ slot → ⊥ = λ e. not_first code slot (subst (λ (n : ℕ). Adjoins code n) e b.adjoins) lt none in
       record {
@@ -207,24 +261,33 @@ module _ (shapes : Shapes) where
         ahead = omega (arith, b.ahead, later);
         adjoins = b.adjoins;
         between = λ k above below. b.between k (omega arith) below;
-        numbered = raised slot (slot + 1) (8 * slot + 2) (8 * (slot + 1) + 2) pass.falling pass.entries (omega arith) (omega arith) b.numbered;
+        numbered =
+            raised slot (slot + 1) (8 * slot + 2) (8 * (slot + 1) + 2) pass.falling pass.entries
+            (omega arith) (omega arith) b.numbered;
         each = λ i above within.
             b.each i (omega arith) within
             ∙ sym (joined_none (facts_from_below shapes code i slot))
-            ∙ sym (ap (joined (facts_from_below shapes code i slot)) (sent_none code slot i (facts_from_below shapes code slot slot) none))
+            ∙ sym (ap (joined (facts_from_below shapes code i slot))
+            (sent_none code slot i (facts_from_below shapes code slot slot) none))
             ∙ sym (inflow_next code i slot);
       }
 
   -- ---- the fault at a slot
 
-  pub safety_is : (code : List Insn) (slot : ℕ) {insn : Insn} {here : Option Facts} {r : Option Reason} → here ≡ facts_before shapes code slot → begins_at code slot ≡ Some insn → reason_from shapes slot insn here ≡ r → safety_fault shapes code slot ≡ r
+  pub safety_is : (code : List Insn) (slot : ℕ) {insn : Insn} {here : Option Facts} {r : Option Reason}
+      → here ≡ facts_before shapes code slot → begins_at code slot ≡ Some insn
+      → reason_from shapes slot insn here ≡ r
+      → safety_fault shapes code slot ≡ r
   unfolding safety_fault
   safety_is code slot {here = here} known begins is =
-      ap (λ (h : Option Facts). and_then h (λ f. and_then (begins_at code slot) (λ i. reason_of (effect shapes slot i f)))) (sym known)
+      ap (λ (h : Option Facts).
+      and_then h (λ f. and_then (begins_at code slot) (λ i. reason_of (effect shapes slot i f))))
+      (sym known)
       ∙ ap (λ (o : Option Insn). and_then here (λ f. and_then o (λ i. reason_of (effect shapes slot i f)))) begins
       ∙ is
 
-  no_reason : (slot : ℕ) (here : Option Facts) (o : Option Insn) → o ≡ None → and_then here (λ f. and_then o (λ i. reason_of (effect shapes slot i f))) ≡ None
+  no_reason : (slot : ℕ) (here : Option Facts) (o : Option Insn)
+      → o ≡ None → and_then here (λ f. and_then o (λ i. reason_of (effect shapes slot i f))) ≡ None
   no_reason slot None o none = refl
   no_reason slot (Some f) o none = ap (λ (x : Option Insn). and_then x (λ i. reason_of (effect shapes slot i f))) none
 
@@ -232,6 +295,9 @@ module _ (shapes : Shapes) where
   unfolding safety_fault
   safe_none code slot none = no_reason slot (facts_before shapes code slot) (begins_at code slot) none
 
-  pub first_at : (fault_at : ℕ → Option Reason) (n slot : ℕ) (reason : Reason) → n ≡ slot → fault_at slot ≡ Some reason → ((k : ℕ) → k < slot → fault_at k ≡ None) → IsFirstFault fault_at n reason
+  pub first_at : (fault_at : ℕ → Option Reason) (n slot : ℕ) (reason : Reason)
+      → n ≡ slot → fault_at slot ≡ Some reason
+      → ((k : ℕ) → k < slot → fault_at k ≡ None)
+      → IsFirstFault fault_at n reason
   first_at fault_at n slot reason same is below =
       record { here = ap fault_at same ∙ is; below = λ k lt. below k (omega arith) }

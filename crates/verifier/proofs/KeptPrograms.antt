@@ -9,7 +9,10 @@ use Rattle.verifier.specs.Verdict.{IsAccepted}
 use Rattle.verifier.specs.Verified.{IsVerified}
 
 -- a copy of the program, its maps and its cost
-pub copy_is_whole : (code copy : List Insn) (named entries : List Named) (maps : List ℕ) (cost : Cost) → copy ≡ code → IsAccepted code named → entries ≡ entries_of (maps_of code) named → maps ≡ maps_of code → IsCostOf cost code
+pub copy_is_whole : (code copy : List Insn) (named entries : List Named) (maps : List ℕ) (cost : Cost)
+    → copy ≡ code → IsAccepted code named
+    → entries ≡ entries_of (maps_of code) named → maps ≡ maps_of code
+    → IsCostOf cost code
     → IsVerified (record { code = copy; entries = entries }) × (maps ≡ maps_of copy) × IsCostOf cost copy
 copy_is_whole code copy named entries maps cost was accepted shaped listed costs = (
   record {

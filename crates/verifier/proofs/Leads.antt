@@ -22,8 +22,13 @@ pub record IsShaped (code : List Insn) (i : Insn) (n : ℕ) : Type 0 where
   pub forward : (jumps i && leads_backward (jumps_to i n) n) ≡ false
   pub on : (falls i && nat_le (slot_count code) (falls_to i n)) ≡ false
 
-pub shaped : (code : List Insn) (named : List Named) → HasNoFault (structure_fault code named) → (n : ℕ) (i : Insn) → begins_at code n ≡ Some i → IsShaped code i n
-shaped code named none n i begins = let fine = each_is_fine code named none n i begins in record { inside = fine.inside; forward = fine.forward; on = fine.goes_on }
+pub shaped : (code : List Insn) (named : List Named)
+    → HasNoFault (structure_fault code named)
+    → (n : ℕ) (i : Insn) → begins_at code n ≡ Some i
+    → IsShaped code i n
+shaped code named none n i begins =
+    let fine = each_is_fine code named none n i begins in
+    record { inside = fine.inside; forward = fine.forward; on = fine.goes_on }
 
 -- ---- the targets of its edges
 
@@ -38,7 +43,8 @@ target_there : (code : List Insn) (o : Option ℕ) → leads_outside code o ≡ 
 target_there code None e = absurd (true≢false e)
 target_there code (Some n) e = refl
 
-begins_there : (code : List Insn) (o : Option ℕ) (m : ℕ) → o ≡ Some m → leads_outside code o ≡ false → IsSome (begins_at code m)
+begins_there : (code : List Insn) (o : Option ℕ) (m : ℕ)
+    → o ≡ Some m → leads_outside code o ≡ false → IsSome (begins_at code m)
 begins_there code o m e h = not-false (is_some (begins_at code m)) (subst (λ o. leads_outside code o ≡ false) e h)
 
 lies_farther : (o : Option ℕ) (n m : ℕ) → o ≡ Some m → leads_backward o n ≡ false → n < m
@@ -58,7 +64,9 @@ module _ (code : List Insn) (n : ℕ) (i : Insn) (shape : IsShaped code i n) whe
   pub falls_begins : (m : ℕ) → begins_at code n ≡ Some i → falls_into i n m ≡ true → IsSome (begins_at code m)
   falls_begins m begins t =
       let h = and_parts (falls i) (falls_to i n == m) t in
-      let within = leb-false (slot_count code) (falls_to i n) (second_false (falls i) (nat_le (slot_count code) (falls_to i n)) shape.on h.0) in
+      let within =
+      leb-false (slot_count code) (falls_to i n)
+      (second_false (falls i) (nat_le (slot_count code) (falls_to i n)) shape.on h.0) in
       subst (λ k. IsSome (begins_at code k)) (eqb-true (falls_to i n) m h.1) (next_begins code n i begins within)
 
   pub jump_at : (m : ℕ) → jumps i ≡ true → jumps_to i n ≡ Some m → (n < m) × IsSome (begins_at code m)
@@ -80,7 +88,9 @@ module _ (code : List Insn) (n : ℕ) (i : Insn) (shape : IsShaped code i n) whe
   pub jumps_lead : (m : ℕ) → jumps i ≡ true → jumps_to i n ≡ Some m → jumps_into i n m ≡ true
   jumps_lead m h e =
       let at = subst (λ o. is_slot o m ≡ true) (sym e) (eq-eqb m m refl) in
-      and_from (jumps i && is_slot (jumps_to i n) m) (nat_lt n m) (and_from (jumps i) (is_slot (jumps_to i n) m) h at) (lt-ltb n m (jump_at m h e).0)
+      and_from (jumps i && is_slot (jumps_to i n) m) (nat_lt n m)
+      (and_from (jumps i) (is_slot (jumps_to i n) m) h at)
+      (lt-ltb n m (jump_at m h e).0)
 
 -- ---- a program without a fault of its shape
 

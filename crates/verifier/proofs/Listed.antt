@@ -20,7 +20,10 @@ pub index_of : (xs : List ℕ) (m : ℕ) → is_among xs m ≡ true → (i : ℕ
 index_of [] m h = absurd (true≢false (sym h))
 index_of (x ∷ xs) m h = by (x == m) refl (index_of xs m)
   where
-    by : (b : Bool) → (x == m) ≡ b → (is_among xs m ≡ true → (i : ℕ) × (slice_get xs i ≡ Some m)) → (i : ℕ) × (slice_get (x ∷ xs) i ≡ Some m)
+    by : (b : Bool)
+        → (x == m) ≡ b
+        → (is_among xs m ≡ true → (i : ℕ) × (slice_get xs i ≡ Some m))
+        → (i : ℕ) × (slice_get (x ∷ xs) i ≡ Some m)
     by true e rest = (0, ap (λ (k : ℕ). Some k) (eqb-true x m e))
     by false e rest = let r = rest (sym (ap (λ b. b || is_among xs m) e) ∙ h) in (suc r.0, r.1)
 
@@ -35,9 +38,14 @@ none_left : (x a : ℕ) (xs : List ℕ) → is_among xs x ≡ false → is_among
 none_left x a [] h = h
 none_left x a (y ∷ ys) h = by (y == x) (y == a) refl refl (none_left x a ys)
   where
-    by : (b c : Bool) → (y == x) ≡ b → (y == a) ≡ c → (is_among ys x ≡ false → is_among (without a ys) x ≡ false) → is_among (cond (not (y == a)) (y ∷ without a ys) (without a ys)) x ≡ false
+    by : (b c : Bool)
+        → (y == x) ≡ b → (y == a) ≡ c
+        → (is_among ys x ≡ false → is_among (without a ys) x ≡ false)
+        → is_among (cond (not (y == a)) (y ∷ without a ys) (without a ys)) x ≡ false
     by true c e f rest = absurd (true≢false (sym (or_left (y == x) (is_among ys x) e) ∙ h))
-    by false true e f rest = ap (λ t. is_among (cond (not t) (y ∷ without a ys) (without a ys)) x) f ∙ rest (sym (ap (λ b. b || is_among ys x) e) ∙ h)
+    by false true e f rest =
+        ap (λ t. is_among (cond (not t) (y ∷ without a ys) (without a ys)) x) f
+        ∙ rest (sym (ap (λ b. b || is_among ys x) e) ∙ h)
     by false false e f rest =
         ap (λ t. is_among (cond (not t) (y ∷ without a ys) (without a ys)) x) f
         ∙ ap (λ b. b || is_among (without a ys) x) e
@@ -48,9 +56,14 @@ gone : (a : ℕ) (xs : List ℕ) → is_among (without a xs) a ≡ false
 gone a [] = refl
 gone a (y ∷ ys) = by (y == a) refl (gone a ys)
   where
-    by : (b : Bool) → (y == a) ≡ b → is_among (without a ys) a ≡ false → is_among (cond (not (y == a)) (y ∷ without a ys) (without a ys)) a ≡ false
+    by : (b : Bool)
+        → (y == a) ≡ b → is_among (without a ys) a ≡ false
+        → is_among (cond (not (y == a)) (y ∷ without a ys) (without a ys)) a ≡ false
     by true e rest = ap (λ t. is_among (cond (not t) (y ∷ without a ys) (without a ys)) a) e ∙ rest
-    by false e rest = ap (λ t. is_among (cond (not t) (y ∷ without a ys) (without a ys)) a) e ∙ ap (λ b. b || is_among (without a ys) a) e ∙ rest
+    by false e rest =
+        ap (λ t. is_among (cond (not t) (y ∷ without a ys) (without a ys)) a) e
+        ∙ ap (λ b. b || is_among (without a ys) a) e
+        ∙ rest
 
 once_left : (a : ℕ) (xs : List ℕ) → AreOnce xs → AreOnce (without a xs)
 unfolding AreOnce
@@ -70,21 +83,29 @@ one_index : (xs : List ℕ) (i j m : ℕ) → AreOnce xs → slice_get xs i ≡ 
 unfolding AreOnce
 one_index [] i j m h e f = absurd (none-some m e)
 one_index (x ∷ xs) zero zero m h e f = refl
-one_index (x ∷ xs) zero (suc j) m h e f = absurd (true≢false (sym (among_at xs j m f) ∙ ap (is_among xs) (sym (same_Some x m e)) ∙ h.0))
-one_index (x ∷ xs) (suc i) zero m h e f = absurd (true≢false (sym (among_at xs i m e) ∙ ap (is_among xs) (sym (same_Some x m f)) ∙ h.0))
+one_index (x ∷ xs) zero (suc j) m h e f =
+    absurd (true≢false (sym (among_at xs j m f) ∙ ap (is_among xs) (sym (same_Some x m e)) ∙ h.0))
+one_index (x ∷ xs) (suc i) zero m h e f =
+    absurd (true≢false (sym (among_at xs i m e) ∙ ap (is_among xs) (sym (same_Some x m f)) ∙ h.0))
 one_index (x ∷ xs) (suc i) (suc j) m h e f = ap suc (one_index xs i j m h.1 e f)
 
 -- ---- a shape belongs to a map that is loaded
 
 module _ (fds : List ℕ) (fd : ℕ) where
-  pub shape_kept : (named : List Named) (shape : MapShape) → shape_in (target_of (entries_of fds named) fd) ≡ Some shape → is_among fds fd ≡ true
+  pub shape_kept : (named : List Named) (shape : MapShape)
+      → shape_in (target_of (entries_of fds named) fd) ≡ Some shape → is_among fds fd ≡ true
   unfolding target_of
   shape_kept [] shape e = absurd (none-some shape e)
   shape_kept (n ∷ ns) shape e = by (is_among fds n.fd) (n.fd == fd) refl refl (shape_kept ns shape) e
     where
-      by : (b c : Bool) → is_among fds n.fd ≡ b → (n.fd == fd) ≡ c → (shape_in (target_of (entries_of fds ns) fd) ≡ Some shape → is_among fds fd ≡ true) → shape_in (target_of (cond b (n ∷ entries_of fds ns) (entries_of fds ns)) fd) ≡ Some shape → is_among fds fd ≡ true
+      by : (b c : Bool)
+          → is_among fds n.fd ≡ b → (n.fd == fd) ≡ c
+          → (shape_in (target_of (entries_of fds ns) fd) ≡ Some shape → is_among fds fd ≡ true)
+          → shape_in (target_of (cond b (n ∷ entries_of fds ns) (entries_of fds ns)) fd) ≡ Some shape
+          → is_among fds fd ≡ true
       by true true f g rest h = sym (ap (is_among fds) (eqb-true n.fd fd g)) ∙ f
-      by true false f g rest h = rest (sym (ap (λ t. shape_in (cond t (Some n.target) (target_of (entries_of fds ns) fd))) g) ∙ h)
+      by true false f g rest h =
+          rest (sym (ap (λ t. shape_in (cond t (Some n.target) (target_of (entries_of fds ns) fd))) g) ∙ h)
       by false c f g rest h = rest h
 
 pub maps_are_listed : MapsAreListed

@@ -28,13 +28,16 @@ leads_farther i n to leads =
     ]
 
 -- along an edge an instruction passes on what it has
-pub passes : (weight : Insn → ℕ) (o : Option Insn) (i : Insn) (n to before : ℕ) → o ≡ Some i → leads_into (Some i) n to ≡ true → passed_on weight o n to before ≡ before + weight i
+pub passes : (weight : Insn → ℕ) (o : Option Insn) (i : Insn) (n to before : ℕ)
+    → o ≡ Some i → leads_into (Some i) n to ≡ true
+    → passed_on weight o n to before ≡ before + weight i
 passes weight o i n to before begins leads =
     ap (λ (o : Option Insn). passed_on weight o n to before) begins
     ∙ cond-true (leads_into (Some i) n to) (before + weight i) 0 leads
 
 -- to other slots it passes on nothing
-pub passes_none : (weight : Insn → ℕ) (o : Option Insn) (n to before : ℕ) → leads_into o n to ≡ false → passed_on weight o n to before ≡ 0
+pub passes_none : (weight : Insn → ℕ) (o : Option Insn) (n to before : ℕ)
+    → leads_into o n to ≡ false → passed_on weight o n to before ≡ 0
 passes_none weight None n to before none = refl
 passes_none weight (Some i) n to before none = cond-false (leads_into (Some i) n to) (before + weight i) 0 none
 
@@ -42,7 +45,8 @@ pub leads_from : (o : Option Insn) (n to : ℕ) → leads_into o n to ≡ true �
 leads_from None n to leads = absurd (false≢true leads)
 leads_from (Some i) n to leads = (i, refl)
 
-ends_with : (weight : Insn → ℕ) (o : Option Insn) (i : Insn) (before : ℕ) → o ≡ Some i → is_exit i ≡ true → at_exit weight o before ≡ before + weight i
+ends_with : (weight : Insn → ℕ) (o : Option Insn) (i : Insn) (before : ℕ)
+    → o ≡ Some i → is_exit i ≡ true → at_exit weight o before ≡ before + weight i
 ends_with weight o i before begins exit =
     ap (λ (o : Option Insn). at_exit weight o before) begins ∙ cond-true (is_exit i) (before + weight i) 0 exit
 
@@ -51,17 +55,24 @@ ends_with weight o i before begins exit =
 module _ (weight : Insn → ℕ) (code : List Insn) where
   stays : (i n d : ℕ) → most_from weight code i n ≤ most_from weight code i (n + d)
   unfolding most_from
-  stays i n zero = let same : n + 0 ≡ n = omega arith in subst (λ k. most_from weight code i n ≤ most_from weight code i k) (sym same) (omega arith)
+  stays i n zero =
+      let same : n + 0 ≡ n = omega arith in
+      subst (λ k. most_from weight code i n ≤ most_from weight code i k) (sym same) (omega arith)
   stays i n (suc d) =
       let next : suc (n + d) ≡ n + suc d = omega arith in
       subst (λ k. most_from weight code i n ≤ most_from weight code i k) next (omega (arith, stays i n d))
 
-  arrived : (n to : ℕ) (i : Insn) → begins_at code n ≡ Some i → leads_into (Some i) n to ≡ true → most_from weight code n n + weight i ≤ most_from weight code to (suc n)
+  arrived : (n to : ℕ) (i : Insn)
+      → begins_at code n ≡ Some i → leads_into (Some i) n to ≡ true
+      → most_from weight code n n + weight i ≤ most_from weight code to (suc n)
   unfolding most_from
-  arrived n to i begins leads = omega (arith, passes weight (begins_at code n) i n to (most_from weight code n n) begins leads)
+  arrived n to i begins leads =
+      omega (arith, passes weight (begins_at code n) i n to (most_from weight code n n) begins leads)
 
   -- the way to the target of an edge is no shorter than that to its instruction, and the instruction
-  pub sent : (n to : ℕ) (i : Insn) → begins_at code n ≡ Some i → leads_into (Some i) n to ≡ true → most_from weight code n n + weight i ≤ most_from weight code to to
+  pub sent : (n to : ℕ) (i : Insn)
+      → begins_at code n ≡ Some i → leads_into (Some i) n to ≡ true
+      → most_from weight code n n + weight i ≤ most_from weight code to to
   sent n to i begins leads =
       let farther = leads_farther i n to leads in
       let end : suc n + (to - suc n) ≡ to = omega arith in
@@ -71,24 +82,34 @@ module _ (weight : Insn → ℕ) (code : List Insn) where
 
   ended_stays : (n d : ℕ) → most_ended weight code n ≤ most_ended weight code (n + d)
   unfolding most_ended
-  ended_stays n zero = let same : n + 0 ≡ n = omega arith in subst (λ k. most_ended weight code n ≤ most_ended weight code k) (sym same) (omega arith)
+  ended_stays n zero =
+      let same : n + 0 ≡ n = omega arith in
+      subst (λ k. most_ended weight code n ≤ most_ended weight code k) (sym same) (omega arith)
   ended_stays n (suc d) =
       let next : suc (n + d) ≡ n + suc d = omega arith in
       subst (λ k. most_ended weight code n ≤ most_ended weight code k) next (omega (arith, ended_stays n d))
 
-  ended_there : (n : ℕ) (i : Insn) → begins_at code n ≡ Some i → is_exit i ≡ true → most_from weight code n n + weight i ≤ most_ended weight code (suc n)
+  ended_there : (n : ℕ) (i : Insn)
+      → begins_at code n ≡ Some i → is_exit i ≡ true
+      → most_from weight code n n + weight i ≤ most_ended weight code (suc n)
   unfolding most_ended
-  ended_there n i begins exit = omega (arith, ends_with weight (begins_at code n) i (most_from weight code n n) begins exit)
+  ended_there n i begins exit =
+      omega (arith, ends_with weight (begins_at code n) i (most_from weight code n n) begins exit)
 
-  ended : (n : ℕ) (i : Insn) → begins_at code n ≡ Some i → is_exit i ≡ true → most_from weight code n n + weight i ≤ most_ended weight code (slot_count code)
+  ended : (n : ℕ) (i : Insn)
+      → begins_at code n ≡ Some i → is_exit i ≡ true
+      → most_from weight code n n + weight i ≤ most_ended weight code (slot_count code)
   ended n i begins exit =
       let within = begins_within code n i begins in
       let end : suc n + (slot_count code - suc n) ≡ slot_count code = omega arith in
       let later : most_ended weight code (suc n) ≤ most_ended weight code (slot_count code) =
-      subst (λ k. most_ended weight code (suc n) ≤ most_ended weight code k) end (ended_stays (suc n) (slot_count code - suc n)) in
+      subst (λ k. most_ended weight code (suc n) ≤ most_ended weight code k) end
+      (ended_stays (suc n) (slot_count code - suc n)) in
       omega (arith, ended_there n i begins exit)
 
-  bounded : (at : ℕ) (path : List Insn) → IsPath code at path → most_from weight code at at + total weight path ≤ most_ended weight code (slot_count code)
+  bounded : (at : ℕ) (path : List Insn)
+      → IsPath code at path
+      → most_from weight code at at + total weight path ≤ most_ended weight code (slot_count code)
   unfolding total
   bounded at [] path = absurd path
   bounded at (i ∷ is) path =
@@ -101,15 +122,22 @@ module _ (weight : Insn → ℕ) (code : List Insn) where
 
 -- ---- one path has as much
 
-module _ (weight : Insn → ℕ) (code : List Insn) (named : List Named) (fine : HasNoFault (structure_fault code named)) where
+module _ (weight : Insn → ℕ) (code : List Insn) (named : List Named)
+    (fine : HasNoFault (structure_fault code named)) where
   -- each path from a slot is the end of one from slot 0, with so much before the slot
   abbrev Extends : ℕ → ℕ → Type 0
-  Extends i before = (rest : List Insn) → IsPath code i rest → (path : List Insn) × IsPath code 0 path × (total weight path ≡ before + total weight rest)
+  Extends i before =
+      (rest : List Insn)
+      → IsPath code i rest
+      → (path : List Insn) × IsPath code 0 path × (total weight path ≡ before + total weight rest)
 
   extends_as : (i a b : ℕ) → a ≡ b → Extends i a → Extends i b
   extends_as i a b same = subst (Extends i) same
 
-  on_edge : (n to before : ℕ) (i : Insn) → begins_at code n ≡ Some i → leads_into (Some i) n to ≡ true → Extends n before → Extends to (before + weight i)
+  on_edge : (n to before : ℕ) (i : Insn)
+      → begins_at code n ≡ Some i → leads_into (Some i) n to ≡ true
+      → Extends n before
+      → Extends to (before + weight i)
   unfolding total
   on_edge n to before i begins leads extends rest path =
       let longer = extends (i ∷ rest) (begins, inr (to, leads, path)) in
@@ -119,17 +147,24 @@ module _ (weight : Insn → ℕ) (code : List Insn) (named : List Named) (fine :
   reached_at : (n : ℕ) (i : Insn) → begins_at code n ≡ Some i → is_reachable code n ≡ true
   reached_at n i begins = (each_is_fine code named fine n i begins).reached
 
-  leads_none : (o : Option Insn) (n to : ℕ) → begins_at code n ≡ o → (is_reachable code n && leads_into o n to) ≡ false → leads_into o n to ≡ false
+  leads_none : (o : Option Insn) (n to : ℕ)
+      → begins_at code n ≡ o
+      → (is_reachable code n && leads_into o n to) ≡ false
+      → leads_into o n to ≡ false
   leads_none None n to begins none = refl
-  leads_none (Some i) n to begins none = second_false (is_reachable code n) (leads_into (Some i) n to) none (reached_at n i begins)
+  leads_none (Some i) n to begins none =
+      second_false (is_reachable code n) (leads_into (Some i) n to) none (reached_at n i begins)
 
   -- what cannot be reached has nothing before it
   unreached : (to n : ℕ) → reached_from code to n ≡ false → most_from weight code to n ≡ 0
   unfolding reached_from most_from
   unreached to zero none = refl
   unreached to (suc n) none =
-      let parts = or_parts (reached_from code to n) (reached_from code n n && leads_into (begins_at code n) n to) none in
-      let nothing = passes_none weight (begins_at code n) n to (most_from weight code n n) (leads_none (begins_at code n) n to refl parts.1) in
+      let parts =
+      or_parts (reached_from code to n) (reached_from code n n && leads_into (begins_at code n) n to) none in
+      let nothing =
+      passes_none weight (begins_at code n) n to (most_from weight code n n)
+      (leads_none (begins_at code n) n to refl parts.1) in
       omega (arith, unreached to n parts.0)
 
   -- what can be reached has a way to it with the most
@@ -142,7 +177,10 @@ module _ (weight : Insn → ℕ) (code : List Insn) (named : List Named) (fine :
       elim (cases_Bool (leads_into (begins_at code n) n to)) [
         | inr none ↦
             let nothing = passes_none weight (begins_at code n) n to there none in
-            let still = sym (or_neither (reached_from code to n) (reached_from code n n)) ∙ ap (λ b. reached_from code to n || (reached_from code n n && b)) (sym none) ∙ is in
+            let still =
+            sym (or_neither (reached_from code to n) (reached_from code n n))
+            ∙ ap (λ b. reached_from code to n || (reached_from code n n && b)) (sym none)
+            ∙ is in
             extends_as to before _ (omega arith) (reach to n still)
         | inl leads ↦
             let insn = leads_from (begins_at code n) n to leads in
@@ -163,24 +201,42 @@ module _ (weight : Insn → ℕ) (code : List Insn) (named : List Named) (fine :
   exit_of i fallen jumped = rw (fallen, jumped) refl
 
   -- from each instruction a path leads to an exit
-  finish : (d n : ℕ) (i : Insn) → begins_at code n ≡ Some i → slot_count code ≤ n + d → (rest : List Insn) × IsPath code n rest
+  finish : (d n : ℕ) (i : Insn)
+      → begins_at code n ≡ Some i → slot_count code ≤ n + d
+      → (rest : List Insn) × IsPath code n rest
   finish zero n i begins enough = absurd (omega (arith, begins_within code n i begins))
   finish (suc d) n i begins enough =
       let shape = shaped code named fine n i begins in
       elim (cases_Bool (falls i)) [
         | inl is ↦
             let into = falls_lead code n i shape (falls_to i n) is refl in
-            let next = begun_of code (falls_to i n) (begins_at code (falls_to i n)) refl (falls_begins code n i shape (falls_to i n) begins into) in
-            let on = finish d (falls_to i n) next.0 next.1 (omega (arith, some_slots i)) in
-            (i ∷ on.0, (begins, inr (falls_to i n, or_left (falls_into i n (falls_to i n)) (jumps_into i n (falls_to i n)) into, on.1)))
+            let next =
+            begun_of code (falls_to i n) (begins_at code (falls_to i n)) refl
+            (falls_begins code n i shape (falls_to i n) begins into) in
+            let on = finish d (falls_to i n) next.0 next.1 (omega (arith, some_slots i)) in (
+              i ∷ on.0,
+              (
+                begins,
+                inr (falls_to i n, or_left (falls_into i n (falls_to i n)) (jumps_into i n (falls_to i n)) into, on.1),
+              ),
+            )
         | inr no_fall ↦
             elim (cases_Bool (jumps i)) [
               | inl is ↦
                   let to = some_slot (jumps_to i n) (target_is code n i shape) in
                   let there = jump_at code n i shape to.0 is to.1 in
                   let next = begun_of code to.0 (begins_at code to.0) refl there.1 in
-                  let on = finish d to.0 next.0 next.1 (omega (arith, there.0)) in
-                  (i ∷ on.0, (begins, inr (to.0, or_right (falls_into i n to.0) (jumps_into i n to.0) (jumps_lead code n i shape to.0 is to.1), on.1)))
+                  let on = finish d to.0 next.0 next.1 (omega (arith, there.0)) in (
+                    i ∷ on.0,
+                    (
+                      begins,
+                      inr (
+                        to.0,
+                        or_right (falls_into i n to.0) (jumps_into i n to.0) (jumps_lead code n i shape to.0 is to.1),
+                        on.1,
+                      ),
+                    ),
+                  )
               | inr no_jump ↦ (i ∷ [], (begins, inl (exit_of i no_fall no_jump, refl)))
             ]
       ]
@@ -189,7 +245,9 @@ module _ (weight : Insn → ℕ) (code : List Insn) (named : List Named) (fine :
   HasPath most = (path : List Insn) × IsPath code 0 path × (total weight path ≡ most)
 
   -- what an exit adds, a path to it has
-  through_exit : (n : ℕ) (o : Option Insn) → begins_at code n ≡ o → (at_exit weight o (most_from weight code n n) ≡ 0) ⊎ HasPath (at_exit weight o (most_from weight code n n))
+  through_exit : (n : ℕ) (o : Option Insn)
+      → begins_at code n ≡ o
+      → (at_exit weight o (most_from weight code n n) ≡ 0) ⊎ HasPath (at_exit weight o (most_from weight code n n))
   unfolding total
   through_exit n None begins = inl refl
   through_exit n (Some i) begins =

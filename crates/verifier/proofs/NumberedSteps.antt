@@ -49,19 +49,34 @@ kinds_twice r d s a b x y =
     ]
 
 -- ranges that are set again
-pub ranged_twice : (x : NumberedFacts) (dst : ℕ) (src : Operand) (p q : RangePair) → with_ranges (with_ranges x dst src p) dst src q ≡ with_ranges x dst src q
+pub ranged_twice : (x : NumberedFacts) (dst : ℕ) (src : Operand) (p q : RangePair)
+    → with_ranges (with_ranges x dst src p) dst src q ≡ with_ranges x dst src q
 ranged_twice x dst (Imm z) p q =
-    ap (λ (r : List Kind). let y : NumberedFacts = record { facts = record { registers = r; slots = x.facts.slots }; numbers = x.numbers; includes = x.includes } in y)
+    ap (λ (r : List Kind).
+    let y : NumberedFacts = record {
+      facts = record { registers = r; slots = x.facts.slots };
+      numbers = x.numbers;
+      includes = x.includes;
+    } in
+    y)
     (set-set x.facts.registers dst (Scalar p.0) (Scalar q.0))
 ranged_twice x dst (Reg s) p q =
-    ap (λ (r : List Kind). let y : NumberedFacts = record { facts = record { registers = r; slots = x.facts.slots }; numbers = x.numbers; includes = x.includes } in y)
+    ap (λ (r : List Kind).
+    let y : NumberedFacts = record {
+      facts = record { registers = r; slots = x.facts.slots };
+      numbers = x.numbers;
+      includes = x.includes;
+    } in
+    y)
     (kinds_twice x.facts.registers dst s (Scalar p.0) (Scalar p.1) (Scalar q.0) (Scalar q.1))
 
-ranged_facts : (x : NumberedFacts) (dst : ℕ) (src : Operand) (told : Option RangePair) → facts_on (option_map (with_ranges x dst src) told) ≡ option_map (with_pair x.facts dst src) told
+ranged_facts : (x : NumberedFacts) (dst : ℕ) (src : Operand) (told : Option RangePair)
+    → facts_on (option_map (with_ranges x dst src) told) ≡ option_map (with_pair x.facts dst src) told
 ranged_facts x dst src None = refl
 ranged_facts x dst src (Some pair) = refl
 
-falling_facts : (flow : Flow) (fresh : ℕ) (x : NumberedFacts) → facts_on (on_falling_edge flow fresh x) ≡ (edges_of flow x.facts).falling
+falling_facts : (flow : Flow) (fresh : ℕ) (x : NumberedFacts)
+    → facts_on (on_falling_edge flow fresh x) ≡ (edges_of flow x.facts).falling
 falling_facts Ends fresh x = refl
 falling_facts Falls fresh x = refl
 falling_facts (WritesSlot i) fresh x = refl
@@ -72,7 +87,8 @@ falling_facts (Compares dst src falls jumps) fresh x = ranged_facts x dst src fa
 falling_facts (Settles site true) fresh x = refl
 falling_facts (Settles site false) fresh x = refl
 
-jumping_facts : (flow : Flow) (fresh : ℕ) (x : NumberedFacts) → facts_on (on_jumping_edge flow fresh x) ≡ (edges_of flow x.facts).jumping
+jumping_facts : (flow : Flow) (fresh : ℕ) (x : NumberedFacts)
+    → facts_on (on_jumping_edge flow fresh x) ≡ (edges_of flow x.facts).jumping
 jumping_facts Ends fresh x = refl
 jumping_facts Falls fresh x = refl
 jumping_facts (WritesSlot i) fresh x = refl
@@ -118,22 +134,37 @@ module _ (stacks : Stacks) (n m : ℕ) (lt : n < m) (some : 0 < n) where
   more : (x : NumberedFacts) → IsNumbered stacks n x → IsNumbered (with_stack stacks n (slot_at x.facts)) m x
   more x h = numbered_more stacks n m (slot_at x.facts) x h lt
 
-  kept : (x : NumberedFacts) (g : Facts) → IsNumbered stacks n x → g.slots ≡ x.facts.slots → IsNumbered (with_stack stacks n (slot_at g)) m (left_with x g)
+  kept : (x : NumberedFacts) (g : Facts)
+      → IsNumbered stacks n x → g.slots ≡ x.facts.slots
+      → IsNumbered (with_stack stacks n (slot_at g)) m (left_with x g)
   kept x g h same = more (left_with x g) (numbered_same stacks n x (left_with x g) h same refl refl)
 
   -- one slot was written: its part has a new number, and other slots are unchanged
-  slot_noted : (x : NumberedFacts) (g : Facts) (at : ℕ) → IsNumbered stacks n x → ChangesAtMost (Some at) x.facts g → (i : ℕ) → i < stack_slots
-      → IsNumberedSlot (with_held (stacks i) n (slot_at g i)) m (slot_at g i) (number_of (part_renumbered (left_with x g) at n) i) (included_in (part_renumbered (left_with x g) at n) i)
+  slot_noted : (x : NumberedFacts) (g : Facts) (at : ℕ)
+      → IsNumbered stacks n x → ChangesAtMost (Some at) x.facts g
+      → (i : ℕ) → i < stack_slots
+      → IsNumberedSlot (with_held (stacks i) n (slot_at g i)) m (slot_at g i)
+      (number_of (part_renumbered (left_with x g) at n) i)
+      (included_in (part_renumbered (left_with x g) at n) i)
   slot_noted x g at h keeps i within =
       let part : part_of i < length x.numbers = let long = h.parts in omega (arith, long, within) in
       elim (cases_eq (part_of i) (part_of at)) [
         | inl same ↦
-            slot_fresh (stacks i) n m (slot_at g i) (number_of (part_renumbered (left_with x g) at n) i) (included_in (part_renumbered (left_with x g) at n) i) some lt
-            (subst (λ (p : ℕ). get_or (set x.numbers p n) (part_of i) 0 ≡ n) same (get_or-set_same x.numbers (part_of i) n 0 part))
+            slot_fresh (stacks i) n m (slot_at g i)
+            (number_of (part_renumbered (left_with x g) at n) i)
+            (included_in (part_renumbered (left_with x g) at n) i)
+            some lt
+            (subst (λ (p : ℕ). get_or (set x.numbers p n) (part_of i) 0 ≡ n) same
+            (get_or-set_same x.numbers (part_of i) n 0 part))
             (subst (λ (p : ℕ). get_or (set x.includes p 0) (part_of i) 0 ≡ 0) same (set_none x.includes (part_of i)))
         | inr other ↦
-            slot_more (stacks i) n m (slot_at g i) (slot_at g i) (number_of (part_renumbered (left_with x g) at n) i) (included_in (part_renumbered (left_with x g) at n) i)
-            (slot_same (stacks i) n (slot_at x.facts i) (slot_at g i) (number_of x i) (included_in x i) (number_of (part_renumbered (left_with x g) at n) i) (included_in (part_renumbered (left_with x g) at n) i)
+            slot_more (stacks i) n m (slot_at g i) (slot_at g i)
+            (number_of (part_renumbered (left_with x g) at n) i)
+            (included_in (part_renumbered (left_with x g) at n) i)
+            (slot_same (stacks i) n (slot_at x.facts i) (slot_at g i) (number_of x i)
+            (included_in x i)
+            (number_of (part_renumbered (left_with x g) at n) i)
+            (included_in (part_renumbered (left_with x g) at n) i)
             (h.slots i within)
             (keeps.1 i (λ e. other (ap part_of e)))
             (get_or-set_other x.numbers (part_of at) (part_of i) n 0 other)
@@ -141,7 +172,9 @@ module _ (stacks : Stacks) (n m : ℕ) (lt : n < m) (some : 0 < n) where
             lt
       ]
 
-  noted_numbered : (flow : Flow) (x : NumberedFacts) (g : Facts) → IsNumbered stacks n x → KeepsStack flow x.facts g → IsNumbered (with_stack stacks n (slot_at g)) m (noted flow n (left_with x g))
+  noted_numbered : (flow : Flow) (x : NumberedFacts) (g : Facts)
+      → IsNumbered stacks n x → KeepsStack flow x.facts g
+      → IsNumbered (with_stack stacks n (slot_at g)) m (noted flow n (left_with x g))
   noted_numbered (WritesSlot at) x g h keeps =
       record {
         parts = length-set x.numbers (part_of at) n ∙ h.parts;
@@ -159,11 +192,18 @@ module _ (stacks : Stacks) (n m : ℕ) (lt : n < m) (some : 0 < n) where
   source_stack f dst (Imm z) pair = refl
   source_stack f dst (Reg r) pair = refl
 
-  ranged_numbered : (x : NumberedFacts) (dst : ℕ) (src : Operand) (told : Option RangePair) → IsNumbered stacks n x → IsNumberedIf (with_stack stacks n (stack_on (option_map (with_ranges x dst src) told))) m (option_map (with_ranges x dst src) told)
+  ranged_numbered : (x : NumberedFacts) (dst : ℕ) (src : Operand) (told : Option RangePair)
+      → IsNumbered stacks n x
+      → IsNumberedIf (with_stack stacks n (stack_on (option_map (with_ranges x dst src) told))) m
+      (option_map (with_ranges x dst src) told)
   ranged_numbered x dst src None h = tt
-  ranged_numbered x dst src (Some pair) h = more (with_ranges x dst src pair) (numbered_same stacks n x (with_ranges x dst src pair) h (source_stack x.facts dst src pair) refl refl)
+  ranged_numbered x dst src (Some pair) h =
+      more (with_ranges x dst src pair)
+      (numbered_same stacks n x (with_ranges x dst src pair) h (source_stack x.facts dst src pair) refl refl)
 
-  jumping_numbered : (flow : Flow) (x : NumberedFacts) → IsNumbered stacks n x → IsNumberedIf (with_stack stacks n (stack_on (on_jumping_edge flow n x))) m (on_jumping_edge flow n x)
+  jumping_numbered : (flow : Flow) (x : NumberedFacts)
+      → IsNumbered stacks n x
+      → IsNumberedIf (with_stack stacks n (stack_on (on_jumping_edge flow n x))) m (on_jumping_edge flow n x)
   jumping_numbered Ends x h = tt
   jumping_numbered Falls x h = tt
   jumping_numbered (WritesSlot i) x h = tt
@@ -173,7 +213,9 @@ module _ (stacks : Stacks) (n m : ℕ) (lt : n < m) (some : 0 < n) where
   jumping_numbered (Compares dst src falls jumps) x h = ranged_numbered x dst src jumps h
   jumping_numbered (Settles site null) x h = numbered_fresh stacks n m (facts_settled site null x.facts) some lt
 
-  falling_numbered : (flow : Flow) (x : NumberedFacts) → IsNumbered stacks n x → IsNumberedIf (with_stack stacks n (stack_on (on_falling_edge flow n x))) m (on_falling_edge flow n x)
+  falling_numbered : (flow : Flow) (x : NumberedFacts)
+      → IsNumbered stacks n x
+      → IsNumberedIf (with_stack stacks n (stack_on (on_falling_edge flow n x))) m (on_falling_edge flow n x)
   falling_numbered Ends x h = tt
   falling_numbered Falls x h = more x h
   falling_numbered (WritesSlot i) x h = more x h
@@ -189,57 +231,91 @@ abbrev entry_at : Option ℕ → List (Option NumberedFacts) → Option Numbered
 entry_at None entries = None
 entry_at (Some to) entries = entry_of to entries
 
-module _ (absorb : SlotsAbsorb) (stacks : Stacks) (n m slot : ℕ) (lt : n < m) (some : 0 < n) (old new : List (Option NumberedFacts)) (ahead : (i : ℕ) → slot ≤ i → IsNumberedIf stacks n (entry_of i old)) where
+module _ (absorb : SlotsAbsorb) (stacks : Stacks) (n m slot : ℕ) (lt : n < m) (some : 0 < n)
+    (old new : List (Option NumberedFacts))
+    (ahead : (i : ℕ) → slot ≤ i → IsNumberedIf stacks n (entry_of i old)) where
   pub record IsRightEntry (target : Option ℕ) (facts : Option Facts) (i : ℕ) : Type 0 where
     pub brings : Brings target facts old new i
     pub numbered : IsNumberedIf (with_stack stacks n (stack_on (entry_at target new))) m (entry_of i new)
 
-  same_entry : (target : Option ℕ) (facts : Option Facts) (i : ℕ) → slot ≤ i → only_if (is_slot target i) facts ≡ None → entry_of i new ≡ entry_of i old → IsRightEntry target facts i
+  same_entry : (target : Option ℕ) (facts : Option Facts) (i : ℕ)
+      → slot ≤ i → only_if (is_slot target i) facts ≡ None
+      → entry_of i new ≡ entry_of i old
+      → IsRightEntry target facts i
   same_entry target facts i above none same =
       record {
         brings = ap facts_on same ∙ sym (joined_none (brought_to i old)) ∙ sym (ap (joined (brought_to i old)) none);
-        numbered = subst (λ (o : Option NumberedFacts). IsNumberedIf (with_stack stacks n (stack_on (entry_at target new))) m o) (sym same)
-            (numbered_more_if stacks n m (stack_on (entry_at target new)) (entry_of i old) (ahead i above) (omega arith));
+        numbered =
+            subst (λ (o : Option NumberedFacts). IsNumberedIf (with_stack stacks n (stack_on (entry_at target new))) m o)
+            (sym same)
+            (numbered_more_if stacks n m (stack_on (entry_at target new)) (entry_of i old)
+            (ahead i above) (omega arith));
       }
 
   -- the entry of the target itself
-  target_entry : (to i : ℕ) (y : NumberedFacts) → slot ≤ i → i ≡ to → IsNumbered stacks n y → IsJoinedBy n (entry_of to old) y (entry_of to new) → IsRightEntry (Some to) (Some y.facts) i
+  target_entry : (to i : ℕ) (y : NumberedFacts)
+      → slot ≤ i → i ≡ to
+      → IsNumbered stacks n y
+      → IsJoinedBy n (entry_of to old) y (entry_of to new)
+      → IsRightEntry (Some to) (Some y.facts) i
   target_entry to i y above same numbered joins =
-      let right = right_join absorb stacks n m lt some (entry_of i old) y (entry_of i new) (ahead i above) numbered (subst (λ (k : ℕ). IsJoinedBy n (entry_of k old) y (entry_of k new)) (sym same) joins) in
+      let right =
+      right_join absorb stacks n m lt some (entry_of i old) y (entry_of i new) (ahead i above)
+      numbered
+      (subst (λ (k : ℕ). IsJoinedBy n (entry_of k old) y (entry_of k new)) (sym same) joins) in
       record {
-        brings = right.facts ∙ sym (ap (λ (b : Bool). joined (brought_to i old) (only_if b (Some y.facts))) (eq-eqb to i (sym same)));
-        numbered = subst (λ (k : ℕ). IsNumberedIf (with_stack stacks n (stack_on (entry_of k new))) m (entry_of i new)) same right.numbered;
+        brings =
+            right.facts
+            ∙ sym (ap (λ (b : Bool). joined (brought_to i old) (only_if b (Some y.facts))) (eq-eqb to i (sym same)));
+        numbered =
+            subst (λ (k : ℕ). IsNumberedIf (with_stack stacks n (stack_on (entry_of k new))) m (entry_of i new))
+            same right.numbered;
       }
 
-  pub sent_right : (target : Option ℕ) (sent : Option NumberedFacts) → IsNumberedIf stacks n sent → IsSentIf target n sent old new → (i : ℕ) → slot ≤ i → IsRightEntry target (facts_on sent) i
+  pub sent_right : (target : Option ℕ) (sent : Option NumberedFacts)
+      → IsNumberedIf stacks n sent → IsSentIf target n sent old new
+      → (i : ℕ) → slot ≤ i
+      → IsRightEntry target (facts_on sent) i
   sent_right target None numbered is i above =
       same_entry target None i above (on_none (is_slot target i)) (ap (entry_of i) is)
   sent_right None (Some y) numbered is i above = same_entry None (Some y.facts) i above refl (ap (entry_of i) is)
   sent_right (Some to) (Some y) numbered is i above =
       elim (cases_eq i to) [
         | inl same ↦ target_entry to i y above same numbered is.0
-        | inr other ↦ same_entry (Some to) (Some y.facts) i above (ap (λ (b : Bool). only_if b (Some y.facts)) (ne_eqb to i (λ e. other (sym e)))) (is.1 i other)
+        | inr other ↦ same_entry (Some to) (Some y.facts) i above
+            (ap (λ (b : Bool). only_if b (Some y.facts)) (ne_eqb to i (λ e. other (sym e))))
+            (is.1 i other)
       ]
 
 -- ---- a step
 
 module _ (absorb : SlotsAbsorb) (shapes : Shapes) (slot : ℕ) (insn : Insn) where
-  pub record IsRightStep (here : Option Facts) (old : List (Option NumberedFacts)) (falling : Option NumberedFacts) (new : List (Option NumberedFacts)) : Type 0 where
+  pub record IsRightStep (here : Option Facts) (old : List (Option NumberedFacts))
+      (falling : Option NumberedFacts) (new : List (Option NumberedFacts)) : Type 0 where
     pub falls : facts_on falling ≡ falling_from shapes slot insn here
     pub sent : (i : ℕ) → slot < i → Brings (jump_target insn slot) (jumping_from shapes slot insn here) old new i
     pub numbered : AreNumbered (slot + 1) (8 * slot + 10) falling new
 
   -- the current facts after the facts on both edges into the slot are joined
-  pub record IsArrived (stacks : Stacks) (entries after : List (Option NumberedFacts)) (falling here : Option NumberedFacts) : Type 0 where
+  pub record IsArrived (stacks : Stacks)
+      (entries after : List (Option NumberedFacts))
+      (falling here : Option NumberedFacts) : Type 0 where
     pub facts : facts_on here ≡ joined (facts_on falling) (brought_to slot entries)
     pub in_hand : IsNumberedIf (with_stack stacks (8 * slot + 2) (stack_on here)) (8 * slot + 3) here
-    pub ahead : (i : ℕ) → slot + 1 ≤ i → IsNumberedIf (with_stack stacks (8 * slot + 2) (stack_on here)) (8 * slot + 3) (entry_of i after)
+    pub ahead : (i : ℕ)
+        → slot + 1 ≤ i
+        → IsNumberedIf (with_stack stacks (8 * slot + 2) (stack_on here)) (8 * slot + 3) (entry_of i after)
 
-  meets : (stacks : Stacks) (falling entry here : Option NumberedFacts) → IsNumberedIf stacks (8 * slot + 2) falling → IsNumberedIf stacks (8 * slot + 2) entry → IsJoinedIf (8 * slot + 2) falling entry here
-      → (facts_on here ≡ joined (facts_on falling) (facts_on entry)) × IsNumberedIf (with_stack stacks (8 * slot + 2) (stack_on here)) (8 * slot + 3) here
+  meets : (stacks : Stacks) (falling entry here : Option NumberedFacts)
+      → IsNumberedIf stacks (8 * slot + 2) falling → IsNumberedIf stacks (8 * slot + 2) entry
+      → IsJoinedIf (8 * slot + 2) falling entry here
+      → (facts_on here ≡ joined (facts_on falling) (facts_on entry))
+      × IsNumberedIf (with_stack stacks (8 * slot + 2) (stack_on here)) (8 * slot + 3) here
   meets stacks falling None here h k is = (
     ap facts_on is ∙ sym (joined_none (facts_on falling)),
-    numbered_more_if stacks (8 * slot + 2) (8 * slot + 3) (stack_on here) here (subst (λ (o : Option NumberedFacts). IsNumberedIf stacks (8 * slot + 2) o) (sym is) h) (omega arith),
+    numbered_more_if stacks (8 * slot + 2) (8 * slot + 3) (stack_on here) here
+        (subst (λ (o : Option NumberedFacts). IsNumberedIf stacks (8 * slot + 2) o) (sym is) h)
+        (omega arith),
   )
   meets stacks falling (Some y) here h k is =
       let lt : 8 * slot + 2 < 8 * slot + 3 = omega arith in
@@ -247,9 +323,12 @@ module _ (absorb : SlotsAbsorb) (shapes : Shapes) (slot : ℕ) (insn : Insn) whe
       (right.facts, right.numbered)
 
   -- after an instruction
-  pub past : (stacks : Stacks) (x : NumberedFacts) (old : List (Option NumberedFacts)) (falling : Option NumberedFacts) (new : List (Option NumberedFacts))
-      → IsNumbered stacks (8 * slot + 3) x → ((i : ℕ) → slot + 1 ≤ i → IsNumberedIf stacks (8 * slot + 3) (entry_of i old))
-      → IsPast shapes slot insn x old falling new → IsRightStep (Some x.facts) old falling new
+  pub past : (stacks : Stacks) (x : NumberedFacts) (old : List (Option NumberedFacts))
+      (falling : Option NumberedFacts) (new : List (Option NumberedFacts))
+      → IsNumbered stacks (8 * slot + 3) x
+      → ((i : ℕ) → slot + 1 ≤ i → IsNumberedIf stacks (8 * slot + 3) (entry_of i old))
+      → IsPast shapes slot insn x old falling new
+      → IsRightStep (Some x.facts) old falling new
   past stacks x old falling new numbered ahead p =
       let n2 = 8 * slot + 3 in
       let n3 = 8 * slot + 4 in
@@ -268,16 +347,20 @@ module _ (absorb : SlotsAbsorb) (shapes : Shapes) (slot : ℕ) (insn : Insn) whe
       let fallen : Option NumberedFacts = on_falling_edge p.flow n4 y in
       let s3 : Stacks = with_stack s2 n4 (stack_on fallen) in
       let s4 : Stacks = with_stack s3 n5 (stack_on (entry_at target new)) in
-      let in_hand : IsNumbered s1 n3 y = noted_numbered stacks n2 n3 l2 (omega arith) p.flow x p.facts numbered p.stack in
+      let in_hand : IsNumbered s1 n3 y =
+      noted_numbered stacks n2 n3 l2 (omega arith) p.flow x p.facts numbered p.stack in
       let sends : IsNumberedIf s2 n4 jumping = jumping_numbered s1 n3 n4 l3 (omega arith) p.flow y in_hand in
-      let keeps : IsNumberedIf s3 n5 fallen = falling_numbered s2 n4 n5 l4 (omega arith) p.flow y (numbered_more s1 n3 n4 (stack_on jumping) y in_hand l3) in
+      let keeps : IsNumberedIf s3 n5 fallen =
+      falling_numbered s2 n4 n5 l4 (omega arith) p.flow y (numbered_more s1 n3 n4 (stack_on jumping) y in_hand l3) in
       let left : (i : ℕ) → slot + 1 ≤ i → IsNumberedIf s3 n5 (entry_of i old) =
       λ i above.
       numbered_more_if s2 n4 n5 (stack_on fallen) (entry_of i old)
       (numbered_more_if s1 n3 n4 (stack_on jumping) (entry_of i old)
       (numbered_more_if stacks n2 n3 (slot_at p.facts) (entry_of i old) (ahead i above) l2) l3) l4 in
       let sent : IsNumberedIf s3 n5 jumping = numbered_more_if s2 n4 n5 (stack_on fallen) jumping sends l4 in
-      let entry : (i : ℕ) → slot + 1 ≤ i → IsRightEntry absorb s3 n5 n9 (slot + 1) l5 (omega arith) old new left target (facts_on jumping) i =
+      let entry : (i : ℕ)
+      → slot + 1 ≤ i
+      → IsRightEntry absorb s3 n5 n9 (slot + 1) l5 (omega arith) old new left target (facts_on jumping) i =
       sent_right absorb s3 n5 n9 (slot + 1) l5 (omega arith) old new left target jumping sent p.sent in
       let facts : y.facts ≡ p.facts = noted_facts p.flow n2 (left_with x p.facts) in
       let falls : facts_on falling ≡ falling_from shapes slot insn (Some x.facts) =
@@ -289,18 +372,27 @@ module _ (absorb : SlotsAbsorb) (shapes : Shapes) (slot : ℕ) (insn : Insn) whe
       jumping_facts p.flow n3 y ∙ ap (λ (f : Facts). (edges_of p.flow f).jumping) facts ∙ sym (ap jumping_of p.edges) in
       record {
         falls = falls;
-        sent = λ i above. let next : slot + 1 ≤ i = omega (arith, above) in (entry i next).brings ∙ ap (λ (o : Option Facts). joined (brought_to i old) (only_if (is_slot target i) o)) jumps;
+        sent = λ i above.
+            let next : slot + 1 ≤ i = omega (arith, above) in
+            (entry i next).brings
+            ∙ ap (λ (o : Option Facts). joined (brought_to i old) (only_if (is_slot target i) o)) jumps;
         numbered = record {
           stacks = s4;
-          in_hand = numbered_more_if s3 n5 n9 (stack_on (entry_at target new)) falling (subst (λ (o : Option NumberedFacts). IsNumberedIf s3 n5 o) (sym p.falls) keeps) l5;
+          in_hand =
+              numbered_more_if s3 n5 n9 (stack_on (entry_at target new)) falling
+              (subst (λ (o : Option NumberedFacts). IsNumberedIf s3 n5 o) (sym p.falls) keeps)
+              l5;
           ahead = λ i above. (entry i above).numbered;
         };
       }
 
   -- the facts on both edges into a slot, joined
-  pub arrived : (stacks : Stacks) (entries after : List (Option NumberedFacts)) (falling here : Option NumberedFacts)
-      → IsNumberedIf stacks (8 * slot + 2) falling → ((i : ℕ) → slot ≤ i → IsNumberedIf stacks (8 * slot + 2) (entry_of i entries))
-      → IsTaken slot (8 * slot + 2) entries after falling here → IsArrived stacks entries after falling here
+  pub arrived : (stacks : Stacks) (entries after : List (Option NumberedFacts))
+      (falling here : Option NumberedFacts)
+      → IsNumberedIf stacks (8 * slot + 2) falling
+      → ((i : ℕ) → slot ≤ i → IsNumberedIf stacks (8 * slot + 2) (entry_of i entries))
+      → IsTaken slot (8 * slot + 2) entries after falling here
+      → IsArrived stacks entries after falling here
   arrived stacks entries after falling here in_hand ahead taken =
       let n1 = 8 * slot + 2 in
       let n2 = 8 * slot + 3 in
@@ -311,20 +403,26 @@ module _ (absorb : SlotsAbsorb) (shapes : Shapes) (slot : ℕ) (insn : Insn) whe
         in_hand = met.1;
         ahead = λ i above.
             let low : slot < i = omega (arith, above) in
-            let more = numbered_more_if stacks n1 n2 (stack_on here) (entry_of i entries) (ahead i (omega (arith, above))) lt in
-            subst (λ (o : Option NumberedFacts). IsNumberedIf (with_stack stacks n1 (stack_on here)) n2 o) (sym (taken.1 i low)) more;
+            let more =
+            numbered_more_if stacks n1 n2 (stack_on here) (entry_of i entries) (ahead i (omega (arith, above))) lt in
+            subst (λ (o : Option NumberedFacts). IsNumberedIf (with_stack stacks n1 (stack_on here)) n2 o)
+            (sym (taken.1 i low)) more;
       }
 
-  nothing_sent : (old new : List (Option NumberedFacts)) → new ≡ old → (i : ℕ) → Brings (jump_target insn slot) None old new i
+  nothing_sent : (old new : List (Option NumberedFacts))
+      → new ≡ old → (i : ℕ) → Brings (jump_target insn slot) None old new i
   nothing_sent old new same i =
       ap (brought_to i) same
       ∙ sym (joined_none (brought_to i old))
       ∙ sym (ap (joined (brought_to i old)) (on_none (is_slot (jump_target insn slot) i)))
 
   -- after an instruction, if there are facts
-  past_if : (stacks : Stacks) (here : Option NumberedFacts) (old : List (Option NumberedFacts)) (after : Option NumberedFacts) (new : List (Option NumberedFacts))
-      → IsNumberedIf stacks (8 * slot + 3) here → ((i : ℕ) → slot + 1 ≤ i → IsNumberedIf stacks (8 * slot + 3) (entry_of i old))
-      → IsPastIf shapes slot insn here old after new → IsRightStep (facts_on here) old after new
+  past_if : (stacks : Stacks) (here : Option NumberedFacts) (old : List (Option NumberedFacts))
+      (after : Option NumberedFacts) (new : List (Option NumberedFacts))
+      → IsNumberedIf stacks (8 * slot + 3) here
+      → ((i : ℕ) → slot + 1 ≤ i → IsNumberedIf stacks (8 * slot + 3) (entry_of i old))
+      → IsPastIf shapes slot insn here old after new
+      → IsRightStep (facts_on here) old after new
   past_if stacks None old after new in_hand ahead none =
       record {
         falls = ap facts_on none.0;
@@ -332,23 +430,35 @@ module _ (absorb : SlotsAbsorb) (shapes : Shapes) (slot : ℕ) (insn : Insn) whe
         numbered = record {
           stacks = stacks;
           in_hand = subst (λ (o : Option NumberedFacts). IsNumberedIf stacks (8 * slot + 10) o) (sym none.0) tt;
-          ahead = λ i above. subst (λ (es : List (Option NumberedFacts)). IsNumberedIf stacks (8 * slot + 10) (entry_of i es)) (sym none.1)
+          ahead = λ i above.
+              subst (λ (es : List (Option NumberedFacts)). IsNumberedIf stacks (8 * slot + 10) (entry_of i es))
+              (sym none.1)
               (raised_if stacks (8 * slot + 3) (8 * slot + 10) (entry_of i old) (omega arith) (ahead i above));
         };
       }
   past_if stacks (Some x) old after new in_hand ahead p = past stacks x old after new in_hand ahead p
 
   -- the facts arrive, and the instruction is applied
-  pub stepped : (entries middle new : List (Option NumberedFacts)) (falling here after : Option NumberedFacts)
-      → AreNumbered slot (8 * slot + 2) falling entries → IsTaken slot (8 * slot + 2) entries middle falling here
-      → IsPastIf shapes slot insn here middle after new → IsRightStep (joined (facts_on falling) (brought_to slot entries)) entries after new
+  pub stepped : (entries middle new : List (Option NumberedFacts))
+      (falling here after : Option NumberedFacts)
+      → AreNumbered slot (8 * slot + 2) falling entries
+      → IsTaken slot (8 * slot + 2) entries middle falling here
+      → IsPastIf shapes slot insn here middle after new
+      → IsRightStep (joined (facts_on falling) (brought_to slot entries)) entries after new
   stepped entries middle new falling here after numbered taken left =
       let arrival = arrived numbered.stacks entries middle falling here numbered.in_hand numbered.ahead taken in
-      let step = past_if (with_stack numbered.stacks (8 * slot + 2) (stack_on here)) here middle after new arrival.in_hand arrival.ahead left in
-      let from : (i : ℕ) → slot < i → brought_to i middle ≡ brought_to i entries = λ i above. ap facts_on (taken.1 i above) in
+      let step =
+      past_if (with_stack numbered.stacks (8 * slot + 2) (stack_on here)) here middle after new
+      arrival.in_hand arrival.ahead left in
+      let from : (i : ℕ) → slot < i → brought_to i middle ≡ brought_to i entries =
+      λ i above. ap facts_on (taken.1 i above) in
       subst (λ (o : Option Facts). IsRightStep o entries after new) arrival.facts
       (record {
         falls = step.falls;
-        sent = λ i above. step.sent i above ∙ ap (λ (o : Option Facts). joined o (only_if (is_slot (jump_target insn slot) i) (jumping_from shapes slot insn (facts_on here)))) (from i above);
+        sent = λ i above.
+            step.sent i above
+            ∙ ap (λ (o : Option Facts).
+            joined o (only_if (is_slot (jump_target insn slot) i) (jumping_from shapes slot insn (facts_on here))))
+            (from i above);
         numbered = step.numbered;
       })

@@ -36,7 +36,9 @@ pub held_below : (held : ℕ → Slot) (n k : ℕ) (s : Slot) → k < n → with
 held_below held n k s lt = cond-false (k == n) s (held k) (ne_eqb k n (λ e. omega (arith, e, lt)))
 
 -- a slot with numbers below the new one keeps their meaning
-pub slot_more : (held : ℕ → Slot) (n m : ℕ) (new s : Slot) (a b : ℕ) → IsNumberedSlot held n s a b → n < m → IsNumberedSlot (with_held held n new) m s a b
+pub slot_more : (held : ℕ → Slot) (n m : ℕ) (new s : Slot) (a b : ℕ)
+    → IsNumberedSlot held n s a b → n < m
+    → IsNumberedSlot (with_held held n new) m s a b
 slot_more held n m new s a b h lt =
     record {
       is = h.is ∙ sym (held_below held n a new h.below);
@@ -50,7 +52,8 @@ slot_more held n m new s a b h lt =
           );
     }
 
-pub slot_raised : (held : ℕ → Slot) (n m : ℕ) (s : Slot) (a b : ℕ) → n ≤ m → IsNumberedSlot held n s a b → IsNumberedSlot held m s a b
+pub slot_raised : (held : ℕ → Slot) (n m : ℕ) (s : Slot) (a b : ℕ)
+    → n ≤ m → IsNumberedSlot held n s a b → IsNumberedSlot held m s a b
 slot_raised held n m s a b le h =
     record {
       is = h.is;
@@ -60,14 +63,18 @@ slot_raised held n m s a b le h =
     }
 
 -- the same for an equal slot with equal numbers
-pub slot_same : (held : ℕ → Slot) (n : ℕ) (s s' : Slot) (a b a' b' : ℕ) → IsNumberedSlot held n s a b → s' ≡ s → a' ≡ a → b' ≡ b → IsNumberedSlot held n s' a' b'
+pub slot_same : (held : ℕ → Slot) (n : ℕ) (s s' : Slot) (a b a' b' : ℕ)
+    → IsNumberedSlot held n s a b → s' ≡ s
+    → a' ≡ a → b' ≡ b
+    → IsNumberedSlot held n s' a' b'
 slot_same held n s s' a b a' b' h slot number includes =
     subst (λ (t : Slot). IsNumberedSlot held n t a' b') (sym slot)
     (subst (λ (k : ℕ). IsNumberedSlot held n s k b') (sym number)
     (subst (λ (k : ℕ). IsNumberedSlot held n s a k) (sym includes) h))
 
 -- a slot with a new number
-pub slot_fresh : (held : ℕ → Slot) (n m : ℕ) (s : Slot) (a b : ℕ) → 0 < n → n < m → a ≡ n → b ≡ 0 → IsNumberedSlot (with_held held n s) m s a b
+pub slot_fresh : (held : ℕ → Slot) (n m : ℕ) (s : Slot) (a b : ℕ)
+    → 0 < n → n < m → a ≡ n → b ≡ 0 → IsNumberedSlot (with_held held n s) m s a b
 slot_fresh held n m s a b some lt number includes =
     record {
       is = sym (ap (with_held held n s) number ∙ held_there held n s);
@@ -80,7 +87,9 @@ pub record IsRightSlot (held : ℕ → Slot) (n m : ℕ) (s t s' : Slot) (n' m' 
   pub slot : s' ≡ slot_join s t
   pub numbered : IsNumberedSlot (with_held held n s') m s' n' m'
 
-module _ (absorb : SlotsAbsorb) (held : ℕ → Slot) (n m : ℕ) (lt : n < m) (first : 0 < n) (s t s' : Slot) (a b k l n' m' : ℕ) (hx : IsNumberedSlot held n s a b) (hy : IsNumberedSlot held n t k l) where
+module _ (absorb : SlotsAbsorb) (held : ℕ → Slot) (n m : ℕ) (lt : n < m) (first : 0 < n)
+    (s t s' : Slot) (a b k l n' m' : ℕ) (hx : IsNumberedSlot held n s a b)
+    (hy : IsNumberedSlot held n t k l) where
   -- the part was not joined, since it includes the other
   slot_kept : b ≡ k → s' ≡ s → n' ≡ a → m' ≡ b → IsRightSlot held n m s t s' n' m'
   slot_kept same slot number includes =
@@ -107,11 +116,23 @@ module _ (absorb : SlotsAbsorb) (held : ℕ → Slot) (n m : ℕ) (lt : n < m) (
         numbered = ⊎_elim
             (λ (fresh : n' ≡ n).
             let r : IsNumberedSlot all m s' n' m' =
-            record { is = sym (ap all fresh ∙ held_there held n s'); some = omega (arith, fresh, first); below = omega (arith, fresh, lt); includes = told } in r)
+            record {
+              is = sym (ap all fresh ∙ held_there held n s');
+              some = omega (arith, fresh, first);
+              below = omega (arith, fresh, lt);
+              includes = told;
+            }
+            in r)
             (λ (same : (n' ≡ a) × (s' ≡ s)).
             let e = same.0 in
             let r : IsNumberedSlot all m s' n' m' =
-            record { is = same.1 ∙ hx.is ∙ sym (ap all same.0 ∙ held_below held n a s' low_x); some = omega (arith, e, some_x); below = omega (arith, e, low_x, lt); includes = told } in r)
+            record {
+              is = same.1 ∙ hx.is ∙ sym (ap all same.0 ∙ held_below held n a s' low_x);
+              some = omega (arith, e, some_x);
+              below = omega (arith, e, low_x, lt);
+              includes = told;
+            }
+            in r)
             number;
       }
 
@@ -128,27 +149,35 @@ Stacks = ℕ → ℕ → Slot
 abbrev pub with_stack : Stacks → ℕ → (ℕ → Slot) → Stacks
 with_stack stacks n slots i = with_held (stacks i) n (slots i)
 
-pub numbered_more : (stacks : Stacks) (n m : ℕ) (s : ℕ → Slot) (x : NumberedFacts) → IsNumbered stacks n x → n < m → IsNumbered (with_stack stacks n s) m x
+pub numbered_more : (stacks : Stacks) (n m : ℕ) (s : ℕ → Slot) (x : NumberedFacts)
+    → IsNumbered stacks n x → n < m → IsNumbered (with_stack stacks n s) m x
 numbered_more stacks n m s x h lt =
     record {
       parts = h.parts;
-      slots = λ i within. slot_more (stacks i) n m (s i) (slot_at x.facts i) (number_of x i) (included_in x i) (h.slots i within) lt;
+      slots = λ i within.
+          slot_more (stacks i) n m (s i) (slot_at x.facts i) (number_of x i) (included_in x i) (h.slots i within) lt;
     }
 
-pub numbered_more_if : (stacks : Stacks) (n m : ℕ) (s : ℕ → Slot) (o : Option NumberedFacts) → IsNumberedIf stacks n o → n < m → IsNumberedIf (with_stack stacks n s) m o
+pub numbered_more_if : (stacks : Stacks) (n m : ℕ) (s : ℕ → Slot) (o : Option NumberedFacts)
+    → IsNumberedIf stacks n o → n < m → IsNumberedIf (with_stack stacks n s) m o
 numbered_more_if stacks n m s None h lt = tt
 numbered_more_if stacks n m s (Some x) h lt = numbered_more stacks n m s x h lt
 
-pub raised_if : (stacks : Stacks) (n m : ℕ) (o : Option NumberedFacts) → n ≤ m → IsNumberedIf stacks n o → IsNumberedIf stacks m o
+pub raised_if : (stacks : Stacks) (n m : ℕ) (o : Option NumberedFacts)
+    → n ≤ m → IsNumberedIf stacks n o → IsNumberedIf stacks m o
 raised_if stacks n m None le h = tt
 raised_if stacks n m (Some x) le h =
     record {
       parts = h.parts;
-      slots = λ i within. slot_raised (stacks i) n m (slot_at x.facts i) (number_of x i) (included_in x i) le (h.slots i within);
+      slots = λ i within.
+          slot_raised (stacks i) n m (slot_at x.facts i) (number_of x i) (included_in x i) le (h.slots i within);
     }
 
 -- the same from a later slot on, and with a greater bound
-pub raised : (slot later n m : ℕ) (falling : Option NumberedFacts) (entries : List (Option NumberedFacts)) → slot ≤ later → n ≤ m → AreNumbered slot n falling entries → AreNumbered later m falling entries
+pub raised : (slot later n m : ℕ) (falling : Option NumberedFacts) (entries : List (Option NumberedFacts))
+    → slot ≤ later → n ≤ m
+    → AreNumbered slot n falling entries
+    → AreNumbered later m falling entries
 raised slot later n m falling entries above le h =
     record {
       stacks = h.stacks;
@@ -157,12 +186,16 @@ raised slot later n m falling entries above le h =
     }
 
 -- other facts with the same stack and the same numbers
-pub numbered_same : (stacks : Stacks) (n : ℕ) (x y : NumberedFacts) → IsNumbered stacks n x → y.facts.slots ≡ x.facts.slots → y.numbers ≡ x.numbers → y.includes ≡ x.includes → IsNumbered stacks n y
+pub numbered_same : (stacks : Stacks) (n : ℕ) (x y : NumberedFacts)
+    → IsNumbered stacks n x → y.facts.slots ≡ x.facts.slots
+    → y.numbers ≡ x.numbers → y.includes ≡ x.includes
+    → IsNumbered stacks n y
 numbered_same stacks n x y h slots numbers includes =
     record {
       parts = ap length numbers ∙ h.parts;
       slots = λ i within.
-          slot_same (stacks i) n (slot_at x.facts i) (slot_at y.facts i) (number_of x i) (included_in x i) (number_of y i) (included_in y i)
+          slot_same (stacks i) n (slot_at x.facts i) (slot_at y.facts i) (number_of x i)
+          (included_in x i) (number_of y i) (included_in y i)
           (h.slots i within)
           (ap (λ (l : List Slot). get_or l i (Bytes 0)) slots)
           (ap (λ (l : List ℕ). get_or l (part_of i) 0) numbers)
@@ -170,13 +203,16 @@ numbered_same stacks n x y h slots numbers includes =
     }
 
 -- a new number for all parts
-pub numbered_fresh : (stacks : Stacks) (n m : ℕ) (f : Facts) → 0 < n → n < m → IsNumbered (with_stack stacks n (slot_at f)) m (numbered_by n f)
+pub numbered_fresh : (stacks : Stacks) (n m : ℕ) (f : Facts)
+    → 0 < n → n < m
+    → IsNumbered (with_stack stacks n (slot_at f)) m (numbered_by n f)
 numbered_fresh stacks n m f some lt =
     record {
       parts = length-replicate stack_parts n;
       slots = λ i within.
           let part : part_of i < stack_parts = omega (arith, within) in
-          slot_fresh (stacks i) n m (slot_at f i) (number_of (numbered_by n f) i) (included_in (numbered_by n f) i) some lt
+          slot_fresh (stacks i) n m (slot_at f i) (number_of (numbered_by n f) i)
+          (included_in (numbered_by n f) i) some lt
           (get_or-replicate stack_parts (part_of i) n 0 part)
           (get_or-replicate stack_parts (part_of i) 0 0 part);
     }
@@ -205,11 +241,15 @@ abbrev pub stack_on : Option NumberedFacts → ℕ → Slot
 stack_on None i = Bytes 0
 stack_on (Some x) i = slot_at x.facts i
 
-pub record IsRightJoin (stacks : Stacks) (n m : ℕ) (old : Option NumberedFacts) (y : NumberedFacts) (new : Option NumberedFacts) : Type 0 where
+pub record IsRightJoin (stacks : Stacks) (n m : ℕ) (old : Option NumberedFacts) (y : NumberedFacts)
+    (new : Option NumberedFacts) : Type 0 where
   pub facts : facts_on new ≡ joined (facts_on old) (Some y.facts)
   pub numbered : IsNumberedIf (with_stack stacks n (stack_on new)) m new
 
-same_table : (f : ℕ → Slot) (xs : List Slot) → length xs ≡ stack_slots → ((k : ℕ) → k < stack_slots → get_or xs k (Bytes 0) ≡ f k) → xs ≡ tabulate stack_slots f
+same_table : (f : ℕ → Slot) (xs : List Slot)
+    → length xs ≡ stack_slots
+    → ((k : ℕ) → k < stack_slots → get_or xs k (Bytes 0) ≡ f k)
+    → xs ≡ tabulate stack_slots f
 unfolding tabulate
 same_table f xs long each = fill_by_all f xs stack_slots (Bytes 0) long each
 
@@ -219,22 +259,35 @@ same_facts f g p q =
     ∙ ap (λ (s : List Slot). let h : Facts = record { registers = g.registers; slots = s } in h) q
 
 module _ (absorb : SlotsAbsorb) (stacks : Stacks) (n m : ℕ) (lt : n < m) (first : 0 < n) where
-  right_at : (x y z : NumberedFacts) → IsNumbered stacks n x → IsNumbered stacks n y → IsJoin n x y z → (i : ℕ) → i < stack_slots
-      → IsRightSlot (stacks i) n m (slot_at x.facts i) (slot_at y.facts i) (slot_at z.facts i) (number_of z i) (included_in z i)
+  right_at : (x y z : NumberedFacts)
+      → IsNumbered stacks n x → IsNumbered stacks n y
+      → IsJoin n x y z → (i : ℕ) → i < stack_slots
+      → IsRightSlot (stacks i) n m (slot_at x.facts i) (slot_at y.facts i) (slot_at z.facts i)
+      (number_of z i) (included_in z i)
   right_at x y z hx hy is i within =
-      slot_right absorb (stacks i) n m lt first (slot_at x.facts i) (slot_at y.facts i) (slot_at z.facts i) (number_of x i) (included_in x i) (number_of y i) (included_in y i) (number_of z i) (included_in z i)
+      slot_right absorb (stacks i) n m lt first (slot_at x.facts i) (slot_at y.facts i)
+      (slot_at z.facts i) (number_of x i) (included_in x i)
+      (number_of y i) (included_in y i) (number_of z i) (included_in z i)
       (hx.slots i within) (hy.slots i within) (is.slots i within)
 
-  both_right : (x y z : NumberedFacts) → IsNumbered stacks n x → IsNumbered stacks n y → IsJoin n x y z → IsRightJoin stacks n m (Some x) y (Some z)
+  both_right : (x y z : NumberedFacts)
+      → IsNumbered stacks n x → IsNumbered stacks n y
+      → IsJoin n x y z
+      → IsRightJoin stacks n m (Some x) y (Some z)
   both_right x y z hx hy is =
       record {
         facts = ap Some
             (same_facts z.facts (facts_join x.facts y.facts) is.registers
-            (same_table (λ i. slot_join (slot_at x.facts i) (slot_at y.facts i)) z.facts.slots is.long (λ i within. (right_at x y z hx hy is i within).slot)));
+            (same_table (λ i. slot_join (slot_at x.facts i) (slot_at y.facts i)) z.facts.slots
+            is.long
+            (λ i within. (right_at x y z hx hy is i within).slot)));
         numbered = record { parts = is.parts; slots = λ i within. (right_at x y z hx hy is i within).numbered };
       }
 
-  pub right_join : (old : Option NumberedFacts) (y : NumberedFacts) (new : Option NumberedFacts) → IsNumberedIf stacks n old → IsNumbered stacks n y → IsJoinedBy n old y new → IsRightJoin stacks n m old y new
+  pub right_join : (old : Option NumberedFacts) (y : NumberedFacts) (new : Option NumberedFacts)
+      → IsNumberedIf stacks n old → IsNumbered stacks n y
+      → IsJoinedBy n old y new
+      → IsRightJoin stacks n m old y new
   right_join None y new h hy is =
       subst (λ (o : Option NumberedFacts). IsRightJoin stacks n m None y o) (sym is)
       (record { facts = refl; numbered = numbered_more stacks n m (slot_at y.facts) y hy lt })

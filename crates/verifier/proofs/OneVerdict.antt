@@ -17,7 +17,8 @@ same_reason o a b p q = cc
 no_first : (fault_at : ℕ → Option Reason) (n : ℕ) (a : Reason) → HasNoFault fault_at → IsFirstFault fault_at n a → ⊥
 no_first fault_at n a none first = not_both (fault_at n) a first.here (none n)
 
-one_first : (fault_at : ℕ → Option Reason) (m n : ℕ) (a b : Reason) → IsFirstFault fault_at m a → IsFirstFault fault_at n b → (m ≡ n) × (a ≡ b)
+one_first : (fault_at : ℕ → Option Reason) (m n : ℕ) (a b : Reason)
+    → IsFirstFault fault_at m a → IsFirstFault fault_at n b → (m ≡ n) × (a ≡ b)
 one_first fault_at m n a b p q =
     elim (cases_order m n) [
       | inl same ↦ (same, same_reason (fault_at n) a b (ap fault_at (sym same) ∙ p.here) q.here)
@@ -25,12 +26,15 @@ one_first fault_at m n a b p q =
       | inr (inr higher) ↦ absurd (not_both (fault_at n) b q.here (p.below n higher))
     ]
 
-pub one_verdict : (code : List Insn) (named : List Named) (m n : ℕ) (a b : Reason) → IsRefused code named m a → IsRefused code named n b → (m ≡ n) × (a ≡ b)
+pub one_verdict : (code : List Insn) (named : List Named) (m n : ℕ) (a b : Reason)
+    → IsRefused code named m a → IsRefused code named n b → (m ≡ n) × (a ≡ b)
 one_verdict code named m n a b (inl p) (inl q) = one_first (structure_fault code named) m n a b p q
 one_verdict code named m n a b (inl p) (inr q) = absurd (no_first (structure_fault code named) m a q.0 p)
 one_verdict code named m n a b (inr p) (inl q) = absurd (no_first (structure_fault code named) n b p.0 q)
 one_verdict code named m n a b (inr p) (inr q) = one_first (safety_fault (shapes_of code named) code) m n a b p.1 q.1
 
-pub not_refused : (code : List Insn) (named : List Named) (slot : ℕ) (reason : Reason) → IsAccepted code named → IsRefused code named slot reason → ⊥
+pub not_refused : (code : List Insn) (named : List Named) (slot : ℕ) (reason : Reason)
+    → IsAccepted code named → IsRefused code named slot reason → ⊥
 not_refused code named slot reason accepted (inl p) = no_first (structure_fault code named) slot reason accepted.0 p
-not_refused code named slot reason accepted (inr p) = no_first (safety_fault (shapes_of code named) code) slot reason accepted.1 p.1
+not_refused code named slot reason accepted (inr p) =
+    no_first (safety_fault (shapes_of code named) code) slot reason accepted.1 p.1

@@ -35,7 +35,8 @@ each_among P fds all fd among =
     subst P (get_or_from_slice_get fds i fd 0 there) (all i 0 (slice_get_within fds i fd there))
 
 -- a descriptor that is not listed has no shape
-none_kept : (fds : List ℕ) (ns : List Named) (fd : ℕ) → is_among fds fd ≡ false → shape_in (target_of (entries_of fds ns) fd) ≡ None
+none_kept : (fds : List ℕ) (ns : List Named) (fd : ℕ)
+    → is_among fds fd ≡ false → shape_in (target_of (entries_of fds ns) fd) ≡ None
 none_kept fds ns fd out = by (shape_in (target_of (entries_of fds ns) fd)) refl
   where
     by : (o : Option MapShape) → shape_in (target_of (entries_of fds ns) fd) ≡ o → o ≡ None
@@ -48,22 +49,31 @@ same_target o None some e = absurd (true≢false (sym some))
 same_target o (Some target.Program) some e = absurd (true≢false (sym some))
 same_target None (Some (target.Map t)) some e = absurd (none-some t e)
 same_target (Some target.Program) (Some (target.Map t)) some e = absurd (none-some t e)
-same_target (Some (target.Map s)) (Some (target.Map t)) some e = ap (λ (x : MapShape). Some (target.Map x)) (same_Some s t e)
+same_target (Some (target.Map s)) (Some (target.Map t)) some e =
+    ap (λ (x : MapShape). Some (target.Map x)) (same_Some s t e)
 
 module _ (named other : List Named) where
-  open_same : (o : Option ℕ) → ((fd : ℕ) → o ≡ Some fd → target_of other fd ≡ target_of named fd) → is_not_open other o ≡ is_not_open named o
+  open_same : (o : Option ℕ)
+      → ((fd : ℕ) → o ≡ Some fd → target_of other fd ≡ target_of named fd)
+      → is_not_open other o ≡ is_not_open named o
   open_same None h = refl
   open_same (Some fd) h = ap (λ (t : Option Target). not (is_some t)) (h fd refl)
 
-  map_same : (o : Option ℕ) → ((fd : ℕ) → o ≡ Some fd → target_of other fd ≡ target_of named fd) → is_not_map other o ≡ is_not_map named o
+  map_same : (o : Option ℕ)
+      → ((fd : ℕ) → o ≡ Some fd → target_of other fd ≡ target_of named fd)
+      → is_not_map other o ≡ is_not_map named o
   map_same None h = refl
   map_same (Some fd) h = ap (λ (t : Option Target). not (option_map_or is_map t true)) (h fd refl)
 
-  value_same : (r : Reference) → ((fd : ℕ) → descriptor_by r ≡ Some fd → target_of other fd ≡ target_of named fd) → is_no_value other r ≡ is_no_value named r
+  value_same : (r : Reference)
+      → ((fd : ℕ) → descriptor_by r ≡ Some fd → target_of other fd ≡ target_of named fd)
+      → is_no_value other r ≡ is_no_value named r
   value_same names.Nothing h = refl
   value_same (names.Helper id) h = refl
   value_same (names.Map fd) h = refl
-  value_same (names.Value fd off) h = ap (λ (t : Option Target). not (option_map_or (λ shape. has_direct_value shape off) (shape_in t) true)) (h fd refl)
+  value_same (names.Value fd off) h =
+      ap (λ (t : Option Target). not (option_map_or (λ shape. has_direct_value shape off) (shape_in t) true))
+      (h fd refl)
 
 -- the first fault of an instruction, by what is wrong with the descriptor that it names
 abbrev reason_if : List Insn → Insn → ℕ → Bool → Bool → Bool → Option Reason
@@ -79,17 +89,27 @@ reason_if code i at closed unmapped lacking = first_reason (
     ∷ (lacking, NoDirectValue)
     ∷ [])
 
-module _ (code : List Insn) (named other : List Named) (same : (fd : ℕ) → is_among (maps_of code) fd ≡ true → shapes_named other fd ≡ shapes_named named fd) (accepted : IsAccepted code named) where
+module _ (code : List Insn) (named other : List Named)
+    (same : (fd : ℕ) → is_among (maps_of code) fd ≡ true → shapes_named other fd ≡ shapes_named named fd)
+    (accepted : IsAccepted code named) where
   -- the object that an instruction names
-  same_named : (n : ℕ) (i : Insn) → begins_at code n ≡ Some i → (fd : ℕ) → descriptor i ≡ Some fd → target_of other fd ≡ target_of named fd
-  same_named n i begins fd e = same_target (target_of other fd) (target_of named fd) (shaped code named accepted.0 n i begins fd e) (same fd (among_maps code n i begins fd e))
+  same_named : (n : ℕ) (i : Insn)
+      → begins_at code n ≡ Some i → (fd : ℕ) → descriptor i ≡ Some fd
+      → target_of other fd ≡ target_of named fd
+  same_named n i begins fd e =
+      same_target (target_of other fd) (target_of named fd)
+      (shaped code named accepted.0 n i begins fd e) (same fd (among_maps code n i begins fd e))
 
-  same_reason : (n : ℕ) (i : Insn) → begins_at code n ≡ Some i → shape_reason code other i n ≡ shape_reason code named i n
+  same_reason : (n : ℕ) (i : Insn)
+      → begins_at code n ≡ Some i → shape_reason code other i n ≡ shape_reason code named i n
   same_reason n i begins =
       let here = same_named n i begins in
-      ap (λ (b : Bool). reason_if code i n b (is_not_map other (descriptor i)) (lacks_value other i)) (open_same named other (descriptor i) here)
-      ∙ ap (λ (b : Bool). reason_if code i n (is_not_open named (descriptor i)) b (lacks_value other i)) (map_same named other (descriptor i) here)
-      ∙ ap (λ (b : Bool). reason_if code i n (is_not_open named (descriptor i)) (is_not_map named (descriptor i)) b) (value_same named other (profile i).reference here)
+      ap (λ (b : Bool). reason_if code i n b (is_not_map other (descriptor i)) (lacks_value other i))
+      (open_same named other (descriptor i) here)
+      ∙ ap (λ (b : Bool). reason_if code i n (is_not_open named (descriptor i)) b (lacks_value other i))
+      (map_same named other (descriptor i) here)
+      ∙ ap (λ (b : Bool). reason_if code i n (is_not_open named (descriptor i)) (is_not_map named (descriptor i)) b)
+      (value_same named other (profile i).reference here)
 
   same_shape_at : (n : ℕ) (o : Option Insn) → begins_at code n ≡ o → shape_of code other n o ≡ shape_of code named n o
   same_shape_at n None begins = refl
@@ -104,15 +124,23 @@ module _ (code : List Insn) (named other : List Named) (same : (fd : ℕ) → is
   same_kept fd = by (is_among (maps_of code) fd) refl
     where
       by : (b : Bool) → is_among (maps_of code) fd ≡ b → shapes_of code other fd ≡ shapes_of code named fd
-      by true e = ap shape_in (target_kept (maps_of code) fd e other) ∙ same fd e ∙ sym (ap shape_in (target_kept (maps_of code) fd e named))
+      by true e =
+          ap shape_in (target_kept (maps_of code) fd e other)
+          ∙ same fd e
+          ∙ sym (ap shape_in (target_kept (maps_of code) fd e named))
       by false e = none_kept (maps_of code) other fd e ∙ sym (none_kept (maps_of code) named fd e)
 
   pub accepted_too : IsAccepted code other
-  accepted_too = (well_shaped, subst (λ (s : Shapes). HasNoFault (safety_fault s code)) (sym (λ j fd. same_kept fd j)) accepted.1)
+  accepted_too = (
+    well_shaped,
+    subst (λ (s : Shapes). HasNoFault (safety_fault s code)) (sym (λ j fd. same_kept fd j)) accepted.1,
+  )
 
 pub same_shapes_are_accepted : SameShapesAreAccepted
 same_shapes_are_accepted code named other same accepted =
-    accepted_too code named other (each_among (λ fd. shapes_named other fd ≡ shapes_named named fd) (maps_of code) same) accepted
+    accepted_too code named other
+    (each_among (λ fd. shapes_named other fd ≡ shapes_named named fd) (maps_of code) same)
+    accepted
 
 -- an accepted program is accepted with objects that it fits
 pub fits_accepted : (a : Accepted) (named : List Named) → IsVerified a → Fits a named → IsAccepted a.code named
@@ -124,5 +152,8 @@ fits_accepted a named is fits =
     is.accepted
 
 -- it is what its slots are judged to be with these objects
-pub fits_judged : (a : Accepted) (named : List Named) → IsProgram a.code → IsVerified a → Fits a named → Judges named (program_bytes a.code) (Ok a.code)
+pub fits_judged : (a : Accepted) (named : List Named)
+    → IsProgram a.code → IsVerified a
+    → Fits a named
+    → Judges named (program_bytes a.code) (Ok a.code)
 fits_judged a named program is fits = (program, refl, fits_accepted a named is fits)

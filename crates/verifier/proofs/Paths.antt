@@ -36,7 +36,8 @@ EndsAtExit v (ends n) = (falls_by (profile_of v).successors ≡ false) × (jumps
 EndsAtExit v faults = Unit {0}
 
 -- a step that depends on a value, if there is one
-after : {A : Type 0} (v : View) (o : Option A) (go : A → Step) → ((x : A) → EndsAtExit v (go x)) → EndsAtExit v (or_fault o go)
+after : {A : Type 0} (v : View) (o : Option A) (go : A → Step)
+    → ((x : A) → EndsAtExit v (go x)) → EndsAtExit v (or_fault o go)
 after v None go h = tt
 after v (Some x) go h = h x
 
@@ -49,8 +50,10 @@ branch_goes v s off false = tt
 
 access_goes : (v : View) (s : RunState) (what : Access) (p : Tagged) (off : ℤ) → EndsAtExit v (accessed s what p off)
 access_goes v s (loads size signed dst) p off = after v (load s size signed p off) _ (λ x. tt)
-access_goes v s (stores size src) p off = after v (operand_value s true src) _ (λ x. after v (store s size p off x) _ (λ t. tt))
-access_goes v s (changes size op src) p off = after v (s.registers src) _ (λ x. after v (changed s size op p off x) _ (λ t. tt))
+access_goes v s (stores size src) p off =
+    after v (operand_value s true src) _ (λ x. after v (store s size p off x) _ (λ t. tt))
+access_goes v s (changes size op src) p off =
+    after v (s.registers src) _ (λ x. after v (changed s size op p off x) _ (λ t. tt))
 
 wide_goes : (v : View) (s : RunState) (dst : ℕ) (value : WideValue) → EndsAtExit v (loaded_wide s dst value)
 wide_goes v s dst (immediate n) = tt
@@ -65,14 +68,17 @@ exit_ends (Pointer object off) = tt
 ends_at_exit : (v : View) (s : RunState) → EndsAtExit v (act_of v s)
 ends_at_exit (binary wide op dst src) s =
     let v = binary wide op dst src in
-    after v (first_operand op (s.registers dst)) _ (λ a. after v (operand_value s wide src) _ (λ b. after v (arithmetic wide op a b) _ (λ x. tt)))
+    after v (first_operand op (s.registers dst)) _
+    (λ a. after v (operand_value s wide src) _ (λ b. after v (arithmetic wide op a b) _ (λ x. tt)))
 ends_at_exit (unary wide op dst src) s =
     let v = unary wide op dst src in
     after v (s.registers src) _ (λ a. after v (of_number (λ n. operate (width wide) op n n) a) _ (λ x. tt))
 ends_at_exit (jump off) s = jump_goes (jump off) s off
 ends_at_exit (branch wide cond dst src off) s =
     let v = branch wide cond dst src off in
-    after v (s.registers dst) _ (λ a. after v (operand_value s wide src) _ (λ b. after v (compared wide cond src a b) _ (λ yes. branch_goes v s off yes)))
+    after v (s.registers dst) _
+    (λ a.
+    after v (operand_value s wide src) _ (λ b. after v (compared wide cond src a b) _ (λ yes. branch_goes v s off yes)))
 ends_at_exit (access what base off) s =
     let v = access what base off in
     after v (s.registers base) _ (λ p. access_goes v s what p off)
@@ -93,36 +99,59 @@ is_exit_at i s n e =
 abbrev GoesAlong : List Insn → ℕ → List Insn → ℕ → Type 0
 GoesAlong code at is steps = IsPath code at is × (length is ≡ steps)
 
-module _ (laws : Laws) (code : List Insn) (named : List Named) (program : IsProgram code) (accepted : IsAccepted code named) where
-  after_step : (s : RunState) (i : Insn) (st : Step) (rest : RunState → List Insn) (go : RunState → Ending) → begins_at code s.at ≡ Some i → act i s ≡ st → NextIsAdmitted (shapes_of code named) code s.at st → TakesEdge i s.at st
-      → ((t : RunState) → s.at < t.at → IsAdmitted (shapes_of code named) code t → GoesAlong code t.at (rest t) (go t).steps) → GoesAlong code s.at (executed_by i st rest) (ending_after st s go).steps
+module _ (laws : Laws) (code : List Insn) (named : List Named) (program : IsProgram code)
+    (accepted : IsAccepted code named) where
+  after_step : (s : RunState) (i : Insn) (st : Step) (rest : RunState → List Insn) (go : RunState → Ending)
+      → begins_at code s.at ≡ Some i → act i s ≡ st
+      → NextIsAdmitted (shapes_of code named) code s.at st
+      → TakesEdge i s.at st
+      → ((t : RunState) → s.at < t.at → IsAdmitted (shapes_of code named) code t
+      → GoesAlong code t.at (rest t) (go t).steps)
+      → GoesAlong code s.at (executed_by i st rest) (ending_after st s go).steps
   after_step s i (goes t) rest go begins e next edge on =
       let later = on t next.0 next.1 in
       ((begins, inr (t.at, edge, later.0)), omega (arith, later.1))
   after_step s i (ends n) rest go begins e next edge on = ((begins, inl (is_exit_at i s n e, refl)), refl)
   after_step s i faults rest go begins e next edge on = absurd next
 
-  from_slot : (s : RunState) (o : Option Insn) (rest : RunState → List Insn) (go : RunState → Ending) → begins_at code s.at ≡ o → IsAdmitted (shapes_of code named) code s
-      → ((t : RunState) → s.at < t.at → IsAdmitted (shapes_of code named) code t → GoesAlong code t.at (rest t) (go t).steps) → GoesAlong code s.at (executed_at o s rest) (ending_after (or_fault o (λ i. act i s)) s go).steps
+  from_slot : (s : RunState) (o : Option Insn) (rest : RunState → List Insn) (go : RunState → Ending)
+      → begins_at code s.at ≡ o → IsAdmitted (shapes_of code named) code s
+      → ((t : RunState) → s.at < t.at → IsAdmitted (shapes_of code named) code t
+      → GoesAlong code t.at (rest t) (go t).steps)
+      → GoesAlong code s.at (executed_at o s rest) (ending_after (or_fault o (λ i. act i s)) s go).steps
   from_slot s None rest go begins here on =
-      absurd (false≢true (subst (λ (o : Option Insn). IsSome o) begins (begins_before (shapes_of code named) code named program accepted.0 s.at here.facts here.known)))
+      absurd (false≢true (subst (λ (o : Option Insn). IsSome o) begins
+      (begins_before (shapes_of code named) code named program accepted.0 s.at here.facts here.known)))
   from_slot s (Some i) rest go begins here on =
-      let next = subst (λ (o : Option Insn). NextIsAdmitted (shapes_of code named) code s.at (or_fault o (λ i. act i s))) begins (each_step laws code named s program accepted here) in
-      after_step s i (act i s) rest go begins refl next (each_step_along laws code named s i program accepted here begins) on
+      let next =
+      subst (λ (o : Option Insn). NextIsAdmitted (shapes_of code named) code s.at (or_fault o (λ i. act i s)))
+      begins
+      (each_step laws code named s program accepted here) in
+      after_step s i (act i s) rest go begins refl next
+      (each_step_along laws code named s i program accepted here begins)
+      on
 
-  along_path : (n : ℕ) (s : RunState) → slot_count code ≤ s.at + n → IsAdmitted (shapes_of code named) code s → GoesAlong code s.at (executed code n s) (run code n s).steps
+  along_path : (n : ℕ) (s : RunState)
+      → slot_count code ≤ s.at + n → IsAdmitted (shapes_of code named) code s
+      → GoesAlong code s.at (executed code n s) (run code n s).steps
   unfolding run executed
-  along_path zero s enough here = absurd (let inside = within (each_step laws) code named program accepted s here in omega arith)
+  along_path zero s enough here =
+      absurd (let inside = within (each_step laws) code named program accepted s here in omega arith)
   along_path (suc n) s enough here =
-      from_slot s (begins_at code s.at) (executed code n) (run code n) refl here (λ t farther there. along_path n t (omega arith) there)
+      from_slot s (begins_at code s.at) (executed code n) (run code n) refl here
+      (λ t farther there. along_path n t (omega arith) there)
 
 pub runs_are_paths : Laws → AcceptedRunsArePaths
 runs_are_paths laws code named program accepted maps words packet given =
-    along_path laws code named program accepted (slot_count code) (start_of_run maps words packet) (omega arith) (beginning (shapes_of code named) code maps words packet given)
+    along_path laws code named program accepted (slot_count code) (start_of_run maps words packet)
+    (omega arith)
+    (beginning (shapes_of code named) code maps words packet given)
 
 -- ---- what a run costs
 
-pub runs_cost_at_most : (cost : Cost) (shapes : Shapes) (code : List Insn) → IsCostOf cost code → RunsArePaths shapes code → RunsCostAtMost cost shapes code
+pub runs_cost_at_most : (cost : Cost) (shapes : Shapes) (code : List Insn)
+    → IsCostOf cost code → RunsArePaths shapes code
+    → RunsCostAtMost cost shapes code
 runs_cost_at_most cost shapes code is paths maps words packet given =
     let path = paths maps words packet given in (
       subst (λ (n : ℕ). n ≤ cost.instructions) path.1 (is.0.0 (executed_of code maps words packet) path.0),

@@ -23,7 +23,8 @@ no_reason : (reason : Reason) → Some reason ≡ None → ⊥
 no_reason reason e = cc
 
 -- if the first two conditions give a reason, it is the first of all
-pub told_early : (first second : Bool × Reason) (lines : List (Bool × Reason)) (r : Reason) → Some r ≡ first_reason (first ∷ second ∷ []) → Some r ≡ first_reason (first ∷ second ∷ lines)
+pub told_early : (first second : Bool × Reason) (lines : List (Bool × Reason)) (r : Reason)
+    → Some r ≡ first_reason (first ∷ second ∷ []) → Some r ≡ first_reason (first ∷ second ∷ lines)
 told_early first second lines r is =
     elim (cases_Bool first.0) [
       | inl holds ↦
@@ -39,27 +40,38 @@ told_early first second lines r is =
                 ∙ sym (cond-true second.0 (Some second.1) (first_reason lines) holds)
                 ∙ sym (cond-false first.0 (Some first.1) (first_reason (second ∷ lines)) fails)
             | inr none ↦
-                absurd (no_reason r (is ∙ cond-false first.0 (Some first.1) (first_reason (second ∷ [])) fails ∙ cond-false second.0 (Some second.1) None none))
+                absurd (no_reason r
+                (is
+                ∙ cond-false first.0 (Some first.1) (first_reason (second ∷ [])) fails
+                ∙ cond-false second.0 (Some second.1) None none))
           ]
     ]
 
-first_within : (code : List Insn) (n : ℕ) (o : Option Insn) → begins_at code n ≡ o → is_some o ≡ true → n < slot_count code
+first_within : (code : List Insn) (n : ℕ) (o : Option Insn)
+    → begins_at code n ≡ o → is_some o ≡ true → n < slot_count code
 first_within code n None is some = absurd (false≢true some)
 first_within code n (Some i) is some = begins_within code n i is
 
-within : (code : List Insn) (b : Bool) (o : Option ℕ) → (b && leads_outside code o) ≡ false → IfSome (if b then o else None) (λ to. to < slot_count code)
+within : (code : List Insn) (b : Bool) (o : Option ℕ)
+    → (b && leads_outside code o) ≡ false
+    → IfSome (if b then o else None) (λ to. to < slot_count code)
 within code false o inside = tt
 within code true None inside = tt
-within code true (Some n) inside = first_within code n (begins_at code n) refl (not-false (is_some (begins_at code n)) inside)
+within code true (Some n) inside =
+    first_within code n (begins_at code n) refl (not-false (is_some (begins_at code n)) inside)
 
 -- the target of a jump is a slot of the program
-pub jump_lands : (code : List Insn) (named : List Named) (i : Insn) (at : ℕ) → IsFine code named i at → IfSome (jump_target i at) (λ to. to < slot_count code)
+pub jump_lands : (code : List Insn) (named : List Named) (i : Insn) (at : ℕ)
+    → IsFine code named i at → IfSome (jump_target i at) (λ to. to < slot_count code)
 jump_lands code named i at is_fine = within code (jumps i) (jumps_to i at) is_fine.inside
 
 -- ---- reachable slots
 
 -- at the start only slot 0 is marked
-pub marked_first : (code : List Insn) (flags : List Bool) (i : ℕ) → flags ≡ set (replicate (slot_count code) false) 0 true → i < slot_count code → get_or flags i false ≡ reached_from code i 0
+pub marked_first : (code : List Insn) (flags : List Bool) (i : ℕ)
+    → flags ≡ set (replicate (slot_count code) false) 0 true
+    → i < slot_count code
+    → get_or flags i false ≡ reached_from code i 0
 unfolding reached_from
 marked_first code flags i is lt =
     let size : length (replicate (slot_count code) false) ≡ slot_count code = simp length-replicate in
@@ -75,12 +87,17 @@ marked_first code flags i is lt =
           ∙ sym (ne_eqb i 0 other)
     ]
 
-reached_next : (code : List Insn) (i n : ℕ) → reached_from code i (n + 1) ≡ (reached_from code i n || (reached_from code n n && leads_into (begins_at code n) n i))
+reached_next : (code : List Insn) (i n : ℕ)
+    → reached_from code i (n + 1)
+    ≡ (reached_from code i n || (reached_from code n n && leads_into (begins_at code n) n i))
 unfolding reached_from
 reached_next code i n = ap (λ (k : ℕ). reached_from code i k) (add-one n)
 
 -- a reachable instruction marks the targets of its edges
-pub marked_next : (code : List Insn) (i n : ℕ) (insn : Insn) (old new : Bool) → begins_at code n ≡ Some insn → is_reachable code n ≡ true → old ≡ reached_from code i n → new ≡ (old || leads_into (Some insn) n i) → new ≡ reached_from code i (n + 1)
+pub marked_next : (code : List Insn) (i n : ℕ) (insn : Insn) (old new : Bool)
+    → begins_at code n ≡ Some insn → is_reachable code n ≡ true
+    → old ≡ reached_from code i n → new ≡ (old || leads_into (Some insn) n i)
+    → new ≡ reached_from code i (n + 1)
 marked_next code i n insn old new begins reached was is =
     is
     ∙ ap (λ (b : Bool). b || leads_into (Some insn) n i) was
@@ -95,7 +112,9 @@ or_neither false true = refl
 or_neither false false = refl
 
 -- a slot at which no instruction begins marks nothing
-pub marked_past : (code : List Insn) (i n : ℕ) (old : Bool) → begins_at code n ≡ None → old ≡ reached_from code i n → old ≡ reached_from code i (n + 1)
+pub marked_past : (code : List Insn) (i n : ℕ) (old : Bool)
+    → begins_at code n ≡ None → old ≡ reached_from code i n
+    → old ≡ reached_from code i (n + 1)
 marked_past code i n old begins was =
     was
     ∙ sym (or_neither (reached_from code i n) (reached_from code n n))
@@ -103,12 +122,17 @@ marked_past code i n old begins was =
     ∙ sym (reached_next code i n)
 
 -- slots at which no instruction begins mark nothing
-pub marked_through : (code : List Insn) (i n m : ℕ) (old : Bool) → ((k : ℕ) → n < k → k < n + 1 + m → begins_at code k ≡ None) → old ≡ reached_from code i (n + 1) → old ≡ reached_from code i (n + 1 + m)
-marked_through code i n zero old none was = let same : n + 1 + 0 ≡ n + 1 = omega arith in was ∙ sym (ap (reached_from code i) same)
+pub marked_through : (code : List Insn) (i n m : ℕ) (old : Bool)
+    → ((k : ℕ) → n < k → k < n + 1 + m → begins_at code k ≡ None)
+    → old ≡ reached_from code i (n + 1)
+    → old ≡ reached_from code i (n + 1 + m)
+marked_through code i n zero old none was =
+    let same : n + 1 + 0 ≡ n + 1 = omega arith in was ∙ sym (ap (reached_from code i) same)
 marked_through code i n (suc m) old none was =
     let so_far = marked_through code i n m old (λ k after before. none k after (omega arith)) was in
     let next : n + 1 + m + 1 ≡ n + 1 + suc m = omega arith in
-    marked_past code i (n + 1 + m) old (none (n + 1 + m) (omega arith) (omega arith)) so_far ∙ ap (reached_from code i) next
+    marked_past code i (n + 1 + m) old (none (n + 1 + m) (omega arith) (omega arith)) so_far
+    ∙ ap (reached_from code i) next
 
 -- ---- from one instruction to the next
 
@@ -116,20 +140,28 @@ marked_through code i n (suc m) old none was =
 pub begins_first : (code : List Insn) → 0 < slot_count code → Adjoins code 0
 begins_first code some = inr (some, first_begins code some)
 
-pub begun_of : (code : List Insn) (n : ℕ) (o : Option Insn) → begins_at code n ≡ o → IsSome o → (i : Insn) × (begins_at code n ≡ Some i)
+pub begun_of : (code : List Insn) (n : ℕ) (o : Option Insn)
+    → begins_at code n ≡ o → IsSome o → (i : Insn) × (begins_at code n ≡ Some i)
 begun_of code n None is some = absurd (false≢true some)
 begun_of code n (Some i) is some = (i, is)
 
 -- at a slot that is not the end begins the instruction that a list by slots has there
-pub begun_there : (code by_slot : List Insn) (n : ℕ) (insn : Insn) → Adjoins code n → n < slot_count code → ((k : ℕ) (i : Insn) → begins_at code k ≡ Some i → slice_get by_slot k ≡ Some i) → insn ≡ get_or by_slot n insn → begins_at code n ≡ Some insn
+pub begun_there : (code by_slot : List Insn) (n : ℕ) (insn : Insn)
+    → Adjoins code n → n < slot_count code
+    → ((k : ℕ) (i : Insn) → begins_at code k ≡ Some i → slice_get by_slot k ≡ Some i)
+    → insn ≡ get_or by_slot n insn
+    → begins_at code n ≡ Some insn
 begun_there code by_slot n insn (inl end) lt listed is = absurd (omega arith)
 begun_there code by_slot n insn (inr begins) lt listed is =
     let found = begun_of code n (begins_at code n) refl begins.1 in
-    found.1 ∙ ap (λ (i : Insn). Some i) (sym (is ∙ get_or_from_slice_get by_slot n found.0 insn (listed n found.0 found.1)))
+    found.1
+    ∙ ap (λ (i : Insn). Some i) (sym (is ∙ get_or_from_slice_get by_slot n found.0 insn (listed n found.0 found.1)))
 
 -- ---- the fault at a slot
 
-pub shape_is : (code : List Insn) (named : List Named) (at : ℕ) (o : Option Insn) (r : Option Reason) → o ≡ begins_at code at → r ≡ shape_of code named at o → structure_fault code named at ≡ r
+pub shape_is : (code : List Insn) (named : List Named) (at : ℕ) (o : Option Insn) (r : Option Reason)
+    → o ≡ begins_at code at → r ≡ shape_of code named at o
+    → structure_fault code named at ≡ r
 unfolding structure_fault
 shape_is code named at o r begins is = sym (is ∙ ap (shape_of code named at) begins)
 

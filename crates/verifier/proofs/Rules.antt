@@ -28,7 +28,10 @@ ByRule told = (reason : Reason) → told ≡ Some reason → reason ≢ Memory
 
 -- the premise about the transfer function
 abbrev EffectsNeedNone : Type 0
-EffectsNeedNone = (shapes : Shapes) (at : ℕ) (i : Insn) (f : Facts) (reason : Reason) → effect shapes at i f ≡ Err reason → reason ≢ Memory
+EffectsNeedNone =
+    (shapes : Shapes) (at : ℕ) (i : Insn) (f : Facts) (reason : Reason)
+    → effect shapes at i f ≡ Err reason
+    → reason ≢ Memory
 
 rule_is_other : (reason : Reason) → IsRule reason → reason ≢ Memory
 rule_is_other reason h same = subst IsRule same h
@@ -41,10 +44,12 @@ by_none reason e = absurd (let z : ⊥ = cc in z)
 
 -- ---- shape
 
-line_rule : (holds : Bool) (reason : Reason) (rest : Option Reason) → IsRule reason → ByRule rest → ByRule (if holds then Some reason else rest)
+line_rule : (holds : Bool) (reason : Reason) (rest : Option Reason)
+    → IsRule reason → ByRule rest → ByRule (if holds then Some reason else rest)
 line_rule holds reason rest h further = cond_both holds (Some reason) rest ByRule (λ _. by_this reason h) (λ _. further)
 
-shape_of_rule : (code : List Insn) (named : List Named) (slot : ℕ) (o : Option Insn) → ByRule (shape_of code named slot o)
+shape_of_rule : (code : List Insn) (named : List Named) (slot : ℕ) (o : Option Insn)
+    → ByRule (shape_of code named slot o)
 shape_of_rule code named slot None = by_none
 shape_of_rule code named slot (Some i) =
     line_rule _ JumpOutside _ tt
@@ -65,15 +70,18 @@ shape_rule code named slot = shape_of_rule code named slot (begins_at code slot)
 
 module _ (effects : EffectsNeedNone) where
   module _ (shapes : Shapes) where
-    effect_rule : (at : ℕ) (i : Insn) (f : Facts) (r : Result Edges Reason) → effect shapes at i f ≡ r → ByRule (reason_of r)
+    effect_rule : (at : ℕ) (i : Insn) (f : Facts) (r : Result Edges Reason)
+        → effect shapes at i f ≡ r → ByRule (reason_of r)
     effect_rule at i f (Ok edges) e reason same = by_none reason same
-    effect_rule at i f (Err told) e reason same = effects shapes at i f reason (let z : effect shapes at i f ≡ Err reason = cc in z)
+    effect_rule at i f (Err told) e reason same =
+        effects shapes at i f reason (let z : effect shapes at i f ≡ Err reason = cc in z)
 
     insn_rule : (at : ℕ) (f : Facts) (o : Option Insn) → ByRule (and_then o (λ i. reason_of (effect shapes at i f)))
     insn_rule at f None = by_none
     insn_rule at f (Some i) = effect_rule at i f (effect shapes at i f) refl
 
-    facts_rule : (at : ℕ) (known : Option Facts) (o : Option Insn) → ByRule (and_then known (λ f. and_then o (λ i. reason_of (effect shapes at i f))))
+    facts_rule : (at : ℕ) (known : Option Facts) (o : Option Insn)
+        → ByRule (and_then known (λ f. and_then o (λ i. reason_of (effect shapes at i f))))
     facts_rule at None o = by_none
     facts_rule at (Some f) o = insn_rule at f o
 
@@ -81,6 +89,7 @@ module _ (effects : EffectsNeedNone) where
     unfolding safety_fault
     safety_rule code slot = facts_rule slot (facts_before shapes code slot) (begins_at code slot)
 
-  pub not_for_memory : (code : List Insn) (named : List Named) (slot : ℕ) (reason : Reason) → IsRefused code named slot reason → reason ≢ Memory
+  pub not_for_memory : (code : List Insn) (named : List Named) (slot : ℕ) (reason : Reason)
+      → IsRefused code named slot reason → reason ≢ Memory
   not_for_memory code named slot reason (inl first) = shape_rule code named slot reason first.here
   not_for_memory code named slot reason (inr later) = safety_rule (shapes_of code named) code slot reason later.1.here

@@ -32,7 +32,9 @@ module _ (bound : ℕ) where
   no_bytes : IsSlotAt bound (Bytes 0)
   no_bytes = omega arith
 
-  words_of : (kinds : ℕ → Kind) (slots : ℕ → Slot) → ((r : ℕ) → IsKindAt bound (kinds r)) → ((i : ℕ) → IsSlotAt bound (slots i)) → AreWellFormedAt bound (facts_of kinds slots)
+  words_of : (kinds : ℕ → Kind) (slots : ℕ → Slot)
+      → ((r : ℕ) → IsKindAt bound (kinds r)) → ((i : ℕ) → IsSlotAt bound (slots i))
+      → AreWellFormedAt bound (facts_of kinds slots)
   words_of kinds slots h g =
       record {
         registers = λ r. in_table (IsKindAt bound) kinds 11 r Unreadable (h r) tt;
@@ -44,7 +46,9 @@ module _ (bound : ℕ) where
   entry_words : AreWellFormedAt bound entry
   entry_words =
       words_of entry_kind (λ i. Bytes 0)
-      (λ r. cond_both (r == 1) Ctx _ (IsKindAt bound) (λ _. tt) (λ _. cond_both (r == 10) _ Unreadable (IsKindAt bound) (λ _. tt) (λ _. tt)))
+      (λ r.
+      cond_both (r == 1) Ctx _ (IsKindAt bound) (λ _. tt)
+      (λ _. cond_both (r == 10) _ Unreadable (IsKindAt bound) (λ _. tt) (λ _. tt)))
       (λ i. no_bytes)
 
   -- ---- joins of two edges
@@ -70,13 +74,17 @@ module _ (bound : ℕ) where
   slot_joined (Spill j) (Spill k) h g = spilled_words (kind_join j k) (kind_joined j k h g)
   slot_joined s t h g = no_bytes
 
-  facts_joined : (a b : Facts) → AreWellFormedAt bound a → AreWellFormedAt bound b → AreWellFormedAt bound (facts_join a b)
+  facts_joined : (a b : Facts)
+      → AreWellFormedAt bound a → AreWellFormedAt bound b
+      → AreWellFormedAt bound (facts_join a b)
   facts_joined a b h g =
       words_of (λ r. kind_join (kind_at a r) (kind_at b r)) (λ i. slot_join (slot_at a i) (slot_at b i))
       (λ r. kind_joined (kind_at a r) (kind_at b r) (h.registers r) (g.registers r))
       (λ i. slot_joined (slot_at a i) (slot_at b i) (h.slots i) (g.slots i))
 
-  joined_words : (a b : Option Facts) → AreWellFormedOn bound a → AreWellFormedOn bound b → AreWellFormedOn bound (joined a b)
+  joined_words : (a b : Option Facts)
+      → AreWellFormedOn bound a → AreWellFormedOn bound b
+      → AreWellFormedOn bound (joined a b)
   joined_words None b h g = g
   joined_words (Some f) None h g = h
   joined_words (Some e) (Some f) h g = facts_joined e f h g
@@ -93,18 +101,27 @@ on_raised n None h = tt
 on_raised n (Some f) h = let farther : n < suc n = omega arith in facts_of_later_slots n (suc n) f farther h
 
 module _ (law : TransferKeepsWellFormed) (shapes : Shapes) (code : List Insn) (each : AllByRecursion IsInsn code) where
-  edges_words : (n m : ℕ) (i : Insn) (f : Facts) → IsInsn i → AreWellFormedAt n f → (r : Result Edges Reason) → effect shapes n i f ≡ r → AreWellFormedOn (suc n) (edges_into i n m r)
+  edges_words : (n m : ℕ) (i : Insn) (f : Facts)
+      → IsInsn i → AreWellFormedAt n f
+      → (r : Result Edges Reason) → effect shapes n i f ≡ r
+      → AreWellFormedOn (suc n) (edges_into i n m r)
   edges_words n m i f is h (Err reason) e = tt
   edges_words n m i f is h (Ok edges) e =
       let farther : n < suc n = omega arith in
       let both = law shapes n (suc n) i f edges is h farther e in
-      joined_words (suc n) (only_if (falls_into i n m) edges.falling) (only_if (jumps_into i n m) edges.jumping) (on_words (suc n) (falls_into i n m) edges.falling both.0) (on_words (suc n) (jumps_into i n m) edges.jumping both.1)
+      joined_words (suc n) (only_if (falls_into i n m) edges.falling)
+      (only_if (jumps_into i n m) edges.jumping)
+      (on_words (suc n) (falls_into i n m) edges.falling both.0)
+      (on_words (suc n) (jumps_into i n m) edges.jumping both.1)
 
-  begun_words : (n m : ℕ) (f : Facts) → AreWellFormedAt n f → (o : Option Insn) → begins_at code n ≡ o → AreWellFormedOn (suc n) (and_then o (λ i. edges_into i n m (effect shapes n i f)))
+  begun_words : (n m : ℕ) (f : Facts)
+      → AreWellFormedAt n f → (o : Option Insn) → begins_at code n ≡ o
+      → AreWellFormedOn (suc n) (and_then o (λ i. edges_into i n m (effect shapes n i f)))
   begun_words n m f h None e = tt
   begun_words n m f h (Some i) e = edges_words n m i f (begun_is_insn code n i e each) h (effect shapes n i f) refl
 
-  sent_words : (n m : ℕ) (before : Option Facts) → AreWellFormedOn n before → AreWellFormedOn (suc n) (facts_sent shapes code n m before)
+  sent_words : (n m : ℕ) (before : Option Facts)
+      → AreWellFormedOn n before → AreWellFormedOn (suc n) (facts_sent shapes code n m before)
   sent_words n m None h = tt
   sent_words n m (Some f) h = begun_words n m f h (begins_at code n) refl
 
@@ -112,4 +129,7 @@ module _ (law : TransferKeepsWellFormed) (shapes : Shapes) (code : List Insn) (e
   unfolding facts_from_below
   inflow_words zero m = cond_both (m == 0) (Some entry) None (AreWellFormedOn 0) (λ _. entry_words 0) (λ _. tt)
   inflow_words (suc n) m =
-      joined_words (suc n) (facts_from_below shapes code m n) (facts_sent shapes code n m (facts_from_below shapes code n n)) (on_raised n (facts_from_below shapes code m n) (inflow_words n m)) (sent_words n m (facts_from_below shapes code n n) (inflow_words n n))
+      joined_words (suc n) (facts_from_below shapes code m n)
+      (facts_sent shapes code n m (facts_from_below shapes code n n))
+      (on_raised n (facts_from_below shapes code m n) (inflow_words n m))
+      (sent_words n m (facts_from_below shapes code n n) (inflow_words n n))

@@ -7,4 +7,6 @@ pub returns-in_ok-insn-in-Some-Code-clause-found : goal.returns-in_ok-insn-in-So
 returns-in_ok-insn-in-Some-Code-clause-found c =
     let w = c.in-Some-Code in
     let is : c.args.line.now ≡ Some (Code w.form w.label) = search rules in
-    form_kept c.args.labels.now c.args.here.slot c.args.line.now w.form w.label c.definition_of_label-in-Some-Code.result c.in_ok-insn-in-Some-Code.insn is c.definition_of_label-in-Some-Code.ensures c.in_ok-insn-in-Some-Code.ensures.found
+    form_kept c.args.labels.now c.args.here.slot c.args.line.now w.form w.label
+    c.definition_of_label-in-Some-Code.result c.in_ok-insn-in-Some-Code.insn
+    is c.definition_of_label-in-Some-Code.ensures c.in_ok-insn-in-Some-Code.ensures.found

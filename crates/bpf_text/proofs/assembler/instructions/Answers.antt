@@ -11,30 +11,57 @@ pub instruction-requires-clause-form : goal.instruction-requires-clause-form
 instruction-requires-clause-form c =
     let l = c.loop-index in
     let line = c.index-lines-index.result in
-    rw (seen_at c.args.lines.now l.index line c.loop-index-test.true c.index-lines-index.is) (formed_at (seen_lines c.args.lines.now) l.index (seen_option line) (omega (arith, length-seen_lines c.args.lines.now)) c.requires.formed)
+    rw (seen_at c.args.lines.now l.index line c.loop-index-test.true c.index-lines-index.is)
+    (formed_at (seen_lines c.args.lines.now) l.index (seen_option line)
+    (omega (arith, length-seen_lines c.args.lines.now))
+    c.requires.formed)
 
 pub returns-in-Err-clause-fault : goal.returns-in-Err-clause-fault
 returns-in-Err-clause-fault c =
     let l = c.loop-index in
     let lines = seen_lines c.args.lines.now in
     let line = c.index-lines-index.result in
-    let finds : Finds lines c.args.labels.now = finds_all lines c.args.labels.now (length c.args.lines.now) (omega (arith, length-seen_lines c.args.lines.now)) c.requires.labels in
-    inr (stops c.args.labels.now lines l.index l.slot (seen_option line) l.insns.items c.in-Err.kind c.at.result finds (omega (arith, length-seen_lines c.args.lines.now)) (seen_at c.args.lines.now l.index line c.loop-index-test.true c.index-lines-index.is) c.in-Err.ensures.fault c.at.ensures l.invariant)
+    let finds : Finds lines c.args.labels.now =
+    finds_all lines c.args.labels.now (length c.args.lines.now)
+    (omega (arith, length-seen_lines c.args.lines.now))
+    c.requires.labels in
+    inr (stops c.args.labels.now lines l.index l.slot (seen_option line) l.insns.items c.in-Err.kind
+    c.at.result finds
+    (omega (arith, length-seen_lines c.args.lines.now))
+    (seen_at c.args.lines.now l.index line c.loop-index-test.true c.index-lines-index.is)
+    c.in-Err.ensures.fault c.at.ensures l.invariant)
 
 pub loop-index-preserved : goal.loop-index-preserved
 loop-index-preserved c =
     let l = c.loop-index in
     let lines = seen_lines c.args.lines.now in
     let line = c.index-lines-index.result in
-    let finds : Finds lines c.args.labels.now = finds_all lines c.args.labels.now (length c.args.lines.now) (omega (arith, length-seen_lines c.args.lines.now)) c.requires.labels in
+    let finds : Finds lines c.args.labels.now =
+    finds_all lines c.args.labels.now (length c.args.lines.now)
+    (omega (arith, length-seen_lines c.args.lines.now))
+    c.requires.labels in
     let one = c.in-Ok.insn in
-    let pushed = c.in_ok-extend_from_slice.ensures.items ∙ ap (λ (is : List Insn). l.insns.items ++ is) (one_or_none one c.as_slice.result.now c.as_slice.ensures) in
-    goes_on c.args.labels.now lines l.index l.slot c.line_slots-slot.result (seen_option line) l.insns.items c.extend_from_slice.new.self.items one finds (omega (arith, length-seen_lines c.args.lines.now)) (seen_at c.args.lines.now l.index line c.loop-index-test.true c.index-lines-index.is) c.line_slots-slot.ensures.value pushed c.in-Ok.ensures.found c.in-Ok.ensures.none l.invariant
+    let pushed =
+    c.in_ok-extend_from_slice.ensures.items
+    ∙ ap (λ (is : List Insn). l.insns.items ++ is) (one_or_none one c.as_slice.result.now c.as_slice.ensures) in
+    goes_on c.args.labels.now lines l.index l.slot c.line_slots-slot.result (seen_option line)
+    l.insns.items c.extend_from_slice.new.self.items one
+    finds
+    (omega (arith, length-seen_lines c.args.lines.now))
+    (seen_at c.args.lines.now l.index line c.loop-index-test.true c.index-lines-index.is)
+    c.line_slots-slot.ensures.value pushed c.in-Ok.ensures.found
+    c.in-Ok.ensures.none l.invariant
 
 pub returns : goal.returns
 returns c =
     let l = c.loop-index in
     let lines = seen_lines c.args.lines.now in
-    let finds : Finds lines c.args.labels.now = finds_all lines c.args.labels.now (length c.args.lines.now) (omega (arith, length-seen_lines c.args.lines.now)) c.requires.labels in
-    let end : Ends lines l.insns.items = ends c.args.labels.now lines l.index l.slot l.insns.items finds (omega (arith, length-seen_lines c.args.lines.now)) l.invariant in
+    let finds : Finds lines c.args.labels.now =
+    finds_all lines c.args.labels.now (length c.args.lines.now)
+    (omega (arith, length-seen_lines c.args.lines.now))
+    c.requires.labels in
+    let end : Ends lines l.insns.items =
+    ends c.args.labels.now lines l.index l.slot l.insns.items finds
+    (omega (arith, length-seen_lines c.args.lines.now))
+    l.invariant in
     record { none = end.none; forms = end.forms; count = end.count; room = end.room; fault = tt }

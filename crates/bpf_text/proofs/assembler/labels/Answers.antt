@@ -11,7 +11,9 @@ definition line slot = record { line = line; slot = slot }
 
 pub loop-index-init : goal.loop-index-init
 loop-index-init c = record {
-  finds = λ q. ap (λ (es : List (Bor (List ℕ) × Definition)). lookup (λ k. bytes_eq q k.now) es) c.new-labels.ensures.empty ∙ none_found (seen_lines c.args.lines.now) q;
+  finds = λ q.
+      ap (λ (es : List (Bor (List ℕ) × Definition)). lookup (λ k. bytes_eq q k.now) es) c.new-labels.ensures.empty
+      ∙ none_found (seen_lines c.args.lines.now) q;
   slot = no_slots;
   bound = omega arith;
 }
@@ -23,7 +25,14 @@ loop-index-preserved c =
     let more = take_seen c.args.lines.now l.index line c.loop-index-test.true c.index-lines-index.is in
     let len = length_seen c.args.lines.now l.index c.loop-index-test.true in
     record {
-      finds = finds_more (seen_lines c.args.lines.now) l.index (seen_option line) l.labels c.note.new.labels (record { line = l.index; slot = l.slot }) more len l.invariant.finds (ap (λ (n : ℕ). definition l.index n) l.invariant.slot) c.in_ok-note.ensures;
-      slot = ap (λ (n : ℕ). l.slot + n) c.line_slots-slot.ensures.value ∙ slots_more (seen_lines c.args.lines.now) l.index (seen_option line) l.slot more l.invariant.slot;
+      finds =
+          finds_more (seen_lines c.args.lines.now) l.index (seen_option line) l.labels
+          c.note.new.labels (record { line = l.index; slot = l.slot })
+          more len l.invariant.finds
+          (ap (λ (n : ℕ). definition l.index n) l.invariant.slot)
+          c.in_ok-note.ensures;
+      slot =
+          ap (λ (n : ℕ). l.slot + n) c.line_slots-slot.ensures.value
+          ∙ slots_more (seen_lines c.args.lines.now) l.index (seen_option line) l.slot more l.invariant.slot;
       bound = omega (arith, c.line_slots-slot.ensures.bound);
     }

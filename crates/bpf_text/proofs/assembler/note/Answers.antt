@@ -10,6 +10,10 @@ pub returns-in_ok-insert : goal.returns-in_ok-insert
 returns-in_ok-insert c =
     let is : label_defined (seen_option c.args.line.now) ≡ Some c.in-Some.name.now = sym c.in-Some.ensures in
     let absent : is_some c.get.result ≡ false = c.is_none.ensures ∙ ap not c.if-is_none.true in
-    let none : definition_of c.args.labels.now c.in-Some.name.now ≡ None = sym c.get.ensures.value ∙ none_copied c.get.result absent in
+    let none : definition_of c.args.labels.now c.in-Some.name.now ≡ None =
+    sym c.get.ensures.value ∙ none_copied c.get.result absent in
     noted c.args.labels.now c.insert.new.self c.args.definition c.in-Some.name.now (seen_option c.args.line.now) is none
-    (λ q. hash_map_updates_str c.in-Some.name.now c.args.labels.now c.insert.new.self (Some c.args.definition) c.in_ok-insert.ensures.updates q)
+    (λ q.
+    hash_map_updates_str c.in-Some.name.now c.args.labels.now c.insert.new.self
+    (Some c.args.definition) c.in_ok-insert.ensures.updates
+    q)

@@ -12,11 +12,21 @@ use Rattle.bpf_text.proofs.assembler.program_of.Goals as goal
 
 pub instructions-requires-clause-formed : goal.instructions-requires-clause-formed
 instructions-requires-clause-formed c =
-    subst (λ (ls : List (Option CodeLine)). AllByRecursion IsFormed (seen_lines ls)) (sym c.deref-3.ensures.value) (all_formed (map (λ line. line.now) c.deref.result.now) (seen_lines c.in_ok-lines.lines.items) c.in_ok-lines.ensures)
+    subst (λ (ls : List (Option CodeLine)). AllByRecursion IsFormed (seen_lines ls))
+    (sym c.deref-3.ensures.value)
+    (all_formed (map (λ line. line.now) c.deref.result.now) (seen_lines c.in_ok-lines.lines.items) c.in_ok-lines.ensures)
 
 pub returns-clause-fault : goal.returns-clause-fault
 returns-clause-fault c =
     let read : List (List ℕ) = map (λ (line : Bor (List ℕ)). line.now) c.deref.result.now in
-    let same : read ≡ text_lines c.args.text.now = ap (map (λ (line : Bor (List ℕ)). line.now)) c.deref.ensures.value ∙ c.in_ok-text.ensures in
-    let are : AreRead read (seen_lines c.deref-3.result.now) = subst (λ (ls : List (Option CodeLine)). AreRead read (seen_lines ls)) (sym c.deref-3.ensures.value) c.in_ok-lines.ensures in
-    IfErr-weaker c.program.result _ _ (λ fault. no_slot_fault c.args.text.now read (seen_lines c.deref-3.result.now) c.deref-4.result.now fault same are c.in_ok-insns.ensures.none (ap slot_count c.deref-4.ensures.value ∙ c.in_ok-insns.ensures.count)) c.program.ensures.refused
+    let same : read ≡ text_lines c.args.text.now =
+    ap (map (λ (line : Bor (List ℕ)). line.now)) c.deref.ensures.value ∙ c.in_ok-text.ensures in
+    let are : AreRead read (seen_lines c.deref-3.result.now) =
+    subst (λ (ls : List (Option CodeLine)). AreRead read (seen_lines ls))
+    (sym c.deref-3.ensures.value) c.in_ok-lines.ensures in
+    IfErr-weaker c.program.result _ _
+    (λ fault.
+    no_slot_fault c.args.text.now read (seen_lines c.deref-3.result.now) c.deref-4.result.now fault
+    same are c.in_ok-insns.ensures.none
+    (ap slot_count c.deref-4.ensures.value ∙ c.in_ok-insns.ensures.count))
+    c.program.ensures.refused

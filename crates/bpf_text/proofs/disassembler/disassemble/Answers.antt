@@ -24,17 +24,25 @@ loop-slot-preserved c =
           ∙ w.in_ok-push_str.ensures.bytes
           ∙ ap (λ (t : List ℕ). t ++ 10 ∷ []) w.in_ok-write_insn.ensures
           ∙ append_assoc text (printed_insn w.in-Some.insn.now) (10 ∷ [])
-          ∙ printed_more is before (begun_below is (c.loop-slot.slot + 1)) text (begins_at is c.loop-slot.slot) line c.loop-slot.invariant step (printed_one w.in-Some.insn.now (begins_at is c.loop-slot.slot) here)
+          ∙ printed_more is before (begun_below is (c.loop-slot.slot + 1)) text
+          (begins_at is c.loop-slot.slot) line c.loop-slot.invariant
+          step
+          (printed_one w.in-Some.insn.now (begins_at is c.loop-slot.slot) here)
       | in_default w ↦
           let here = sym (ap option_copied w.in_default.is) ∙ c.get.ensures in
           ap string_bytes w.text-is
           ∙ sym (append-nil text)
-          ∙ printed_more is before (begun_below is (c.loop-slot.slot + 1)) text (begins_at is c.loop-slot.slot) [] c.loop-slot.invariant step (printed_none (begins_at is c.loop-slot.slot) here)
+          ∙ printed_more is before (begun_below is (c.loop-slot.slot + 1)) text
+          (begins_at is c.loop-slot.slot) [] c.loop-slot.invariant
+          step
+          (printed_none (begins_at is c.loop-slot.slot) here)
     ]
 
 pub returns-clause-program : goal.returns-clause-program
 returns-clause-program c =
     let is : List Insn = c.args.program.now in
     let all : c.loop-slot.slot ≡ slot_count is = omega (arith, c.code-slot-end.ensures.length) in
-    let text : string_bytes c.loop-slot.text ≡ printed is = c.loop-slot.invariant ∙ ap (λ (n : ℕ). printed (begun_below is n)) all ∙ ap printed c.insns_in_order.ensures.end in
-    subst (λ (t : List ℕ). IsAssembled t is) (sym text) (c.printed_text_is_assembled.ensures is c.code-slot-end.ensures.program)
+    let text : string_bytes c.loop-slot.text ≡ printed is =
+    c.loop-slot.invariant ∙ ap (λ (n : ℕ). printed (begun_below is n)) all ∙ ap printed c.insns_in_order.ensures.end in
+    subst (λ (t : List ℕ). IsAssembled t is) (sym text)
+    (c.printed_text_is_assembled.ensures is c.code-slot-end.ensures.program)

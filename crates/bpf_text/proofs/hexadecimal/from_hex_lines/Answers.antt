@@ -10,21 +10,30 @@ use Rattle.bpf_text.proofs.hexadecimal.from_hex_lines.Goals as goal
 pub returns-then-is_empty-clause-fault : goal.returns-then-is_empty-clause-fault
 returns-then-is_empty-clause-fault c =
     let lines : List (List ℕ) = map (λ (line : Bor (List ℕ)). line.now) c.deref.result.now in
-    let same : lines ≡ text_lines c.args.text.now = ap (map (λ (line : Bor (List ℕ)). line.now)) c.deref.ensures.value ∙ c.in_ok-lines.ensures in
+    let same : lines ≡ text_lines c.args.text.now =
+    ap (map (λ (line : Bor (List ℕ)). line.now)) c.deref.ensures.value ∙ c.in_ok-lines.ensures in
     let none = none_at_all c.deref.result.now c.in_ok-bytes.ensures.none in
     inr (inr (record {
       fault_is = refl;
       none = λ i. ap (λ (ls : List (List ℕ)). hex_fault_at ls i) (sym same) ∙ none i;
-      slots_is = grind (arith, nat_tests, ap (λ (ls : List (List ℕ)). length (hex_bytes ls)) same, ap (λ (bs : List ℕ). length bs) c.in_ok-bytes.ensures.found);
+      slots_is =
+          grind (
+            arith,
+            nat_tests,
+            ap (λ (ls : List (List ℕ)). length (hex_bytes ls)) same,
+            ap (λ (bs : List ℕ). length bs) c.in_ok-bytes.ensures.found,
+          );
     }))
 
 pub returns-then-is_empty-clause-faulty : goal.returns-then-is_empty-clause-faulty
-returns-then-is_empty-clause-faulty c = λ fault has. told c.args.text.now empty_fault fault (returns-then-is_empty-clause-fault c) has
+returns-then-is_empty-clause-faulty c = λ fault has.
+    told c.args.text.now empty_fault fault (returns-then-is_empty-clause-fault c) has
 
 pub returns-clause-found : goal.returns-clause-found
 returns-clause-found c =
     let lines : List (List ℕ) = map (λ (line : Bor (List ℕ)). line.now) c.deref.result.now in
-    let same : lines ≡ text_lines c.args.text.now = ap (map (λ (line : Bor (List ℕ)). line.now)) c.deref.ensures.value ∙ c.in_ok-lines.ensures in
+    let same : lines ≡ text_lines c.args.text.now =
+    ap (map (λ (line : Bor (List ℕ)). line.now)) c.deref.ensures.value ∙ c.in_ok-lines.ensures in
     let none = none_at_all c.deref.result.now c.in_ok-bytes.ensures.none in
     record {
       none = λ i. ap (λ (ls : List (List ℕ)). hex_fault_at ls i) (sym same) ∙ none i;
@@ -33,4 +42,5 @@ returns-clause-found c =
     }
 
 pub returns-clause-faulty : goal.returns-clause-faulty
-returns-clause-faulty c = λ fault has. faultless c.args.text.now c.in_ok-bytes.bytes.items fault (returns-clause-found c) has
+returns-clause-faulty c = λ fault has.
+    faultless c.args.text.now c.in_ok-bytes.bytes.items fault (returns-clause-found c) has

@@ -5,14 +5,20 @@ use Rattle.bpf_text.proofs.hexadecimal.slots_on.Goals as goal
 pub returns-in-Err-clause-fault : goal.returns-in-Err-clause-fault
 returns-in-Err-clause-fault c =
     let i = c.loop-index in
-    first_here c.args.lines.now i.index (record { ref_ptr = (0, 0); now = [] }) i.bytes.items c.in-Err.kind c.at.result c.loop-index-test.true i.invariant.bytes i.invariant.below c.at.ensures c.in-Err.ensures.fault
+    first_here c.args.lines.now i.index (record { ref_ptr = (0, 0); now = [] }) i.bytes.items
+    c.in-Err.kind c.at.result c.loop-index-test.true i.invariant.bytes
+    i.invariant.below c.at.ensures c.in-Err.ensures.fault
 
 pub loop-index-preserved : goal.loop-index-preserved
 loop-index-preserved c =
     let i = c.loop-index in
     let d : Bor (List ℕ) = record { ref_ptr = (0, 0); now = [] } in
     record {
-      below = none_more c.args.lines.now i.index d i.bytes.items c.loop-index-test.true i.invariant.bytes i.invariant.below c.in_default.ensures.none;
-      bytes = bytes_more c.args.lines.now i.index d i.bytes.items c.append_slot.new.bytes.items c.loop-index-test.true i.invariant.bytes c.in_default.ensures.ok;
+      below =
+          none_more c.args.lines.now i.index d i.bytes.items c.loop-index-test.true
+          i.invariant.bytes i.invariant.below c.in_default.ensures.none;
+      bytes =
+          bytes_more c.args.lines.now i.index d i.bytes.items c.append_slot.new.bytes.items
+          c.loop-index-test.true i.invariant.bytes c.in_default.ensures.ok;
       room = omega (arith, c.in_default.ensures.room);
     }

@@ -3,4 +3,6 @@ use Rattle.bpfhost_c.specs.Contexts.{have_known_words}
 use Rattle.bpfhost_c.proofs.contexts.are_known.Given as goal
 
 abbrev pub invariant-loop : goal.invariant-loop
-invariant-loop l = (have_known_words l.size (l.count - l.counter) l.rest ≡ have_known_words l.size l.count l.words) × ((l.count - l.counter) * l.size ≤ length l.rest)
+invariant-loop l =
+    (have_known_words l.size (l.count - l.counter) l.rest ≡ have_known_words l.size l.count l.words)
+    × ((l.count - l.counter) * l.size ≤ length l.rest)

@@ -3,4 +3,6 @@ use Rattle.bpfhost_c.specs.Contexts.{fitted_all}
 use Rattle.bpfhost_c.proofs.contexts.fit_all.Given as goal
 
 abbrev pub invariant-loop : goal.invariant-loop
-invariant-loop l = (l.contexts.items ++ fitted_all l.size (l.count - l.counter) l.rest ≡ fitted_all l.size l.count l.words) × ((l.count - l.counter) * l.size ≤ length l.rest)
+invariant-loop l =
+    (l.contexts.items ++ fitted_all l.size (l.count - l.counter) l.rest ≡ fitted_all l.size l.count l.words)
+    × ((l.count - l.counter) * l.size ≤ length l.rest)

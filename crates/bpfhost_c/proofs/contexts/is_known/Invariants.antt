@@ -3,4 +3,5 @@ use Rattle.std.specs.List.{list_all}
 use Rattle.bpfhost_c.proofs.contexts.is_known.Given as goal
 
 abbrev pub invariant-loop-word : goal.invariant-loop-word
-invariant-loop-word l = list_all (λ word. nat_eq word 0) (drop l.word-index l.more) ≡ list_all (λ word. nat_eq word 0) l.more
+invariant-loop-word l =
+    list_all (λ word. nat_eq word 0) (drop l.word-index l.more) ≡ list_all (λ word. nat_eq word 0) l.more

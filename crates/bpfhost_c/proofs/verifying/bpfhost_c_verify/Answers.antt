@@ -14,8 +14,15 @@ returns-in-Ok-clause-done c = λ done.
     let same : c.deref.result.now.host.states ≡ states c.args.handle.now.session = search rules in
     let number : c.from.result ≡ c.args.tenant = search rules in
     let log =
-    subst (λ (all : List TenantState). IsLogOfSlots slots (targets_if_served (slice_get all c.args.tenant)) style logged.is_accepted (string_bytes logged.text)) same
+    subst (λ (all : List TenantState).
+    IsLogOfSlots slots (targets_if_served (slice_get all c.args.tenant)) style logged.is_accepted
+    (string_bytes logged.text))
+    same
     (subst
-    (λ (n : ℕ). IsLogOfSlots slots (targets_if_served (slice_get c.deref.result.now.host.states n)) style logged.is_accepted (string_bytes logged.text)) number
+    (λ (n : ℕ).
+    IsLogOfSlots slots
+    (targets_if_served (slice_get c.deref.result.now.host.states n))
+    style logged.is_accepted (string_bytes logged.text))
+    number
     (of_ok _ _ _ c.in-Ok.is c.log_in-log.ensures)) in
     (string_bytes logged.text, (style, search rules, log), search rules, search rules)

@@ -5,5 +5,7 @@ use Rattle.bpfhost_c.proofs.verifying.log_in.Goals as goal
 
 pub returns : goal.returns
 returns c =
-    subst (λ (named : List Named). IfOk c.log_of_slots.result (λ log. IsLogOfSlots c.args.slots.now named c.args.style log.is_accepted (string_bytes log.text)))
+    subst (λ (named : List Named).
+    IfOk c.log_of_slots.result
+    (λ log. IsLogOfSlots c.args.slots.now named c.args.style log.is_accepted (string_bytes log.text)))
     (c.deref.ensures.value ∙ c.in_ok-named.ensures) c.log_of_slots.ensures

@@ -7,8 +7,18 @@ pub returns : goal.returns
 returns c =
     let one = c.handle.ensures in
     let two = c.handle-2.ensures in
-    let first : Handles c.args.host.now.states c.args.refused.now c.handle.new.reply c.handle.new.self.states = record { own = one.own; others = one.others; count = one.count; no_fault = one.no_fault } in
-    let second : Handles c.handle.new.self.states c.args.next.now c.handle-2.new.reply c.handle-2.new.self.states = record { own = two.own; others = two.others; count = two.count; no_fault = two.no_fault } in (
+    let first : Handles c.args.host.now.states c.args.refused.now c.handle.new.reply c.handle.new.self.states = record {
+      own = one.own;
+      others = one.others;
+      count = one.count;
+      no_fault = one.no_fault;
+    } in
+    let second : Handles c.handle.new.self.states c.args.next.now c.handle-2.new.reply c.handle-2.new.self.states = record {
+      own = two.own;
+      others = two.others;
+      count = two.count;
+      no_fault = two.no_fault;
+    } in (
       c.handle.new.reply,
       c.handle.new.self.states,
       first,

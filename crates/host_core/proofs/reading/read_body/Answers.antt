@@ -4,8 +4,12 @@ use Rattle.host_core.proofs.reading.read_body.Goals as goal
 
 pub returns-in_ok-read_whole-clause-frame : goal.returns-in_ok-read_whole-clause-frame
 returns-in_ok-read_whole-clause-frame g c =
-    let buffer = c.read_whole.new.buffer in
-    (take c.args.total buffer, omega (arith, length-take c.args.total buffer), c.in_ok-read_whole.ensures.bytes, inl refl)
+    let buffer = c.read_whole.new.buffer in (
+      take c.args.total buffer,
+      omega (arith, length-take c.args.total buffer),
+      c.in_ok-read_whole.ensures.bytes,
+      inl refl,
+    )
 
 pub returns-in_ok-read_long-clause-frame : goal.returns-in_ok-read_long-clause-frame
 returns-in_ok-read_long-clause-frame g c =

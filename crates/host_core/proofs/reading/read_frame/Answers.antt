@@ -10,7 +10,9 @@ pub returns-in_err-kept-clause-short : goal.returns-in_err-kept-clause-short
 returns-in_err-kept-clause-short g c =
     let short = c.in_err-kept.ensures.short in
     let small : c.in-Some.total < 2 ^ 32 = rw c.in-Some.is at c.in_ok-total.ensures.bound in
-    let counted : Consumes (g.S.Source.remaining c.args.reader.now) (g.S.Source.remaining c.read_length.new.reader) (little_bytes 4 c.in-Some.total) = rw c.in-Some.is at c.in_ok-total.ensures.some in
+    let counted : Consumes (g.S.Source.remaining c.args.reader.now)
+    (g.S.Source.remaining c.read_length.new.reader) (little_bytes 4 c.in-Some.total) =
+    rw c.in-Some.is at c.in_ok-total.ensures.some in
     let p = err_from_is_err_and c.from_residual-in_err-kept.result c.from_residual-in_err-kept.ensures.1 in
     rw p.1 (record {
       bytes = little_bytes 4 c.in-Some.total ++ short.bytes;

@@ -13,7 +13,8 @@ pub returns-in_err-skip-clause-short : goal.returns-in_err-skip-clause-short
 returns-in_err-skip-clause-short g c =
     let came = take FRAME_BUFFER c.read_whole.new.buffer in
     let left = c.in_err-skip.ensures.short in
-    let short : ReadsFewer (g.S.Source.remaining c.args.reader.now) (g.S.Source.remaining c.skip.new.reader) c.args.total = record {
+    let short :
+    ReadsFewer (g.S.Source.remaining c.args.reader.now) (g.S.Source.remaining c.skip.new.reader) c.args.total = record {
       bytes = came ++ left.bytes;
       few = omega (arith, length-append came left.bytes, length-take FRAME_BUFFER c.read_whole.new.buffer, left.few);
       read = Consumes-trans _ _ _ _ _ c.in_ok-read_whole.ensures.bytes left.read;
@@ -27,7 +28,8 @@ returns-clause-frame g c =
     let (more, len, read) = c.in_ok-skip.ensures.bytes in
     let four : 4 ≤ length buffer = omega arith in
     let front : take 4 (put_mid 4 (length buffer - 4) buffer c.skip.new.scratch) ≡ take 4 (buffer ++ more) =
-    take-put_mid_same 4 (length buffer - 4) buffer c.skip.new.scratch four ∙ sym (take-append-le 4 buffer more four) in (
+    take-put_mid_same 4 (length buffer - 4) buffer c.skip.new.scratch four
+    ∙ sym (take-append-le 4 buffer more four) in (
       buffer ++ more,
       omega (arith, length-append buffer more, len),
       Consumes-trans _ _ _ _ _ (subst (Consumes _ _) whole c.in_ok-read_whole.ensures.bytes) read,

@@ -8,7 +8,9 @@ pub returns-in_err-read_whole-clause-short : goal.returns-in_err-read_whole-clau
 returns-in_err-read_whole-clause-short g c =
     let (bytes, len, read) = c.loop-left.invariant.came in
     let more = c.in_err-read_whole.ensures.short in
-    let short : ReadsFewer (g.S.Source.remaining c.args.reader.now) (g.S.Source.remaining c.read_whole.new.reader) c.args.count = record {
+    let short :
+    ReadsFewer (g.S.Source.remaining c.args.reader.now)
+    (g.S.Source.remaining c.read_whole.new.reader) c.args.count = record {
       bytes = bytes ++ more.bytes;
       few = omega (arith, length-append bytes more.bytes, more.few, c.min-wanted.ensures);
       read = Consumes-trans _ _ _ _ _ read more.read;
@@ -20,7 +22,16 @@ loop-left-preserved g c =
     let (bytes, len, read) = c.loop-left.invariant.came in
     let came = take c.min-wanted.result c.read_whole.new.buffer in
     record {
-      came = (bytes ++ came, omega (arith, length-append bytes came, length-take c.min-wanted.result c.read_whole.new.buffer, c.min-wanted.ensures), Consumes-trans _ _ _ _ _ read c.in_ok-read_whole.ensures.bytes);
+      came = (
+        bytes ++ came,
+        omega (
+          arith,
+          length-append bytes came,
+          length-take c.min-wanted.result c.read_whole.new.buffer,
+          c.min-wanted.ensures,
+        ),
+        Consumes-trans _ _ _ _ _ read c.in_ok-read_whole.ensures.bytes,
+      );
       sound = search rules;
       room = search rules;
     }

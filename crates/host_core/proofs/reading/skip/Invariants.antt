@@ -5,7 +5,9 @@ use Rattle.host_core.proofs.reading.skip.Given as goal
 
 abbrev pub invariant-loop-left : goal.invariant-loop-left
 invariant-loop-left g l = record {
-  came : (bytes : List ℕ) × (length bytes + l.left ≡ l.count) × Consumes (g.S.Source.remaining l.initial.reader) (g.S.Source.remaining l.reader) bytes;
+  came : (bytes : List ℕ)
+      × (length bytes + l.left ≡ l.count)
+      × Consumes (g.S.Source.remaining l.initial.reader) (g.S.Source.remaining l.reader) bytes;
   sound : g.S.Source.failures l.reader ≡ g.S.Source.failures l.initial.reader;
   room : 0 < length l.scratch;
 }

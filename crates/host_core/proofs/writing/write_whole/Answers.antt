@@ -12,6 +12,11 @@ loop-rest-preserved g c =
     let count = c.in-Ok.count in
     let joined = take-drop-take n count bytes c.loop-rest.rest.now rest-is in
     record {
-      done = (n + count, omega (arith, ap length rest-is, length-drop n bytes, c.in-Ok.ensures.bound), take_rest c.loop-rest.rest.now count ∙ drop_further n count bytes c.loop-rest.rest.now rest-is, subst (Appends _ _) joined (Appends-trans _ _ _ _ _ went c.in-Ok.ensures.bytes));
+      done = (
+        n + count,
+        omega (arith, ap length rest-is, length-drop n bytes, c.in-Ok.ensures.bound),
+        take_rest c.loop-rest.rest.now count ∙ drop_further n count bytes c.loop-rest.rest.now rest-is,
+        subst (Appends _ _) joined (Appends-trans _ _ _ _ _ went c.in-Ok.ensures.bytes),
+      );
       sound = search rules;
     }

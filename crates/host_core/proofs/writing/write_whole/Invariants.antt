@@ -5,7 +5,10 @@ use Rattle.host_core.proofs.writing.write_whole.Given as goal
 
 abbrev pub invariant-loop-rest : goal.invariant-loop-rest
 invariant-loop-rest g l = record {
-  done : (n : ℕ) × (n ≤ length l.bytes) × (l.rest ≡ drop n l.bytes) × Appends (g.S.Sink.contents l.initial.writer) (g.S.Sink.contents l.writer) (take n l.bytes);
+  done : (n : ℕ)
+      × (n ≤ length l.bytes)
+      × (l.rest ≡ drop n l.bytes)
+      × Appends (g.S.Sink.contents l.initial.writer) (g.S.Sink.contents l.writer) (take n l.bytes);
   sound : g.S.Sink.failures l.writer ≡ g.S.Sink.failures l.initial.writer;
 }
 

@@ -26,7 +26,10 @@ note-requires c =
     let after = state_in c.create-answer.new.part c.create-answer.new.self in
     let r = c.create-answer.result in
     subst (λ (bs : List Birth). length bs ≤ most + most_maps) (sym (births_opened r after c.args.births.now))
-    (few_after c.maps_are_held.ensures c.births_are_kept.ensures c.args.tenant.now c.args.births.now c.requires.recorded p e.answer.0 (map_create a.kind a.key_size a.value_size a.max_entries a.flags) (shown_answer r after) e.answer.1)
+    (few_after c.maps_are_held.ensures c.births_are_kept.ensures c.args.tenant.now c.args.births.now
+    c.requires.recorded p e.answer.0
+    (map_create a.kind a.key_size a.value_size a.max_entries a.flags)
+    (shown_answer r after) e.answer.1)
 
 pub note-requires-in-ProgLoad : goal.note-requires-in-ProgLoad
 note-requires-in-ProgLoad c =
@@ -36,29 +39,54 @@ note-requires-in-ProgLoad c =
     let r = c.load-loaded.result in
     let (refused, loads) = c.load-loaded.ensures.answer p in
     subst (λ (bs : List Birth). length bs ≤ most + most_maps) (sym (births_opened r after c.args.births.now))
-    (few_after c.maps_are_held.ensures c.births_are_kept.ensures c.args.tenant.now c.args.births.now c.requires.recorded p refused (prog_load a.kind a.slots.now) (shown_answer r after) loads)
+    (few_after c.maps_are_held.ensures c.births_are_kept.ensures c.args.tenant.now c.args.births.now
+    c.requires.recorded p refused (prog_load a.kind a.slots.now)
+    (shown_answer r after) loads)
 
 -- ---- commands that borrow the part to write it
 
 pub returns-in-MapCreate-clause-told : goal.returns-in-MapCreate-clause-told
 returns-in-MapCreate-clause-told c =
     let e = c.create-answer.ensures in
-    let lent : IsLent c.args.arena.now c.args.number c.part_mut-part.result.now c.create-answer.new.part = record { parts = c.memory_is_its_parts.ensures.parts; served = c.requires.part; bytes = c.part_mut-part.ensures.bytes; whole = e.length } in
-    on_lent c.parts_are_apart.ensures c.args.tenant.now c.create-answer.new.self lent (told e.answer.0 c.create-answer.result c.in-MapCreate.is e.answer.1 e.writable c.write_answer.ensures
-    (c.note.ensures ∙ births_opened c.create-answer.result (state_in c.create-answer.new.part c.create-answer.new.self) c.args.births.now))
+    let lent : IsLent c.args.arena.now c.args.number c.part_mut-part.result.now c.create-answer.new.part = record {
+      parts = c.memory_is_its_parts.ensures.parts;
+      served = c.requires.part;
+      bytes = c.part_mut-part.ensures.bytes;
+      whole = e.length;
+    } in
+    on_lent c.parts_are_apart.ensures c.args.tenant.now c.create-answer.new.self lent
+    (told e.answer.0 c.create-answer.result c.in-MapCreate.is e.answer.1 e.writable c.write_answer.ensures
+    (c.note.ensures
+    ∙ births_opened c.create-answer.result
+    (state_in c.create-answer.new.part c.create-answer.new.self)
+    c.args.births.now))
 
 pub returns-in-MapUpdate-clause-told : goal.returns-in-MapUpdate-clause-told
 returns-in-MapUpdate-clause-told c =
     let e = c.update-answer.ensures in
-    let lent : IsLent c.args.arena.now c.args.number c.part_mut.result.now c.update-answer.new.part = record { parts = c.memory_is_its_parts.ensures.parts; served = c.requires.part; bytes = c.part_mut.ensures.bytes; whole = e.length } in
-    on_lent c.parts_are_apart.ensures c.args.tenant.now c.update-answer.new.self lent (told false c.update-answer.result c.in-MapUpdate.is e.answer e.writable c.write_answer-in-MapUpdate.ensures refl)
+    let lent : IsLent c.args.arena.now c.args.number c.part_mut.result.now c.update-answer.new.part = record {
+      parts = c.memory_is_its_parts.ensures.parts;
+      served = c.requires.part;
+      bytes = c.part_mut.ensures.bytes;
+      whole = e.length;
+    } in
+    on_lent c.parts_are_apart.ensures c.args.tenant.now c.update-answer.new.self lent
+    (told false c.update-answer.result c.in-MapUpdate.is e.answer e.writable c.write_answer-in-MapUpdate.ensures refl)
 
 pub returns-in-Close-clause-told : goal.returns-in-Close-clause-told
 returns-in-Close-clause-told c =
     let e = c.close-answer.ensures in
-    let lent : IsLent c.args.arena.now c.args.number c.part_mut-in-Close.result.now c.close-answer.new.part = record { parts = c.memory_is_its_parts.ensures.parts; served = c.requires.part; bytes = c.part_mut-in-Close.ensures.bytes; whole = e.length } in
-    on_lent c.parts_are_apart.ensures c.args.tenant.now c.close-answer.new.self lent (told false c.close-answer.result c.in-Close.is e.answer e.writable c.write_answer-in-Close.ensures
-    (c.keep_living.ensures c.close-answer.new.part ∙ ap (λ (s : TenantState). filter (lives s) c.args.births.now) (shown_after c.close-answer.result (state_in c.close-answer.new.part c.close-answer.new.self))))
+    let lent : IsLent c.args.arena.now c.args.number c.part_mut-in-Close.result.now c.close-answer.new.part = record {
+      parts = c.memory_is_its_parts.ensures.parts;
+      served = c.requires.part;
+      bytes = c.part_mut-in-Close.ensures.bytes;
+      whole = e.length;
+    } in
+    on_lent c.parts_are_apart.ensures c.args.tenant.now c.close-answer.new.self lent
+    (told false c.close-answer.result c.in-Close.is e.answer e.writable c.write_answer-in-Close.ensures
+    (c.keep_living.ensures c.close-answer.new.part
+    ∙ ap (λ (s : TenantState). filter (lives s) c.args.births.now)
+    (shown_after c.close-answer.result (state_in c.close-answer.new.part c.close-answer.new.self))))
 
 -- ---- commands that read the part, or do not borrow it
 
@@ -67,32 +95,48 @@ returns-in-MapLookup-clause-told c =
     let a = c.in-MapLookup in
     let e = c.look_up-answer.ensures in
     let k = c.args.tenant.now in
-    told false c.look_up-answer.result a.is (subst (λ (bytes : List ℕ). Answers false (state_in bytes k) (map_lookup a.fd a.key.now) (shown_answer c.look_up-answer.result (state_in bytes k))) c.part.ensures.bytes e.answer) e.writable c.write_answer-in-MapLookup.ensures refl
+    told false c.look_up-answer.result a.is
+    (subst (λ (bytes : List ℕ).
+    Answers false (state_in bytes k) (map_lookup a.fd a.key.now)
+    (shown_answer c.look_up-answer.result (state_in bytes k)))
+    c.part.ensures.bytes e.answer)
+    e.writable c.write_answer-in-MapLookup.ensures refl
 
 pub returns-in-MapDelete-clause-told : goal.returns-in-MapDelete-clause-told
 returns-in-MapDelete-clause-told c =
     let e = c.delete-answer.ensures in
-    told false c.delete-answer.result c.in-MapDelete.is (e.answer (part_bytes c.args.arena.now c.args.number)) e.writable c.write_answer-in-MapDelete.ensures refl
+    told false c.delete-answer.result c.in-MapDelete.is
+    (e.answer (part_bytes c.args.arena.now c.args.number))
+    e.writable c.write_answer-in-MapDelete.ensures refl
 
 pub returns-in-MapNextKey-clause-told : goal.returns-in-MapNextKey-clause-told
 returns-in-MapNextKey-clause-told c =
     let e = c.next_key-answer.ensures in
-    told false c.next_key-answer.result c.in-MapNextKey.is (e.answer (part_bytes c.args.arena.now c.args.number)) e.writable c.write_answer-in-MapNextKey.ensures refl
+    told false c.next_key-answer.result c.in-MapNextKey.is
+    (e.answer (part_bytes c.args.arena.now c.args.number))
+    e.writable c.write_answer-in-MapNextKey.ensures refl
 
 pub write_answer-requires-in-ProgLoad : goal.write_answer-requires-in-ProgLoad
 write_answer-requires-in-ProgLoad c =
-    let short = subst (λ (x : CodeCommand). tail_length (shown_command x) ≤ longest_frame) c.in-ProgLoad.is c.requires.short in
+    let short =
+    subst (λ (x : CodeCommand). tail_length (shown_command x) ≤ longest_frame) c.in-ProgLoad.is c.requires.short in
     c.load-loaded.ensures.writable (omega (arith, short))
 
 pub returns-in-ProgLoad-clause-told : goal.returns-in-ProgLoad-clause-told
 returns-in-ProgLoad-clause-told c =
     let e = c.load-loaded.ensures in
-    let short = subst (λ (x : CodeCommand). tail_length (shown_command x) ≤ longest_frame) c.in-ProgLoad.is c.requires.short in
+    let short =
+    subst (λ (x : CodeCommand). tail_length (shown_command x) ≤ longest_frame) c.in-ProgLoad.is c.requires.short in
     let (refused, loads) = e.answer (part_bytes c.args.arena.now c.args.number) in
-    told refused c.load-loaded.result c.in-ProgLoad.is loads (e.writable (omega (arith, short))) c.write_answer-in-ProgLoad.ensures
-    (c.note-in-ProgLoad.ensures ∙ births_opened c.load-loaded.result (state_in (part_bytes c.args.arena.now c.args.number) c.load-loaded.new.self) c.args.births.now)
+    told refused c.load-loaded.result c.in-ProgLoad.is loads (e.writable (omega (arith, short)))
+    c.write_answer-in-ProgLoad.ensures
+    (c.note-in-ProgLoad.ensures
+    ∙ births_opened c.load-loaded.result
+    (state_in (part_bytes c.args.arena.now c.args.number) c.load-loaded.new.self)
+    c.args.births.now)
 
 pub returns-in-ProgTestRun-clause-told : goal.returns-in-ProgTestRun-clause-told
 returns-in-ProgTestRun-clause-told c =
     let e = c.test_run-answer.ensures in
-    told false c.test_run-answer.result c.in-ProgTestRun.is e.answer e.writable c.write_answer-in-ProgTestRun.ensures refl
+    told false c.test_run-answer.result c.in-ProgTestRun.is e.answer e.writable
+    c.write_answer-in-ProgTestRun.ensures refl

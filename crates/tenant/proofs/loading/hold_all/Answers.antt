@@ -31,7 +31,14 @@ loop-map-preserved c =
     let e = c.hold.ensures in
     let left = times-left held c.loop-map.map-index m _ c.loop-map-test.true c.map-item.is in
     let live = is.live m (c.requires.there m (omega arith)) in
-    let h : IsHeld c.loop-map.maps c.hold.new.self m = record { more = e.more; live = e.live; holds = e.holds; keys = e.keys; others = e.others; refused = e.refused } in record {
+    let h : IsHeld c.loop-map.maps c.hold.new.self m = record {
+      more = e.more;
+      live = e.live;
+      holds = e.holds;
+      keys = e.keys;
+      others = e.others;
+      refused = e.refused;
+    } in record {
       held = held_then is (held_one is.held live h);
       holds = λ q.
           let so_far = c.loop-map.invariant.holds q in

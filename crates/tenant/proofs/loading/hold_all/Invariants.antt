@@ -7,5 +7,6 @@ use Rattle.tenant.proofs.loading.hold_all.Given as goal
 abbrev pub invariant-loop-map : goal.invariant-loop-map
 invariant-loop-map l = record {
   held : IsHeldMore l.initial.maps l.maps;
-  holds : (handle : ℕ) → holds_at l.maps handle ≡ holds_at l.initial.maps handle + times_listed handle (take l.map-index l.held);
+  holds : (handle : ℕ)
+      → holds_at l.maps handle ≡ holds_at l.initial.maps handle + times_listed handle (take l.map-index l.held);
 }

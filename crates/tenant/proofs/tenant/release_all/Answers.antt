@@ -31,7 +31,15 @@ loop-map-preserved c =
     let all = c.requires.held m in
     let left = times-left held c.loop-map.map-index m _ c.loop-map-test.true c.map-item.is in
     let live = held_is_live c.loop-map.maps m (omega arith) in
-    let released : IsReleased c.loop-map.maps c.release.new.self c.loop-map.part c.release.new.part m = record { less = e.less; gone = e.gone; others = e.others; refused = e.refused; maps = e.maps; kept = e.kept; whole = e.length } in record {
+    let released : IsReleased c.loop-map.maps c.release.new.self c.loop-map.part c.release.new.part m = record {
+      less = e.less;
+      gone = e.gone;
+      others = e.others;
+      refused = e.refused;
+      maps = e.maps;
+      kept = e.kept;
+      whole = e.length;
+    } in record {
       left = leaves_then is (left_released is.held live released);
       holds = λ q.
           let before = c.loop-map.invariant.holds q in

@@ -6,6 +6,8 @@ use Rattle.tenant.proofs.tenant.release_all.Given as goal
 
 abbrev pub invariant-loop-map : goal.invariant-loop-map
 invariant-loop-map l = record {
-  left : LeavesHeldMaps (record { live = l.initial.maps; part = l.initial.part }) (record { live = l.maps; part = l.part });
-  holds : (handle : ℕ) → holds_at l.maps handle + times_listed handle (take l.map-index l.held) ≡ holds_at l.initial.maps handle;
+  left : LeavesHeldMaps (record { live = l.initial.maps; part = l.initial.part })
+      (record { live = l.maps; part = l.part });
+  holds : (handle : ℕ)
+      → holds_at l.maps handle + times_listed handle (take l.map-index l.held) ≡ holds_at l.initial.maps handle;
 }

@@ -10,30 +10,45 @@ use Rattle.transfer.proofs.effects.store.Goals as goal
 
 -- the result of the write to the stack is the result of the store
 abbrev Tells : Result Facts Reason → Result ℕ Reason → Facts → Facts → Type 0
-Tells done result old new = MatchResult done (λ after. IsOk result × (new ≡ after)) (λ reason. (result ≡ Err reason) × (new ≡ old))
+Tells done result old new =
+    MatchResult done (λ after. IsOk result × (new ≡ after)) (λ reason. (result ≡ Err reason) × (new ≡ old))
 
-told_ok : (done : Result Facts Reason) (result : Result ℕ Reason) (i : ℕ) (old new : Facts) → Tells done result old new → result ≡ Ok i → done ≡ Ok new
+told_ok : (done : Result Facts Reason) (result : Result ℕ Reason) (i : ℕ) (old new : Facts)
+    → Tells done result old new → result ≡ Ok i → done ≡ Ok new
 told_ok (Ok after) result i old new h is = ap (λ (f : Facts). Ok f) (sym h.1)
 told_ok (Err reason) result i old new h is = let e = h.0 in cc
 
-told_err : (done : Result Facts Reason) (result : Result ℕ Reason) (reason : Reason) (old new : Facts) → Tells done result old new → result ≡ Err reason → (done ≡ Err reason) × (new ≡ old)
+told_err : (done : Result Facts Reason) (result : Result ℕ Reason) (reason : Reason) (old new : Facts)
+    → Tells done result old new → result ≡ Err reason
+    → (done ≡ Err reason) × (new ≡ old)
 told_err (Ok after) result reason old new h is = absurd (false≢true (subst (λ (r : Result ℕ Reason). IsOk r) is h.0))
 told_err (Err other) result reason old new h is = (let e = h.0 in cc, h.1)
 
 pub returns-in_ok-write_stack-in-Stack-clause-ok : goal.returns-in_ok-write_stack-in-Stack-clause-ok
 returns-in_ok-write_stack-in-Stack-clause-ok c =
-    let wanted = store_facts (shapes_named c.args.named.now) c.args.facts.now c.args.size c.args.offset c.args.base c.args.value in
-    let told = told_ok _ c.write_stack.result _ c.args.facts.now c.write_stack.new.facts c.write_stack.ensures.facts c.in_ok-write_stack-in-Stack.was in
+    let wanted =
+    store_facts (shapes_named c.args.named.now) c.args.facts.now c.args.size c.args.offset c.args.base c.args.value in
+    let told =
+    told_ok _ c.write_stack.result _ c.args.facts.now c.write_stack.new.facts
+    c.write_stack.ensures.facts c.in_ok-write_stack-in-Stack.was in
     search (rules, told)
 
 pub returns-in_err-write_stack-in-Stack-clause-refused : goal.returns-in_err-write_stack-in-Stack-clause-refused
 returns-in_err-write_stack-in-Stack-clause-refused c =
-    let p = err_from_is_err_and c.from_residual-in_err-write_stack-in-Stack.result c.from_residual-in_err-write_stack-in-Stack.ensures.1 in
-    let told = told_err _ c.write_stack.result _ c.args.facts.now c.write_stack.new.facts c.write_stack.ensures.facts c.in_err-write_stack-in-Stack.was in
+    let p =
+    err_from_is_err_and c.from_residual-in_err-write_stack-in-Stack.result
+    c.from_residual-in_err-write_stack-in-Stack.ensures.1 in
+    let told =
+    told_err _ c.write_stack.result _ c.args.facts.now c.write_stack.new.facts
+    c.write_stack.ensures.facts c.in_err-write_stack-in-Stack.was in
     rw (p.1, p.2) (search (rules, told.0))
 
 pub returns-in_err-write_stack-in-Stack-clause-stays : goal.returns-in_err-write_stack-in-Stack-clause-stays
 returns-in_err-write_stack-in-Stack-clause-stays c =
-    let p = err_from_is_err_and c.from_residual-in_err-write_stack-in-Stack.result c.from_residual-in_err-write_stack-in-Stack.ensures.1 in
-    let told = told_err _ c.write_stack.result _ c.args.facts.now c.write_stack.new.facts c.write_stack.ensures.facts c.in_err-write_stack-in-Stack.was in
+    let p =
+    err_from_is_err_and c.from_residual-in_err-write_stack-in-Stack.result
+    c.from_residual-in_err-write_stack-in-Stack.ensures.1 in
+    let told =
+    told_err _ c.write_stack.result _ c.args.facts.now c.write_stack.new.facts
+    c.write_stack.ensures.facts c.in_err-write_stack-in-Stack.was in
     rw p.1 told.1

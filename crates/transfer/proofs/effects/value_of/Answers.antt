@@ -18,9 +18,13 @@ returns c =
     let at = c.signed_offset-at.result in
     let small : offset < 4096 = c.has_direct_value.ensures.bound c.if-not-has_direct_value.false in
     let fits : FitsSigned w32 (pos offset) = omega (arith, small) in
-    let same : to_z w32 (of_z w32 at) ≡ pos offset = ap (λ (z : ℤ). to_z w32 (of_z w32 z)) c.signed_offset-at.ensures ∙ to_z-of_z w32 (pos offset) fits in
-    let spanned : c.new.result ≡ value_span fd (pos offset) (pos offset) = c.new.ensures ∙ ap (λ (z : ℤ). value_span fd z z) same in
-    let has : has_direct_value shape offset ≡ true = sym c.has_direct_value.ensures.value ∙ c.if-not-has_direct_value.false in
+    let same : to_z w32 (of_z w32 at) ≡ pos offset =
+    ap (λ (z : ℤ). to_z w32 (of_z w32 z)) c.signed_offset-at.ensures ∙ to_z-of_z w32 (pos offset) fits in
+    let spanned : c.new.result ≡ value_span fd (pos offset) (pos offset) =
+    c.new.ensures ∙ ap (λ (z : ℤ). value_span fd z z) same in
+    let has : has_direct_value shape offset ≡ true =
+    sym c.has_direct_value.ensures.value ∙ c.if-not-has_direct_value.false in
     let named : shapes_named c.args.named.now fd ≡ Some shape = sym c.shape_of.ensures ∙ c.in-Some.is in
-    let told : value_of fd offset (Some shape) ≡ Ok (Value (value_span fd (pos offset) (pos offset))) = cond-true (has_direct_value shape offset) _ _ has in
+    let told : value_of fd offset (Some shape) ≡ Ok (Value (value_span fd (pos offset) (pos offset))) =
+    cond-true (has_direct_value shape offset) _ _ has in
     ap (λ (p : ValuePointer). Ok (Value p)) spanned ∙ sym (ap (value_of fd offset) named ∙ told)

@@ -31,7 +31,10 @@ both false y a b = a
 abbrev Fields : Type 0
 Fields = MapKind × (ℕ × (ℕ × ℕ))
 
-same_fields : (k l : MapKind) (a b c d e f : ℕ) → k ≡ l → a ≡ b → c ≡ d → e ≡ f → ◌≡◌ {A = Fields} (k, (a, (c, e))) (l, (b, (d, f)))
+same_fields : (k l : MapKind) (a b c d e f : ℕ)
+    → k ≡ l → a ≡ b
+    → c ≡ d → e ≡ f
+    → ◌≡◌ {A = Fields} (k, (a, (c, e))) (l, (b, (d, f)))
 same_fields k l a b c d e f p q r s = cc
 
 same_shape : (s t : MapShape) → shape.eq-value.it s t ≡ true → s ≡ t
@@ -40,16 +43,22 @@ same_shape s t e =
     let second = and_parts _ _ first.1 in
     let third = and_parts _ _ second.1 in
     let all = same_fields s.kind t.kind s.key_size t.key_size s.value_size t.value_size s.max_entries t.max_entries
-    (same_kind s.kind t.kind first.0) (eqb-true s.key_size t.key_size second.0) (eqb-true s.value_size t.value_size third.0) (eqb-true s.max_entries t.max_entries third.1) in
-    subst (λ (f : Fields). (h : IsTrue (is_shape f.0 f.1.0 f.1.1.0 f.1.1.1)) → record { kind = f.0; key_size = f.1.0; value_size = f.1.1.0; max_entries = f.1.1.1; listed = h } ≡ t) (sym all)
+    (same_kind s.kind t.kind first.0) (eqb-true s.key_size t.key_size second.0)
+    (eqb-true s.value_size t.value_size third.0) (eqb-true s.max_entries t.max_entries third.1) in
+    subst (λ (f : Fields).
+    (h : IsTrue (is_shape f.0 f.1.0 f.1.1.0 f.1.1.1))
+    → record { kind = f.0; key_size = f.1.0; value_size = f.1.1.0; max_entries = f.1.1.1; listed = h } ≡ t)
+    (sym all)
     (λ h.
-    ap (λ (i : IsTrue (is_shape t.kind t.key_size t.value_size t.max_entries)). record { kind = t.kind; key_size = t.key_size; value_size = t.value_size; max_entries = t.max_entries; listed = i })
+    ap (λ (i : IsTrue (is_shape t.kind t.key_size t.value_size t.max_entries)).
+    record { kind = t.kind; key_size = t.key_size; value_size = t.value_size; max_entries = t.max_entries; listed = i })
     (IsTrue-prop (is_shape t.kind t.key_size t.value_size t.max_entries) h t.listed)) s.listed
 
 own_shape : (s : MapShape) → shape.eq-value.it s s ≡ true
 own_shape s =
     both _ _ (own_kind s.kind)
-    (both _ _ (eq-eqb s.key_size s.key_size refl) (both _ _ (eq-eqb s.value_size s.value_size refl) (eq-eqb s.max_entries s.max_entries refl)))
+    (both _ _ (eq-eqb s.key_size s.key_size refl)
+    (both _ _ (eq-eqb s.value_size s.value_size refl) (eq-eqb s.max_entries s.max_entries refl)))
 
 same : (a b : Option MapShape) → option_eq shape.eq-value.it a b ≡ true → a ≡ b
 same None None e = refl
@@ -64,5 +73,7 @@ own (Some s) = own_shape s
 pub returns : goal.returns
 returns c = (
   λ yes. same c.args.one c.args.other (sym c.eq.ensures ∙ yes),
-  λ is. c.eq.ensures ∙ subst (λ (o : Option MapShape). option_eq shape.eq-value.it c.args.one o ≡ true) is (own c.args.one),
+  λ is.
+      c.eq.ensures
+      ∙ subst (λ (o : Option MapShape). option_eq shape.eq-value.it c.args.one o ≡ true) is (own c.args.one),
 )

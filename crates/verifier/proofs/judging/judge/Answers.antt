@@ -11,7 +11,9 @@ use Rattle.verifier.proofs.judging.judge.Goals as goal
 pub returns-in_err-cost-clause-told_refused : goal.returns-in_err-cost-clause-told_refused
 returns-in_err-cost-clause-told_refused g c =
     let p = err_from_is_err_and c.from_residual.result c.from_residual.ensures.1 in
-    rw (p.1, p.2) (none_told_of_shape c.args.program.now c.args.named.now (g.W.Watcher.told c.args.watcher.now) _ c.in_err-cost.ensures.refused)
+    rw (p.1, p.2)
+    (none_told_of_shape c.args.program.now c.args.named.now (g.W.Watcher.told c.args.watcher.now) _
+    c.in_err-cost.ensures.refused)
 
 pub returns-in_err-maps-clause-told_refused : goal.returns-in_err-maps-clause-told_refused
 returns-in_err-maps-clause-told_refused g c =
@@ -28,6 +30,9 @@ returns-clause-told g c =
     let code = c.args.program.now in
     let old = g.W.Watcher.told c.args.watcher.now in
     let new = g.W.Watcher.told c.check_safety-verdict.new.watcher in
-    let is = c.in_ok-entries.ensures ∙ ap (λ (fds : List ℕ). entries_of fds c.args.named.now) (c.deref.ensures.value ∙ c.in_ok-maps.ensures) in
+    let is =
+    c.in_ok-entries.ensures
+    ∙ ap (λ (fds : List ℕ). entries_of fds c.args.named.now) (c.deref.ensures.value ∙ c.in_ok-maps.ensures) in
     let entries = c.deref-2.ensures.value ∙ is in
-    subst (λ (es : List Named). IsToldBelow (slot_count code) (shapes_named es) code old new) entries c.in_ok-verdict.ensures.told
+    subst (λ (es : List Named). IsToldBelow (slot_count code) (shapes_named es) code old new)
+    entries c.in_ok-verdict.ensures.told

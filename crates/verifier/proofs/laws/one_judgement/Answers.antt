@@ -2,4 +2,6 @@ use Rattle.verifier.proofs.Judgements.{one_judgement_is}
 use Rattle.verifier.proofs.laws.one_judgement.Goals as goal
 
 pub returns : goal.returns
-returns c = one_judgement_is c.one_program.ensures c.one_fault.ensures.same c.one_fault.ensures.none c.one_refusal.ensures c.accepted_is_not_refused.ensures
+returns c =
+    one_judgement_is c.one_program.ensures c.one_fault.ensures.same c.one_fault.ensures.none
+    c.one_refusal.ensures c.accepted_is_not_refused.ensures

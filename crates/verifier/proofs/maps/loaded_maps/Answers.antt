@@ -26,12 +26,15 @@ loop-slot-preserved c =
       | then-names_map+in_ok-add_at w ↦
           ap (λ v. v.items) w.maps-is
           ∙ w.in_ok-add_at.ensures
-          ∙ ap (λ (known : List ℕ). with_descriptor known (and_then (begins_at is slot) descriptor)) c.loop-slot.invariant
+          ∙ ap (λ (known : List ℕ). with_descriptor known (and_then (begins_at is slot) descriptor))
+          c.loop-slot.invariant
           ∙ loaded_at before after (begins_at is slot) step
       | else-names_map w ↦
           ap (λ v. v.items) w.maps-is
           ∙ c.loop-slot.invariant
-          ∙ loaded_silent before after c.code-code.result.now c.index-code-slot.result slot (begins_at is slot) step (c.code-code.ensures.insns slot) (omega arith) c.index-code-slot.is (sym c.names_map.ensures ∙ w.if-names_map.false)
+          ∙ loaded_silent before after c.code-code.result.now c.index-code-slot.result slot
+          (begins_at is slot) step (c.code-code.ensures.insns slot)
+          (omega arith) c.index-code-slot.is (sym c.names_map.ensures ∙ w.if-names_map.false)
     ]
 
 pub returns-then-is_empty : goal.returns-then-is_empty
@@ -39,4 +42,6 @@ returns-then-is_empty c =
     let code = c.args.program.now in
     let none = no_names c.args.named.now (sym c.is_empty.ensures ∙ c.if-is_empty.true) in
     let fine = subst (λ (named : List Named). HasNoFault (structure_fault code named)) none c.requires in
-    c.new-maps.ensures.items ∙ sym (none_named code fine c.insns_in_order.ensures.start c.insns_in_order.ensures.step c.insns_in_order.ensures.end)
+    c.new-maps.ensures.items
+    ∙ sym (none_named code fine c.insns_in_order.ensures.start c.insns_in_order.ensures.step
+    c.insns_in_order.ensures.end)

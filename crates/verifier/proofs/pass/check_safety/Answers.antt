@@ -33,9 +33,12 @@ within (Some to) n most h = omega (arith, most, h)
 
 pub step-requires-clause-lands : goal.step-requires-clause-lands
 step-requires-clause-lands g c =
-    let begins : begins_at c.args.program.now c.loop-slot.slot ≡ Some c.in-Some.insn.now = sym c.get.ensures ∙ ap option_copied c.in-Some.is in
-    let most : slot_count c.args.program.now ≤ 4096 = omega (arith, c.slots-slots.ensures.count, c.slots-slots.ensures.room) in
-    within (jump_target c.in-Some.insn.now c.loop-slot.slot) (slot_count c.args.program.now) most (c.requires c.loop-slot.slot c.in-Some.insn.now begins)
+    let begins : begins_at c.args.program.now c.loop-slot.slot ≡ Some c.in-Some.insn.now =
+    sym c.get.ensures ∙ ap option_copied c.in-Some.is in
+    let most : slot_count c.args.program.now ≤ 4096 =
+    omega (arith, c.slots-slots.ensures.count, c.slots-slots.ensures.room) in
+    within (jump_target c.in-Some.insn.now c.loop-slot.slot) (slot_count c.args.program.now) most
+    (c.requires c.loop-slot.slot c.in-Some.insn.now begins)
 
 pub step-requires-clause-absorb : goal.step-requires-clause-absorb
 step-requires-clause-absorb g c = c.slots_absorb.ensures
@@ -58,15 +61,21 @@ returns-in_err-step-clause-refused g c =
     rw (p.1, p.2)
     (elim c.in_err-step.ensures.refused [
       | inl memory ↦
-          let (n, part) = told_or_not (shapes_named c.args.named.now) code slot c.in-Some.insn.now _ old mid new begins here c.loop-slot.invariant.told memory.1 in
+          let (n, part) =
+          told_or_not (shapes_named c.args.named.now) code slot c.in-Some.insn.now _ old mid new
+          begins here c.loop-slot.invariant.told memory.1 in
           inl (memory.0, n, part)
       | inr told ↦
           inr (
-            first_at (shapes_named c.args.named.now) (safety_fault (shapes_named c.args.named.now) code) c.in_err-step.field-0.0.slot slot c.in_err-step.field-0.0.reason told.0.0
+            first_at (shapes_named c.args.named.now)
+                (safety_fault (shapes_named c.args.named.now) code)
+                c.in_err-step.field-0.0.slot slot c.in_err-step.field-0.0.reason
+                told.0.0
                 (safety_is _ code slot here begins told.0.1)
                 c.loop-slot.invariant.none_below,
             subst (λ (n : ℕ). IsToldBelow (n + 1) (shapes_named c.args.named.now) code old new) (sym told.0.0)
-                (told_next (shapes_named c.args.named.now) code slot c.in-Some.insn.now _ old mid new begins here c.loop-slot.invariant.told told.1),
+                (told_next (shapes_named c.args.named.now) code slot c.in-Some.insn.now _ old mid
+                new begins here c.loop-slot.invariant.told told.1),
           )
     ])
 
@@ -78,15 +87,20 @@ loop-slot-preserved g c =
     let lt : slot < slot_count code = omega (arith, c.slots-slots.ensures.count) in
     elim c.match-get.branch [
       | in-Some+in_ok-step w ↦
-          let begins : begins_at code slot ≡ Some w.in-Some.insn.now = sym c.get.ensures ∙ ap option_copied w.in-Some.is in
+          let begins : begins_at code slot ≡ Some w.in-Some.insn.now =
+          sym c.get.ensures ∙ ap option_copied w.in-Some.is in
           let told = w.in_ok-step.ensures in
           let here = here_is _ known begins lt in
           record {
             known =
                 subst (λ (p : Pass). IsBefore (shapes_named c.args.named.now) code (slot + 1) p) (sym w.pass-is)
-                (after_insn _ c.joins_commute.ensures.facts c.joins_associate.ensures.facts _ known begins lt told.falling told.sent told.numbered);
+                (after_insn _ c.joins_commute.ensures.facts c.joins_associate.ensures.facts _ known
+                begins lt told.falling told.sent told.numbered);
             none_below = below_more _ _ c.loop-slot.invariant.none_below (safety_is _ code slot here begins told.ok);
-            told = told_next (shapes_named c.args.named.now) code slot w.in-Some.insn.now _ _ _ _ begins here c.loop-slot.invariant.told (ap g.W.Watcher.told w.watcher-is ∙ told.told);
+            told =
+                told_next (shapes_named c.args.named.now) code slot w.in-Some.insn.now _ _ _ _
+                begins here c.loop-slot.invariant.told
+                (ap g.W.Watcher.told w.watcher-is ∙ told.told);
           }
       | in_default w ↦
           let begins : begins_at code slot ≡ None = sym c.get.ensures ∙ ap option_copied w.in_default.is in
@@ -94,8 +108,12 @@ loop-slot-preserved g c =
             known =
                 subst (λ (p : Pass). IsBefore (shapes_named c.args.named.now) code (slot + 1) p) (sym w.pass-is)
                 (after_none _ known begins lt);
-            none_below = below_more _ _ c.loop-slot.invariant.none_below (safe_none (shapes_named c.args.named.now) code slot begins);
-            told = ap g.W.Watcher.told w.watcher-is ∙ told_past (shapes_named c.args.named.now) code slot _ _ begins c.loop-slot.invariant.told;
+            none_below =
+                below_more _ _ c.loop-slot.invariant.none_below
+                (safe_none (shapes_named c.args.named.now) code slot begins);
+            told =
+                ap g.W.Watcher.told w.watcher-is
+                ∙ told_past (shapes_named c.args.named.now) code slot _ _ begins c.loop-slot.invariant.told;
           }
     ]
 
@@ -103,7 +121,8 @@ pub returns-clause-sound : goal.returns-clause-sound
 returns-clause-sound g c = λ n.
     elim (cases_lt n (slot_count c.args.program.now)) [
       | inl lt ↦ c.loop-slot.invariant.none_below n (omega arith)
-      | inr past ↦ safe_none (shapes_named c.args.named.now) c.args.program.now n (none_begins_past c.args.program.now n past)
+      | inr past ↦ safe_none (shapes_named c.args.named.now) c.args.program.now n
+          (none_begins_past c.args.program.now n past)
     ]
 
 pub returns-clause-told : goal.returns-clause-told
@@ -111,4 +130,5 @@ returns-clause-told g c =
     let end : c.loop-slot.slot ≡ slot_count c.args.program.now = omega (arith, c.slots-slots.ensures.count) in
     let old = g.W.Watcher.told c.args.watcher.now in
     let new = g.W.Watcher.told c.loop-slot.watcher in
-    subst (λ (n : ℕ). IsToldBelow n (shapes_named c.args.named.now) c.args.program.now old new) end c.loop-slot.invariant.told
+    subst (λ (n : ℕ). IsToldBelow n (shapes_named c.args.named.now) c.args.program.now old new) end
+    c.loop-slot.invariant.told

@@ -12,5 +12,6 @@ invariant-loop-slot g l =
     record {
       known : IsBefore (shapes_named l.named) l.program l.slot l.pass;
       none_below : (n : ℕ) → n < l.slot → safety_fault (shapes_named l.named) l.program n ≡ None;
-      told : IsToldBelow l.slot (shapes_named l.named) l.program (g.W.Watcher.told l.fn.watcher) (g.W.Watcher.told l.watcher);
+      told : IsToldBelow l.slot (shapes_named l.named) l.program (g.W.Watcher.told l.fn.watcher)
+          (g.W.Watcher.told l.watcher);
     }

@@ -12,6 +12,9 @@ returns-in-Some-clause-hand c =
     let x : NumberedFacts = c.args.hand.now in
     on_ok_weaker c.send.result
     (λ _ (q : RangePair).
-    ap (λ (f : Facts). let y : NumberedFacts = record { facts = f; numbers = x.numbers; includes = x.includes } in with_ranges y c.args.dst c.args.src q) c.set_ranges.ensures
+    ap (λ (f : Facts).
+    let y : NumberedFacts = record { facts = f; numbers = x.numbers; includes = x.includes } in
+    with_ranges y c.args.dst c.args.src q)
+    c.set_ranges.ensures
     ∙ ranged_twice x c.args.dst c.args.src c.in-Some.ranges q)
     c.send.ensures

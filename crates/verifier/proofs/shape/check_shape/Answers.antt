@@ -24,14 +24,22 @@ loop-slot-init c =
     let code = c.args.program.now in
     let items : c.as_mut_slice-jumping.result.now ≡ replicate (slot_count code) no_counts = search rules in
     let none : (i : ℕ) → i < slot_count code → get_or c.as_mut_slice-jumping.result.now i no_counts ≡ no_counts =
-    λ i lt. ap (λ (cs : List Counts). get_or cs i no_counts) items ∙ get_or-replicate (slot_count code) i no_counts no_counts lt in
+    λ i lt.
+    ap (λ (cs : List Counts). get_or cs i no_counts) items
+    ∙ get_or-replicate (slot_count code) i no_counts no_counts lt in
     record {
       begins = begins_first code (omega (arith, c.slots-slots.ensures.count, c.slots-slots.ensures.some));
       long = ap length items ∙ length-replicate (slot_count code) no_counts;
       instructions = λ i above lt.
-          arrives_none (0 == i) _ _ (ap (λ (n : Counts). n.instructions) c.new-paths.ensures.here) (ap (λ (n : Counts). n.instructions) (none i lt)) ∙ sym (most_first one code i);
+          arrives_none (0 == i) _ _
+          (ap (λ (n : Counts). n.instructions) c.new-paths.ensures.here)
+          (ap (λ (n : Counts). n.instructions) (none i lt))
+          ∙ sym (most_first one code i);
       calls = λ i above lt.
-          arrives_none (0 == i) _ _ (ap (λ (n : Counts). n.calls) c.new-paths.ensures.here) (ap (λ (n : Counts). n.calls) (none i lt)) ∙ sym (most_first one_if_call code i);
+          arrives_none (0 == i) _ _
+          (ap (λ (n : Counts). n.calls) c.new-paths.ensures.here)
+          (ap (λ (n : Counts). n.calls) (none i lt))
+          ∙ sym (most_first one_if_call code i);
       ended_instructions = ap (λ (n : Counts). n.instructions) c.new-paths.ensures.ended ∙ sym (ended_first one code);
       ended_calls = ap (λ (n : Counts). n.calls) c.new-paths.ensures.ended ∙ sym (ended_first one_if_call code);
       none_below = λ n lt. absurd (omega arith);
@@ -42,29 +50,59 @@ pass-requires-clause-reached c =
     let code = c.args.program.now in
     let slot = c.loop-slot.slot in
     let within : slot < slot_count code = omega (arith, c.loop-slot-test.true, c.slots-slots.ensures.count) in
-    let here = arrives_here slot _ _ _ _ (c.loop-slot.invariant.instructions slot (omega arith) within) c.join.ensures.instructions in
+    let here =
+    arrives_here slot _ _ _ _
+    (c.loop-slot.invariant.instructions slot (omega arith) within)
+    c.join.ensures.instructions in
     ap (λ (n : ℕ). nat_lt 0 n || slot == 0) here
-    ∙ sym (reached_is code slot slot (λ k i lt. reached_below code c.args.named.now k i (c.loop-slot.invariant.none_below k lt)))
+    ∙ sym (reached_is code slot slot
+    (λ k i lt. reached_below code c.args.named.now k i (c.loop-slot.invariant.none_below k lt)))
 
 pub pass-requires-clause-few : goal.pass-requires-clause-few
 pass-requires-clause-few c =
     let code = c.args.program.now in
     let slot = c.loop-slot.slot in
     let within : slot < slot_count code = omega (arith, c.loop-slot-test.true, c.slots-slots.ensures.count) in
-    let instructions = arrives_here slot _ _ _ _ (c.loop-slot.invariant.instructions slot (omega arith) within) c.join.ensures.instructions in
-    let calls = arrives_here slot _ _ _ _ (c.loop-slot.invariant.calls slot (omega arith) within) c.join.ensures.calls in
+    let instructions =
+    arrives_here slot _ _ _ _
+    (c.loop-slot.invariant.instructions slot (omega arith) within)
+    c.join.ensures.instructions in
+    let calls =
+    arrives_here slot _ _ _ _ (c.loop-slot.invariant.calls slot (omega arith) within) c.join.ensures.calls in
     record {
-      instructions = omega (arith, instructions, most_small one one_is_small code slot slot, c.slots-slots.ensures.room, within, c.slots-slots.ensures.count);
-      calls = omega (arith, calls, most_small one_if_call one_if_call_is_small code slot slot, c.slots-slots.ensures.room, within, c.slots-slots.ensures.count);
+      instructions =
+          omega (
+            arith,
+            instructions,
+            most_small one one_is_small code slot slot,
+            c.slots-slots.ensures.room,
+            within,
+            c.slots-slots.ensures.count,
+          );
+      calls =
+          omega (
+            arith,
+            calls,
+            most_small one_if_call one_if_call_is_small code slot slot,
+            c.slots-slots.ensures.room,
+            within,
+            c.slots-slots.ensures.count,
+          );
     }
 
 pub returns-in-Err-clause-refused : goal.returns-in-Err-clause-refused
 returns-in-Err-clause-refused c =
     let code = c.args.program.now in
     let slot = c.loop-slot.slot in
-    let begins = begun_there code c.code-code.result.now slot c.index-code-slot.result c.loop-slot.invariant.begins (omega (arith, c.loop-slot-test.true, c.slots-slots.ensures.count)) c.code-code.ensures.insns c.index-code-slot.is in
+    let begins =
+    begun_there code c.code-code.result.now slot c.index-code-slot.result
+    c.loop-slot.invariant.begins
+    (omega (arith, c.loop-slot-test.true, c.slots-slots.ensures.count))
+    c.code-code.ensures.insns c.index-code-slot.is in
     inr (record {
-      here = shape_is code c.args.named.now slot (Some c.index-code-slot.result) (Some c.in-Err.reason) (sym begins) (sym c.in-Err.ensures.refused);
+      here =
+          shape_is code c.args.named.now slot (Some c.index-code-slot.result) (Some c.in-Err.reason)
+          (sym begins) (sym c.in-Err.ensures.refused);
       below = c.loop-slot.invariant.none_below;
     })
 
@@ -76,11 +114,16 @@ loop-slot-preserved c =
     let insn = c.index-code-slot.result in
     let old = c.loop-slot.invariant in
     let within : slot < slot_count code = omega (arith, c.loop-slot-test.true, c.slots-slots.ensures.count) in
-    let begins = begun_there code c.code-code.result.now slot insn old.begins within c.code-code.ensures.insns c.index-code-slot.is in
-    let size : c.profile-row.result.slots ≡ length (slots insn) = ap (λ row. row.slots) c.profile-row.ensures ∙ profile_slots insn in
+    let begins =
+    begun_there code c.code-code.result.now slot insn old.begins within c.code-code.ensures.insns
+    c.index-code-slot.is in
+    let size : c.profile-row.result.slots ≡ length (slots insn) =
+    ap (λ row. row.slots) c.profile-row.ensures ∙ profile_slots insn in
     let more = some_slots insn in
-    let inside : (k : ℕ) → slot < k → k < slot + length (slots insn) → begins_at code k ≡ None = λ k after before. none_begins_inside code slot insn begins k after before in
-    let instructions = arrives_here slot _ _ _ _ (old.instructions slot (omega arith) within) c.join.ensures.instructions in
+    let inside : (k : ℕ) → slot < k → k < slot + length (slots insn) → begins_at code k ≡ None =
+    λ k after before. none_begins_inside code slot insn begins k after before in
+    let instructions =
+    arrives_here slot _ _ _ _ (old.instructions slot (omega arith) within) c.join.ensures.instructions in
     let calls = arrives_here slot _ _ _ _ (old.calls slot (omega arith) within) c.join.ensures.calls in
     let added = c.in_default.ensures.added in
     record {
@@ -90,26 +133,35 @@ loop-slot-preserved c =
           let after : slot < i = omega arith in
           let was = arrives_later slot i _ _ _ after (old.instructions i (omega arith) lt) in
           ap (λ (n : ℕ). arriving (λ k. k.instructions) (slot + n) c.pass.new.paths.here c.pass.new.jumping i) size
-          ∙ carried one code slot (length (slots insn)) i _ _ _ insn begins more inside instructions was (added.instructions i after)
+          ∙ carried one code slot (length (slots insn)) i _ _ _ insn begins more inside instructions
+          was (added.instructions i after)
           ∙ ap (λ (n : ℕ). most_from one code i (slot + n)) (sym size);
       calls = λ i above lt.
           let after : slot < i = omega arith in
           let was = arrives_later slot i _ _ _ after (old.calls i (omega arith) lt) in
           ap (λ (n : ℕ). arriving (λ k. k.calls) (slot + n) c.pass.new.paths.here c.pass.new.jumping i) size
-          ∙ carried one_if_call code slot (length (slots insn)) i _ _ _ insn begins more inside calls was (added.calls i after)
+          ∙ carried one_if_call code slot (length (slots insn)) i _ _ _ insn begins more inside
+          calls was (added.calls i after)
           ∙ ap (λ (n : ℕ). most_from one_if_call code i (slot + n)) (sym size);
       ended_instructions =
-          ended_carried one code slot (length (slots insn)) _ _ _ insn begins more inside instructions (ap (λ (k : Counts). k.instructions) c.join.ensures.ended ∙ old.ended_instructions) added.ended_instructions
+          ended_carried one code slot (length (slots insn)) _ _ _ insn begins more inside
+          instructions
+          (ap (λ (k : Counts). k.instructions) c.join.ensures.ended ∙ old.ended_instructions)
+          added.ended_instructions
           ∙ ap (λ (n : ℕ). most_ended one code (slot + n)) (sym size);
       ended_calls =
-          ended_carried one_if_call code slot (length (slots insn)) _ _ _ insn begins more inside calls (ap (λ (k : Counts). k.calls) c.join.ensures.ended ∙ old.ended_calls) added.ended_calls
+          ended_carried one_if_call code slot (length (slots insn)) _ _ _ insn begins more inside
+          calls
+          (ap (λ (k : Counts). k.calls) c.join.ensures.ended ∙ old.ended_calls)
+          added.ended_calls
           ∙ ap (λ (n : ℕ). most_ended one_if_call code (slot + n)) (sym size);
       none_below = λ n lt.
           elim (cases_lt n slot) [
             | inl below ↦ old.none_below n below
             | inr past ↦
                 elim (cases_eq n slot) [
-                  | inl same ↦ ap (structure_fault code named) same ∙ shape_is code named slot (Some insn) None (sym begins) (sym c.in_default.ensures.fine)
+                  | inl same ↦ ap (structure_fault code named) same
+                      ∙ shape_is code named slot (Some insn) None (sym begins) (sym c.in_default.ensures.fine)
                   | inr other ↦ shape_is code named n None None (sym (inside n (omega arith) (omega arith))) refl
                 ]
           ];
@@ -119,7 +171,8 @@ sound : (c : goal.After-cost) (n : ℕ) → structure_fault c.args.program.now c
 sound c n =
     elim (cases_lt n (slot_count c.args.program.now)) [
       | inl lt ↦ c.loop-slot.invariant.none_below n (omega (arith, c.loop-slot-test.false, c.slots-slots.ensures.count))
-      | inr past ↦ shape_is c.args.program.now c.args.named.now n None None (sym (none_begins_past c.args.program.now n past)) refl
+      | inr past ↦ shape_is c.args.program.now c.args.named.now n None None
+          (sym (none_begins_past c.args.program.now n past)) refl
     ]
 
 pub returns-clause-sound : goal.returns-clause-sound
@@ -132,9 +185,11 @@ pub returns-clause-cost : goal.returns-clause-cost
 returns-clause-cost c =
     let code = c.args.program.now in
     let some : 0 < slot_count code = omega (arith, c.slots-slots.ensures.count, c.slots-slots.ensures.some) in
-    let past : slot_count code ≤ c.loop-slot.slot = omega (arith, c.loop-slot-test.false, c.slots-slots.ensures.count) in
+    let past : slot_count code ≤ c.loop-slot.slot =
+    omega (arith, c.loop-slot-test.false, c.slots-slots.ensures.count) in
     let end : c.loop-slot.slot ≡ slot_count code = at_end_of code c.loop-slot.slot c.loop-slot.invariant.begins past in
-    let instructions = c.cost.ensures.instructions ∙ c.loop-slot.invariant.ended_instructions ∙ ap (most_ended one code) end in
+    let instructions =
+    c.cost.ensures.instructions ∙ c.loop-slot.invariant.ended_instructions ∙ ap (most_ended one code) end in
     let calls = c.cost.ensures.calls ∙ c.loop-slot.invariant.ended_calls ∙ ap (most_ended one_if_call code) end in
     cost_is c.cost.result code
     (subst (IsMostOf (total one) code) (sym instructions) (is_most one code c.args.named.now (sound c) some))

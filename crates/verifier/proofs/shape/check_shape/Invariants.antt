@@ -11,8 +11,12 @@ invariant-loop-slot l =
     record {
       begins : Adjoins l.program l.slot;
       long : length l.jumping ≡ slot_count l.program;
-      instructions : (i : ℕ) → l.slot ≤ i → i < slot_count l.program → arriving (λ c. c.instructions) l.slot l.paths.here l.jumping i ≡ most_from one l.program i l.slot;
-      calls : (i : ℕ) → l.slot ≤ i → i < slot_count l.program → arriving (λ c. c.calls) l.slot l.paths.here l.jumping i ≡ most_from one_if_call l.program i l.slot;
+      instructions : (i : ℕ)
+          → l.slot ≤ i → i < slot_count l.program
+          → arriving (λ c. c.instructions) l.slot l.paths.here l.jumping i ≡ most_from one l.program i l.slot;
+      calls : (i : ℕ)
+          → l.slot ≤ i → i < slot_count l.program
+          → arriving (λ c. c.calls) l.slot l.paths.here l.jumping i ≡ most_from one_if_call l.program i l.slot;
       ended_instructions : l.paths.ended.instructions ≡ most_ended one l.program l.slot;
       ended_calls : l.paths.ended.calls ≡ most_ended one_if_call l.program l.slot;
       none_below : (n : ℕ) → n < l.slot → structure_fault l.program l.named n ≡ None;

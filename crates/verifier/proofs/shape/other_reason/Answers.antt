@@ -23,4 +23,6 @@ returns-in-Some c =
     ∷ (is_not_map named (descriptor i), DescriptorNotMap)
     ∷ (lacks_value named i, NoDirectValue)
     ∷ [] in
-    told_early (jumps i && leads_outside code (jumps_to i at), JumpOutside) (jumps i && leads_backward (jumps_to i at) at, JumpBackward) later c.in-Some.reason c.in-Some.ensures
+    told_early (jumps i && leads_outside code (jumps_to i at), JumpOutside)
+    (jumps i && leads_backward (jumps_to i at) at, JumpBackward)
+    later c.in-Some.reason c.in-Some.ensures

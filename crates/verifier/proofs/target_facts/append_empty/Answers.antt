@@ -8,9 +8,13 @@ use Rattle.verifier.proofs.target_facts.append_empty.Goals as goal
 pub loop-at-preserved : goal.loop-at-preserved
 loop-at-preserved c =
     record {
-      long = ap length c.in_ok-push.ensures.items ∙ length-append c.loop-at.facts.items (None ∷ []) ∙ ap (λ (n : ℕ). n + 1) c.loop-at.invariant.long;
+      long =
+          ap length c.in_ok-push.ensures.items
+          ∙ length-append c.loop-at.facts.items (None ∷ [])
+          ∙ ap (λ (n : ℕ). n + 1) c.loop-at.invariant.long;
       entries = λ i.
-          ap (λ (es : List (Option (Box NumberedFacts Global))). entry_of i (map (option_map box_value) es)) c.in_ok-push.ensures.items
+          ap (λ (es : List (Option (Box NumberedFacts Global))). entry_of i (map (option_map box_value) es))
+          c.in_ok-push.ensures.items
           ∙ pushed_none c.loop-at.facts.items i
           ∙ c.loop-at.invariant.entries i;
     }

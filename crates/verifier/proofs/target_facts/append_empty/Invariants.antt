@@ -7,5 +7,7 @@ abbrev pub invariant-loop-at : goal.invariant-loop-at
 invariant-loop-at l =
     record {
       long : length l.facts.items ≡ l.at;
-      entries : (i : ℕ) → entry_of i (map (option_map box_value) l.facts.items) ≡ entry_of i (map (option_map box_value) l.fn.facts.items);
+      entries : (i : ℕ)
+          → entry_of i (map (option_map box_value) l.facts.items)
+          ≡ entry_of i (map (option_map box_value) l.fn.facts.items);
     }

@@ -8,12 +8,18 @@ pub invariant_of-result : goal.invariant_of-result
 invariant_of-result c =
     let found = c.in-Ok-judge.found in
     let is = c.in-Ok-judge.ensures in
-    copy_is_whole c.in-Ok.program c.in-Ok.program c.args.named.now found.entries.items found.maps.items found.cost refl is.accepted is.entries is.maps is.cost
+    copy_is_whole c.in-Ok.program c.in-Ok.program c.args.named.now found.entries.items
+    found.maps.items found.cost refl is.accepted is.entries
+    is.maps is.cost
 
 pub returns-in-Err-judge-clause-memory : goal.returns-in-Err-judge-clause-memory
-returns-in-Err-judge-clause-memory c = may_be_program c.one_fault.ensures.none c.args.slots.now c.in-Ok.program c.in-Ok.ensures.found.0 c.in-Ok.ensures.found.1
+returns-in-Err-judge-clause-memory c =
+    may_be_program c.one_fault.ensures.none c.args.slots.now c.in-Ok.program c.in-Ok.ensures.found.0
+    c.in-Ok.ensures.found.1
 
 pub returns-clause-slot : goal.returns-clause-slot
 returns-clause-slot c =
-    let within = slot_within c.args.slots.now c.args.named.now c.in-Ok.program c.in-Err-judge.fault c.in-Ok.ensures.found.1 c.in-Err-judge.ensures.refused in
+    let within =
+    slot_within c.args.slots.now c.args.named.now c.in-Ok.program c.in-Err-judge.fault
+    c.in-Ok.ensures.found.1 c.in-Err-judge.ensures.refused in
     omega (arith, within, ap (λ (r : Refusal). r.slot) c.from-in-Err-2-judge.ensures)

@@ -38,16 +38,36 @@ use Rattle.bpfhost_c.proofs.handle.Handle.into_raw_box.Code as code
 
 pub into_raw_box_spec : {M : Type 1} → statement M
 into_raw_box_spec 𝓤 𝓛 𝓜 𝓡 wired =
-    let H = 𝓛.H in let 𝓣 = tables 𝓤 H 𝓜 𝓡 𝓡.env in let R = session.the_row in let Z = heap.the_row in let LZ = heap_laws.the_row_laws in let c = clauses 𝓛 𝓜.mem 𝓡.returns in
-    let From = plain (λ _. handle.the_row) in let hs : Stays ended.signature.params ended.kept = (stay_dropped From yes, tt) in let Lr = raw_box.the_row R Z ghosts in
-    proved_at 𝓛 ended hs c 𝓜 𝓡 (Goes-dropped 𝓛 0 From yes (λ κs x f. refl), tt) #self code.function (code.unfolded 𝓤 H 𝓜 𝓡 wired) (λ z are.
-    let κs = z.0.0 in let v = z.0.3.0 in let Post : Val → SProp 𝓤 = (walk_of 𝓛 ended hs c).post z in let Run : List Val → SProp 𝓤 = λ ws. WpFn 𝓤 H 𝓣.C 𝓣.Λ code.function ws Post in let Out : RattleType = type_at ended.signature.result κs in
-    qed 𝓛 ((‵ ftrue ⊛ ‵ (owns (types_at ended.signature.params κs) z.0.3 z.0.4)) ∷ raw ((c κs z.0.3).requires z.1) ∷ []) ∵ split ! $ drop ! $ fsplit ! $ handle_out ! v z.0.4.0 (λ h ws fits.
+    let H = 𝓛.H in
+    let 𝓣 = tables 𝓤 H 𝓜 𝓡 𝓡.env in
+    let R = session.the_row in
+    let Z = heap.the_row in
+    let LZ = heap_laws.the_row_laws in
+    let c = clauses 𝓛 𝓜.mem 𝓡.returns in
+    let From = plain (λ _. handle.the_row) in
+    let hs : Stays ended.signature.params ended.kept = (stay_dropped From yes, tt) in
+    let Lr = raw_box.the_row R Z ghosts in
+    proved_at 𝓛 ended hs c 𝓜 𝓡 (Goes-dropped 𝓛 0 From yes (λ κs x f. refl), tt) #self code.function
+    (code.unfolded 𝓤 H 𝓜 𝓡 wired) (λ z are.
+    let κs = z.0.0 in
+    let v = z.0.3.0 in
+    let Post : Val → SProp 𝓤 = (walk_of 𝓛 ended hs c).post z in
+    let Run : List Val → SProp 𝓤 = λ ws. WpFn 𝓤 H 𝓣.C 𝓣.Λ code.function ws Post in
+    let Out : RattleType = type_at ended.signature.result κs in
+    qed 𝓛
+    ((‵ ftrue ⊛ ‵ (owns (types_at ended.signature.params κs) z.0.3 z.0.4))
+    ∷ raw ((c κs z.0.3).requires z.1)
+    ∷ [])
+    ∵ split ! $ drop ! $ fsplit ! $ handle_out ! v z.0.4.0 (λ h ws fits.
     keep ! (0 ∷ 1 ∷ []) $ handle_either ! v.alloc v.at v.session
     (λ at_null is_none. let w : Val = both (ptr_val null_ptr) h in
-    suffices ! (Run (w ∷ [])) (subst (λ (us : List Val). ent 𝓤 (Run (w ∷ [])) (Run us)) (sym (λ i. (ws ∙ ap (λ (p : Ptr). both (ptr_val p) h ∷ []) at_null) i ++ [])) (id⊢ 𝓤 (Run (w ∷ [])))) $
+    suffices ! (Run (w ∷ []))
+    (subst (λ (us : List Val). ent 𝓤 (Run (w ∷ [])) (Run us))
+    (sym (λ i. (ws ∙ ap (λ (p : Ptr). both (ptr_val p) h ∷ []) at_null) i ++ []))
+    (id⊢ 𝓤 (Run (w ∷ [])))) $
     enter ! 𝓣.C 𝓣.Λ code.function (w ∷ []) Post $ alloc_all ! (λ l. pass_all ! refl (null_good h fits, tt) $
-    sets ! (of_opd ! (get_in ! (fld ! refl (stop !)) (sub ! 0 refl (whole !)))) refl (tt, record { fits = lit< tt }) $ sets ! (of_opd ! (get_in ! (fld ! refl (stop !)) (sub ! 1 refl (whole !)))) refl fits $
+    sets ! (of_opd ! (get_in ! (fld ! refl (stop !)) (sub ! 0 refl (whole !)))) refl (tt, record { fits = lit< tt }) $
+    sets ! (of_opd ! (get_in ! (fld ! refl (stop !)) (sub ! 1 refl (whole !)))) refl fits $
     sets ! (bin ! (get ! refl) (lit ! tt) tt) refl (tt, tt) $ first ! $ branches ! (get ! refl)
     (λ _. sets ! (agg ! (and_then ! (lit ! tt) (no_more !))) refl (tt, (record { fits = lit< tt }, tt)) $
     returns_within ! ((walk_of 𝓛 ended hs c).post z) refl (look_at ! 0 refl) $ free_all ! refl $ drop ! $
@@ -56,18 +76,28 @@ into_raw_box_spec 𝓤 𝓛 𝓜 𝓡 wired =
     nothing ! $ nothing ! $ fjoin ! $ join ! $ nothing ! $ join ! $ done !)
     (λ wrong. absurd wrong)))
     (λ b o x at_block is_some t. let w : Val = both (vptr b o) h in let typed = raw_box_good R Z LZ ghosts b o h fits in
-    suffices ! (Run (w ∷ [])) (subst (λ (us : List Val). ent 𝓤 (Run (w ∷ [])) (Run us)) (sym (λ i. (ws ∙ ap (λ (p : Ptr). both (ptr_val p) h ∷ []) at_block) i ++ [])) (id⊢ 𝓤 (Run (w ∷ [])))) $
+    suffices ! (Run (w ∷ []))
+    (subst (λ (us : List Val). ent 𝓤 (Run (w ∷ [])) (Run us))
+    (sym (λ i. (ws ∙ ap (λ (p : Ptr). both (ptr_val p) h ∷ []) at_block) i ++ []))
+    (id⊢ 𝓤 (Run (w ∷ [])))) $
     enter ! 𝓣.C 𝓣.Λ code.function (w ∷ []) Post $ alloc_all ! (λ l. pass_all ! refl (typed, tt) $
-    let made : Val = both (vptr b o) h in let v₁ : Val = live 1 (vcons made vnil) in let d : Lr.Denot = record { at = block_ptr b o; alloc = v.alloc; value = x } in
+    let made : Val = both (vptr b o) h in
+    let v₁ : Val = live 1 (vcons made vnil) in
+    let d : Lr.Denot = record { at = block_ptr b o; alloc = v.alloc; value = x } in
     let good : Good (layout Out) v₁ = (and_tt _ typed.0, (record { fits = lit< tt }, (typed.1, tt))) in
-    sets ! (of_opd ! (get_in ! (fld ! refl (stop !)) (sub ! 0 refl (whole !)))) refl (tt, tt) $ sets ! (of_opd ! (get_in ! (fld ! refl (stop !)) (sub ! 1 refl (whole !)))) refl fits $
-    sets ! (bin ! (get ! refl) (lit ! tt) (tests_null (block_ptr b o) t)) refl (tt, tt) $ first ! $ branches ! (get ! refl)
+    sets ! (of_opd ! (get_in ! (fld ! refl (stop !)) (sub ! 0 refl (whole !)))) refl (tt, tt) $
+    sets ! (of_opd ! (get_in ! (fld ! refl (stop !)) (sub ! 1 refl (whole !)))) refl fits $
+    sets ! (bin ! (get ! refl) (lit ! tt) (tests_null (block_ptr b o) t)) refl (tt, tt) $
+    first ! $
+    branches ! (get ! refl)
     (λ wrong. absurd wrong)
     (λ _. skips ! $ exec ! 𝓣.C 𝓣.Λ (env (code.function).locals l) (after 4 (code.function).body) (at_ret _ Post) $
-    sets ! (of_opd ! (get ! refl)) refl (tt, tt) $ sets ! (agg ! (and_then ! (get ! refl) (and_then ! (get ! refl) (no_more !)))) refl typed $
+    sets ! (of_opd ! (get ! refl)) refl (tt, tt) $
+    sets ! (agg ! (and_then ! (get ! refl) (and_then ! (get ! refl) (no_more !)))) refl typed $
     sets ! (agg ! (and_then ! (lit ! tt) (and_then ! (get ! refl) (no_more !)))) refl good $
     returns ! (look_at ! 0 refl) $ free_all ! refl $
-    use1 𝓛 (‵ (box_owns (ghosts.dealloc_token v.alloc) R (block_ptr b o) x)) (id⊢ 𝓤 _) $ raw_box_in R Z LZ ghosts ! b o h v.alloc x $
+    use1 𝓛 (‵ (box_owns (ghosts.dealloc_token v.alloc) R (block_ptr b o) x)) (id⊢ 𝓤 _) $
+    raw_box_in R Z LZ ghosts ! b o h v.alloc x $
     use1 𝓛 (‵ (Out.own_val (Some d) (v₁ ∷ []))) (Some-of 𝓛 Lr d made) $
     suffices ! _ (ends_at 𝓛 ended hs c z v₁ (Some d) (tt, tt) (tt, tt)) $ says ! (sym is_some) $
     nothing ! $ nothing ! $ fjoin ! $ join ! $ nothing ! $ join ! $ done !)))))

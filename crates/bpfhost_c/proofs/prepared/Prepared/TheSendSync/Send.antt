@@ -20,9 +20,13 @@ owned : (a : Global) (p : Ptr) (s : Option program.the_row.Denot) → Keyless (p
 owned a null_ptr None = tt
 owned a null_ptr (Some x) = tt
 owned a (block_ptr b o) None = tt
-owned a (block_ptr b o) (Some x) = (lies program.the_row program_send (block_ptr b o) x, crossing.frees.frees a (raw (lone program.the_row.mir)) (block_ptr b o))
+owned a (block_ptr b o) (Some x) = (
+  lies program.the_row program_send (block_ptr b o) x,
+  crossing.frees.frees a (raw (lone program.the_row.mir)) (block_ptr b o),
+)
 
 pub send : IsSend the_row
 send =
     let all : AllSend (fields the_type) = (search sendable, (heap.the_field_send, tt)) in
-    owning_send the_type all (λ d. owned d.alloc d.at d.program) (λ k. quiet (to the_type) (exits_of k (fields the_type)) ((struct_send (shape the_type) all).leaving k))
+    owning_send the_type all (λ d. owned d.alloc d.at d.program)
+    (λ k. quiet (to the_type) (exits_of k (fields the_type)) ((struct_send (shape the_type) all).leaving k))

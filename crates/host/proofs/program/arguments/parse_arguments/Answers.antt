@@ -30,19 +30,35 @@ unfolding refusal_kinds chosen_subcommand
 returns c =
     let top : App → Shape = λ a. a.top in
     let named : app_of c.no_binary_name.result ≡ on_top (λ s. record s { no_binary_name = true }) (new_app (codes "bpfhost"))
-    = ap app_of_fields c.no_binary_name.ensures ∙ ap (on_top (λ (s : Shape). record s { no_binary_name = true })) c.new.ensures.app in
+    =
+    ap app_of_fields c.no_binary_name.ensures
+    ∙ ap (on_top (λ (s : Shape). record s { no_binary_name = true })) c.new.ensures.app in
     let asks : app_of c.subcommand_required.result ≡ on_top asks_for_subcommand (new_app (codes "bpfhost"))
-    = ap app_of_fields c.subcommand_required.ensures ∙ ap (on_top (λ (s : Shape). record s { subcommand_required = true })) named in
-    let serving_is : app_of c.in_ok-subcommand.field-0 ≡ program_up_to_serve = c.in_ok-subcommand.ensures.shape (plain_local _ _ _ _ (ap is_plain_app c.in_ok-serve_subcommand.ensures))
+    =
+    ap app_of_fields c.subcommand_required.ensures
+    ∙ ap (on_top (λ (s : Shape). record s { subcommand_required = true })) named in
+    let serving_is : app_of c.in_ok-subcommand.field-0 ≡ program_up_to_serve =
+    c.in_ok-subcommand.ensures.shape (plain_local _ _ _ _ (ap is_plain_app c.in_ok-serve_subcommand.ensures))
     ∙ ap₂ with_subcommand asks (ap top c.in_ok-serve_subcommand.ensures) in
-    let assembling_is : app_of c.in_ok-subcommand-2.field-0 ≡ with_subcommand program_up_to_serve asm_command.top = c.in_ok-subcommand-2.ensures.shape c.new-2.ensures.local
+    let assembling_is : app_of c.in_ok-subcommand-2.field-0 ≡ with_subcommand program_up_to_serve asm_command.top =
+    c.in_ok-subcommand-2.ensures.shape c.new-2.ensures.local
     ∙ ap₂ with_subcommand serving_is (ap top c.new-2.ensures.app) in
-    let rewriting_is : app_of c.in_ok-subcommand-3.field-0 ≡ program_up_to_dis = c.in_ok-subcommand-3.ensures.shape c.new-3.ensures.local
+    let rewriting_is : app_of c.in_ok-subcommand-3.field-0 ≡ program_up_to_dis =
+    c.in_ok-subcommand-3.ensures.shape c.new-3.ensures.local
     ∙ ap₂ with_subcommand assembling_is (ap top c.new-3.ensures.app) in
-    let program_is : app_of c.in_ok-program.program ≡ program = c.in_ok-program.ensures.shape (plain_local _ _ _ _ (ap is_plain_app c.in_ok-verify_subcommand.ensures))
+    let program_is : app_of c.in_ok-program.program ≡ program =
+    c.in_ok-program.ensures.shape (plain_local _ _ _ _ (ap is_plain_app c.in_ok-verify_subcommand.ensures))
     ∙ ap₂ with_subcommand rewriting_is (ap top c.in_ok-verify_subcommand.ensures) in
     let parse = c.try_get_matches_from in
     record {
-      given = IfOk-weaker parse.result _ _ (λ m has. (has (ap is_simple program_is ∙ simple)).1 ∙ ap (λ (a : App). subcommand_of a (texts c.args.arguments.now)) program_is) parse.ensures.matches;
-      kinds = subst (λ (a : App). FailsBy (fault_of a (texts c.args.arguments.now)) parse.result) program_is (parse.ensures.kinds (ap is_simple_and_free program_is ∙ free));
+      given =
+          IfOk-weaker parse.result _ _
+          (λ m has.
+          (has (ap is_simple program_is ∙ simple)).1
+          ∙ ap (λ (a : App). subcommand_of a (texts c.args.arguments.now)) program_is)
+          parse.ensures.matches;
+      kinds =
+          subst (λ (a : App). FailsBy (fault_of a (texts c.args.arguments.now)) parse.result)
+          program_is
+          (parse.ensures.kinds (ap is_simple_and_free program_is ∙ free));
     }

@@ -3,4 +3,7 @@ use Rattle.host.proofs.OtherFailures.{refused_otherwise, stops_otherwise}
 use Rattle.host.proofs.program.arguments.rewrite_streams.Goals as goal
 
 pub returns : goal.returns
-returns g c = IfErr-weaker c.rewrite.result _ _ (λ failure stops. stops_otherwise _ _ (refused_otherwise c.args.task) _ _ failure stops) c.rewrite.ensures.fault
+returns g c =
+    IfErr-weaker c.rewrite.result _ _
+    (λ failure stops. stops_otherwise _ _ (refused_otherwise c.args.task) _ _ failure stops)
+    c.rewrite.ensures.fault

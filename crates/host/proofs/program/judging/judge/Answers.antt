@@ -9,7 +9,9 @@ pub returns-in_err-refusal-clause-fault : goal.returns-in_err-refusal-clause-fau
 returns-in_err-refusal-clause-fault g c =
     let failure = c.in_err-refusal.field-0.0 in
     let why : (failure ≡ Memory) ⊎ IsUnreadable c.in_ok-input.input.items failure
-    = subst (λ input. (failure ≡ Memory) ⊎ IsUnreadable input failure) c.deref.ensures.value c.in_err-refusal.ensures.fault in
+    =
+    subst (λ input. (failure ≡ Memory) ⊎ IsUnreadable input failure) c.deref.ensures.value
+    c.in_err-refusal.ensures.fault in
     passed_on c.from_residual-in_err-refusal.result failure _ c.from_residual-in_err-refusal.ensures.1
     (inr (inl (record {
       input = c.in_ok-input.input.items;
@@ -21,6 +23,11 @@ returns-in_err-refusal-clause-fault g c =
 
 pub returns-clause-fault : goal.returns-clause-fault
 returns-clause-fault g c =
-    let line : IsJudgementLine c.args.maps.now c.in_ok-refusal.refusal c.in_ok-input.input.items (string_bytes c.in_ok-line.line) = search rules in
-    let made : IsJudgedLine c.args.maps.now c.in_ok-input.input.items (string_bytes c.in_ok-line.line) = (c.in_ok-refusal.refusal, line) in
+    let line :
+    IsJudgementLine c.args.maps.now c.in_ok-refusal.refusal c.in_ok-input.input.items (string_bytes c.in_ok-line.line) =
+    search rules in
+    let made : IsJudgedLine c.args.maps.now c.in_ok-input.input.items (string_bytes c.in_ok-line.line) = (
+      c.in_ok-refusal.refusal,
+      line,
+    ) in
     search rules

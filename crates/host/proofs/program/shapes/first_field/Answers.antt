@@ -5,7 +5,11 @@ use Rattle.host.proofs.MapArguments.{first_cut, no_cut}
 use Rattle.host.proofs.program.shapes.first_field.Goals as goal
 
 pub returns-clause-first : goal.returns-clause-first
-returns-clause-first c = first_cut c.args.text.now c.split_once.result (split_once_first colon c.args.text.now c.split_once.result c.split_once.ensures.cases (lit< tt))
+returns-clause-first c =
+    first_cut c.args.text.now c.split_once.result
+    (split_once_first colon c.args.text.now c.split_once.result c.split_once.ensures.cases (lit< tt))
 
 pub returns-clause-last : goal.returns-clause-last
-returns-clause-last c = no_cut c.args.text.now c.split_once.result (split_once_first colon c.args.text.now c.split_once.result c.split_once.ensures.cases (lit< tt))
+returns-clause-last c =
+    no_cut c.args.text.now c.split_once.result
+    (split_once_first colon c.args.text.now c.split_once.result c.split_once.ensures.cases (lit< tt))

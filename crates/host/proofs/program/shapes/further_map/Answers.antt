@@ -6,10 +6,13 @@ use Rattle.host.proofs.program.shapes.further_map.Goals as goal
 
 pub returns-in_err-map-clause-only : goal.returns-in_err-map-clause-only
 returns-in_err-map-clause-only c =
-    subst (λ o. IfNone o ((map : Named) → IsMapArgument c.args.argument.now map → has_descriptor map.fd c.args.maps.now ≡ true)) (sym c.from_residual.ensures)
+    subst (λ o.
+    IfNone o ((map : Named) → IsMapArgument c.args.argument.now map → has_descriptor map.fd c.args.maps.now ≡ true))
+    (sym c.from_residual.ensures)
     (λ map is. absurd (none_read c.read_shape.result map c.in_err-map.ensures.value ((c.read_shape.ensures map).1 is)))
 
 pub returns-then-is_open-clause-only : goal.returns-then-is_open-clause-only
 returns-then-is_open-clause-only c = λ map is.
-    let same = one_read c.read_shape.result c.in_ok-map.map map c.in_ok-map.ensures.value ((c.read_shape.ensures map).1 is) in
+    let same =
+    one_read c.read_shape.result c.in_ok-map.map map c.in_ok-map.ensures.value ((c.read_shape.ensures map).1 is) in
     ap (λ (m : Named). has_descriptor m.fd c.args.maps.now) (sym same) ∙ (sym c.is_open.ensures ∙ c.if-is_open.true)

@@ -8,13 +8,18 @@ pub returns-in_default-clause-wrong : goal.returns-in_default-clause-wrong
 returns-in_default-clause-wrong c =
     inr (
       _,
-      next_wrong c.args.arguments.now c.loop-index.index _ c.loop-index.maps.items c.loop-index-test.true c.loop-index.invariant
-          (λ (m : Named) (is : IsMapArgument _ m). ap (has_descriptor m.fd) (sym c.deref.ensures.value) ∙ c.in_default.ensures.only m is),
+      next_wrong c.args.arguments.now c.loop-index.index _ c.loop-index.maps.items
+          c.loop-index-test.true c.loop-index.invariant
+          (λ (m : Named) (is : IsMapArgument _ m).
+          ap (has_descriptor m.fd) (sym c.deref.ensures.value) ∙ c.in_default.ensures.only m is),
       refl,
     )
 
 pub loop-index-preserved : goal.loop-index-preserved
 loop-index-preserved c =
-    let absent : has_descriptor c.in-Some.map.fd c.loop-index.maps.items ≡ false = ap (has_descriptor c.in-Some.map.fd) (sym c.deref.ensures.value) ∙ c.in-Some.ensures.named.1 in
+    let absent : has_descriptor c.in-Some.map.fd c.loop-index.maps.items ≡ false =
+    ap (has_descriptor c.in-Some.map.fd) (sym c.deref.ensures.value) ∙ c.in-Some.ensures.named.1 in
     subst (AreMapArguments _) (sym c.in_ok-push.ensures.items)
-    (next_right c.args.arguments.now c.loop-index.index _ c.loop-index.maps.items c.in-Some.map c.loop-index-test.true c.loop-index.invariant c.in-Some.ensures.named.0 absent)
+    (next_right c.args.arguments.now c.loop-index.index _ c.loop-index.maps.items c.in-Some.map
+    c.loop-index-test.true c.loop-index.invariant c.in-Some.ensures.named.0
+    absent)

@@ -8,7 +8,9 @@ pub returns-in_err-slots-clause-faulty : goal.returns-in_err-slots-clause-faulty
 returns-in_err-slots-clause-faulty c = λ refusal refused.
     let failure = c.in_err-slots.field-0.0 in
     let told : (failure ≡ refusal) ⊎ (failure ≡ Memory)
-    = input_refused c.args.input.now failure c.in_err-slots.ensures.faulty c.in_err-slots.ensures.only refusal refused in
+    =
+    input_refused c.args.input.now failure c.in_err-slots.ensures.faulty
+    c.in_err-slots.ensures.only refusal refused in
     search rules
 
 pub returns-in_err-program-clause-faulty : goal.returns-in_err-program-clause-faulty
@@ -16,10 +18,12 @@ returns-in_err-program-clause-faulty c = λ refusal refused.
     let fault = c.in_err-program.field-0.0 in
     let told : (codec_failure fault ≡ refusal) ⊎ (codec_failure fault ≡ Memory)
     = slots_refused c.args.input.now c.deref.result.now fault c.in_ok-slots.ensures.faulty
-    (λ other is. c.deref.ensures.value ∙ c.in_ok-slots.ensures.only other is) c.in_err-program.ensures.faulty refusal refused in
+    (λ other is. c.deref.ensures.value ∙ c.in_ok-slots.ensures.only other is) c.in_err-program.ensures.faulty
+    refusal refused in
     search rules
 
 pub returns-clause-faulty : goal.returns-clause-faulty
 returns-clause-faulty c = λ refusal refused.
     program_not_refused c.args.input.now c.deref.result.now c.in_ok-slots.ensures.faulty
-    (λ other is. c.deref.ensures.value ∙ c.in_ok-slots.ensures.only other is) c.in_ok-program.ensures.faulty refusal refused
+    (λ other is. c.deref.ensures.value ∙ c.in_ok-slots.ensures.only other is) c.in_ok-program.ensures.faulty
+    refusal refused

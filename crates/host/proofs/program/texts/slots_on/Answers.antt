@@ -10,12 +10,16 @@ returns-in_err-slots-clause-faulty c = λ refusal refused.
     let same = sym c.in_ok-text_in.ensures.0 in
     let fault = c.in_err-slots.field-0.0 in
     let told : (text_failure fault ≡ refusal) ⊎ (text_failure fault ≡ Memory)
-    = lines_refused c.in_ok-text_in.field-0.now fault (subst IsUtf8 same c.in_ok-text_in.ensures.1) c.in_err-slots.ensures.faulty refusal
+    =
+    lines_refused c.in_ok-text_in.field-0.now fault
+    (subst IsUtf8 same c.in_ok-text_in.ensures.1) c.in_err-slots.ensures.faulty
+    refusal
     (subst (λ text. IsUnreadable text refusal) same refused) in
     search rules
 
 pub returns-clause-faulty : goal.returns-clause-faulty
 returns-clause-faulty c = λ refusal refused.
     let same = sym c.in_ok-text_in.ensures.0 in
-    lines_not_refused c.in_ok-text_in.field-0.now (subst IsUtf8 same c.in_ok-text_in.ensures.1) c.in_ok-slots.ensures.faulty refusal
+    lines_not_refused c.in_ok-text_in.field-0.now (subst IsUtf8 same c.in_ok-text_in.ensures.1)
+    c.in_ok-slots.ensures.faulty refusal
     (subst (λ text. IsUnreadable text refusal) same refused)

@@ -21,13 +21,24 @@ module _ (c : goal.After-write_reply) where
   headless = sym c.head.ensures ∙ c.in_default.is
 
   told_headless : c.write_reply.new.reply ≡ reply_to c.args.frame.now (status_of (unserved_errno c.args.frame.now)) []
-  told_headless = c.write_reply.ensures ∙ ap (λ (status : ℤ). reply_bytes 65535 65535 (to_z w32 (of_z w32 status)) []) c.status.ensures ∙ refused_headless c.args.frame.now headless
+  told_headless =
+      c.write_reply.ensures
+      ∙ ap (λ (status : ℤ). reply_bytes 65535 65535 (to_z w32 (of_z w32 status)) []) c.status.ensures
+      ∙ refused_headless c.args.frame.now headless
 
 pub returns-in_default-clause-own : goal.returns-in_default-clause-own
 returns-in_default-clause-own c =
     let frame = c.args.frame.now in
     let many = states_length c.self.inside.arena 0 c.self.inside.tenants.items in
-    let unserved = no_state c.args.self.now.states (owner frame) (omega (arith, no_head frame (headless c), many, ap length (states_are c.self.inside.arena c.self.inside.tenants.items c.args.self.now c.self.view_is), c.self.invariant)) in
+    let unserved =
+    no_state c.args.self.now.states (owner frame)
+    (omega (
+      arith,
+      no_head frame (headless c),
+      many,
+      ap length (states_are c.self.inside.arena c.self.inside.tenants.items c.args.self.now c.self.view_is),
+      c.self.invariant,
+    )) in
     tells_none c.args.self.now.states (owner frame) frame c.write_reply.new.reply unserved (told_headless c)
 
 pub returns-in_default-clause-recorded : goal.returns-in_default-clause-recorded
@@ -35,7 +46,14 @@ returns-in_default-clause-recorded c =
     let frame = c.args.frame.now in
     let many = states_length c.self.inside.arena 0 c.self.inside.tenants.items in
     records_none c.args.self.now frame c.write_reply.new.reply
-    (no_state c.args.self.now.states (owner frame) (omega (arith, no_head frame (headless c), many, ap length (states_are c.self.inside.arena c.self.inside.tenants.items c.args.self.now c.self.view_is), c.self.invariant)))
+    (no_state c.args.self.now.states (owner frame)
+    (omega (
+      arith,
+      no_head frame (headless c),
+      many,
+      ap length (states_are c.self.inside.arena c.self.inside.tenants.items c.args.self.now c.self.view_is),
+      c.self.invariant,
+    )))
 
 pub returns-in_default-clause-no_fault : goal.returns-in_default-clause-no_fault
 returns-in_default-clause-no_fault c = refusal_is_no_fault c.args.frame.now c.write_reply.new.reply (told_headless c)
@@ -46,27 +64,52 @@ module _ (c : goal.After-write_reply-then-tenant-served) where
   found : head_of c.args.frame.now ≡ Some c.in-Some.head
   found = sym c.head.ensures ∙ c.in-Some.is
 
-  told_unserved : c.write_reply-then-tenant-served.new.reply ≡ reply_to c.args.frame.now (status_of (unserved_errno c.args.frame.now)) []
+  told_unserved : c.write_reply-then-tenant-served.new.reply
+      ≡ reply_to c.args.frame.now (status_of (unserved_errno c.args.frame.now)) []
   told_unserved =
       let head = c.in-Some.head in
-      c.write_reply-then-tenant-served.ensures ∙ ap (λ (status : ℤ). reply_bytes head.tenant head.command (to_z w32 (of_z w32 status)) []) c.status-then-tenant-served.ensures ∙ refused_headed c.args.frame.now head found
+      c.write_reply-then-tenant-served.ensures
+      ∙ ap (λ (status : ℤ). reply_bytes head.tenant head.command (to_z w32 (of_z w32 status)) [])
+      c.status-then-tenant-served.ensures
+      ∙ refused_headed c.args.frame.now head found
 
 pub returns-then-tenant-served-clause-own : goal.returns-then-tenant-served-clause-own
 returns-then-tenant-served-clause-own c =
     let frame = c.args.frame.now in
     let many = states_length c.self.inside.arena 0 c.self.inside.tenants.items in
-    let unserved = no_state c.args.self.now.states (owner frame) (omega (arith, owner_is frame c.in-Some.head (found c), c.from-tenant.ensures, many, ap length (states_are c.self.inside.arena c.self.inside.tenants.items c.args.self.now c.self.view_is), c.len-served.ensures, c.if-tenant-served.true)) in
-    tells_none c.args.self.now.states (owner frame) frame c.write_reply-then-tenant-served.new.reply unserved (told_unserved c)
+    let unserved =
+    no_state c.args.self.now.states (owner frame)
+    (omega (
+      arith,
+      owner_is frame c.in-Some.head (found c),
+      c.from-tenant.ensures,
+      many,
+      ap length (states_are c.self.inside.arena c.self.inside.tenants.items c.args.self.now c.self.view_is),
+      c.len-served.ensures,
+      c.if-tenant-served.true,
+    )) in
+    tells_none c.args.self.now.states (owner frame) frame c.write_reply-then-tenant-served.new.reply
+    unserved (told_unserved c)
 
 pub returns-then-tenant-served-clause-recorded : goal.returns-then-tenant-served-clause-recorded
 returns-then-tenant-served-clause-recorded c =
     let frame = c.args.frame.now in
     let many = states_length c.self.inside.arena 0 c.self.inside.tenants.items in
     records_none c.args.self.now frame c.write_reply-then-tenant-served.new.reply
-    (no_state c.args.self.now.states (owner frame) (omega (arith, owner_is frame c.in-Some.head (found c), c.from-tenant.ensures, many, ap length (states_are c.self.inside.arena c.self.inside.tenants.items c.args.self.now c.self.view_is), c.len-served.ensures, c.if-tenant-served.true)))
+    (no_state c.args.self.now.states (owner frame)
+    (omega (
+      arith,
+      owner_is frame c.in-Some.head (found c),
+      c.from-tenant.ensures,
+      many,
+      ap length (states_are c.self.inside.arena c.self.inside.tenants.items c.args.self.now c.self.view_is),
+      c.len-served.ensures,
+      c.if-tenant-served.true,
+    )))
 
 pub returns-then-tenant-served-clause-no_fault : goal.returns-then-tenant-served-clause-no_fault
-returns-then-tenant-served-clause-no_fault c = refusal_is_no_fault c.args.frame.now c.write_reply-then-tenant-served.new.reply (told_unserved c)
+returns-then-tenant-served-clause-no_fault c =
+    refusal_is_no_fault c.args.frame.now c.write_reply-then-tenant-served.new.reply (told_unserved c)
 
 -- ---- a tenant that is served
 
@@ -77,7 +120,10 @@ pub handle-requires-clause-head : goal.handle-requires-clause-head
 handle-requires-clause-head c = sym c.head.ensures ∙ c.in-Some.is
 
 pub handle-requires-clause-part : goal.handle-requires-clause-part
-handle-requires-clause-part c = (omega (arith, c.if-tenant-served.false, c.len-served.ensures, c.self.invariant), c.self.invariant.2)
+handle-requires-clause-part c = (
+  omega (arith, c.if-tenant-served.false, c.len-served.ensures, c.self.invariant),
+  c.self.invariant.2,
+)
 
 pub returns-clause-own : goal.returns-clause-own
 returns-clause-own c =
@@ -86,18 +132,27 @@ returns-clause-own c =
     let own = c.from-tenant.ensures ∙ owner_is c.args.frame.now c.in-Some.head (sym c.head.ensures ∙ c.in-Some.is) in
     let room : t < length ks = omega (arith, c.if-tenant-served.false, c.len-served.ensures) in
     let found = slice_get_in ks t c.index_mut.result.now room c.index_mut.ensures.value in
-    tells_own c.self.inside.arena c.handle.new.arena ks c.args.self.now.states t (owner c.args.frame.now) c.index_mut.result.now c.handle.new.self c.args.frame.now c.handle.new.reply (states_are c.self.inside.arena c.self.inside.tenants.items c.args.self.now c.self.view_is) own room found c.handle.ensures.told
+    tells_own c.self.inside.arena c.handle.new.arena ks c.args.self.now.states t
+    (owner c.args.frame.now) c.index_mut.result.now c.handle.new.self
+    c.args.frame.now c.handle.new.reply
+    (states_are c.self.inside.arena c.self.inside.tenants.items c.args.self.now c.self.view_is)
+    own room found c.handle.ensures.told
 
 pub returns-clause-others : goal.returns-clause-others
 returns-clause-others c = λ other ne.
     let t = c.from-tenant.result in
     let own = c.from-tenant.ensures ∙ owner_is c.args.frame.now c.in-Some.head (sym c.head.ensures ∙ c.in-Some.is) in
     let apart = λ (e : other ≡ t). ne (e ∙ own) in
-    others_stay c.self.inside.arena c.handle.new.arena c.self.inside.tenants.items t other c.handle.new.self apart (c.handle.ensures.others other apart)
-    ∙ ap (λ (s : List TenantState). slice_get s other) (states_are c.self.inside.arena c.self.inside.tenants.items c.args.self.now c.self.view_is)
+    others_stay c.self.inside.arena c.handle.new.arena c.self.inside.tenants.items t other
+    c.handle.new.self apart (c.handle.ensures.others other apart)
+    ∙ ap (λ (s : List TenantState). slice_get s other)
+    (states_are c.self.inside.arena c.self.inside.tenants.items c.args.self.now c.self.view_is)
 
 pub returns-clause-count : goal.returns-clause-count
-returns-clause-count c = count_stays c.self.inside.arena c.handle.new.arena c.self.inside.tenants.items c.from-tenant.result c.handle.new.self ∙ ap length (states_are c.self.inside.arena c.self.inside.tenants.items c.args.self.now c.self.view_is)
+returns-clause-count c =
+    count_stays c.self.inside.arena c.handle.new.arena c.self.inside.tenants.items
+    c.from-tenant.result c.handle.new.self
+    ∙ ap length (states_are c.self.inside.arena c.self.inside.tenants.items c.args.self.now c.self.view_is)
 
 pub returns-clause-recorded : goal.returns-clause-recorded
 returns-clause-recorded c =
@@ -106,12 +161,17 @@ returns-clause-recorded c =
     let own = c.from-tenant.ensures ∙ owner_is c.args.frame.now c.in-Some.head (sym c.head.ensures ∙ c.in-Some.is) in
     let room : t < length ks = omega (arith, c.if-tenant-served.false, c.len-served.ensures) in
     let found = slice_get_in ks t c.index_mut.result.now room c.index_mut.ensures.value in
-    records_own c.self.inside.arena c.handle.new.arena ks c.args.self.now t c.index_mut.result.now c.handle.new.self c.args.frame.now c.handle.new.reply c.self.view_is own room found c.handle.ensures.recorded
+    records_own c.self.inside.arena c.handle.new.arena ks c.args.self.now t c.index_mut.result.now
+    c.handle.new.self c.args.frame.now c.handle.new.reply
+    c.self.view_is own room found c.handle.ensures.recorded
 
 pub returns-clause-no_fault : goal.returns-clause-no_fault
 returns-clause-no_fault c =
     let t = c.from-tenant.result in
-    served_is_no_fault c.faults_have_no_payload.ensures c.args.frame.now c.handle.new.reply (Some (tenant_state (part_bytes c.self.inside.arena t) c.index_mut.result.now)) (Some (tenant_state (part_bytes c.handle.new.arena t) c.handle.new.self)) c.handle.ensures.told c.handle.ensures.no_fault
+    served_is_no_fault c.faults_have_no_payload.ensures c.args.frame.now c.handle.new.reply
+    (Some (tenant_state (part_bytes c.self.inside.arena t) c.index_mut.result.now))
+    (Some (tenant_state (part_bytes c.handle.new.arena t) c.handle.new.self))
+    c.handle.ensures.told c.handle.ensures.no_fault
 
 -- each tenant still has a history
 pub invariant_of-self : goal.invariant_of-self
@@ -126,14 +186,25 @@ invariant_of-self c =
     let room : t < length ks = omega (arith, c.if-tenant-served.false, c.len-served.ensures) in
     let found = slice_get_in ks t c.index_mut.result.now room c.index_mut.ensures.value in
     let handles : Handles (states_in m ks) frame reply (states_in n (set ks t c.handle.new.self)) = record {
-      own = tells_own m n ks (states_in m ks) t (owner frame) c.index_mut.result.now c.handle.new.self frame reply refl own room found c.handle.ensures.told;
-      others = λ other ne. let apart = λ (e : other ≡ t). ne (e ∙ own) in others_stay m n ks t other c.handle.new.self apart (c.handle.ensures.others other apart);
+      own =
+          tells_own m n ks (states_in m ks) t (owner frame) c.index_mut.result.now c.handle.new.self
+          frame reply refl own room found c.handle.ensures.told;
+      others = λ other ne.
+          let apart = λ (e : other ≡ t). ne (e ∙ own) in
+          others_stay m n ks t other c.handle.new.self apart (c.handle.ensures.others other apart);
       count = count_stays m n ks t c.handle.new.self;
-      no_fault = served_is_no_fault c.faults_have_no_payload.ensures frame reply (Some (tenant_state (part_bytes m t) c.index_mut.result.now)) (Some (tenant_state (part_bytes n t) c.handle.new.self)) c.handle.ensures.told c.handle.ensures.no_fault;
+      no_fault =
+          served_is_no_fault c.faults_have_no_payload.ensures frame reply
+          (Some (tenant_state (part_bytes m t) c.index_mut.result.now))
+          (Some (tenant_state (part_bytes n t) c.handle.new.self))
+          c.handle.ensures.told c.handle.ensures.no_fault;
     } in
-    let records = records_own m n ks (host_state m ks) t c.index_mut.result.now c.handle.new.self frame reply refl own room found c.handle.ensures.recorded in (
+    let records =
+    records_own m n ks (host_state m ks) t c.index_mut.result.now c.handle.new.self frame reply refl
+    own room found c.handle.ensures.recorded in (
       c.self.invariant.0,
       c.handle.ensures.parts ∙ c.self.invariant.1,
       c.handle.ensures.part ∙ c.self.invariant.2,
-      by_handle (host_state m ks) (host_state n (set ks t c.handle.new.self)) frame reply c.self.invariant.3 handles records,
+      by_handle (host_state m ks) (host_state n (set ks t c.handle.new.self)) frame reply
+          c.self.invariant.3 handles records,
     )

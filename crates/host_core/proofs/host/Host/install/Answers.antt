@@ -19,8 +19,18 @@ returns-then-number-len-clause-loaded c =
     let many = states_length m 0 ks in
     let small : c.args.tenant < 2 ^ 16 = search rules in
     let unserved : slice_get h.states c.args.tenant ≡ None =
-    no_state h.states c.args.tenant (omega (arith, many, ap length (states_are m ks h c.self.view_is), c.len.ensures, c.from-number.ensures, c.if-number-len.true)) in
-    installs_nowhere c.frames_have_owners.ensures h c.args.tenant small unserved c.args.program.value.code (to_z w32 (of_z w32 c.status.result)) (ap (λ (z : ℤ). to_z w32 (of_z w32 z)) c.status.ensures)
+    no_state h.states c.args.tenant
+    (omega (
+      arith,
+      many,
+      ap length (states_are m ks h c.self.view_is),
+      c.len.ensures,
+      c.from-number.ensures,
+      c.if-number-len.true,
+    )) in
+    installs_nowhere c.frames_have_owners.ensures h c.args.tenant small unserved
+    c.args.program.value.code (to_z w32 (of_z w32 c.status.result))
+    (ap (λ (z : ℤ). to_z w32 (of_z w32 z)) c.status.ensures)
 
 -- ---- a tenant that is served
 
@@ -40,8 +50,11 @@ returns-clause-loaded c =
     let found = slice_get_in ks t k room c.index_mut.ensures.value in
     all_ok c.install.result _ _ _ _
     (λ status replied recorded no_fault.
-    subst (λ (n : ℕ). Installs n c.args.program.value.code status c.args.self.now (host_state m (set ks t l))) c.from-number.ensures
-    (installs_there c.frames_have_owners.ensures c.faults_have_no_payload.ensures m ks c.args.self.now c.self.view_is t low room k l found c.args.program.value.code status
+    subst (λ (n : ℕ). Installs n c.args.program.value.code status c.args.self.now (host_state m (set ks t l)))
+    c.from-number.ensures
+    (installs_there c.frames_have_owners.ensures c.faults_have_no_payload.ensures m ks
+    c.args.self.now c.self.view_is t low room k l found
+    c.args.program.value.code status
     (replied t (part_bytes m t)) (recorded t (part_bytes m t)) (no_fault t)))
     c.install.ensures.replied c.install.ensures.recorded c.install.ensures.no_fault
 
@@ -54,7 +67,10 @@ returns-clause-fits c =
     let room : t < length ks = omega (arith, c.if-number-len.false, c.len.ensures) in
     let found = slice_get_in ks t k room c.index_mut.ensures.value in
     with_ok c.install.result
-    (λ fits. subst (λ (n : ℕ). FitsTenant c.args.program.value (slice_get c.args.self.now.states n)) c.from-number.ensures (fits_there m ks c.args.self.now c.self.view_is t k found c.args.program.value fits))
+    (λ fits.
+    subst (λ (n : ℕ). FitsTenant c.args.program.value (slice_get c.args.self.now.states n))
+    c.from-number.ensures
+    (fits_there m ks c.args.self.now c.self.view_is t k found c.args.program.value fits))
     c.install.ensures.fits
 
 pub returns-clause-stale : goal.returns-clause-stale
@@ -70,7 +86,9 @@ returns-clause-stale c =
     (λ kept stale. (
       stale.0,
       put_back m m ks t k l found stale.1 refl ∙ c.self.view_is,
-      subst (λ (n : ℕ). ¬ FitsTenant c.args.program.value (slice_get c.args.self.now.states n)) c.from-number.ensures (stale_there m ks c.args.self.now c.self.view_is t k found c.args.program.value stale.2),
+      subst (λ (n : ℕ). ¬ FitsTenant c.args.program.value (slice_get c.args.self.now.states n))
+          c.from-number.ensures
+          (stale_there m ks c.args.self.now c.self.view_is t k found c.args.program.value stale.2),
     ))
     c.install.ensures.stale
 
@@ -91,7 +109,9 @@ invariant_of-self c =
       c.self.invariant.2,
       cases_of (AreReached (host_state m (set ks t l))) c.install.result _ _ _ _
           (λ status replied recorded no_fault.
-          reached_there c.frames_have_owners.ensures c.faults_have_no_payload.ensures m ks (host_state m ks) refl t low room k l found c.args.program.value.code status
+          reached_there c.frames_have_owners.ensures c.faults_have_no_payload.ensures m ks
+          (host_state m ks) refl t low room k l found c.args.program.value.code
+          status
           (replied t (part_bytes m t)) (recorded t (part_bytes m t)) (no_fault t) c.self.invariant.3)
           (λ kept stale. subst AreReached (sym (put_back m m ks t k l found stale.1 refl)) c.self.invariant.3)
           c.install.ensures.replied c.install.ensures.recorded c.install.ensures.no_fault c.install.ensures.stale,

@@ -6,5 +6,8 @@ pub returns : goal.returns
 returns c =
     let arena = c.self.inside.arena in
     let tenants = c.self.inside.tenants.items in
-    let is = states_are arena tenants c.args.self.now c.self.view_is in
-    (part_bytes arena c.args.tenant, kept_is arena tenants c.deref.result.now c.args.self.now.states c.args.tenant is c.deref.ensures.value c.get.result c.get.ensures.lookup)
+    let is = states_are arena tenants c.args.self.now c.self.view_is in (
+      part_bytes arena c.args.tenant,
+      kept_is arena tenants c.deref.result.now c.args.self.now.states c.args.tenant is
+          c.deref.ensures.value c.get.result c.get.ensures.lookup,
+    )

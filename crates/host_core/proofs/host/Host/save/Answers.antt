@@ -10,7 +10,12 @@ use Rattle.host_core.proofs.host.Host.save.Goals as goal
 pub part-requires : goal.part-requires
 part-requires c =
     let found = c.in-Some.ensures.lookup in
-    omega (arith, ltb-true c.args.tenant (length c.deref.result.now) (sym found.0), ap length c.deref.ensures.value, c.self.invariant)
+    omega (
+      arith,
+      ltb-true c.args.tenant (length c.deref.result.now) (sym found.0),
+      ap length c.deref.ensures.value,
+      c.self.invariant,
+    )
 
 pub returns : goal.returns
 returns c =
@@ -23,13 +28,22 @@ returns c =
     (slice_get_in c.deref.result.now t k (ltb-true t (length c.deref.result.now) (sym at.0)) at.1) in
     let whole = c.part.ensures.length ∙ c.self.invariant.2 in
     let is =
-    ap (λ (bytes : List ℕ). option_map (frames_of t) (slice_get (parts (tenant_state bytes k) k.births) c.args.part)) c.part.ensures.bytes
+    ap (λ (bytes : List ℕ). option_map (frames_of t) (slice_get (parts (tenant_state bytes k) k.births) c.args.part))
+    c.part.ensures.bytes
     ∙ saved_there c.self.inside.arena ks c.args.self.now t c.args.part k c.self.view_is found in
-    subst (λ (x : Option (List ℕ)). IfOk c.save_part.result (λ saved. option_map (λ frames. frames.items) saved ≡ x)) is (c.save_part.ensures whole)
+    subst (λ (x : Option (List ℕ)). IfOk c.save_part.result (λ saved. option_map (λ frames. frames.items) saved ≡ x))
+    is (c.save_part.ensures whole)
 
 pub returns-in_default : goal.returns-in_default
 returns-in_default c =
     let few = ltb-false c.args.tenant (length c.deref.result.now) (sym c.in_default.ensures.lookup.0) in
     let many = states_length c.self.inside.arena 0 c.self.inside.tenants.items in
     sym (saved_nowhere c.args.self.now c.args.tenant c.args.part
-    (no_state c.args.self.now.states c.args.tenant (omega (arith, few, many, ap length (states_are c.self.inside.arena c.self.inside.tenants.items c.args.self.now c.self.view_is), ap length c.deref.ensures.value))))
+    (no_state c.args.self.now.states c.args.tenant
+    (omega (
+      arith,
+      few,
+      many,
+      ap length (states_are c.self.inside.arena c.self.inside.tenants.items c.args.self.now c.self.view_is),
+      ap length c.deref.ensures.value,
+    ))))

@@ -5,5 +5,6 @@ use Rattle.host_core.proofs.host.Host.tenants_are_restored.Goals as goal
 
 pub returns : goal.returns
 returns c =
-    tenants_are_restored c.histories_are_restored.ensures c.frames_have_owners.ensures c.parts_are_whole.ensures c.args.self.now
+    tenants_are_restored c.histories_are_restored.ensures c.frames_have_owners.ensures
+    c.parts_are_whole.ensures c.args.self.now
     (subst AreReached c.self.view_is c.self.invariant.3)

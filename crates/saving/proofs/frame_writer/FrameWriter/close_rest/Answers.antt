@@ -14,8 +14,12 @@ loop-fd-preserved c =
     let last : ℕ = first_descriptor + most in
     let fewer : last - fd - 1 ≡ last - (fd + 1) = omega arith in
     record {
-      left = some_commands c.loop-fd.self.frames.items c.loop-fd.self.number c.close_unless_open.new.self.number step (closings objects fd (last - fd)) (closings objects (fd + 1) (last - (fd + 1)))
-          (closings_next objects fd (last - fd) (omega arith) ∙ ap (λ (n : ℕ). step ++ closings objects (fd + 1) n) fewer)
+      left =
+          some_commands c.loop-fd.self.frames.items c.loop-fd.self.number
+          c.close_unless_open.new.self.number step (closings objects fd (last - fd))
+          (closings objects (fd + 1) (last - (fd + 1)))
+          (closings_next objects fd (last - fd) (omega arith)
+          ∙ ap (λ (n : ℕ). step ++ closings objects (fd + 1) n) fewer)
           c.close_unless_open.ensures.number c.loop-fd.invariant.left c.in_ok-close_unless_open.ensures.written;
       number = c.close_unless_open.ensures.number ∙ c.loop-fd.invariant.number;
     }
@@ -24,4 +28,10 @@ pub returns : goal.returns
 returns c =
     let fd = c.loop-fd.fd in
     let objects = c.args.tenant.now.objects in
-    record { written = no_commands c.loop-fd.self.number (closings objects fd (first_descriptor + most - fd)) (closings_none objects fd (first_descriptor + most - fd) (omega arith)) c.loop-fd.invariant.left }
+    record {
+      written =
+          no_commands c.loop-fd.self.number
+          (closings objects fd (first_descriptor + most - fd))
+          (closings_none objects fd (first_descriptor + most - fd) (omega arith))
+          c.loop-fd.invariant.left;
+    }

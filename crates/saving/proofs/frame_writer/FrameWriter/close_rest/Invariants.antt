@@ -7,7 +7,9 @@ use Rattle.saving.proofs.frame_writer.FrameWriter.close_rest.Given as goal
 
 abbrev pub invariant-loop-fd : goal.invariant-loop-fd
 invariant-loop-fd l = record {
-  left : l.self.frames.items ++ frames_of l.self.number (closings l.tenant.objects l.fd (first_descriptor + most - l.fd))
-      ≡ l.initial.self.frames.items ++ frames_of l.initial.self.number (closings l.tenant.objects first_descriptor most);
+  left :
+      l.self.frames.items ++ frames_of l.self.number (closings l.tenant.objects l.fd (first_descriptor + most - l.fd))
+      ≡ l.initial.self.frames.items
+      ++ frames_of l.initial.self.number (closings l.tenant.objects first_descriptor most);
   number : l.self.number ≡ l.initial.self.number;
 }

@@ -13,13 +13,21 @@ pub loop-preserved : goal.loop-preserved
 loop-preserved c =
     let i = c.loop.counter in
     record {
-      left = one_command c.loop.self.frames.items c.loop.self.number c.load.new.self.number (load_of filler) (filled (most - i)) (filled (most - (i + 1)))
+      left =
+          one_command c.loop.self.frames.items c.loop.self.number c.load.new.self.number
+          (load_of filler) (filled (most - i)) (filled (most - (i + 1)))
           (filled_next most i (omega arith)) c.load.ensures.number c.loop.invariant.left
-          (c.in_ok-load.ensures.written ∙ ap (λ (bytes : List ℕ). c.loop.self.frames.items ++ framed (frame_of c.loop.self.number (prog_load 1 bytes))) (sym filler_bytes));
+          (c.in_ok-load.ensures.written
+          ∙ ap (λ (bytes : List ℕ).
+          c.loop.self.frames.items ++ framed (frame_of c.loop.self.number (prog_load 1 bytes)))
+          (sym filler_bytes));
       number = c.load.ensures.number ∙ c.loop.invariant.number;
     }
 
 pub returns : goal.returns
 returns c =
     let i = c.loop.counter in
-    record { written = no_commands c.loop.self.number (filled (most - i)) (filled_none most i (omega arith)) c.loop.invariant.left }
+    record {
+      written =
+          no_commands c.loop.self.number (filled (most - i)) (filled_none most i (omega arith)) c.loop.invariant.left;
+    }

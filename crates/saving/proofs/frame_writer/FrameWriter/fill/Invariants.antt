@@ -7,6 +7,7 @@ use Rattle.saving.proofs.frame_writer.FrameWriter.fill.Given as goal
 
 abbrev pub invariant-loop : goal.invariant-loop
 invariant-loop l = record {
-  left : l.self.frames.items ++ frames_of l.self.number (filled (most - l.counter)) ≡ l.initial.self.frames.items ++ frames_of l.initial.self.number (filled most);
+  left : l.self.frames.items ++ frames_of l.self.number (filled (most - l.counter))
+      ≡ l.initial.self.frames.items ++ frames_of l.initial.self.number (filled most);
   number : l.self.number ≡ l.initial.self.number;
 }

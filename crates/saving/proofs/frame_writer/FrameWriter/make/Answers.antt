@@ -12,6 +12,12 @@ returns-in_ok-close-in-OfProgram c =
     let fd = c.in-OfProgram.fd in
     let s = state_in c.args.part.now c.args.tenant.now in
     record {
-      written = ok_more c.make_program.result c.args.self.now.frames.items c.make_program.new.self.frames.items c.args.self.now.number c.close-in-OfProgram.new.self.number (close fd) (made_program (named c.args.tenant.now.objects fd))
-          (birth_commands s c.args.birth) (ap (birth_commands s) c.in-OfProgram.is) c.close-in-OfProgram.ensures.number c.in_ok-close-in-OfProgram.ensures.written c.make_program.ensures.written;
+      written =
+          ok_more c.make_program.result c.args.self.now.frames.items
+          c.make_program.new.self.frames.items c.args.self.now.number
+          c.close-in-OfProgram.new.self.number (close fd)
+          (made_program (named c.args.tenant.now.objects fd))
+          (birth_commands s c.args.birth) (ap (birth_commands s) c.in-OfProgram.is)
+          c.close-in-OfProgram.ensures.number c.in_ok-close-in-OfProgram.ensures.written
+          c.make_program.ensures.written;
     }

@@ -29,9 +29,15 @@ returns c =
     let put : OnOk c.put_all.result (c.put_all.new.self.frames.items
     ≡ c.create.new.self.frames.items ++ frames_of c.create.new.self.number (puts fd (numbered_entries part maps m))) =
     subst
-    (λ (frames : List ℕ). OnOk c.put_all.result (c.put_all.new.self.frames.items ≡ frames ++ frames_of c.create.new.self.number (puts fd (numbered_entries part maps m))))
+    (λ (frames : List ℕ).
+    OnOk c.put_all.result
+    (c.put_all.new.self.frames.items
+    ≡ frames ++ frames_of c.create.new.self.number (puts fd (numbered_entries part maps m))))
     c.reserve.ensures.items c.put_all.ensures.written in
     record {
-      written = ok_more c.put_all.result c.args.self.now.frames.items c.put_all.new.self.frames.items c.args.self.now.number c.create.new.self.number (create_of shape) (puts fd (numbered_entries part maps m)) all is
+      written =
+          ok_more c.put_all.result c.args.self.now.frames.items c.put_all.new.self.frames.items
+          c.args.self.now.number c.create.new.self.number (create_of shape)
+          (puts fd (numbered_entries part maps m)) all is
           c.create.ensures.number c.in_ok-create.ensures.written put;
     }

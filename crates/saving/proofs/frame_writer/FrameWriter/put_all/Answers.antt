@@ -19,10 +19,18 @@ loop-entry-preserved c =
     let e = lent_entry c.in-Some.entry in
     let fd = c.args.fd in
     record {
-      left = one_command c.loop-entry.self.frames.items c.loop-entry.self.number c.put.new.self.number (put_of fd e.0) (puts fd (rest_after c.loop-entry.after es)) (puts fd (rest_after (Some e.1) es))
-          (next_put fd es c.map_entry.ensures.once c.loop-entry.after e (ap (option_map lent_entry) (sym c.in-Some.is) ∙ c.map_entry.ensures.entry c.requires.whole))
+      left =
+          one_command c.loop-entry.self.frames.items c.loop-entry.self.number c.put.new.self.number
+          (put_of fd e.0) (puts fd (rest_after c.loop-entry.after es))
+          (puts fd (rest_after (Some e.1) es))
+          (next_put fd es c.map_entry.ensures.once c.loop-entry.after e
+          (ap (option_map lent_entry) (sym c.in-Some.is) ∙ c.map_entry.ensures.entry c.requires.whole))
           c.put.ensures.number c.loop-entry.invariant.left
-          (c.in_ok-put.ensures.written ∙ ap (λ (key : List ℕ). c.loop-entry.self.frames.items ++ framed (frame_of c.loop-entry.self.number (put_of fd (key, c.in-Some.entry.value.now)))) c.bytes.ensures);
+          (c.in_ok-put.ensures.written
+          ∙ ap (λ (key : List ℕ).
+          c.loop-entry.self.frames.items
+          ++ framed (frame_of c.loop-entry.self.number (put_of fd (key, c.in-Some.entry.value.now))))
+          c.bytes.ensures);
       number = c.put.ensures.number ∙ c.loop-entry.invariant.number;
     }
 
@@ -31,5 +39,7 @@ returns c =
     let es = numbered_entries c.args.part.now c.args.tenant.now.live c.args.map in
     record {
       written = no_commands c.loop-entry.self.number (puts c.args.fd (rest_after c.loop-entry.after es))
-          (no_put c.args.fd es c.loop-entry.after (ap (option_map lent_entry) (sym c.in_default.is) ∙ c.map_entry.ensures.entry c.requires.whole)) c.loop-entry.invariant.left;
+          (no_put c.args.fd es c.loop-entry.after
+          (ap (option_map lent_entry) (sym c.in_default.is) ∙ c.map_entry.ensures.entry c.requires.whole))
+          c.loop-entry.invariant.left;
     }

@@ -7,8 +7,10 @@ use Rattle.saving.proofs.frame_writer.FrameWriter.put_all.Given as goal
 
 abbrev pub invariant-loop-entry : goal.invariant-loop-entry
 invariant-loop-entry l = record {
-  left : l.self.frames.items ++ frames_of l.self.number (puts l.fd (rest_after l.after (numbered_entries l.part l.tenant.live l.map)))
-      ≡ l.initial.self.frames.items ++ frames_of l.initial.self.number (puts l.fd (numbered_entries l.part l.tenant.live l.map));
+  left : l.self.frames.items
+      ++ frames_of l.self.number (puts l.fd (rest_after l.after (numbered_entries l.part l.tenant.live l.map)))
+      ≡ l.initial.self.frames.items
+      ++ frames_of l.initial.self.number (puts l.fd (numbered_entries l.part l.tenant.live l.map));
   number : l.self.number ≡ l.initial.self.number;
 }
 

@@ -4,4 +4,5 @@ use Rattle.tenant.specs.Described.{described}
 use Rattle.saving.proofs.savable.SavableTenant.describe.Goals as goal
 
 pub returns : goal.returns
-returns c = λ part. c.describe.ensures part ∙ ap (λ (t : RecordedTenant). described (tenant_state part t) c.args.fd) c.self.view_is
+returns c = λ part.
+    c.describe.ensures part ∙ ap (λ (t : RecordedTenant). described (tenant_state part t) c.args.fd) c.self.view_is

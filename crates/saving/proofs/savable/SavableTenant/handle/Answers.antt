@@ -14,7 +14,8 @@ pub parse-requires : goal.parse-requires
 parse-requires c = headed_length c.args.frame.now c.args.head c.requires.head
 
 pub reply_to_command-requires-clause-short : goal.reply_to_command-requires-clause-short
-reply_to_command-requires-clause-short c = parsed_within c.args.frame.now (shown_command c.in-Ok.command) (sym c.in-Ok.ensures)
+reply_to_command-requires-clause-short c =
+    parsed_within c.args.frame.now (shown_command c.in-Ok.command) (sym c.in-Ok.ensures)
 
 pub reply_to_command-requires-clause-recorded : goal.reply_to_command-requires-clause-recorded
 reply_to_command-requires-clause-recorded c = c.self.invariant
@@ -22,7 +23,8 @@ reply_to_command-requires-clause-recorded c = c.self.invariant
 pub invariant_of-self : goal.invariant_of-self
 invariant_of-self c =
     let e = c.reply_to_command.new in
-    recorded_after c.maps_are_held.ensures c.births_are_kept.ensures c.self.inside.tenant c.self.inside.births c.self.invariant (part_bytes c.args.arena.now c.args.tenant)
+    recorded_after c.maps_are_held.ensures c.births_are_kept.ensures c.self.inside.tenant
+    c.self.inside.births c.self.invariant (part_bytes c.args.arena.now c.args.tenant)
     e.tenant e.births (part_bytes e.arena c.args.tenant) c.reply_to_command.ensures.told
 
 pub returns-in-Ok-clause-told : goal.returns-in-Ok-clause-told
@@ -30,19 +32,27 @@ returns-in-Ok-clause-told c =
     let e = c.reply_to_command.new in
     let before = part_bytes c.args.arena.now c.args.tenant in
     let after = state_in (part_bytes e.arena c.args.tenant) e.tenant in
-    subst (λ (t : RecordedTenant). MayReply c.args.frame.now e.reply (Some (tenant_state before t)) (Some after)) c.self.view_is
-    (may_tell c.args.frame.now (shown_command c.in-Ok.command) c.args.head e.reply (state_in before c.self.inside.tenant) after c.requires.head (sym c.in-Ok.ensures) c.reply_to_command.ensures.told)
+    subst (λ (t : RecordedTenant). MayReply c.args.frame.now e.reply (Some (tenant_state before t)) (Some after))
+    c.self.view_is
+    (may_tell c.args.frame.now (shown_command c.in-Ok.command) c.args.head e.reply
+    (state_in before c.self.inside.tenant) after c.requires.head
+    (sym c.in-Ok.ensures) c.reply_to_command.ensures.told)
 
 pub returns-in-Ok-clause-recorded : goal.returns-in-Ok-clause-recorded
 returns-in-Ok-clause-recorded c =
     let e = c.reply_to_command.new in
     let before = part_bytes c.args.arena.now c.args.tenant in
     let after = state_in (part_bytes e.arena c.args.tenant) e.tenant in
-    subst (λ (t : RecordedTenant). RecordsFrame c.args.frame.now e.reply (tenant_state before t) after t.births e.births) c.self.view_is
-    (may_record c.args.frame.now (shown_command c.in-Ok.command) c.args.head e.reply (state_in before c.self.inside.tenant) after c.self.inside.births e.births c.requires.head (sym c.in-Ok.ensures) c.reply_to_command.ensures.told)
+    subst (λ (t : RecordedTenant). RecordsFrame c.args.frame.now e.reply (tenant_state before t) after t.births e.births)
+    c.self.view_is
+    (may_record c.args.frame.now (shown_command c.in-Ok.command) c.args.head e.reply
+    (state_in before c.self.inside.tenant) after c.self.inside.births
+    e.births c.requires.head (sym c.in-Ok.ensures) c.reply_to_command.ensures.told)
 
 pub returns-in-Ok-clause-no_fault : goal.returns-in-Ok-clause-no_fault
-returns-in-Ok-clause-no_fault c = no_fault_replied c.args.frame.now c.args.head c.reply_to_command.new.reply c.requires.head c.reply_to_command.ensures.told.no_fault
+returns-in-Ok-clause-no_fault c =
+    no_fault_replied c.args.frame.now c.args.head c.reply_to_command.new.reply c.requires.head
+    c.reply_to_command.ensures.told.no_fault
 
 pub returns-in-Err-clause-told : goal.returns-in-Err-clause-told
 returns-in-Err-clause-told c =
@@ -53,10 +63,12 @@ returns-in-Err-clause-told c =
 pub returns-in-Err-clause-recorded : goal.returns-in-Err-clause-recorded
 returns-in-Err-clause-recorded c =
     let s = tenant_state (part_bytes c.args.arena.now c.args.tenant) c.args.self.now in
-    refused_record c.args.frame.now c.write_answer.new.reply s c.args.self.now.births c.in-Err.fault c.frame_error.result c.args.head
+    refused_record c.args.frame.now c.write_answer.new.reply s c.args.self.now.births c.in-Err.fault
+    c.frame_error.result c.args.head
     c.requires.head (sym c.in-Err.ensures) c.frame_error.ensures.errno (c.write_answer.ensures s)
 
 pub returns-in-Err-clause-no_fault : goal.returns-in-Err-clause-no_fault
 returns-in-Err-clause-no_fault c =
     let s = tenant_state (part_bytes c.args.arena.now c.args.tenant) c.args.self.now in
-    refused_no_fault c.args.frame.now c.write_answer.new.reply s c.frame_error.result c.args.head c.requires.head c.frame_error.ensures.no_fault (c.write_answer.ensures s)
+    refused_no_fault c.args.frame.now c.write_answer.new.reply s c.frame_error.result c.args.head
+    c.requires.head c.frame_error.ensures.no_fault (c.write_answer.ensures s)

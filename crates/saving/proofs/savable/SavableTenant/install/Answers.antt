@@ -26,7 +26,8 @@ note-requires c =
     let a = shown_answer r after in
     let (refused, loads) = c.in-Ok.ensures.loaded [] in
     subst (λ (bs : List Birth). length bs ≤ most + most_maps) (sym (births_opened r after births))
-    (few_after c.maps_are_held.ensures c.births_are_kept.ensures k births c.self.invariant [] refused (load_of c.args.program.value.code) a loads)
+    (few_after c.maps_are_held.ensures c.births_are_kept.ensures k births c.self.invariant []
+    refused (load_of c.args.program.value.code) a loads)
 
 pub invariant_of-self : goal.invariant_of-self
 invariant_of-self c =
@@ -36,8 +37,11 @@ invariant_of-self c =
     let r = c.in-Ok.reply in
     let a = shown_answer r after in
     let (refused, loads) = c.in-Ok.ensures.loaded [] in
-    recorded_after c.maps_are_held.ensures c.births_are_kept.ensures k births c.self.invariant [] c.install.new.self c.note.new.self []
-    (command_loaded c.args.program.value.code refused a (state_in [] k) after loads (shown_after r after) births c.note.new.self r refl c.in-Ok.ensures.writable
+    recorded_after c.maps_are_held.ensures c.births_are_kept.ensures k births c.self.invariant []
+    c.install.new.self c.note.new.self []
+    (command_loaded c.args.program.value.code refused a (state_in [] k) after loads
+    (shown_after r after) births c.note.new.self r refl
+    c.in-Ok.ensures.writable
     (c.note.ensures ∙ births_opened r after births))
 
 pub returns-in-Ok-clause-replied : goal.returns-in-Ok-clause-replied
@@ -48,10 +52,14 @@ returns-in-Ok-clause-replied c = λ number part.
     let after = state_in part c.install.new.self in
     let r = c.in-Ok.reply in
     let a = shown_answer r after in
-    let is = subst IsProgram (c.program.ensures.value ∙ ap (λ (a : Accepted). a.code) c.deref.ensures) c.code.ensures.program in
+    let is =
+    subst IsProgram (c.program.ensures.value ∙ ap (λ (a : Accepted). a.code) c.deref.ensures) c.code.ensures.program in
     let (refused, loads) = c.in-Ok.ensures.loaded part in
-    subst (λ (t : RecordedTenant). MayReply (load_frame number insns) (load_reply number insns status) (Some (tenant_state part t)) (Some after)) c.self.view_is
-    (frame_replied insns refused a (state_in part c.self.inside.tenant) after loads (shown_after r after) number is status
+    subst (λ (t : RecordedTenant).
+    MayReply (load_frame number insns) (load_reply number insns status) (Some (tenant_state part t)) (Some after))
+    c.self.view_is
+    (frame_replied insns refused a (state_in part c.self.inside.tenant) after loads
+    (shown_after r after) number is status
     (to_z-of_z w32 c.status_of.result small ∙ c.status_of.ensures after) (c.in-Ok.ensures.no_payload after))
 
 pub returns-in-Ok-clause-recorded : goal.returns-in-Ok-clause-recorded
@@ -62,10 +70,15 @@ returns-in-Ok-clause-recorded c = λ number part.
     let after = state_in part c.install.new.self in
     let r = c.in-Ok.reply in
     let a = shown_answer r after in
-    let is = subst IsProgram (c.program.ensures.value ∙ ap (λ (a : Accepted). a.code) c.deref.ensures) c.code.ensures.program in
+    let is =
+    subst IsProgram (c.program.ensures.value ∙ ap (λ (a : Accepted). a.code) c.deref.ensures) c.code.ensures.program in
     let (refused, loads) = c.in-Ok.ensures.loaded part in
-    subst (λ (t : RecordedTenant). RecordsFrame (load_frame number insns) (load_reply number insns status) (tenant_state part t) after t.births c.note.new.self) c.self.view_is
-    (frame_recorded insns refused a (state_in part c.self.inside.tenant) after loads (shown_after r after) number is status
+    subst (λ (t : RecordedTenant).
+    RecordsFrame (load_frame number insns) (load_reply number insns status) (tenant_state part t)
+    after t.births c.note.new.self)
+    c.self.view_is
+    (frame_recorded insns refused a (state_in part c.self.inside.tenant) after loads
+    (shown_after r after) number is status
     (to_z-of_z w32 c.status_of.result small ∙ c.status_of.ensures after) (c.in-Ok.ensures.no_payload after)
     c.self.inside.births c.note.new.self (c.note.ensures ∙ births_opened r after c.self.inside.births))
 
@@ -76,7 +89,10 @@ returns-in-Ok-clause-no_fault c = λ number.
     let after = state_in [] c.install.new.self in
     let r = c.in-Ok.reply in
     let a = shown_answer r after in
-    let is = subst IsProgram (c.program.ensures.value ∙ ap (λ (a : Accepted). a.code) c.deref.ensures) c.code.ensures.program in
+    let is =
+    subst IsProgram (c.program.ensures.value ∙ ap (λ (a : Accepted). a.code) c.deref.ensures) c.code.ensures.program in
     let (refused, loads) = c.in-Ok.ensures.loaded [] in
-    frame_no_fault c.args.program.value.code refused a (state_in [] c.self.inside.tenant) after loads (shown_after r after) number is status
-    (to_z-of_z w32 c.status_of.result small ∙ c.status_of.ensures after) (c.in-Ok.ensures.no_payload after) r refl c.in-Ok.ensures.writable
+    frame_no_fault c.args.program.value.code refused a (state_in [] c.self.inside.tenant) after
+    loads (shown_after r after) number is status
+    (to_z-of_z w32 c.status_of.result small ∙ c.status_of.ensures after) (c.in-Ok.ensures.no_payload after)
+    r refl c.in-Ok.ensures.writable

@@ -4,4 +4,7 @@ use Rattle.tenant.specs.Machine.{targets}
 use Rattle.saving.proofs.savable.SavableTenant.targets.Goals as goal
 
 pub returns : goal.returns
-returns c = subst (λ (t : RecordedTenant). IfOk c.targets.result (λ found. (part : List ℕ) → found.items ≡ targets (tenant_state part t))) c.self.view_is c.targets.ensures
+returns c =
+    subst (λ (t : RecordedTenant).
+    IfOk c.targets.result (λ found. (part : List ℕ) → found.items ≡ targets (tenant_state part t)))
+    c.self.view_is c.targets.ensures

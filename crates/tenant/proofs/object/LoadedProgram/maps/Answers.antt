@@ -5,4 +5,7 @@ use Rattle.tenant.specs.Loaded.{map_handles}
 use Rattle.tenant.proofs.object.LoadedProgram.maps.Goals as goal
 
 pub returns : goal.returns
-returns c = c.deref.ensures.value ∙ sym (seconds-zip (maps_of c.self.inside.program.code) c.self.inside.maps.items c.self.invariant) ∙ ap map_handles c.self.view_is
+returns c =
+    c.deref.ensures.value
+    ∙ sym (seconds-zip (maps_of c.self.inside.program.code) c.self.inside.maps.items c.self.invariant)
+    ∙ ap map_handles c.self.view_is

@@ -12,9 +12,15 @@ returns c = λ part.
     let k = kept_in c.self.inside in
     let held : AreHeld k.live = c.self.invariant.maps in
     same_counts
-    (c.live_count.ensures.count ∙ sym (maps_are part k held) ∙ ap (λ (t : KeptTenant). total (λ m. 1) (state_in part t).maps) c.self.view_is)
-    (c.key_sum.ensures.sum ∙ sym (keys_are part k held) ∙ ap (λ (t : KeptTenant). total (λ m. length m.entries) (state_in part t).maps) c.self.view_is)
-    (c.value_bytes.ensures.sum ∙ sym (areas_are part k held) ∙ ap (λ (t : KeptTenant). (counts_of (state_in part t)).value_bytes) c.self.view_is)
+    (c.live_count.ensures.count
+    ∙ sym (maps_are part k held)
+    ∙ ap (λ (t : KeptTenant). total (λ m. 1) (state_in part t).maps) c.self.view_is)
+    (c.key_sum.ensures.sum
+    ∙ sym (keys_are part k held)
+    ∙ ap (λ (t : KeptTenant). total (λ m. length m.entries) (state_in part t).maps) c.self.view_is)
+    (c.value_bytes.ensures.sum
+    ∙ sym (areas_are part k held)
+    ∙ ap (λ (t : KeptTenant). (counts_of (state_in part t)).value_bytes) c.self.view_is)
     c.program_count.ensures.count
     c.open_count.ensures.count
     (c.memory_was_refused.ensures part)

@@ -18,11 +18,16 @@ pub returns-in-Err-clause-answer : goal.returns-in-Err-clause-answer
 returns-in-Err-clause-answer c =
     let k = kept_in c.self.inside in
     let (fd, low) = some_lowest k.objects (sym c.is_full.ensures ∙ c.if-is_full.false) in
-    let (refused, is) = create_refused c.args.part.now k c.create.new.self c.in_ok-shape.shape c.in-Err.fault c.self.invariant.maps c.maps_are_laid.ensures.maps low c.in-Err.ensures.created in (
+    let (refused, is) =
+    create_refused c.args.part.now k c.create.new.self c.in_ok-shape.shape c.in-Err.fault
+    c.self.invariant.maps c.maps_are_laid.ensures.maps low
+    c.in-Err.ensures.created in (
       refused,
-      ap₂ (λ (errno : Errno) (part : List ℕ). refuses errno (state_in part (with_live k c.create.new.self))) c.of_map.ensures.errno c.in-Err.ensures.unchanged
+      ap₂ (λ (errno : Errno) (part : List ℕ). refuses errno (state_in part (with_live k c.create.new.self)))
+          c.of_map.ensures.errno c.in-Err.ensures.unchanged
           ∙ is
-          ∙ ap (λ (old : KeptTenant). created refused (state_in c.args.part.now old) (Ok c.in_ok-shape.shape)) c.self.view_is
+          ∙ ap (λ (old : KeptTenant). created refused (state_in c.args.part.now old) (Ok c.in_ok-shape.shape))
+          c.self.view_is
           ∙ ap (created refused (state_in c.args.part.now c.args.self.now)) c.in_ok-shape.ensures.shape,
     )
 

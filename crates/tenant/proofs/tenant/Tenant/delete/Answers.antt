@@ -14,7 +14,8 @@ use Rattle.tenant.proofs.tenant.Tenant.delete.Goals as goal
 -- ---- the map rejects the deletion
 
 module _ (c : goal.After-of_map) where
-  not_removed : IsRemoved (kept_in c.self.inside) c.remove.new.self c.args.fd c.in_ok-map.map c.args.key.now (Err c.in-Err.fault)
+  not_removed :
+      IsRemoved (kept_in c.self.inside) c.remove.new.self c.args.fd c.in_ok-map.map c.args.key.now (Err c.in-Err.fault)
   not_removed = let e = c.in-Err.ensures in record {
     found = map_in_state c.self.view_is c.in_ok-map.ensures.found;
     size = c.if-key-shape.false ∙ ap (λ (s : MapShape). s.key_size) c.shape.ensures;
@@ -28,7 +29,8 @@ invariant_of-self c = unremoved_kept c.self.invariant (not_removed c)
 
 pub returns-in-Err-clause-answer : goal.returns-in-Err-clause-answer
 returns-in-Err-clause-answer c = λ part.
-    ap (λ (errno : Errno). refuses errno (state_in part (with_live (kept_in c.self.inside) c.remove.new.self))) c.of_map.ensures.errno
+    ap (λ (errno : Errno). refuses errno (state_in part (with_live (kept_in c.self.inside) c.remove.new.self)))
+    c.of_map.ensures.errno
     ∙ delete_refused c.live_maps_refine_values.ensures c.calls_refine_values.ensures.bytes part (not_removed c)
     ∙ ap (λ (old : KeptTenant). element_deleted (state_in part old) c.args.fd c.args.key.now) c.self.view_is
 
@@ -61,5 +63,9 @@ pub returns-then-key-shape-clause-answer : goal.returns-then-key-shape-clause-an
 returns-then-key-shape-clause-answer c = λ part.
     let k = c.args.self.now in
     let key = c.args.key.now in
-    let shape : c.shape.result ≡ shape_at k.live c.in_ok-map.map = c.shape.ensures ∙ ap (λ (x : KeptTenant). shape_at x.live c.in_ok-map.map) c.self.view_is in
-    sym (on_map_is part (has_size key) (λ p t. element_taken_out (state_in part k) p t key (removal t key)) c.in_ok-map.ensures.found (other_size (length key) c.if-key-shape.true (ap (λ (s : MapShape). s.key_size) shape)))
+    let shape : c.shape.result ≡ shape_at k.live c.in_ok-map.map =
+    c.shape.ensures ∙ ap (λ (x : KeptTenant). shape_at x.live c.in_ok-map.map) c.self.view_is in
+    sym (on_map_is part (has_size key)
+    (λ p t. element_taken_out (state_in part k) p t key (removal t key))
+    c.in_ok-map.ensures.found
+    (other_size (length key) c.if-key-shape.true (ap (λ (s : MapShape). s.key_size) shape)))

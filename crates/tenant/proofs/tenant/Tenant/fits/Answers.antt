@@ -10,7 +10,9 @@ use Rattle.tenant.proofs.tenant.Tenant.fits.Goals as goal
 
 pub loop-fd-preserved : goal.loop-fd-preserved
 loop-fd-preserved c = λ part.
-    All-more (λ fd. shapes_named (targets (state_in part c.args.self.now)) fd ≡ shapes_in c.args.program.now fd) c.maps-fd-items.result.now c.loop-fd.fd-index 0 c.loop-fd-test.true (c.loop-fd.invariant part)
+    All-more (λ fd. shapes_named (targets (state_in part c.args.self.now)) fd ≡ shapes_in c.args.program.now fd)
+    c.maps-fd-items.result.now c.loop-fd.fd-index 0 c.loop-fd-test.true
+    (c.loop-fd.invariant part)
     (sym (c.shape_at.ensures part) ∙ c.has_shape.ensures.0 c.if-not-has_shape.false)
 
 pub returns : goal.returns

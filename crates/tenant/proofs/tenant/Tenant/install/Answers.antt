@@ -13,15 +13,22 @@ pub returns-then-not-fits-clause-stale : goal.returns-then-not-fits-clause-stale
 returns-then-not-fits-clause-stale c = (
   refl,
   refl,
-  λ part fits. true≢false (sym ((c.fits.ensures part).1 (subst (λ (a : Accepted). Fits a (targets (state_in part c.args.self.now))) (sym c.deref.ensures) fits)) ∙ c.if-not-fits.true),
+  λ part fits.
+      true≢false (sym ((c.fits.ensures part).1 (subst (λ (a : Accepted). Fits a (targets (state_in part c.args.self.now)))
+      (sym c.deref.ensures) fits))
+      ∙ c.if-not-fits.true),
 )
 
 pub returns-then-is_full-clause-fits : goal.returns-then-is_full-clause-fits
-returns-then-is_full-clause-fits c = λ part. subst (λ (a : Accepted). Fits a (targets (state_in part c.args.self.now))) c.deref.ensures ((c.fits.ensures part).0 c.if-not-fits.false)
+returns-then-is_full-clause-fits c = λ part.
+    subst (λ (a : Accepted). Fits a (targets (state_in part c.args.self.now))) c.deref.ensures
+    ((c.fits.ensures part).0 c.if-not-fits.false)
 
 pub program_here-requires : goal.program_here-requires
 program_here-requires c = record {
-  fits = λ part. subst (λ (a : Accepted). Fits a (targets (state_in part c.args.self.now))) (c.deref.ensures ∙ sym c.into_inner.ensures) ((c.fits.ensures part).0 c.if-not-fits.false);
+  fits = λ part.
+      subst (λ (a : Accepted). Fits a (targets (state_in part c.args.self.now)))
+      (c.deref.ensures ∙ sym c.into_inner.ensures) ((c.fits.ensures part).0 c.if-not-fits.false);
 }
 
 pub returns-in-Ok-clause-loaded : goal.returns-in-Ok-clause-loaded
@@ -29,12 +36,18 @@ returns-in-Ok-clause-loaded c = λ part.
     let s = state_in part c.args.self.now in
     let fd = c.open_program.result in
     let l = c.in-Ok.program in
-    subst (MayLoad s 1 (program_bytes c.args.program.value.code)) (sym (ap (opens fd) (c.open_program.ensures.opened part)))
+    subst (MayLoad s 1 (program_bytes c.args.program.value.code))
+    (sym (ap (opens fd) (c.open_program.ensures.opened part)))
     (program_opened s 1 fd (program_bytes c.args.program.value.code) l refl c.open_program.ensures.lowest
-    (subst (λ (a : Accepted). Judges (targets s) (program_bytes a.code) (Ok l.insns)) c.into_inner.ensures (c.in-Ok.ensures.judges part)) (c.in-Ok.ensures.found part))
+    (subst (λ (a : Accepted). Judges (targets s) (program_bytes a.code) (Ok l.insns))
+    c.into_inner.ensures (c.in-Ok.ensures.judges part)) (c.in-Ok.ensures.found part))
 
 pub returns-in-Ok-clause-fits : goal.returns-in-Ok-clause-fits
-returns-in-Ok-clause-fits c = λ part. subst (λ (a : Accepted). Fits a (targets (state_in part c.args.self.now))) c.deref.ensures ((c.fits.ensures part).0 c.if-not-fits.false)
+returns-in-Ok-clause-fits c = λ part.
+    subst (λ (a : Accepted). Fits a (targets (state_in part c.args.self.now))) c.deref.ensures
+    ((c.fits.ensures part).0 c.if-not-fits.false)
 
 pub returns-in-Err-clause-fits : goal.returns-in-Err-clause-fits
-returns-in-Err-clause-fits c = λ part. subst (λ (a : Accepted). Fits a (targets (state_in part c.args.self.now))) c.deref.ensures ((c.fits.ensures part).0 c.if-not-fits.false)
+returns-in-Err-clause-fits c = λ part.
+    subst (λ (a : Accepted). Fits a (targets (state_in part c.args.self.now))) c.deref.ensures
+    ((c.fits.ensures part).0 c.if-not-fits.false)

@@ -20,15 +20,21 @@ no_entry = None
 abbrev with_value : List ℕ → KeptTenant → ℕ → List ℕ × ℕ → NumberedEntry
 with_value part k map e = ((e.0, value_in part k.live map e.1), e.1)
 
-once_in : (part : List ℕ) (k l : KeptTenant) (map : ℕ) → k ≡ l → ((p : ℕ) → occurrences p (values_of (numbered_entries part k.live map)) ≤ 1) → (p : ℕ) → occurrences p (values_of (numbered_entries part l.live map)) ≤ 1
-once_in part k l map same once p = subst (λ (k : KeptTenant). occurrences p (values_of (numbered_entries part k.live map)) ≤ 1) same (once p)
+once_in : (part : List ℕ) (k l : KeptTenant) (map : ℕ)
+    → k ≡ l
+    → ((p : ℕ) → occurrences p (values_of (numbered_entries part k.live map)) ≤ 1)
+    → (p : ℕ) → occurrences p (values_of (numbered_entries part l.live map)) ≤ 1
+once_in part k l map same once p =
+    subst (λ (k : KeptTenant). occurrences p (values_of (numbered_entries part k.live map)) ≤ 1) same (once p)
 
 pub returns-then-part-ne-PART : goal.returns-then-part-ne-PART
 returns-then-part-ne-PART c =
     let k = kept_in c.self.inside in
     record {
       entry = λ whole. absurd (omega (arith, whole, c.if-part-ne-PART.true));
-      once = once_in c.args.part.now k c.args.self.now c.args.map c.self.view_is (numbered_once c.args.part.now k.live c.args.map c.maps_are_laid.ensures.sound);
+      once =
+          once_in c.args.part.now k c.args.self.now c.args.map c.self.view_is
+          (numbered_once c.args.part.now k.live c.args.map c.maps_are_laid.ensures.sound);
     }
 
 pub returns-then-not-is_live : goal.returns-then-not-is_live
@@ -37,9 +43,13 @@ returns-then-not-is_live c =
     let part = c.args.part.now in
     let map = c.args.map in
     record {
-      entry = λ _. subst (λ (k : KeptTenant). no_entry ≡ next_entry c.args.after (numbered_entries part k.live map)) c.self.view_is
+      entry = λ _.
+          subst (λ (k : KeptTenant). no_entry ≡ next_entry c.args.after (numbered_entries part k.live map))
+          c.self.view_is
           (none_numbered part k.live map c.args.after (sym c.is_live.ensures ∙ c.if-not-is_live.true));
-      once = once_in part k c.args.self.now map c.self.view_is (numbered_once part k.live map c.maps_are_laid.ensures.sound);
+      once =
+          once_in part k c.args.self.now map c.self.view_is
+          (numbered_once part k.live map c.maps_are_laid.ensures.sound);
     }
 
 pub returns-in_default : goal.returns-in_default
@@ -48,9 +58,15 @@ returns-in_default c =
     let part = c.args.part.now in
     let map = c.args.map in
     record {
-      entry = λ _. subst (λ (k : KeptTenant). no_entry ≡ next_entry c.args.after (numbered_entries part k.live map)) c.self.view_is
-          (ap (option_map (with_value part k map)) (ap (option_map shown_entry) (sym c.in_default.is) ∙ c.entry_after.ensures.entry) ∙ sym (next_numbered part k.live map c.args.after));
-      once = once_in part k c.args.self.now map c.self.view_is (numbered_once part k.live map c.maps_are_laid.ensures.sound);
+      entry = λ _.
+          subst (λ (k : KeptTenant). no_entry ≡ next_entry c.args.after (numbered_entries part k.live map))
+          c.self.view_is
+          (ap (option_map (with_value part k map))
+          (ap (option_map shown_entry) (sym c.in_default.is) ∙ c.entry_after.ensures.entry)
+          ∙ sym (next_numbered part k.live map c.args.after));
+      once =
+          once_in part k c.args.self.now map c.self.view_is
+          (numbered_once part k.live map c.maps_are_laid.ensures.sound);
     }
 
 pub returns : goal.returns
@@ -63,11 +79,20 @@ returns c =
     let size = c.shape-size.result.value_size in
     let n : (start + size) - start ≡ size = omega arith in
     let lent : take ((start + size) - start) (drop start part) ≡ value_in part k.live map e.1 =
-    ap₂ (λ (count from : ℕ). take count (drop from part)) (n ∙ ap (λ (s : MapShape). s.value_size) c.shape-size.ensures) c.value_at-start.ensures.offset in
+    ap₂ (λ (count from : ℕ). take count (drop from part))
+    (n ∙ ap (λ (s : MapShape). s.value_size) c.shape-size.ensures)
+    c.value_at-start.ensures.offset in
     record {
-      entry = λ _. subst (λ (k : KeptTenant). some_entry (key_bytes e.0) (take ((start + size) - start) (drop start part)) e.1 ≡ next_entry c.args.after (numbered_entries part k.live map)) c.self.view_is
+      entry = λ _.
+          subst (λ (k : KeptTenant).
+          some_entry (key_bytes e.0) (take ((start + size) - start) (drop start part)) e.1
+          ≡ next_entry c.args.after (numbered_entries part k.live map))
+          c.self.view_is
           (ap (λ (value : List ℕ). some_entry (key_bytes e.0) value e.1) lent
-          ∙ ap (option_map (with_value part k map)) (ap (option_map shown_entry) (sym c.in-Some.is) ∙ c.entry_after.ensures.entry)
+          ∙ ap (option_map (with_value part k map))
+          (ap (option_map shown_entry) (sym c.in-Some.is) ∙ c.entry_after.ensures.entry)
           ∙ sym (next_numbered part k.live map c.args.after));
-      once = once_in part k c.args.self.now map c.self.view_is (numbered_once part k.live map c.maps_are_laid.ensures.sound);
+      once =
+          once_in part k c.args.self.now map c.self.view_is
+          (numbered_once part k.live map c.maps_are_laid.ensures.sound);
     }

@@ -12,8 +12,13 @@ returns-then-is_live c =
     let map = c.args.map in
     let some : IsSome (live_at k.live map) = sym c.is_live.ensures ∙ c.if-is_live.true in
     record {
-      shape = subst (λ (k : KeptTenant). IsSome (live_at k.live map) × (c.shape.result ≡ shape_at k.live map)) c.self.view_is (some, c.shape.ensures);
-      state = λ part. subst (λ (k : KeptTenant). live (state_in part k) map ≡ Some (map_in part k.live map)) c.self.view_is (live_in_state part k c.self.invariant.maps map some);
+      shape =
+          subst (λ (k : KeptTenant). IsSome (live_at k.live map) × (c.shape.result ≡ shape_at k.live map))
+          c.self.view_is (some, c.shape.ensures);
+      state = λ part.
+          subst (λ (k : KeptTenant). live (state_in part k) map ≡ Some (map_in part k.live map))
+          c.self.view_is
+          (live_in_state part k c.self.invariant.maps map some);
     }
 
 pub returns-else-is_live : goal.returns-else-is_live

@@ -12,18 +12,30 @@ use Rattle.tenant.proofs.tenant.Tenant.next_key.Goals as goal
 pub returns-in-Some-clause-answer : goal.returns-in-Some-clause-answer
 returns-in-Some-clause-answer c = λ part.
     let key = c.args.key.now in
-    subst (λ (k : KeptTenant). gives_if_found (state_in part k) (Some (key_bytes c.in-Some.following)) ≡ given_next (state_in part k) c.args.fd key) c.self.view_is
-    (next_is c.calls_refine_values.ensures.bytes part key (map_in_state c.self.view_is c.in_ok-map.ensures.found) (ap (λ (s : MapShape). s.key_size) c.shape-size.ensures) c.is_empty.ensures c.else-not-is_empty.either c.in-Some.ensures.given)
+    subst (λ (k : KeptTenant).
+    gives_if_found (state_in part k) (Some (key_bytes c.in-Some.following))
+    ≡ given_next (state_in part k) c.args.fd key)
+    c.self.view_is
+    (next_is c.calls_refine_values.ensures.bytes part key
+    (map_in_state c.self.view_is c.in_ok-map.ensures.found)
+    (ap (λ (s : MapShape). s.key_size) c.shape-size.ensures)
+    c.is_empty.ensures c.else-not-is_empty.either c.in-Some.ensures.given)
 
 pub returns-in-None-clause-answer : goal.returns-in-None-clause-answer
 returns-in-None-clause-answer c = λ part.
     let key = c.args.key.now in
-    subst (λ (k : KeptTenant). gives_if_found (state_in part k) None ≡ given_next (state_in part k) c.args.fd key) c.self.view_is
-    (next_is c.calls_refine_values.ensures.bytes part key (map_in_state c.self.view_is c.in_ok-map.ensures.found) (ap (λ (s : MapShape). s.key_size) c.shape-size.ensures) c.is_empty.ensures c.else-not-is_empty.either c.in-None.ensures.given)
+    subst (λ (k : KeptTenant). gives_if_found (state_in part k) None ≡ given_next (state_in part k) c.args.fd key)
+    c.self.view_is
+    (next_is c.calls_refine_values.ensures.bytes part key
+    (map_in_state c.self.view_is c.in_ok-map.ensures.found)
+    (ap (λ (s : MapShape). s.key_size) c.shape-size.ensures)
+    c.is_empty.ensures c.else-not-is_empty.either c.in-None.ensures.given)
 
 pub returns-then-key-size-clause-answer : goal.returns-then-key-size-clause-answer
 returns-then-key-size-clause-answer c = λ part.
     let k = c.args.self.now in
     let key = c.args.key.now in
-    let shape : c.shape-size.result ≡ shape_at k.live c.in_ok-map.map = c.shape-size.ensures ∙ ap (λ (x : KeptTenant). shape_at x.live c.in_ok-map.map) c.self.view_is in
-    refused_key part key c.in_ok-map.ensures.found (sym c.is_empty.ensures ∙ c.if-not-is_empty.true) (other_size (length key) c.if-key-size.true (ap (λ (s : MapShape). s.key_size) shape))
+    let shape : c.shape-size.result ≡ shape_at k.live c.in_ok-map.map =
+    c.shape-size.ensures ∙ ap (λ (x : KeptTenant). shape_at x.live c.in_ok-map.map) c.self.view_is in
+    refused_key part key c.in_ok-map.ensures.found (sym c.is_empty.ensures ∙ c.if-not-is_empty.true)
+    (other_size (length key) c.if-key-size.true (ap (λ (s : MapShape). s.key_size) shape))

@@ -11,8 +11,10 @@ use Rattle.tenant.proofs.tenant.Tenant.open_program.Goals as goal
 pub hold_all-requires-clause-few : goal.hold_all-requires-clause-few
 hold_all-requires-clause-few c = λ handle.
     let k = kept_in c.self.inside in
-    let bound : IsBound k.live c.args.program = subst (λ (k : KeptTenant). IsBound k.live c.args.program) (sym c.self.view_is) c.requires.bound in
-    subst (λ (ps : List ℕ). holds_at k.live handle + times_listed handle ps < 4294967296) (sym c.maps.ensures) (few_hold c.self.invariant bound handle)
+    let bound : IsBound k.live c.args.program =
+    subst (λ (k : KeptTenant). IsBound k.live c.args.program) (sym c.self.view_is) c.requires.bound in
+    subst (λ (ps : List ℕ). holds_at k.live handle + times_listed handle ps < 4294967296)
+    (sym c.maps.ensures) (few_hold c.self.invariant bound handle)
 
 pub invariant_of-self : goal.invariant_of-self
 invariant_of-self c =
@@ -20,7 +22,8 @@ invariant_of-self c =
     let l = c.args.program in
     let t = c.hold_all.new.maps in
     let bound : IsBound k.live l = subst (λ (k : KeptTenant). IsBound k.live l) (sym c.self.view_is) c.requires.bound in
-    let holds : (q : ℕ) → holds_at t q ≡ holds_at k.live q + times_listed q (map_handles l) = λ q. c.hold_all.ensures.holds q ∙ ap (λ (ps : List ℕ). holds_at k.live q + times_listed q ps) c.maps.ensures in
+    let holds : (q : ℕ) → holds_at t q ≡ holds_at k.live q + times_listed q (map_handles l) =
+    λ q. c.hold_all.ensures.holds q ∙ ap (λ (ps : List ℕ). holds_at k.live q + times_listed q ps) c.maps.ensures in
     subst (λ (os : List (Option OpenObject)). IsWellFormedTenant (with_both k os t)) (sym c.open.ensures.opened)
     (opened_kept c.self.invariant c.open.ensures.lowest bound c.hold_all.ensures.held holds)
 
@@ -39,4 +42,5 @@ hold_all-requires-clause-live c = c.self.invariant.maps
 pub hold_all-requires-clause-there : goal.hold_all-requires-clause-there
 hold_all-requires-clause-there c =
     let k = kept_in c.self.inside in
-    subst (λ (ps : List ℕ). AreLive k.live ps) (sym c.maps.ensures) (subst (λ (k : KeptTenant). AreLive k.live (map_handles c.args.program)) (sym c.self.view_is) c.requires.there)
+    subst (λ (ps : List ℕ). AreLive k.live ps) (sym c.maps.ensures)
+    (subst (λ (k : KeptTenant). AreLive k.live (map_handles c.args.program)) (sym c.self.view_is) c.requires.there)

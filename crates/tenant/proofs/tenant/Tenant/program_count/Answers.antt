@@ -18,7 +18,8 @@ loop-fd-preserved c =
     let fd = c.loop-fd.fd in
     let all : length xs ≡ 64 = (subst (λ (k : KeptTenant). IsWellFormedTenant k) c.self.view_is c.self.invariant).all in
     let more = total_more one_program xs fd (omega arith) (omega arith) in
-    let here = c.program_at.ensures.refusal ∙ ap (λ (k : KeptTenant). object_refusal (named k.objects fd)) c.self.view_is in
+    let here =
+    c.program_at.ensures.refusal ∙ ap (λ (k : KeptTenant). object_refusal (named k.objects fd)) c.self.view_is in
     let before = c.loop-fd.invariant.count in
     let few = c.loop-fd.invariant.few in
     elim c.if-is_ok.branch [
@@ -27,7 +28,8 @@ loop-fd-preserved c =
           let is = w.count-is in
           record { count = omega arith; few = omega arith }
       | else-is_ok w ↦
-          let none = program_none c.program_at.result (named xs fd) here (sym c.is_ok.ensures.value ∙ w.if-is_ok.false) in
+          let none =
+          program_none c.program_at.result (named xs fd) here (sym c.is_ok.ensures.value ∙ w.if-is_ok.false) in
           let is = w.count-is in
           record { count = omega arith; few = omega arith }
     ]

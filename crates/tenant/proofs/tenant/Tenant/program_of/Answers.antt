@@ -6,8 +6,11 @@ use Rattle.tenant.proofs.tenant.Tenant.program_of.Goals as goal
 
 pub with_maps-requires-clause-accepted : goal.with_maps-requires-clause-accepted
 with_maps-requires-clause-accepted c = λ part.
-    subst (IsAccepted c.in-Ok.program.code) (c.deref.ensures.value ∙ c.in_ok-descriptors.ensures part) (of_ok _ _ _ c.in-Ok.is c.in_ok-program.ensures.accepted).2
+    subst (IsAccepted c.in-Ok.program.code)
+    (c.deref.ensures.value ∙ c.in_ok-descriptors.ensures part)
+    (of_ok _ _ _ c.in-Ok.is c.in_ok-program.ensures.accepted).2
 
 pub with_maps-requires-clause-entries : goal.with_maps-requires-clause-entries
 with_maps-requires-clause-entries c = λ part.
-    of_ok _ _ _ c.in-Ok.is c.in_ok-program.ensures.entries ∙ ap (entries_of (maps_of c.in-Ok.program.code)) (c.deref.ensures.value ∙ c.in_ok-descriptors.ensures part)
+    of_ok _ _ _ c.in-Ok.is c.in_ok-program.ensures.entries
+    ∙ ap (entries_of (maps_of c.in-Ok.program.code)) (c.deref.ensures.value ∙ c.in_ok-descriptors.ensures part)

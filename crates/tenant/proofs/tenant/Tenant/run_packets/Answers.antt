@@ -19,7 +19,10 @@ pub run_packets-requires-clause-bound : goal.run_packets-requires-clause-bound
 run_packets-requires-clause-bound c =
     let k = kept_in c.self.inside in
     subst (λ (ps : List ℕ). AreBound c.program.result.now ps k.live) (sym c.maps.ensures)
-    (are_bound c.self.invariant (bound_of c.args.fd c.self.invariant c.in_ok-program.ensures.found) c.maps_are_listed.ensures c.program.result.now c.program.ensures.code c.program.ensures.entries)
+    (are_bound c.self.invariant
+    (bound_of c.args.fd c.self.invariant c.in_ok-program.ensures.found)
+    c.maps_are_listed.ensures c.program.result.now c.program.ensures.code
+    c.program.ensures.entries)
 
 pub invariant_of-self : goal.invariant_of-self
 invariant_of-self c = kept_after c.self.invariant c.run_packets.ensures.maps
@@ -32,25 +35,40 @@ passed_on (Err f) e is = ap Some is
 pub returns-in_err-program-clause-refusal : goal.returns-in_err-program-clause-refusal
 returns-in_err-program-clause-refusal c =
     passed_on c.from_residual.result _ c.from_residual.ensures.1
-    ∙ refused_first (packets_refusal (length c.args.contexts.now) (length c.args.bytes.now) c.args.ends.now (length c.args.results.now)) (ap (λ (x : KeptTenant). named x.objects c.args.fd) c.self.view_is) c.in_err-program.ensures.refusal
+    ∙ refused_first (packets_refusal (length c.args.contexts.now) (length c.args.bytes.now)
+    c.args.ends.now (length c.args.results.now))
+    (ap (λ (x : KeptTenant). named x.objects c.args.fd) c.self.view_is)
+    c.in_err-program.ensures.refusal
 
 pub returns-then-results-ends-clause-refusal : goal.returns-then-results-ends-clause-refusal
 returns-then-results-ends-clause-refusal c =
-    let program = subst (λ (x : KeptTenant). object_refusal (named x.objects c.args.fd) ≡ None) c.self.view_is (sym c.in_ok-program.ensures.refusal) in
-    sym (without_room (named c.args.self.now.objects c.args.fd) (length c.args.contexts.now) (length c.args.bytes.now) c.args.ends.now (length c.args.results.now) program c.if-results-ends.true)
+    let program =
+    subst (λ (x : KeptTenant). object_refusal (named x.objects c.args.fd) ≡ None) c.self.view_is
+    (sym c.in_ok-program.ensures.refusal) in
+    sym (without_room (named c.args.self.now.objects c.args.fd) (length c.args.contexts.now)
+    (length c.args.bytes.now) c.args.ends.now (length c.args.results.now)
+    program c.if-results-ends.true)
 
 pub returns-in-Err-clause-refusal : goal.returns-in-Err-clause-refusal
 returns-in-Err-clause-refusal c =
-    let program = subst (λ (x : KeptTenant). object_refusal (named x.objects c.args.fd) ≡ None) c.self.view_is (sym c.in_ok-program.ensures.refusal) in
+    let program =
+    subst (λ (x : KeptTenant). object_refusal (named x.objects c.args.fd) ≡ None) c.self.view_is
+    (sym c.in_ok-program.ensures.refusal) in
     ap Some c.of_packet.ensures
     ∙ ap (λ o. option_map packet_errno o) c.in-Err.ensures.fault
-    ∙ sym (with_room (named c.args.self.now.objects c.args.fd) (length c.args.contexts.now) (length c.args.bytes.now) c.args.ends.now (length c.args.results.now) program c.if-results-ends.false)
+    ∙ sym (with_room (named c.args.self.now.objects c.args.fd) (length c.args.contexts.now)
+    (length c.args.bytes.now) c.args.ends.now (length c.args.results.now)
+    program c.if-results-ends.false)
 
 pub returns-in-Ok-clause-refusal : goal.returns-in-Ok-clause-refusal
 returns-in-Ok-clause-refusal c =
-    let program = subst (λ (x : KeptTenant). object_refusal (named x.objects c.args.fd) ≡ None) c.self.view_is (sym c.in_ok-program.ensures.refusal) in
+    let program =
+    subst (λ (x : KeptTenant). object_refusal (named x.objects c.args.fd) ≡ None) c.self.view_is
+    (sym c.in_ok-program.ensures.refusal) in
     ap (λ o. option_map packet_errno o) c.in-Ok.ensures.fault
-    ∙ sym (with_room (named c.args.self.now.objects c.args.fd) (length c.args.contexts.now) (length c.args.bytes.now) c.args.ends.now (length c.args.results.now) program c.if-results-ends.false)
+    ∙ sym (with_room (named c.args.self.now.objects c.args.fd) (length c.args.contexts.now)
+    (length c.args.bytes.now) c.args.ends.now (length c.args.results.now)
+    program c.if-results-ends.false)
 
 pub returns-in-Ok-clause-runs : goal.returns-in-Ok-clause-runs
 returns-in-Ok-clause-runs c =
@@ -60,14 +78,30 @@ returns-in-Ok-clause-runs c =
     let run = c.run_packets in
     let before = standing k.live c.args.arena.now t c.new-trace.result.steps in
     let after = standing run.new.maps run.new.arena t run.new.trace.steps in
-    let fits : length c.in-Ok.packets ≤ length c.args.results.now = omega (arith, c.in-Ok.ensures.count, c.if-results-ends.false) in
-    let all : take (length c.args.results.now) c.in-Ok.packets ≡ inputs = take_all (length c.args.results.now) c.in-Ok.packets fits ∙ c.in-Ok.ensures.packets in
-    let short : All (λ (input : BatchInput). length input.packet ≤ longest_packet) (take (length c.args.results.now) c.in-Ok.packets) =
-    subst (λ (is : List BatchInput). All (λ (input : BatchInput). length input.packet ≤ longest_packet) is) (sym (take_all (length c.args.results.now) c.in-Ok.packets fits)) c.packets_are_short.ensures in
+    let fits : length c.in-Ok.packets ≤ length c.args.results.now =
+    omega (arith, c.in-Ok.ensures.count, c.if-results-ends.false) in
+    let all : take (length c.args.results.now) c.in-Ok.packets ≡ inputs =
+    take_all (length c.args.results.now) c.in-Ok.packets fits ∙ c.in-Ok.ensures.packets in
+    let short : All (λ (input : BatchInput). length input.packet ≤ longest_packet)
+    (take (length c.args.results.now) c.in-Ok.packets) =
+    subst (λ (is : List BatchInput). All (λ (input : BatchInput). length input.packet ≤ longest_packet) is)
+    (sym (take_all (length c.args.results.now) c.in-Ok.packets fits))
+    c.packets_are_short.ensures in
     let (results, each, written) = run.ensures.runs in
-    let order = runs_in_order c.maps_are_listed.ensures c.args.fd k _ c.in_ok-program.ensures.found c.program.result.now.code c.maps.result.now c.maps.ensures c.program.ensures.code (take (length c.args.results.now) c.in-Ok.packets) results before after c.self.invariant short each in (
+    let order =
+    runs_in_order c.maps_are_listed.ensures c.args.fd k _ c.in_ok-program.ensures.found
+    c.program.result.now.code c.maps.result.now c.maps.ensures
+    c.program.ensures.code (take (length c.args.results.now) c.in-Ok.packets)
+    results before after c.self.invariant short each in (
       results,
-      subst (λ (is : List BatchInput). RunsInOrder c.args.fd (state_in before.part c.args.self.now) is results (state_in after.part (with_live k after.maps))) all
-          (subst (λ (x : KeptTenant). RunsInOrder c.args.fd (state_in before.part x) (take (length c.args.results.now) c.in-Ok.packets) results (state_in after.part (with_live k after.maps))) c.self.view_is order),
+      subst (λ (is : List BatchInput).
+          RunsInOrder c.args.fd (state_in before.part c.args.self.now) is results
+          (state_in after.part (with_live k after.maps)))
+          all
+          (subst (λ (x : KeptTenant).
+          RunsInOrder c.args.fd (state_in before.part x)
+          (take (length c.args.results.now) c.in-Ok.packets) results
+          (state_in after.part (with_live k after.maps)))
+          c.self.view_is order),
       written,
     )

@@ -20,7 +20,11 @@ pub returns-in-Map : goal.returns-in-Map
 returns-in-Map c = λ part.
     let k = c.args.self.now in
     let m = c.in-Map.map in
-    let found : IsMapOf k c.args.fd m = subst (λ (x : KeptTenant). IsMapOf x c.args.fd m) c.self.view_is (named_is_live c.self.invariant c.args.fd (sym c.in_ok-map.ensures ∙ ap Some c.in-Map.is)) in
-    let shape : c.shape.result ≡ shape_at k.live m = c.shape.ensures ∙ ap (λ (x : KeptTenant). shape_at x.live m) c.self.view_is in
+    let found : IsMapOf k c.args.fd m =
+    subst (λ (x : KeptTenant). IsMapOf x c.args.fd m) c.self.view_is
+    (named_is_live c.self.invariant c.args.fd (sym c.in_ok-map.ensures ∙ ap Some c.in-Map.is)) in
+    let shape : c.shape.result ≡ shape_at k.live m =
+    c.shape.ensures ∙ ap (λ (x : KeptTenant). shape_at x.live m) c.self.view_is in
     ap (λ (s : MapShape). Some (target.Map s)) shape
-    ∙ sym (ap (λ (o : Option OpenObject). and_then o (object_target (state_in part k))) found.opened ∙ ap (option_map (λ (t : Map). target.Map t.shape)) (live_named part found))
+    ∙ sym (ap (λ (o : Option OpenObject). and_then o (object_target (state_in part k))) found.opened
+    ∙ ap (option_map (λ (t : Map). target.Map t.shape)) (live_named part found))

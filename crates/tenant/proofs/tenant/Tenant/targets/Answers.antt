@@ -13,7 +13,8 @@ use Rattle.tenant.proofs.tenant.Tenant.targets.Goals as goal
 use Rattle.tenant.proofs.tenant.Tenant.targets.Goals.{in-Some+in_ok-push, in_default}
 
 pub loop-fd-init : goal.loop-fd-init
-loop-fd-init c = λ part. c.in_ok-found.ensures.items ∙ sym (targets-none (state_in part c.args.self.now) first_descriptor)
+loop-fd-init c = λ part.
+    c.in_ok-found.ensures.items ∙ sym (targets-none (state_in part c.args.self.now) first_descriptor)
 
 pub loop-fd-preserved : goal.loop-fd-preserved
 loop-fd-preserved c = λ part.
@@ -22,17 +23,27 @@ loop-fd-preserved c = λ part.
     let fd = c.loop-fd.fd in
     let all : length xs ≡ 64 = (subst (λ (k : KeptTenant). IsWellFormedTenant k) c.self.view_is c.self.invariant).all in
     let before = c.loop-fd.invariant part in
-    let more : targets_from s first_descriptor (take (fd + 1 - first_descriptor) xs) ≡ targets_from s first_descriptor (take (fd - first_descriptor) xs) ++ entry_of fd (and_then (named xs fd) (object_target s)) =
+    let more : targets_from s first_descriptor (take (fd + 1 - first_descriptor) xs)
+    ≡ targets_from s first_descriptor (take (fd - first_descriptor) xs)
+    ++ entry_of fd (and_then (named xs fd) (object_target s)) =
     targets-more s xs fd (named xs fd) (omega arith) (omega arith) refl in
-    let told : entry_of fd c.target.result ≡ entry_of fd (and_then (named xs fd) (object_target s)) = ap (entry_of fd) (c.target.ensures part) in
+    let told : entry_of fd c.target.result ≡ entry_of fd (and_then (named xs fd) (object_target s)) =
+    ap (entry_of fd) (c.target.ensures part) in
     let before_all = targets_from s first_descriptor (take (fd - first_descriptor) xs) in
     elim c.match-target.branch [
       | in-Some+in_ok-push w ↦
           ap (λ (v : Vec Named Global). v.items) w.found-is ∙ w.in_ok-push.ensures.items
           ∙ ap (λ (ns : List Named). ns ++ entry_of fd (Some w.in-Some.target)) before
-          ∙ ap (λ (o : Option Target). before_all ++ entry_of fd o) (sym w.in-Some.is) ∙ ap (λ (ns : List Named). before_all ++ ns) told ∙ sym more
+          ∙ ap (λ (o : Option Target). before_all ++ entry_of fd o) (sym w.in-Some.is)
+          ∙ ap (λ (ns : List Named). before_all ++ ns) told
+          ∙ sym more
       | in_default w ↦
-          ap (λ (v : Vec Named Global). v.items) w.found-is ∙ before ∙ sym (append-nil before_all) ∙ ap (λ (o : Option Target). before_all ++ entry_of fd o) (sym w.in_default.is) ∙ ap (λ (ns : List Named). before_all ++ ns) told ∙ sym more
+          ap (λ (v : Vec Named Global). v.items) w.found-is
+          ∙ before
+          ∙ sym (append-nil before_all)
+          ∙ ap (λ (o : Option Target). before_all ++ entry_of fd o) (sym w.in_default.is)
+          ∙ ap (λ (ns : List Named). before_all ++ ns) told
+          ∙ sym more
     ]
 
 pub returns : goal.returns
@@ -40,4 +51,6 @@ returns c = λ part.
     let xs = c.args.self.now.objects in
     let all : length xs ≡ 64 = (subst (λ (k : KeptTenant). IsWellFormedTenant k) c.self.view_is c.self.invariant).all in
     let n : c.loop-fd.fd - first_descriptor ≡ length xs = omega arith in
-    c.loop-fd.invariant part ∙ ap (λ (ys : List (Option OpenObject)). targets_from (state_in part c.args.self.now) first_descriptor ys) (ap (λ (m : ℕ). take m xs) n ∙ take-length xs)
+    c.loop-fd.invariant part
+    ∙ ap (λ (ys : List (Option OpenObject)). targets_from (state_in part c.args.self.now) first_descriptor ys)
+    (ap (λ (m : ℕ). take m xs) n ∙ take-length xs)

@@ -5,4 +5,7 @@ use Rattle.tenant.specs.Machine.{targets_from}
 use Rattle.tenant.proofs.tenant.Tenant.targets.Given as goal
 
 abbrev pub invariant-loop-fd : goal.invariant-loop-fd
-invariant-loop-fd l = (part : List ℕ) → l.found.items ≡ targets_from (state_in part l.self) first_descriptor (take (l.fd - first_descriptor) l.self.objects)
+invariant-loop-fd l =
+    (part : List ℕ)
+    → l.found.items
+    ≡ targets_from (state_in part l.self) first_descriptor (take (l.fd - first_descriptor) l.self.objects)

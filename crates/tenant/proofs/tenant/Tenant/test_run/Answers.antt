@@ -15,7 +15,10 @@ pub run_with-outcome-requires-clause-bound : goal.run_with-outcome-requires-clau
 run_with-outcome-requires-clause-bound c =
     let k = kept_in c.self.inside in
     subst (λ (ps : List ℕ). AreBound c.program.result.now ps k.live) (sym c.maps.ensures)
-    (are_bound c.self.invariant (bound_of c.args.fd c.self.invariant c.in_ok-program.ensures.found) c.maps_are_listed.ensures c.program.result.now c.program.ensures.code c.program.ensures.entries)
+    (are_bound c.self.invariant
+    (bound_of c.args.fd c.self.invariant c.in_ok-program.ensures.found)
+    c.maps_are_listed.ensures c.program.result.now c.program.ensures.code
+    c.program.ensures.entries)
 
 pub invariant_of-self : goal.invariant_of-self
 invariant_of-self c = kept_after c.self.invariant c.run_with-outcome.ensures.maps
@@ -30,8 +33,11 @@ returns-clause-answer c =
     let run = c.run_with-outcome in
     let later = part_bytes run.new.arena t in
     let after = state_in later (with_live k run.new.maps) in
-    let is = told_of c.maps_are_listed.ensures c.args.fd c.self.invariant c.in_ok-program.ensures.found c.if-packet-gt-LONGEST_PACKET.false
-    c.maps.ensures c.program.ensures.code c.context_words-context.ensures run.ensures.runs run.ensures.maps run.ensures.values in
+    let is =
+    told_of c.maps_are_listed.ensures c.args.fd c.self.invariant c.in_ok-program.ensures.found
+    c.if-packet-gt-LONGEST_PACKET.false
+    c.maps.ensures c.program.ensures.code c.context_words-context.ensures run.ensures.runs
+    run.ensures.maps run.ensures.values in
     ap (λ (o : Outcome). outcome_answer o after) (sym c.in-Value.is)
     ∙ is
     ∙ ap (λ (x : KeptTenant). run_of (state_in part x) words packet (named x.objects c.args.fd)) c.self.view_is

@@ -15,10 +15,13 @@ use Rattle.tenant.proofs.tenant.Tenant.update.Goals as goal
 -- ---- the claim is rejected
 
 module _ (c : goal.After-of_map) where
-  not_claimed : IsClaimed (kept_in c.self.inside) c.claim.new.self c.args.fd c.in_ok-map.map c.args.flags c.args.key_and_value.now (Err c.in-Err.fault)
+  not_claimed : IsClaimed (kept_in c.self.inside) c.claim.new.self c.args.fd c.in_ok-map.map c.args.flags
+      c.args.key_and_value.now (Err c.in-Err.fault)
   not_claimed =
       let e = c.in-Err.ensures in
-      claimed_by (map_in_state c.self.view_is c.in_ok-map.ensures.found) c.shape-shape.ensures c.if-key_and_value-key_size.false c.split_at.ensures.front e.claimed e.rest e.refused
+      claimed_by (map_in_state c.self.view_is c.in_ok-map.ensures.found) c.shape-shape.ensures
+      c.if-key_and_value-key_size.false c.split_at.ensures.front
+      e.claimed e.rest e.refused
 
 pub invariant_of-self : goal.invariant_of-self
 invariant_of-self c = still_claimed c.self.invariant (not_claimed c)
@@ -26,18 +29,24 @@ invariant_of-self c = still_claimed c.self.invariant (not_claimed c)
 pub returns-in-Err-clause-answer : goal.returns-in-Err-clause-answer
 returns-in-Err-clause-answer c =
     let part = c.args.part.now in
-    let is = update_refused c.live_maps_refine_values.ensures c.calls_refine_values.ensures.bytes part (not_claimed c) in
-    ap (λ (errno : Errno). refuses errno (state_in part (with_live (kept_in c.self.inside) c.claim.new.self))) c.of_map.ensures.errno
+    let is =
+    update_refused c.live_maps_refine_values.ensures c.calls_refine_values.ensures.bytes part (not_claimed c) in
+    ap (λ (errno : Errno). refuses errno (state_in part (with_live (kept_in c.self.inside) c.claim.new.self)))
+    c.of_map.ensures.errno
     ∙ is
-    ∙ ap (λ (old : KeptTenant). element_updated (state_in part old) c.args.fd c.args.flags c.args.key_and_value.now) c.self.view_is
+    ∙ ap (λ (old : KeptTenant). element_updated (state_in part old) c.args.fd c.args.flags c.args.key_and_value.now)
+    c.self.view_is
 
 -- ---- the claim gives an element
 
 module _ (c : goal.After-slice_known-2-1) where
-  claimed : IsClaimed (kept_in c.self.inside) c.claim.new.self c.args.fd c.in_ok-map.map c.args.flags c.args.key_and_value.now (Ok c.in-Ok.element)
+  claimed : IsClaimed (kept_in c.self.inside) c.claim.new.self c.args.fd c.in_ok-map.map c.args.flags
+      c.args.key_and_value.now (Ok c.in-Ok.element)
   claimed =
       let e = c.in-Ok.ensures in
-      claimed_by (map_in_state c.self.view_is c.in_ok-map.ensures.found) c.shape-shape.ensures c.if-key_and_value-key_size.false c.split_at.ensures.front e.claimed e.rest e.refused
+      claimed_by (map_in_state c.self.view_is c.in_ok-map.ensures.found) c.shape-shape.ensures
+      c.if-key_and_value-key_size.false c.split_at.ensures.front
+      e.claimed e.rest e.refused
 
 pub invariant_of-self-2 : goal.invariant_of-self-2
 invariant_of-self-2 c = still_claimed c.self.invariant (claimed c)
@@ -52,11 +61,22 @@ returns-clause-answer c =
     let e = c.in-Ok.ensures in
     let bytes = c.args.key_and_value.now in
     let value = value_of (shape_at k.live m) bytes in
-    let value_is : c.split_at.result.1.now ≡ value = c.split_at.ensures.back ∙ ap (λ (s : MapShape). value_of s bytes) c.shape-shape.ensures in
-    let at : IsValueAt part t m p value = record { whole = c.requires; laid = c.maps_are_laid.ensures.laid; sound = c.maps_are_laid.ensures.sound; live = e.rest.live; within = e.within; size = value_fits (claimed c) } in
-    let later : c.write_at.new.part ≡ with_value part t m p value = c.write_at.ensures ∙ ap₂ (written_at part) c.value_at-start.ensures.offset value_is in
+    let value_is : c.split_at.result.1.now ≡ value =
+    c.split_at.ensures.back ∙ ap (λ (s : MapShape). value_of s bytes) c.shape-shape.ensures in
+    let at : IsValueAt part t m p value = record {
+      whole = c.requires;
+      laid = c.maps_are_laid.ensures.laid;
+      sound = c.maps_are_laid.ensures.sound;
+      live = e.rest.live;
+      within = e.within;
+      size = value_fits (claimed c);
+    } in
+    let later : c.write_at.new.part ≡ with_value part t m p value =
+    c.write_at.ensures ∙ ap₂ (written_at part) c.value_at-start.ensures.offset value_is in
     ap (λ (ps : List ℕ). gives [] (state_in ps (with_live k t))) later
-    ∙ updated_at c.live_maps_refine_values.ensures c.values_are_written.ensures c.calls_refine_values.ensures.bytes part (claimed c) at
+    ∙ updated_at c.live_maps_refine_values.ensures c.values_are_written.ensures
+    c.calls_refine_values.ensures.bytes part (claimed c)
+    at
     ∙ ap (λ (old : KeptTenant). element_updated (state_in part old) c.args.fd c.args.flags bytes) c.self.view_is
 
 -- ---- bytes of another size
@@ -66,5 +86,9 @@ returns-then-key_and_value-key_size-clause-answer c =
     let k = c.args.self.now in
     let part = c.args.part.now in
     let bytes = c.args.key_and_value.now in
-    let shape : c.shape-shape.result ≡ shape_at k.live c.in_ok-map.map = c.shape-shape.ensures ∙ ap (λ (x : KeptTenant). shape_at x.live c.in_ok-map.map) c.self.view_is in
-    sym (on_map_is part (has_sizes bytes) (put_of (state_in part k) c.args.flags bytes) c.in_ok-map.ensures.found (other_size (length bytes) c.if-key_and_value-key_size.true (ap (λ (s : MapShape). s.key_size + s.value_size) shape)))
+    let shape : c.shape-shape.result ≡ shape_at k.live c.in_ok-map.map =
+    c.shape-shape.ensures ∙ ap (λ (x : KeptTenant). shape_at x.live c.in_ok-map.map) c.self.view_is in
+    sym (on_map_is part (has_sizes bytes) (put_of (state_in part k) c.args.flags bytes)
+    c.in_ok-map.ensures.found
+    (other_size (length bytes) c.if-key_and_value-key_size.true
+    (ap (λ (s : MapShape). s.key_size + s.value_size) shape)))

@@ -14,7 +14,10 @@ new-requires c =
     let k = c.args.self.now in
     let insns = c.args.program.code in
     let maps : c.in_ok-maps.maps.items ≡ seconds (handles_from k.objects (maps_of insns)) =
-    c.in_ok-maps.ensures ∙ ap₂ (λ os fds. seconds (handles_from os fds)) (ap (λ (k : KeptTenant). k.objects) c.self.view_is) c.maps.ensures in
+    c.in_ok-maps.ensures
+    ∙ ap₂ (λ os fds. seconds (handles_from os fds))
+    (ap (λ (k : KeptTenant). k.objects) c.self.view_is)
+    c.maps.ensures in
     ap length maps ∙ loaded_count c.loaded_maps_have_shapes.ensures k [] insns (c.requires.accepted [])
 
 module _ (c : goal.After-new) where
@@ -27,19 +30,30 @@ module _ (c : goal.After-new) where
       let k = c.args.self.now in
       let insns = c.args.program.code in
       let maps : c.in_ok-maps.maps.items ≡ seconds (handles_from k.objects (maps_of insns)) =
-      c.in_ok-maps.ensures ∙ ap₂ (λ os fds. seconds (handles_from os fds)) (ap (λ (k : KeptTenant). k.objects) c.self.view_is) c.maps.ensures in
-      loaded_is c.new.result insns (entries_of (maps_of insns) (targets (state_in part k))) (handles_from k.objects (maps_of insns)) c.new.ensures.insns
+      c.in_ok-maps.ensures
+      ∙ ap₂ (λ os fds. seconds (handles_from os fds))
+      (ap (λ (k : KeptTenant). k.objects) c.self.view_is)
+      c.maps.ensures in
+      loaded_is c.new.result insns
+      (entries_of (maps_of insns) (targets (state_in part k)))
+      (handles_from k.objects (maps_of insns)) c.new.ensures.insns
       (c.new.ensures.named ∙ c.requires.entries part)
-      (c.new.ensures.maps ∙ ap (zip (maps_of insns)) maps ∙ loaded_pairs c.loaded_maps_have_shapes.ensures k part insns (c.requires.accepted part))
+      (c.new.ensures.maps
+      ∙ ap (zip (maps_of insns)) maps
+      ∙ loaded_pairs c.loaded_maps_have_shapes.ensures k part insns (c.requires.accepted part))
 
 pub returns-clause-found : goal.returns-clause-found
-returns-clause-found c = λ part. same_program c part ∙ ap (loaded_program (state_in part c.args.self.now)) (sym c.new.ensures.insns)
+returns-clause-found c = λ part.
+    same_program c part ∙ ap (loaded_program (state_in part c.args.self.now)) (sym c.new.ensures.insns)
 
 pub returns-clause-bound : goal.returns-clause-bound
 returns-clause-bound c =
     subst (IsBound c.args.self.now.live) (sym (same_program c []))
-    (loaded_bound c.loaded_maps_have_shapes.ensures c.args.self.now [] c.args.program.code (c.requires.accepted []) c.maps_are_listed.ensures (kept c))
+    (loaded_bound c.loaded_maps_have_shapes.ensures c.args.self.now [] c.args.program.code
+    (c.requires.accepted []) c.maps_are_listed.ensures (kept c))
 
 pub returns-clause-there : goal.returns-clause-there
 returns-clause-there c =
-    subst (λ (l : LoadedProgram). AreLive c.args.self.now.live (map_handles l)) (sym (same_program c [])) (loaded_live (kept c) (maps_of c.args.program.code))
+    subst (λ (l : LoadedProgram). AreLive c.args.self.now.live (map_handles l))
+    (sym (same_program c []))
+    (loaded_live (kept c) (maps_of c.args.program.code))

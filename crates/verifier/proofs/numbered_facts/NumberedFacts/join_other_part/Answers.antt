@@ -10,7 +10,11 @@ returns c =
     let y : NumberedFacts = c.args.edge.now in
     let part : ℕ = c.args.part in
     let number : ℕ = get_or y.numbers part 0 in
-    let z : NumberedFacts = record { facts = c.if-join_part.self.facts; numbers = c.if-join_part.self.numbers; includes = set c.if-join_part.self.includes part number } in
+    let z : NumberedFacts = record {
+      facts = c.if-join_part.self.facts;
+      numbers = c.if-join_part.self.numbers;
+      includes = set c.if-join_part.self.includes part number;
+    } in
     elim c.if-join_part.branch [
       | then-join_part w ↦
           part_changed c.args.fresh part x y z c.requires (search rules) (search rules)

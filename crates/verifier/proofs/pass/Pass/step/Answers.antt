@@ -11,40 +11,64 @@ use Rattle.verifier.proofs.pass.Pass.step.Goals as goal
 pub returns-clause-falling : goal.returns-clause-falling
 returns-clause-falling g c =
     on_ok_weaker c.go_past.result
-    (λ past. (stepped c.requires.absorb (shapes_named c.args.named.now) c.args.slot c.args.insn.now _ _ _ _ _ _ c.requires.numbered c.in_ok-join_at.ensures past).falls)
+    (λ past.
+    (stepped c.requires.absorb (shapes_named c.args.named.now) c.args.slot c.args.insn.now _ _ _ _ _
+    _ c.requires.numbered c.in_ok-join_at.ensures past).falls)
     c.go_past.ensures.past
 
 pub returns-clause-sent : goal.returns-clause-sent
 returns-clause-sent g c =
     on_ok_weaker c.go_past.result
-    (λ past. (stepped c.requires.absorb (shapes_named c.args.named.now) c.args.slot c.args.insn.now _ _ _ _ _ _ c.requires.numbered c.in_ok-join_at.ensures past).sent)
+    (λ past.
+    (stepped c.requires.absorb (shapes_named c.args.named.now) c.args.slot c.args.insn.now _ _ _ _ _
+    _ c.requires.numbered c.in_ok-join_at.ensures past).sent)
     c.go_past.ensures.past
 
 pub returns-clause-numbered : goal.returns-clause-numbered
 returns-clause-numbered g c =
     on_ok_weaker c.go_past.result
-    (λ past. (stepped c.requires.absorb (shapes_named c.args.named.now) c.args.slot c.args.insn.now _ _ _ _ _ _ c.requires.numbered c.in_ok-join_at.ensures past).numbered)
+    (λ past.
+    (stepped c.requires.absorb (shapes_named c.args.named.now) c.args.slot c.args.insn.now _ _ _ _ _
+    _ c.requires.numbered c.in_ok-join_at.ensures past).numbered)
     c.go_past.ensures.past
 
 pub returns-clause-ok : goal.returns-clause-ok
 returns-clause-ok g c =
-    let here = (arrived c.requires.absorb (shapes_named c.args.named.now) c.args.slot c.args.insn.now c.requires.numbered.stacks _ _ _ _ c.requires.numbered.in_hand c.requires.numbered.ahead c.in_ok-join_at.ensures).facts in
+    let here =
+    (arrived c.requires.absorb (shapes_named c.args.named.now) c.args.slot c.args.insn.now
+    c.requires.numbered.stacks _ _ _ _ c.requires.numbered.in_hand
+    c.requires.numbered.ahead c.in_ok-join_at.ensures).facts in
     on_ok_weaker c.go_past.result
-    (λ may. subst (λ (known : Option Facts). MayRun (shapes_named c.args.named.now) c.args.slot c.args.insn.now known) here may)
+    (λ may.
+    subst (λ (known : Option Facts). MayRun (shapes_named c.args.named.now) c.args.slot c.args.insn.now known) here may)
     c.go_past.ensures.ok
 
 pub returns-clause-told : goal.returns-clause-told
 returns-clause-told g c =
-    let here = (arrived c.requires.absorb (shapes_named c.args.named.now) c.args.slot c.args.insn.now c.requires.numbered.stacks _ _ _ _ c.requires.numbered.in_hand c.requires.numbered.ahead c.in_ok-join_at.ensures).facts in
+    let here =
+    (arrived c.requires.absorb (shapes_named c.args.named.now) c.args.slot c.args.insn.now
+    c.requires.numbered.stacks _ _ _ _ c.requires.numbered.in_hand
+    c.requires.numbered.ahead c.in_ok-join_at.ensures).facts in
     on_ok_weaker c.go_past.result
-    (λ told. subst (λ (known : Option Facts). g.W.Watcher.told c.go_past.new.watcher ≡ with_more (g.W.Watcher.told c.args.watcher.now) (known_at c.args.slot known)) here told)
+    (λ told.
+    subst (λ (known : Option Facts).
+    g.W.Watcher.told c.go_past.new.watcher
+    ≡ with_more (g.W.Watcher.told c.args.watcher.now) (known_at c.args.slot known))
+    here told)
     c.go_past.ensures.told
 
 pub returns-clause-refused : goal.returns-clause-refused
 returns-clause-refused g c =
-    let here = (arrived c.requires.absorb (shapes_named c.args.named.now) c.args.slot c.args.insn.now c.requires.numbered.stacks _ _ _ _ c.requires.numbered.in_hand c.requires.numbered.ahead c.in_ok-join_at.ensures).facts in
+    let here =
+    (arrived c.requires.absorb (shapes_named c.args.named.now) c.args.slot c.args.insn.now
+    c.requires.numbered.stacks _ _ _ _ c.requires.numbered.in_hand
+    c.requires.numbered.ahead c.in_ok-join_at.ensures).facts in
     let told = g.W.Watcher.told c.args.watcher.now in
     let more = g.W.Watcher.told c.go_past.new.watcher in
-    subst (λ (known : Option Facts). IfErr c.go_past.result (λ e. StopsTelling told more c.args.slot known e ⊎ IsFaultTold (shapes_named c.args.named.now) c.args.slot c.args.insn.now known told more e))
+    subst (λ (known : Option Facts).
+    IfErr c.go_past.result
+    (λ e.
+    StopsTelling told more c.args.slot known e
+    ⊎ IsFaultTold (shapes_named c.args.named.now) c.args.slot c.args.insn.now known told more e))
     here
     c.go_past.ensures.refused

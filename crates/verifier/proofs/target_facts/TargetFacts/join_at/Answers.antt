@@ -6,7 +6,10 @@ use Rattle.verifier.proofs.target_facts.TargetFacts.join_at.Goals as goal
 
 pub returns-in_ok-keep : goal.returns-in_ok-keep
 returns-in_ok-keep c =
-    taken_some c.args.slot c.args.fresh c.self.inside.facts.items c.args.self.now _ c.index_mut.result.now c.take.new.self c.deref.result.now c.args.known.now c.join.new.self
+    taken_some c.args.slot c.args.fresh c.self.inside.facts.items c.args.self.now _
+    c.index_mut.result.now c.take.new.self c.deref.result.now
+    c.args.known.now c.join.new.self
     c.self.view_is (omega (arith, c.len.ensures)) c.index_mut.ensures.value
-    (ap (option_map box_value) (sym c.take.ensures.value ∙ c.in-Some.is) ∙ ap (λ (z : NumberedFacts). Some z) (sym c.deref.ensures))
+    (ap (option_map box_value) (sym c.take.ensures.value ∙ c.in-Some.is)
+    ∙ ap (λ (z : NumberedFacts). Some z) (sym c.deref.ensures))
     refl c.join.ensures

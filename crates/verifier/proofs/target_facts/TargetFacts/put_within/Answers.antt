@@ -5,5 +5,8 @@ use Rattle.verifier.proofs.target_facts.TargetFacts.put_within.Goals as goal
 pub returns : goal.returns
 returns c =
     on_ok_weaker c.join_entry.result
-    (λ joins. put_is c.args.slot c.args.fresh c.args.facts.now c.self.inside.facts.items c.args.self.now c.index_mut.result.now _ c.self.view_is c.requires c.index_mut.ensures.value joins)
+    (λ joins.
+    put_is c.args.slot c.args.fresh c.args.facts.now c.self.inside.facts.items c.args.self.now
+    c.index_mut.result.now _ c.self.view_is c.requires c.index_mut.ensures.value
+    joins)
     c.join_entry.ensures

@@ -5,9 +5,11 @@ use Rattle.verifier.proofs.Paths.{runs_cost_at_most}
 use Rattle.verifier.proofs.verified.Verified.cost.Goals as goal
 
 pub returns-clause-most : goal.returns-clause-most
-returns-clause-most c = subst (λ (a : Accepted). IsCostOf c.self.inside.found.cost a.code) c.self.view_is c.self.invariant.2
+returns-clause-most c =
+    subst (λ (a : Accepted). IsCostOf c.self.inside.found.cost a.code) c.self.view_is c.self.invariant.2
 
 pub returns-clause-runs : goal.returns-clause-runs
 returns-clause-runs c =
     runs_cost_at_most c.self.inside.found.cost (shapes_in c.args.self.now) c.args.self.now.code
-    (subst (λ (a : Accepted). IsCostOf c.self.inside.found.cost a.code) c.self.view_is c.self.invariant.2) c.runs_are_paths.ensures
+    (subst (λ (a : Accepted). IsCostOf c.self.inside.found.cost a.code) c.self.view_is c.self.invariant.2)
+    c.runs_are_paths.ensures

@@ -8,7 +8,9 @@ use Rattle.verifier.proofs.verified.Verified.fits.Goals as goal
 
 pub loop-fd-preserved : goal.loop-fd-preserved
 loop-fd-preserved c =
-    All-more (λ fd. shapes_named c.args.named.now fd ≡ shapes_in c.args.self.now fd) c.maps-fd-items.result.now c.loop-fd.fd-index 0 c.loop-fd-test.true c.loop-fd.invariant
+    All-more (λ fd. shapes_named c.args.named.now fd ≡ shapes_in c.args.self.now fd)
+    c.maps-fd-items.result.now c.loop-fd.fd-index 0 c.loop-fd-test.true
+    c.loop-fd.invariant
     (sym c.shape_of.ensures ∙ c.has_shape.ensures.0 c.if-not-has_shape.false)
 
 pub returns : goal.returns

@@ -5,4 +5,5 @@ use Rattle.verifier.proofs.verified.Verified.goes_ahead.Goals as goal
 
 pub returns : goal.returns
 returns c =
-    subst (λ (a : Accepted). GoesAhead a.code) c.self.view_is (goes_ahead c.self.inside.program c.self.invariant.0.named c.self.invariant.0.accepted.0)
+    subst (λ (a : Accepted). GoesAhead a.code) c.self.view_is
+    (goes_ahead c.self.inside.program c.self.invariant.0.named c.self.invariant.0.accepted.0)

@@ -9,6 +9,9 @@ use Rattle.verifier.proofs.verified.Verified.never_faults.Goals as goal
 
 pub returns : goal.returns
 returns c = λ maps words packet.
-    subst (λ (a : Accepted). AreRunInputs (shapes_in a) maps words packet → result_of a.code maps words packet ≢ Fault) c.self.view_is
-    (λ given. c.accepted_programs_never_fault.ensures c.self.inside.program c.self.invariant.0.named maps words packet c.code.ensures.program c.self.invariant.0.accepted
+    subst (λ (a : Accepted). AreRunInputs (shapes_in a) maps words packet → result_of a.code maps words packet ≢ Fault)
+    c.self.view_is
+    (λ given.
+    c.accepted_programs_never_fault.ensures c.self.inside.program c.self.invariant.0.named maps
+    words packet c.code.ensures.program c.self.invariant.0.accepted
     (subst (λ (es : List Named). AreRunInputs (shapes_named es) maps words packet) c.self.invariant.0.shaped given))

@@ -14,8 +14,12 @@ invariant_of-self c =
     let a = as_accepted c.self.inside in (
       record {
         named = named;
-        accepted = fits_accepted a named c.self.invariant.0 (subst (λ (x : Accepted). Fits x named) (sym c.self.view_is) (c.fits.ensures.0 c.if-not-fits.false));
-        shaped = c.in_ok-self-inside.ensures ∙ ap (λ (fds : List ℕ). entries_of fds named) (c.deref.ensures.value ∙ c.self.invariant.1);
+        accepted =
+            fits_accepted a named c.self.invariant.0
+            (subst (λ (x : Accepted). Fits x named) (sym c.self.view_is) (c.fits.ensures.0 c.if-not-fits.false));
+        shaped =
+            c.in_ok-self-inside.ensures
+            ∙ ap (λ (fds : List ℕ). entries_of fds named) (c.deref.ensures.value ∙ c.self.invariant.1);
       },
       c.self.invariant.1,
       c.self.invariant.2,
@@ -25,4 +29,5 @@ pub returns-clause-judged : goal.returns-clause-judged
 returns-clause-judged c =
     let named = c.args.named.now in
     subst (λ (a : Accepted). Fits a named → Judges named (program_bytes a.code) (Ok a.code)) c.self.view_is
-    (fits_judged (as_accepted c.self.inside) named c.code.ensures.program c.self.invariant.0) (c.fits.ensures.0 c.if-not-fits.false)
+    (fits_judged (as_accepted c.self.inside) named c.code.ensures.program c.self.invariant.0)
+    (c.fits.ensures.0 c.if-not-fits.false)

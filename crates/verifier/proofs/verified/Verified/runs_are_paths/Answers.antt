@@ -10,5 +10,7 @@ pub returns : goal.returns
 returns c =
     subst (λ (a : Accepted). RunsArePaths (shapes_in a) a.code) c.self.view_is
     (λ maps words packet given.
-    c.accepted_runs_are_paths.ensures c.self.inside.program c.self.invariant.0.named c.code.ensures.program c.self.invariant.0.accepted maps words packet
+    c.accepted_runs_are_paths.ensures c.self.inside.program c.self.invariant.0.named
+    c.code.ensures.program c.self.invariant.0.accepted maps
+    words packet
     (subst (λ (es : List Named). AreRunInputs (shapes_named es) maps words packet) c.self.invariant.0.shaped given))

@@ -6,9 +6,12 @@ from collections.abc import Iterable, Iterator
 from typing import TYPE_CHECKING
 
 from bpfhost.frames import NO_CONTEXT, Context
+from bpfhost.inspection import Cost, Log
 from bpfhost.packets import Packets
+from bpfhost.program import verifier_log
 
 if TYPE_CHECKING:
+    from bpfhost.maps import Map
     from bpfhost.tenant import Tenant
 
 
@@ -21,14 +24,15 @@ class Prog(int):
 
     tenant: Tenant
     name: str
+    slots: bytes | None
     run_cnt: int
     run_time_ns: int
 
     @classmethod
-    def of(cls, tenant: Tenant, descriptor: int, name: str = "") -> Prog:
-        """Names the program of a tenant's descriptor, with a name of the caller's choice."""
+    def of(cls, tenant: Tenant, descriptor: int, name: str = "", slots: bytes | None = None) -> Prog:
+        """Names the program of a tenant's descriptor, with a name of the caller's choice, and the slots that were loaded, if they are known."""
         prog = cls(descriptor)
-        prog.tenant, prog.name, prog.run_cnt, prog.run_time_ns = tenant, name, 0, 0
+        prog.tenant, prog.name, prog.slots, prog.run_cnt, prog.run_time_ns = tenant, name, slots, 0, 0
         return prog
 
     @property
@@ -43,6 +47,17 @@ class Prog(int):
     def runs(self, pieces: Iterable[Packets], context: Context = NO_CONTEXT) -> Iterator[tuple[int, ...]]:
         """Runs the program on many packets and returns the results in order (`TestRuns`)."""
         return self.tenant.prog_test_runs(self, pieces, context)
+
+    def cost(self, maps: Iterable[Map] = ()) -> Cost | None:
+        """What the program costs, given the maps that it loads: the program `verifier_log` finds it, as the host has no command for it.
+
+        None without `verifier_log`, without the slots, and without one of the maps, since a program without them is rejected.
+        """
+        if self.slots is None:
+            return None
+        shapes = {each.descriptor: each.shape for each in maps}
+        text = verifier_log(self.tenant.host.program, self.slots, shapes)
+        return None if text is None else Log(text, is_accepted=True).cost()
 
     def count(self, runs: int, nanoseconds: int) -> None:
         """Adds runs, and the time that they took."""

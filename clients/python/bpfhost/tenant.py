@@ -93,7 +93,7 @@ class Tenant(Commands["Host"]):
 
     def prog_load(self, slots: bytes, name: str = "") -> Prog:
         """Loads a socket filter, with a name of the caller's choice. Raises ProgramRefused, with the slot and the reason, if it is rejected."""
-        return Prog.of(self, self._done(frames.prog_load(self.number, slots)).status, name)
+        return Prog.of(self, self._done(frames.prog_load(self.number, slots)).status, name, slots)
 
     def load_filter(
         self, expression: str, link_type: int = ETHERNET, semantics: Semantics = Semantics.LIBPCAP, length: Length = Length.PACKET

@@ -2,12 +2,20 @@
 
 from __future__ import annotations
 
+import os
 import re
+from unittest import mock
 
-from bpfhost import Errno, Host, Map, MapType, Packets, ProgramRefused, Refused, Update
+from bpfhost import Errno, Host, Map, MapType, Packets, Prog, ProgramRefused, Refused, Update
+from bpfhost.inspection import Cost
+from bpfhost.program import find_verifier_log
 from tests.common import LENGTH, ONE, PROGRAM, HostTest
 
 A, B, C = b"a\0\0\0", b"b\0\0\0", b"c\0\0\0"
+# *(u32 *)(r10 - 4) = 0; r2 = r10; r2 += -4; r1 = map 3 ll; call 1; r0 = 0; exit.
+LOOK_UP = bytes.fromhex(
+    "620afcff00000000 bfa2000000000000 07020000fcffffff 1811000003000000 0000000000000000 8500000001000000 b700000000000000 9500000000000000"
+)
 
 
 class Hash(HostTest):
@@ -81,6 +89,18 @@ class Hash(HostTest):
         self.assertRegex(repr(self.tenant), rf"\A<Tenant 0 of {host}>\Z")
         self.assertRegex(repr(self.map), rf"\A<Map 3:hash:4:2:3 of <Tenant 0 of {host}>>\Z")
         self.assertRegex(repr(program), rf"\A<Prog 4 one: 0 runs in 0\.000 ms, of <Tenant 0 of {host}>>\Z")
+
+    def test_what_a_program_costs(self) -> None:
+        """A look-up in the map: the most instructions and calls on a path, which verifier_log finds if it has the map."""
+        program = self.tenant.prog_load(LOOK_UP, "look_up")
+        if find_verifier_log(PROGRAM) is None:
+            self.skipTest("there is no program verifier_log")
+        self.assertEqual(program.cost([self.map]), Cost(instructions=7, calls=1))
+        self.assertIsNone(program.cost(), "without the map that it loads it would be rejected")
+        self.assertEqual(self.tenant.prog_load(ONE).cost(), Cost(instructions=2, calls=0))
+        self.assertIsNone(Prog.of(self.tenant, program.descriptor).cost(), "its slots are not known")
+        with mock.patch.dict(os.environ, VERIFIER_LOG=""):
+            self.assertIsNone(program.cost([self.map]))
 
     def test_a_full_map(self) -> None:
         for key in (A, B, C):

@@ -87,6 +87,38 @@ static void checks_nulls_and_lengths(bpfhost *host)
     CHECK(bpfhost_memory_refused(host, 65535, &refused) == BPFHOST_DONE && !refused);
 }
 
+/* What reaches the last address overlaps all other objects, whatever it is given for. */
+static void checks_the_last_address(bpfhost *host)
+{
+    uint8_t *room = (uint8_t *)(UINTPTR_MAX - BPFHOST_LONGEST_REPLY + 1), bytes[8] = {0};
+    size_t written = 0, ends[1] = {8};
+    uint32_t results[1] = {0}, *last_result = (uint32_t *)(UINTPTR_MAX - 3);
+    int32_t status = 0, *last_status = (int32_t *)(UINTPTR_MAX - 3);
+    size_t *last_size = (size_t *)(UINTPTR_MAX - sizeof(size_t) + 1);
+    bpfhost_bytes *last_lent = (bpfhost_bytes *)(UINTPTR_MAX - sizeof(bpfhost_bytes) + 1);
+    bpfhost_reply *last_reply = (bpfhost_reply *)(UINTPTR_MAX - sizeof(bpfhost_reply) + 1);
+    const bpfhost_packet packet = {bytes, 8}, last_packet = {room, BPFHOST_LONGEST_REPLY};
+    CHECK(bpfhost_handle(host, close_nothing, 8, room, BPFHOST_LONGEST_REPLY, &written) == BPFHOST_ERR_OVERLAP);
+    CHECK(bpfhost_handle(host, room, BPFHOST_LONGEST_REPLY, bytes, 8, &written) == BPFHOST_ERR_OVERLAP);
+    CHECK(bpfhost_handle(host, close_nothing, 8, bytes, 8, last_size) == BPFHOST_ERR_OVERLAP);
+    CHECK(bpfhost_handle_lent(host, close_nothing, 8, last_lent) == BPFHOST_ERR_OVERLAP);
+    CHECK(bpfhost_ask(host, close_nothing, 8, last_reply) == BPFHOST_ERR_OVERLAP);
+    CHECK(bpfhost_run_packets(host, 0, 3, NULL, bytes, 8, ends, 1, last_result, &status) == BPFHOST_ERR_OVERLAP);
+    CHECK(bpfhost_run_packets(host, 0, 3, NULL, bytes, 8, ends, 1, results, last_status) == BPFHOST_ERR_OVERLAP);
+    CHECK(bpfhost_run_packets(host, 0, 3, NULL, bytes, 8, last_size, 1, results, &status) == BPFHOST_ERR_OVERLAP);
+    CHECK(bpfhost_run_packets(host, 0, 3, NULL, room, BPFHOST_LONGEST_REPLY, ends, 1, results, &status) == BPFHOST_ERR_OVERLAP);
+    CHECK(bpfhost_run_packets_sized(host, 0, 3, last_result, 4, 1, bytes, 8, ends, 1, results, &status) == BPFHOST_ERR_OVERLAP);
+    CHECK(bpfhost_run_bounded(host, 0, 3, NULL, bytes, 8, ends, 1, 1, results, &status, last_size) == BPFHOST_ERR_OVERLAP);
+    CHECK(bpfhost_run_scattered(host, 0, 3, NULL, 0, &last_packet, 1, NULL, 0, results, &status) == BPFHOST_ERR_OVERLAP);
+    CHECK(bpfhost_run_scattered(host, 0, 3, NULL, 0, &packet, 1, room, BPFHOST_LONGEST_REPLY, results, &status) == BPFHOST_ERR_OVERLAP);
+    CHECK(bpfhost_run_scattered(host, 0, 3, NULL, 0, &packet, 1, NULL, 0, last_result, &status) == BPFHOST_ERR_OVERLAP);
+    CHECK(bpfhost_run_scattered(host, 0, 3, NULL, 0, &packet, 1, NULL, 0, results, last_status) == BPFHOST_ERR_OVERLAP);
+    CHECK(bpfhost_run_bounded_scattered(host, 0, 3, NULL, 0, &packet, 1, NULL, 0, 1, results, &status, last_size) == BPFHOST_ERR_OVERLAP);
+    CHECK(written == 0 && results[0] == 0 && status == 0);
+    /* An object without bytes may lie there. */
+    CHECK(bpfhost_handle(host, (uint8_t *)UINTPTR_MAX, 0, bytes, 8, &written) == BPFHOST_ERR_BUFFER_TOO_SMALL);
+}
+
 static void checks_overlaps(bpfhost *host)
 {
     static union {
@@ -119,6 +151,7 @@ static void checks_overlaps(bpfhost *host)
     CHECK(bpfhost_are_apart(b, 0, b, 8) && !bpfhost_are_apart(b, 1, b, 8) && bpfhost_are_apart(b, 1, b + 1, 8));
     CHECK(bpfhost_are_apart((void *)(UINTPTR_MAX - 4), 4, (void *)4, 4));
     CHECK(!bpfhost_are_apart((void *)(UINTPTR_MAX - 3), 4, (void *)4, 4) && bpfhost_are_apart((void *)(UINTPTR_MAX - 3), 4, (void *)4, 0));
+    checks_the_last_address(host);
 }
 
 /* The reply is at the front of the room, and the bytes after it have not changed; a lent reply is the same. */
@@ -369,7 +402,7 @@ static void checks_bounds(bpfhost *host)
     runs_bounded(host, 4, 0, MANY);
     runs_bounded(host, 4, 1, 1);
     runs_bounded(host, 4, UINT64_MAX, MANY);
-    CHECK(bpfhost_run_bounded(host, 1, 4, NULL, NULL, 0, NULL, 0, 1, NULL, &status, &ran) == BPFHOST_DONE && status == 0 && ran == 0);
+    CHECK(bpfhost_run_bounded(host, 1, 4, NULL, NULL, 0, NULL, 0, 1, NULL, &status, &ran) == BPFHOST_DONE && status == 0);
     /* What is refused is refused with any bound; a packet after those that are run is not looked at. */
     refuses_bounded(host, 2, 4, cost, -1);
     refuses_bounded(host, 1, 5, cost, -9);

@@ -1,6 +1,8 @@
 /* The functions of bpfhost.h that may write something: their objects, how they are called, and what a call has to do.
  *
  * Not here, since they write nothing: bpfhost_pair_code, bpfhost_memory_of, bpfhost_lent_code, bpfhost_bytes_at, bpfhost_frame_code, bpfhost_may_empty,
+ * bpfhost_word_of, bpfhost_are_beside, bpfhost_is_beside_lent, bpfhost_is_frame_right, bpfhost_are_packets_beside, bpfhost_are_written_beside,
+ * bpfhost_is_run_right, bpfhost_are_scattered_beside, bpfhost_is_scattered_right, bpfhost_scattered_by_pairs,
  * bpfhost_context_at, bpfhost_contexts_code, bpfhost_packets_code, bpfhost_written_code, bpfhost_run_code, bpfhost_run_up_to,
  * bpfhost_scattered_run_code, bpfhost_scattered_code, bpfhost_span_code, bpfhost_scattered_status, bpfhost_may_copy,
  * bpfhost_code_text, bpfhost_reason_text, bpfhost_version, bpfhost_library_version, bpfhost_get16, bpfhost_get32, bpfhost_frame_of_tenant, bpfhost_are_of_one_tenant.
@@ -8,7 +10,8 @@
  * bpfhost_put64, bpfhost_put_head, bpfhost_put_bytes, bpfhost_read_fields, bpfhost_give_as. In objects.c: bpfhost_are_apart, bpfhost_free. In saves.c, since it calls bpfhost_save_part again and again:
  * bpfhost_save. In scattered.c, since their packets lie anywhere: bpfhost_gather, bpfhost_run_some, bpfhost_run_anywhere,
  * bpfhost_run_scattered, bpfhost_allowed_packets, bpfhost_run_bounded_scattered, and bpfhost_run_given, which tests nothing; nor does
- * bpfhost_lend, which bpfhost_handle_lent and bpfhost_ask call. In misuse.c: bpfhost_enter, bpfhost_leave, bpfhost_give_back. In
+ * bpfhost_lend, which bpfhost_handle_lent and bpfhost_ask call, or bpfhost_copy, which bpfhost_handle calls. With these functions and
+ * bpfhost_run_packets are tried bpfhost_handle_by_pairs, bpfhost_handle_lent_by_pairs, bpfhost_ask_by_pairs, bpfhost_run_by_pairs. In misuse.c: bpfhost_enter, bpfhost_leave, bpfhost_give_back. In
  * inspection.c: bpfhost_memory_held. In objects.c: bpfhost_prepared_free. By the commands that call them: bpfhost_result_code, bpfhost_object_code, bpfhost_set_result,
  * bpfhost_carry_out, bpfhost_carry_out_long, bpfhost_carry_out_on. */
 #ifndef FUNCTIONS_H

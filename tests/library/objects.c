@@ -312,7 +312,8 @@ static void try_function(const struct function *it)
 }
 
 /* Objects of up to three bytes around an address, which may be the one at which addresses wrap around. No object lies there: with one that
- * reaches it, no other one is apart. */
+ * reaches it, no other one is apart. In the lower half of the addresses, objects with bytes are apart if and only if they are side by side,
+ * and those without are then apart too. */
 static void try_are_apart(uintptr_t around)
 {
     for (unsigned i = 0; i < 8 * 4 * 8 * 4; i++) {
@@ -323,6 +324,12 @@ static void try_are_apart(uintptr_t around)
             for (size_t other = 0; other < b_length; other++)
                 is_apart = is_apart && a + at != b + other && a + at != UINTPTR_MAX && b + other != UINTPTR_MAX;
         CHECK(bpfhost_are_apart((const void *)a, a_length, (const void *)b, b_length) == is_apart);
+        if ((bpfhost_word_of((const void *)a, a_length) | bpfhost_word_of((const void *)b, b_length)) <= PTRDIFF_MAX) {
+            bool is_beside = bpfhost_are_beside((const void *)a, a_length, (const void *)b, b_length);
+            CHECK(is_beside == is_apart || (is_apart && a_length * b_length == 0));
+        } else {
+            CHECK(around > PTRDIFF_MAX - 16);
+        }
     }
 }
 
@@ -475,6 +482,7 @@ int main(void)
     for (size_t i = 0; i < ARENA; i++)
         any_bytes[i] = (uint8_t)(0x80 + i * 7 % 61);
     try_are_apart(UINTPTR_MAX / 3);
+    try_are_apart(PTRDIFF_MAX - 3);
     try_are_apart(UINTPTR_MAX - 3);
     try_free();
     try_prepared_free();

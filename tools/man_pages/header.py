@@ -11,7 +11,10 @@ from man_pages import roff
 # Functions of the header that are parts of others: a caller needs none of them.
 PARTS = frozenset("""
     bpfhost_are_apart bpfhost_pair_code bpfhost_bytes_at bpfhost_frame_code bpfhost_may_empty bpfhost_context_at bpfhost_context_words
-    bpfhost_packets_code bpfhost_run_code bpfhost_frame_begin bpfhost_may_copy bpfhost_frame_of_key
+    bpfhost_packets_code bpfhost_run_code bpfhost_frame_begin bpfhost_may_copy bpfhost_frame_of_key bpfhost_word_of bpfhost_are_beside
+    bpfhost_is_beside_lent bpfhost_is_frame_right bpfhost_copy bpfhost_handle_by_pairs bpfhost_handle_lent_by_pairs bpfhost_ask_by_pairs
+    bpfhost_are_packets_beside bpfhost_are_written_beside bpfhost_is_run_right bpfhost_run_by_pairs bpfhost_are_scattered_beside
+    bpfhost_is_scattered_right bpfhost_scattered_by_pairs
 """.split())
 COMMENT = re.compile(r"/\* (.*?)\s*\*/", re.S)
 NAME = re.compile(r"\b(bpfhost_\w+)\(")
@@ -71,7 +74,9 @@ def _item(item: Item) -> str:
         return roff.heading(title.partition(":")[0].rstrip(".")) + (roff.paragraph(text) if text else "") + _item(Item("", item.code))
     if item.name:
         # Further lines are below the first argument.
-        prototype = re.sub(r"\n {14}", "\n", item.code.partition("\n{")[0].removeprefix("static inline "))
+        before = re.match(r"static inline (BPFHOST_\w+ )?", item.code)
+        words = before[0] if before else ""
+        prototype = item.code.partition("\n{")[0].removeprefix(words).replace(f"\n{' ' * len(words)}", "\n")
         return roff.example(f"{prototype};") + _below(item.comment)
     if item.code.startswith("typedef"):
         return roff.example(item.code) + _below(item.comment)

@@ -51,6 +51,18 @@ extern "C" {
 #endif
 #endif
 
+/* How code is compiled: a function into its caller although it is long, since the caller's constants leave little of it; a function by itself,
+ * as a call seldom needs it; and what mostly holds, so that clang does not compute what comes after `||` as well. */
+#ifdef __GNUC__
+#define BPFHOST_BY_FORCE __attribute__((always_inline))
+#define BPFHOST_SELDOM __attribute__((cold))
+#define BPFHOST_MOSTLY(holds) __builtin_expect(holds, 1)
+#else
+#define BPFHOST_BY_FORCE
+#define BPFHOST_SELDOM
+#define BPFHOST_MOSTLY(holds) (holds)
+#endif
+
 /* ---- version: that of this header, with which a caller is compiled. docs/RELEASING.md says what may change in which version. The functions
  * in this file become part of the caller, so the library that it meets when it runs may be another one: bpfhost_library_version asks it. */
 
@@ -267,6 +279,19 @@ static inline int bpfhost_pair_code(const void *a, size_t a_length, const void *
     return bpfhost_are_apart(a, a_length, b, b_length) ? BPFHOST_DONE : BPFHOST_ERR_OVERLAP;
 }
 
+/* A word of an object that is not above PTRDIFF_MAX if the object begins in the lower half of the addresses and is not longer than any object:
+ * then it ends before the last address. The words of several objects, joined by `|`, say whether this is so for all of them. */
+static inline uintptr_t bpfhost_word_of(const void *at, size_t length)
+{
+    return (uintptr_t)at | length;
+}
+
+/* Whether one of two such objects ends before the other begins. */
+static inline bool bpfhost_are_beside(const void *a, size_t a_length, const void *b, size_t b_length)
+{
+    return BPFHOST_MOSTLY((uintptr_t)a + a_length <= (uintptr_t)b) || (uintptr_t)b + b_length <= (uintptr_t)a;
+}
+
 /* What a host has in its memory. */
 static inline bpfhost_memory *bpfhost_memory_of(const bpfhost *host)
 {
@@ -344,6 +369,13 @@ static inline int bpfhost_lent_code(const bpfhost *host, const void *at, size_t 
                                                                                                           : BPFHOST_ERR_LENT;
 }
 
+/* Whether such an object ends before the host's buffer for replies begins, or begins after it, and the host has lent no part of a save. */
+static inline bool bpfhost_is_beside_lent(const bpfhost *host, const void *at, size_t length)
+{
+    const bpfhost_memory *memory = bpfhost_memory_of(host);
+    return bpfhost_are_beside(at, length, memory->replies, BPFHOST_LONGEST_REPLY) && memory->part.length == 0;
+}
+
 /* The address of bytes; if there are none, it may be null. */
 static inline const uint8_t *bpfhost_bytes_at(const void *bytes, size_t length)
 {
@@ -409,11 +441,30 @@ static inline int bpfhost_frame_code(const bpfhost *host, const uint8_t *frame, 
     return code;
 }
 
-/* Handles a frame of any length and content, which is what follows the length field in a stream, and leaves the reply, with its
- * length field, at the front of the room; `written` gets its length, 12 to BPFHOST_LONGEST_REPLY. ERR_BUFFER_TOO_SMALL,
- * ERR_NULL, ERR_LENGTH, ERR_OVERLAP, ERR_LENT: nothing is written, and no tenant's state has changed. */
-static inline int bpfhost_handle(bpfhost *host, const void *frame, size_t frame_length, void *room, size_t room_length,
-                                 size_t *written)
+/* Most calls are right, and few instructions show it: no pointer is null, and the objects lie in the lower half of the addresses, one after
+ * another in any order. Then bpfhost_is_.._right is true, and the proved function is called. Else bpfhost_.._by_pairs tests each pair of objects,
+ * says what is wrong, if anything is, and replaces what may be null. */
+static inline bool bpfhost_is_frame_right(const bpfhost *host, const uint8_t *frame, size_t frame_length, const void *out,
+                                          size_t out_length)
+{
+    const uintptr_t words = bpfhost_word_of(host, 0) | bpfhost_word_of(frame, frame_length) | bpfhost_word_of(out, out_length);
+    return host != NULL && frame != NULL && out != NULL && words <= PTRDIFF_MAX
+        && bpfhost_are_beside(frame, frame_length, host, sizeof(bpfhost_memory)) && bpfhost_are_beside(frame, frame_length, out, out_length)
+        && bpfhost_are_beside(host, sizeof(bpfhost_memory), out, out_length) && bpfhost_is_beside_lent(host, frame, frame_length);
+}
+
+/* The proved function that copies a reply, with objects that were tested. */
+static inline int bpfhost_copy(bpfhost *host, const uint8_t *frame, size_t frame_length, uint8_t *room, size_t room_length, size_t *written)
+{
+    int code;
+    bpfhost_enter(host);
+    code = (int)bpfhost_c_handle(host, frame, frame_length, room, room_length, written);
+    bpfhost_leave(host);
+    return code;
+}
+
+static inline BPFHOST_SELDOM int bpfhost_handle_by_pairs(bpfhost *host, const void *frame, size_t frame_length, void *room,
+                                                         size_t room_length, size_t *written)
 {
     const uint8_t *at = bpfhost_bytes_at(frame, frame_length);
     int code = bpfhost_frame_code(host, at, frame_length, room, room_length);
@@ -423,12 +474,22 @@ static inline int bpfhost_handle(bpfhost *host, const void *frame, size_t frame_
         code = bpfhost_pair_code(room, room_length, written, sizeof *written);
     if (code == BPFHOST_DONE)
         code = bpfhost_lent_code(host, at, frame_length);
-    if (code != BPFHOST_DONE)
-        return code;
-    bpfhost_enter(host);
-    code = (int)bpfhost_c_handle(host, at, frame_length, (uint8_t *)room, room_length, written);
-    bpfhost_leave(host);
-    return code;
+    return code == BPFHOST_DONE ? bpfhost_copy(host, at, frame_length, (uint8_t *)room, room_length, written) : code;
+}
+
+/* Handles a frame of any length and content, which is what follows the length field in a stream, and leaves the reply, with its
+ * length field, at the front of the room; `written` gets its length, 12 to BPFHOST_LONGEST_REPLY. ERR_BUFFER_TOO_SMALL,
+ * ERR_NULL, ERR_LENGTH, ERR_OVERLAP, ERR_LENT: nothing is written, and no tenant's state has changed. */
+static inline int bpfhost_handle(bpfhost *host, const void *frame, size_t frame_length, void *room, size_t room_length,
+                                 size_t *written)
+{
+    const uint8_t *at = (const uint8_t *)frame;
+    if (bpfhost_is_frame_right(host, at, frame_length, room, room_length) && written != NULL && bpfhost_word_of(written, 0) <= PTRDIFF_MAX
+        && bpfhost_are_beside(at, frame_length, written, sizeof *written)
+        && bpfhost_are_beside(host, sizeof(bpfhost_memory), written, sizeof *written)
+        && bpfhost_are_beside(room, room_length, written, sizeof *written))
+        return bpfhost_copy(host, at, frame_length, (uint8_t *)room, room_length, written);
+    return bpfhost_handle_by_pairs(host, frame, frame_length, room, room_length, written);
 }
 
 /* The proved function that lends a reply, with a frame that was tested. */
@@ -450,10 +511,7 @@ static inline bool bpfhost_may_empty(const bpfhost_bytes *reply, const bpfhost *
         && (frame == NULL || bpfhost_are_apart(reply, sizeof *reply, frame, frame_length));
 }
 
-/* The same, but the reply is lent in the host's own buffer, until the next call on this host: nothing is
- * copied. ERR_NULL, ERR_LENGTH, ERR_OVERLAP, ERR_LENT: no tenant's state has changed, and `reply` has no bytes. But it is as
- * it was if the frame's length is above PTRDIFF_MAX, or if `reply` itself overlaps the host or the frame. */
-static inline int bpfhost_handle_lent(bpfhost *host, const void *frame, size_t frame_length, bpfhost_bytes *reply)
+static inline BPFHOST_SELDOM int bpfhost_handle_lent_by_pairs(bpfhost *host, const void *frame, size_t frame_length, bpfhost_bytes *reply)
 {
     const bpfhost_bytes none = {bpfhost_bytes_at(NULL, 0), 0};
     const uint8_t *at = bpfhost_bytes_at(frame, frame_length);
@@ -463,6 +521,19 @@ static inline int bpfhost_handle_lent(bpfhost *host, const void *frame, size_t f
     if (code == BPFHOST_DONE || bpfhost_may_empty(reply, host, at, frame_length))
         *reply = none;
     return code == BPFHOST_DONE ? bpfhost_lend(host, at, frame_length, reply) : code;
+}
+
+/* The same, but the reply is lent in the host's own buffer, until the next call on this host: nothing is
+ * copied. ERR_NULL, ERR_LENGTH, ERR_OVERLAP, ERR_LENT: no tenant's state has changed, and `reply` has no bytes. But it is as
+ * it was if the frame's length is above PTRDIFF_MAX, or if `reply` itself overlaps the host or the frame. */
+static inline int bpfhost_handle_lent(bpfhost *host, const void *frame, size_t frame_length, bpfhost_bytes *reply)
+{
+    const bpfhost_bytes none = {bpfhost_bytes_at(NULL, 0), 0};
+    const uint8_t *at = (const uint8_t *)frame;
+    if (!bpfhost_is_frame_right(host, at, frame_length, reply, sizeof *reply))
+        return bpfhost_handle_lent_by_pairs(host, frame, frame_length, reply);
+    *reply = none;
+    return bpfhost_lend(host, at, frame_length, reply);
 }
 
 /* The address of a context; of one with zeros for null. */
@@ -569,30 +640,75 @@ static inline int bpfhost_run_given(bpfhost *host, uint16_t tenant, uint32_t fd,
     return code;
 }
 
-/* What bpfhost_run_packets_sized and bpfhost_run_bounded_sized do: the former without a bound, and with null for `ran`, which is then not
- * written. */
-static inline int bpfhost_run_up_to(bpfhost *host, uint16_t tenant, uint32_t fd, const void *contexts, size_t context_size,
-                                    size_t context_count, const void *bytes, size_t byte_count, const size_t *ends, size_t packets,
-                                    uint64_t bound, uint32_t *results, int32_t *status, size_t *ran)
+/* Whether what a run of many packets reads ends before an object that it may write, or begins after it. */
+static inline bool bpfhost_are_packets_beside(const void *out, size_t out_length, bpfhost_contexts contexts, const uint8_t *bytes,
+                                              size_t byte_count, const size_t *ends, size_t packets)
+{
+    return bpfhost_are_beside(contexts.at, contexts.count * contexts.size, out, out_length)
+        && bpfhost_are_beside(bytes, byte_count, out, out_length) && bpfhost_are_beside(out, out_length, ends, packets * sizeof *ends);
+}
+
+/* Whether the objects that such a run may write lie one after another in any order. `ran` is null if there is no such object. */
+static inline bool bpfhost_are_written_beside(const bpfhost *host, const uint32_t *results, size_t packets, const int32_t *status,
+                                              const size_t *ran)
+{
+    return bpfhost_are_beside(host, sizeof(bpfhost_memory), results, packets * sizeof *results)
+        && bpfhost_are_beside(host, sizeof(bpfhost_memory), status, sizeof *status)
+        && bpfhost_are_beside(status, sizeof *status, results, packets * sizeof *results)
+        && (ran == NULL
+            || (bpfhost_are_beside(host, sizeof(bpfhost_memory), ran, sizeof *ran) && bpfhost_are_beside(status, sizeof *status, ran, sizeof *ran)
+                && bpfhost_are_beside(ran, sizeof *ran, results, packets * sizeof *results)));
+}
+
+/* As bpfhost_is_frame_right, of a run of many packets. No context of more than 64 bytes is seen to be right, nor are more contexts or packets
+ * than have 64 bytes each. */
+static inline BPFHOST_BY_FORCE bool bpfhost_is_run_right(const bpfhost *host, bpfhost_contexts contexts, const uint8_t *bytes, size_t byte_count,
+                                                         const size_t *ends, size_t packets, const uint32_t *results, const int32_t *status,
+                                                         const size_t *ran)
+{
+    const uintptr_t words = bpfhost_word_of(host, 0) | bpfhost_word_of(contexts.at, 0) | bpfhost_word_of(bytes, byte_count)
+                            | bpfhost_word_of(ends, 0) | bpfhost_word_of(results, 0) | bpfhost_word_of(status, 0) | bpfhost_word_of(ran, 0);
+    return host != NULL && contexts.at != NULL && bytes != NULL && ends != NULL && results != NULL && status != NULL && words <= PTRDIFF_MAX
+        && contexts.size - 1 < 64 && contexts.size % sizeof(uint32_t) == 0 && contexts.count != 0 && (contexts.count | packets) <= PTRDIFF_MAX / 64
+        && bpfhost_are_packets_beside(host, sizeof(bpfhost_memory), contexts, bytes, byte_count, ends, packets)
+        && bpfhost_are_packets_beside(results, packets * sizeof *results, contexts, bytes, byte_count, ends, packets)
+        && bpfhost_are_packets_beside(status, sizeof *status, contexts, bytes, byte_count, ends, packets)
+        && (ran == NULL || bpfhost_are_packets_beside(ran, sizeof *ran, contexts, bytes, byte_count, ends, packets))
+        && bpfhost_are_written_beside(host, results, packets, status, ran) && bpfhost_is_beside_lent(host, bytes, byte_count);
+}
+
+static inline BPFHOST_SELDOM int bpfhost_run_by_pairs(bpfhost *host, uint16_t tenant, uint32_t fd, const void *contexts, size_t context_size,
+                                                      size_t context_count, const void *bytes, size_t byte_count, const size_t *ends,
+                                                      size_t packets, uint64_t bound, uint32_t *results, int32_t *status, size_t *ran)
 {
     static const size_t no_ends[1] = {0};
     uint32_t no_results[1] = {0};
+    size_t unused = 0;
     const bpfhost_contexts none = {bpfhost_context_at(NULL), sizeof(bpfhost_context), 1};
     const bpfhost_contexts some = {contexts, context_size, context_count};
     const bpfhost_contexts given = context_count == 0 ? none : some;
     const uint8_t *at = bpfhost_bytes_at(bytes, byte_count);
     const size_t *stops = packets == 0 ? no_ends : ends;
     uint32_t *room = packets == 0 ? no_results : results;
-    int32_t found = 0;
-    size_t done = 0;
     int code = bpfhost_run_code(host, given, at, byte_count, stops, packets, room, status, ran);
     if (code == BPFHOST_DONE)
-        code = bpfhost_run_given(host, tenant, fd, bound, given, at, byte_count, stops, packets, room, &found, &done);
-    if (code == BPFHOST_DONE)
-        *status = found;
-    if (code == BPFHOST_DONE && ran != NULL)
-        *ran = done;
+        code = bpfhost_run_given(host, tenant, fd, bound, given, at, byte_count, stops, packets, room, status, ran == NULL ? &unused : ran);
     return code;
+}
+
+/* What bpfhost_run_packets_sized and bpfhost_run_bounded_sized do: the former without a bound, and with null for `ran`, which is then not
+ * written. */
+static inline BPFHOST_BY_FORCE int bpfhost_run_up_to(bpfhost *host, uint16_t tenant, uint32_t fd, const void *contexts, size_t context_size,
+                                                     size_t context_count, const void *bytes, size_t byte_count, const size_t *ends,
+                                                     size_t packets, uint64_t bound, uint32_t *results, int32_t *status, size_t *ran)
+{
+    const bpfhost_contexts given = {contexts, context_size, context_count};
+    const uint8_t *at = (const uint8_t *)bytes;
+    size_t unused = 0;
+    if (bpfhost_is_run_right(host, given, at, byte_count, ends, packets, results, status, ran))
+        return bpfhost_run_given(host, tenant, fd, bound, given, at, byte_count, ends, packets, results, status, ran == NULL ? &unused : ran);
+    return bpfhost_run_by_pairs(host, tenant, fd, contexts, context_size, context_count, bytes, byte_count, ends, packets, bound, results,
+                                status, ran);
 }
 
 /* Runs a program of a tenant on many packets, one after another, as PROG_TEST_RUN does on each, without frames and replies. The
@@ -605,27 +721,27 @@ static inline int bpfhost_run_up_to(bpfhost *host, uint16_t tenant, uint32_t fd,
  * or outside the bytes. Then no packet was run, and `results` is as it was. ERR_NULL, ERR_LENGTH, ERR_OVERLAP, ERR_LENT; ERR_SIZE for a
  * context of no whole words; ERR_TOO_BIG for one with a word that the library does not know and that is not 0; ERR_NO_MEMORY for contexts
  * of another size than the library's: nothing is written, and no tenant's state has changed. */
-static inline int bpfhost_run_packets_sized(bpfhost *host, uint16_t tenant, uint32_t fd, const void *contexts,
-                                            size_t context_size, size_t context_count, const void *bytes, size_t byte_count,
-                                            const size_t *ends, size_t packets, uint32_t *results, int32_t *status)
+static inline BPFHOST_BY_FORCE int bpfhost_run_packets_sized(bpfhost *host, uint16_t tenant, uint32_t fd, const void *contexts,
+                                                             size_t context_size, size_t context_count, const void *bytes, size_t byte_count,
+                                                             const size_t *ends, size_t packets, uint32_t *results, int32_t *status)
 {
     return bpfhost_run_up_to(host, tenant, fd, contexts, context_size, context_count, bytes, byte_count, ends, packets, 0, results,
                              status, NULL);
 }
 
 /* The same with contexts of this header. */
-static inline int bpfhost_run_packets_with(bpfhost *host, uint16_t tenant, uint32_t fd, const bpfhost_context *contexts,
-                                           size_t context_count, const void *bytes, size_t byte_count, const size_t *ends,
-                                           size_t packets, uint32_t *results, int32_t *status)
+static inline BPFHOST_BY_FORCE int bpfhost_run_packets_with(bpfhost *host, uint16_t tenant, uint32_t fd, const bpfhost_context *contexts,
+                                                            size_t context_count, const void *bytes, size_t byte_count, const size_t *ends,
+                                                            size_t packets, uint32_t *results, int32_t *status)
 {
     return bpfhost_run_packets_sized(host, tenant, fd, contexts, sizeof *contexts, context_count, bytes, byte_count, ends, packets,
                                      results, status);
 }
 
 /* The same with one context for all packets, which may be null for zeros. */
-static inline int bpfhost_run_packets(bpfhost *host, uint16_t tenant, uint32_t fd, const bpfhost_context *context,
-                                      const void *bytes, size_t byte_count, const size_t *ends, size_t packets,
-                                      uint32_t *results, int32_t *status)
+static inline BPFHOST_BY_FORCE int bpfhost_run_packets(bpfhost *host, uint16_t tenant, uint32_t fd, const bpfhost_context *context,
+                                                       const void *bytes, size_t byte_count, const size_t *ends, size_t packets,
+                                                       uint32_t *results, int32_t *status)
 {
     return bpfhost_run_packets_with(host, tenant, fd, bpfhost_context_at(context), 1, bytes, byte_count, ends, packets, results,
                                     status);
@@ -710,7 +826,7 @@ static inline int bpfhost_span_code(const bpfhost_packet *packets, size_t count,
 
 /* What is wrong with packets that lie anywhere, within a span, and with their contexts, together with an object that the run may write, or
  * DONE. */
-static inline int bpfhost_scattered_code(const void *out, size_t out_length, const bpfhost_context *contexts, size_t context_count,
+static inline int bpfhost_scattered_code(void *out, size_t out_length, const bpfhost_context *contexts, size_t context_count,
                                          const bpfhost_packet *packets, size_t count, bpfhost_bytes span)
 {
     int code = bpfhost_pair_code(out, out_length, contexts, context_count * sizeof *contexts);
@@ -723,19 +839,43 @@ static inline int bpfhost_scattered_code(const void *out, size_t out_length, con
     return code;
 }
 
-/* What is wrong with the objects of such a run, or DONE. */
-static inline int bpfhost_scattered_run_code(const bpfhost *host, const bpfhost_context *contexts, size_t context_count,
-                                             const bpfhost_packet *packets, size_t count, const uint8_t *buffer,
-                                             size_t buffer_length, const uint32_t *results, const int32_t *status, const size_t *ran)
+/* Whether what such a run reads ends before an object that it may write, or begins after it. */
+static inline bool bpfhost_are_scattered_beside(const void *out, size_t out_length, const bpfhost_context *contexts, size_t context_count,
+                                                const bpfhost_packet *packets, size_t count, bpfhost_bytes span)
+{
+    return bpfhost_are_beside(contexts, context_count * sizeof *contexts, out, out_length)
+        && bpfhost_are_beside(span.at, span.length, out, out_length) && bpfhost_are_beside(out, out_length, packets, count * sizeof *packets);
+}
+
+/* As bpfhost_is_run_right, of such a run, if there are not more contexts and packets than an object has. */
+static inline bool bpfhost_is_scattered_right(const bpfhost *host, const bpfhost_context *contexts, size_t context_count,
+                                              const bpfhost_packet *packets, size_t count, bpfhost_bytes span, const uint8_t *buffer,
+                                              size_t buffer_length, const uint32_t *results, const int32_t *status, const size_t *ran)
+{
+    const uintptr_t words = bpfhost_word_of(host, 0) | bpfhost_word_of(contexts, context_count * sizeof *contexts)
+                            | bpfhost_word_of(packets, count * sizeof *packets) | bpfhost_word_of(span.at, span.length)
+                            | bpfhost_word_of(buffer, buffer_length) | bpfhost_word_of(results, 0) | bpfhost_word_of(status, 0)
+                            | bpfhost_word_of(ran, 0);
+    return host != NULL && contexts != NULL && packets != NULL && buffer != NULL && results != NULL && status != NULL && words <= PTRDIFF_MAX
+        && bpfhost_are_scattered_beside(host, sizeof(bpfhost_memory), contexts, context_count, packets, count, span)
+        && bpfhost_are_scattered_beside(buffer, buffer_length, contexts, context_count, packets, count, span)
+        && bpfhost_are_scattered_beside(results, count * sizeof *results, contexts, context_count, packets, count, span)
+        && bpfhost_are_scattered_beside(status, sizeof *status, contexts, context_count, packets, count, span)
+        && (ran == NULL || bpfhost_are_scattered_beside(ran, sizeof *ran, contexts, context_count, packets, count, span))
+        && bpfhost_are_beside(buffer, buffer_length, host, sizeof(bpfhost_memory))
+        && bpfhost_are_beside(buffer, buffer_length, results, count * sizeof *results)
+        && bpfhost_are_beside(buffer, buffer_length, status, sizeof *status)
+        && (ran == NULL || bpfhost_are_beside(buffer, buffer_length, ran, sizeof *ran))
+        && bpfhost_are_written_beside(host, results, count, status, ran) && bpfhost_is_beside_lent(host, span.at, span.length);
+}
+
+/* What is wrong with the objects of such a run, whose packets lie within a span, or DONE. */
+static inline BPFHOST_SELDOM int bpfhost_scattered_by_pairs(bpfhost *host, const bpfhost_context *contexts, size_t context_count,
+                                                            const bpfhost_packet *packets, size_t count, bpfhost_bytes span, uint8_t *buffer,
+                                                            size_t buffer_length, uint32_t *results, int32_t *status, size_t *ran)
 {
     size_t results_size = count * sizeof *results;
-    bpfhost_bytes span;
-    int code;
-    if (count > PTRDIFF_MAX / sizeof *packets || context_count > PTRDIFF_MAX / sizeof *contexts)
-        return BPFHOST_ERR_LENGTH;
-    code = packets == NULL ? BPFHOST_ERR_NULL : bpfhost_span_code(packets, count, &span);
-    if (code == BPFHOST_DONE)
-        code = bpfhost_written_code(host, results, count, status, ran);
+    int code = bpfhost_written_code(host, results, count, status, ran);
     if (code == BPFHOST_DONE)
         code = bpfhost_pair_code(host, sizeof(bpfhost_memory), buffer, buffer_length);
     if (code == BPFHOST_DONE)
@@ -758,6 +898,22 @@ static inline int bpfhost_scattered_run_code(const bpfhost *host, const bpfhost_
         return code;
     for (size_t i = 0; i < count && code == BPFHOST_DONE; i++)
         code = bpfhost_lent_code(host, bpfhost_bytes_at(packets[i].at, packets[i].length), packets[i].length);
+    return code;
+}
+
+/* The same, of packets anywhere. */
+static inline int bpfhost_scattered_run_code(bpfhost *host, const bpfhost_context *contexts, size_t context_count,
+                                             const bpfhost_packet *packets, size_t count, uint8_t *buffer, size_t buffer_length,
+                                             uint32_t *results, int32_t *status, size_t *ran)
+{
+    bpfhost_bytes span;
+    int code;
+    if (count > PTRDIFF_MAX / sizeof *packets || context_count > PTRDIFF_MAX / sizeof *contexts)
+        return BPFHOST_ERR_LENGTH;
+    code = packets == NULL ? BPFHOST_ERR_NULL : bpfhost_span_code(packets, count, &span);
+    if (code == BPFHOST_DONE
+        && !bpfhost_is_scattered_right(host, contexts, context_count, packets, count, span, buffer, buffer_length, results, status, ran))
+        code = bpfhost_scattered_by_pairs(host, contexts, context_count, packets, count, span, buffer, buffer_length, results, status, ran);
     return code;
 }
 
@@ -891,9 +1047,9 @@ static inline int bpfhost_run_bounded_scattered(bpfhost *host, uint16_t tenant, 
  * descriptor, each part after it makes one map with its keys or one program, in the order in which they were made, and the last
  * closes what is not open. A new tenant of this number, of any host, that is given the frames of all parts in their order
  * (bpfhost_restore, or bpfhost_restore_as for another number) then replies to each frame as the saved tenant does. Until the last part is
- * taken, the tenant must not be given a frame or packets; other tenants may be. A part has at most BPFHOST_LONGEST_PART bytes, which the host keeps until the next call of
- * bpfhost_save_part or bpfhost_save on it. ERR_NO_PART: there are no more parts, or the tenant is not served. ERR_NO_MEMORY, ERR_NO_PART,
- * ERR_NULL, ERR_OVERLAP: nothing is written. No tenant's state changes. */
+ * taken, the tenant must not be given a frame or packets; other tenants may be. A part has at most BPFHOST_LONGEST_PART bytes, which the
+ * host keeps until the next call of bpfhost_save_part or bpfhost_save on it. ERR_NO_PART: there are no more parts, or the tenant is not
+ * served. ERR_NO_MEMORY, ERR_NO_PART, ERR_NULL, ERR_OVERLAP: nothing is written. No tenant's state changes. */
 static inline int bpfhost_save_part(bpfhost *host, uint16_t tenant, size_t part, bpfhost_bytes *frames)
 {
     const bpfhost_bytes none = {NULL, 0};
@@ -1381,9 +1537,7 @@ static inline int bpfhost_read_reply_sized(const void *bytes, size_t length, voi
     return code;
 }
 
-/* Handles a frame and reads the reply, whose payload is lent until the next call on this host. ERR_NO_HOST, ERR_NULL,
- * ERR_LENGTH, ERR_OVERLAP, ERR_LENT: nothing is written, and no tenant's state has changed. */
-static inline int bpfhost_ask(bpfhost *host, const void *frame, size_t frame_length, bpfhost_reply *reply)
+static inline BPFHOST_SELDOM int bpfhost_ask_by_pairs(bpfhost *host, const void *frame, size_t frame_length, bpfhost_reply *reply)
 {
     const uint8_t *at = bpfhost_bytes_at(frame, frame_length);
     bpfhost_bytes lent = {bpfhost_bytes_at(NULL, 0), 0};
@@ -1392,6 +1546,21 @@ static inline int bpfhost_ask(bpfhost *host, const void *frame, size_t frame_len
         code = bpfhost_lent_code(host, at, frame_length);
     if (code == BPFHOST_DONE)
         code = bpfhost_lend(host, at, frame_length, &lent);
+    if (code == BPFHOST_DONE)
+        bpfhost_read_fields(lent.at, lent.length, reply);
+    return code;
+}
+
+/* Handles a frame and reads the reply, whose payload is lent until the next call on this host. ERR_NO_HOST, ERR_NULL,
+ * ERR_LENGTH, ERR_OVERLAP, ERR_LENT: nothing is written, and no tenant's state has changed. */
+static inline int bpfhost_ask(bpfhost *host, const void *frame, size_t frame_length, bpfhost_reply *reply)
+{
+    const uint8_t *at = (const uint8_t *)frame;
+    bpfhost_bytes lent = {bpfhost_bytes_at(NULL, 0), 0};
+    int code;
+    if (!bpfhost_is_frame_right(host, at, frame_length, reply, sizeof *reply))
+        return bpfhost_ask_by_pairs(host, frame, frame_length, reply);
+    code = bpfhost_lend(host, at, frame_length, &lent);
     if (code == BPFHOST_DONE)
         bpfhost_read_fields(lent.at, lent.length, reply);
     return code;
@@ -1414,11 +1583,6 @@ static inline int bpfhost_ask_sized(bpfhost *host, const void *frame, size_t fra
  * code of the call; the host's reply is in the result. A frame of up to BPFHOST_ROOM bytes is made on the stack, a longer one in memory of
  * malloc. */
 
-#ifdef __GNUC__
-#define BPFHOST_BY_FORCE __attribute__((always_inline))
-#else
-#define BPFHOST_BY_FORCE
-#endif
 #define BPFHOST_ROOM (16 + 512 + BPFHOST_LONGEST_PAYLOAD) /* an update with the longest key and the longest value; a load of 577 slots */
 
 /* The attributes of a map. A later version may have more words after these: bpfhost_map_create_sized takes the size. */

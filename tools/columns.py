@@ -1,14 +1,25 @@
-"""Lines of definitions above 100 columns. A `use` may be longer."""
+"""Lines of definitions above 100 columns, and of proofs above 160; of the latter 5 in 100 may be above 120. A `use` may be longer."""
 
 from __future__ import annotations
 
 import re
+from collections.abc import Mapping
 
 MOST = 100
+# Of proofs: the most columns of a line, those of most lines, and how many of a hundred may have more.
+MOST_OF_PROOFS, OF_MOST, ABOVE = 160, 120, 5
 USE = re.compile(r"\s*(?:pub )?use ")
 
 
-def too_wide(name: str, text: str) -> list[str]:
-    """The faults of a file of definitions: its lines that are too long."""
-    return [f"{name}:{number}: {len(line)} columns, and {MOST} are the most: a line for each premise, or a name for what repeats"
-            for number, line in enumerate(text.splitlines(), 1) if len(line) > MOST and not USE.match(line)]
+def too_wide(name: str, text: str, most: int = MOST) -> list[str]:
+    """The faults of a file of definitions or proofs: its lines that are too long."""
+    return [f"{name}:{number}: {len(line)} columns, and {most} are the most: a line for each premise, or a name for what repeats"
+            for number, line in enumerate(text.splitlines(), 1) if len(line) > most and not USE.match(line)]
+
+
+def too_wide_proofs(texts: Mapping[str, str]) -> list[str]:
+    """The faults of all files of proofs, by their names: lines that are too long, and too many long ones."""
+    lines = [line for text in texts.values() for line in text.splitlines() if not USE.match(line)]
+    above = sum(len(line) > OF_MOST for line in lines)
+    many = [f"proofs: {above} of {len(lines)} lines have more than {OF_MOST} columns, and {ABOVE} of a hundred are the most"]
+    return [fault for name, text in texts.items() for fault in too_wide(name, text, MOST_OF_PROOFS)] + many * (100 * above > ABOVE * len(lines))

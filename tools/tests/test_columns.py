@@ -1,10 +1,10 @@
-"""tools/columns.py finds long lines of definitions, but not a long `use`."""
+"""tools/columns.py finds long lines of definitions and of proofs, but not a long `use`."""
 
 from __future__ import annotations
 
 import unittest
 
-from columns import MOST, too_wide
+from columns import MOST, MOST_OF_PROOFS, OF_MOST, too_wide, too_wide_proofs
 
 LONG = "a : " + "ℕ → " * 30 + "ℕ"
 
@@ -13,6 +13,15 @@ class Columns(unittest.TestCase):
     def test_long_lines(self) -> None:
         text = "x" * MOST + "\n" + LONG + "\n  pub use " + LONG + "\nuse " + LONG + "\n-- " + LONG + "\n"
         self.assertEqual([line.partition(" ")[0] for line in too_wide("A.antt", text)], ["A.antt:2:", "A.antt:5:"])
+
+    def test_long_lines_of_proofs(self) -> None:
+        text = "x" * MOST_OF_PROOFS + "\n" + "x" * (MOST_OF_PROOFS + 1) + "\n" + "x\n" * 98
+        self.assertEqual([fault.partition(" ")[0] for fault in too_wide_proofs({"A.antt": text})], ["A.antt:2:"])
+
+    def test_many_long_lines_of_proofs(self) -> None:
+        for count, faults in ((5, 0), (6, 1)):
+            text = ("x" * (OF_MOST + 1) + "\n") * count + "x\n" * (100 - count) + "use " + LONG + "\n"
+            self.assertEqual(len(too_wide_proofs({"A.antt": text})), faults)
 
 
 if __name__ == "__main__":

@@ -5,8 +5,16 @@ use Rattle.arena.specs.Bytes.{written_at}
 use Rattle.arena.specs.Memory.{refilled}
 
 -- the bytes of the memory when the borrow ends
-pub relent : (bytes : List ℕ) (size start : ℕ) (new : List ℕ) → size ≡ length bytes
-    → take size ((take start bytes ++ (new ++ drop (length new) (drop start bytes))) ++ drop (length (take start bytes ++ (new ++ drop (length new) (drop start bytes)))) bytes) ≡ refilled bytes (written_at bytes start new)
+pub relent : (bytes : List ℕ) (size start : ℕ) (new : List ℕ)
+    → size ≡ length bytes
+    → take size
+    ((take start bytes ++ (new ++ drop (length new) (drop start bytes)))
+    ++ drop (length (take start bytes ++ (new ++ drop (length new) (drop start bytes)))) bytes)
+    ≡ refilled bytes (written_at bytes start new)
 relent bytes size start new e =
-    ap (λ (n : ℕ). take n ((take start bytes ++ (new ++ drop (length new) (drop start bytes))) ++ drop (length (take start bytes ++ (new ++ drop (length new) (drop start bytes)))) bytes)) e
+    ap (λ (n : ℕ).
+    take n
+    ((take start bytes ++ (new ++ drop (length new) (drop start bytes)))
+    ++ drop (length (take start bytes ++ (new ++ drop (length new) (drop start bytes)))) bytes))
+    e
     ∙ ap (λ (l : List ℕ). refilled bytes (take start bytes ++ (new ++ l))) (drop-drop (length new) start bytes)

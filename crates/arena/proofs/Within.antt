@@ -7,14 +7,23 @@ use Rattle.arena.specs.Apart.{IsPart}
 use Rattle.arena.specs.PartLaws.{part_within}
 use Rattle.arena.proofs.Apart.{refilled_whole}
 
-pub part_over : (m : Memory) (t at : ℕ) (new : List ℕ) → IsPart m t → at + length new ≤ m.part → part_bytes (with_bytes m (part_start m t + at) new) t ≡ written_at (part_bytes m t) at new
+pub part_over : (m : Memory) (t at : ℕ) (new : List ℕ)
+    → IsPart m t → at + length new ≤ m.part
+    → part_bytes (with_bytes m (part_start m t + at) new) t ≡ written_at (part_bytes m t) at new
 part_over m t at new is room = over_within m.bytes new (part_start m t) m.part at (part_within m t is) room
 
-pub part_size : (m : Memory) (t at : ℕ) (new : List ℕ) → IsPart m t → at + length new ≤ m.part → size_of (with_bytes m (part_start m t + at) new) ≡ size_of m
-part_size m t at new is room = let fits = part_within m t is in length-written_at m.bytes new (part_start m t + at) (omega arith)
+pub part_size : (m : Memory) (t at : ℕ) (new : List ℕ)
+    → IsPart m t → at + length new ≤ m.part
+    → size_of (with_bytes m (part_start m t + at) new) ≡ size_of m
+part_size m t at new is room =
+    let fits = part_within m t is in length-written_at m.bytes new (part_start m t + at) (omega arith)
 
-pub part_written : (m : Memory) (t at : ℕ) (new : List ℕ) → IsPart m t → at + length new ≤ m.part → with_part m t (written_at (part_bytes m t) at new) ≡ with_bytes m (part_start m t + at) new
+pub part_written : (m : Memory) (t at : ℕ) (new : List ℕ)
+    → IsPart m t → at + length new ≤ m.part
+    → with_part m t (written_at (part_bytes m t) at new) ≡ with_bytes m (part_start m t + at) new
 part_written m t at new is room =
     let same = over_part m.bytes new (part_start m t) m.part at (part_within m t is) room in
-    let long : length (written_at m.bytes (part_start m t) (written_at (part_bytes m t) at new)) ≡ length m.bytes = ap length same ∙ part_size m t at new is room in
-    ap (λ (x : List ℕ). let r : Memory = record { bytes = x; parts = m.parts; part = m.part } in r) (refilled_whole m.bytes (written_at m.bytes (part_start m t) (written_at (part_bytes m t) at new)) long ∙ same)
+    let long : length (written_at m.bytes (part_start m t) (written_at (part_bytes m t) at new)) ≡ length m.bytes =
+    ap length same ∙ part_size m t at new is room in
+    ap (λ (x : List ℕ). let r : Memory = record { bytes = x; parts = m.parts; part = m.part } in r)
+    (refilled_whole m.bytes (written_at m.bytes (part_start m t) (written_at (part_bytes m t) at new)) long ∙ same)

@@ -195,7 +195,7 @@ impl Arena {
         write(&mut self.bytes, start, size, value);
     }
 
-    /// Writes bytes at `address`, of which there are so many in the memory, as is known.
+    /// Writes bytes at `address`. The range is known to be in the memory.
     #[inline(always)]
     pub fn write_inside(&mut self, address: u64, bytes: &[u8], trace: &mut Trace)
         requires { IsSome (offset_of (size_of self.old) (length bytes.now) address) }

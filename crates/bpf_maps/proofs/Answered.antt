@@ -11,12 +11,19 @@ use Rattle.tagged_model.specs.Table.{look_up, is_full, of_absent, of_found, verd
 use Rattle.bpf_maps.specs.KeyTable.{KeyTable, table_of, occurrences, IsSound, IsFree, with_entry, Claims, Removes}
 use Rattle.bpf_maps.proofs.Counts.{in_use}
 
-pub same_table : (s : MapShape) {es fs : List (List ℕ × ℕ)} {ks ls : List ℕ} → es ≡ fs → ks ≡ ls → (let t : KeyTable = record { shape = s; entries = es; kept = ks } in t) ≡ (let t : KeyTable = record { shape = s; entries = fs; kept = ls } in t)
+pub same_table : (s : MapShape) {es fs : List (List ℕ × ℕ)} {ks ls : List ℕ}
+    → es ≡ fs → ks ≡ ls
+    → (let t : KeyTable = record { shape = s; entries = es; kept = ks } in t)
+    ≡ (let t : KeyTable = record { shape = s; entries = fs; kept = ls } in t)
 same_table s e k i = record { shape = s; entries = e i; kept = k i }
 
 -- ---- a delete from a hash map
 
-pub removes : (key : List ℕ) (old seen new : KeyTable) (o : Option ℕ) (answer : Result (Unit {0}) MapFault) → old ≡ seen → old.shape.kind ≡ Hash → look_up (table_of old) key ≡ o → Removes (removal_of Hash o) key old answer new → Removes (removal (table_of seen) key) key seen answer new
+pub removes : (key : List ℕ) (old seen new : KeyTable) (o : Option ℕ) (answer : Result (Unit {0}) MapFault)
+    → old ≡ seen → old.shape.kind ≡ Hash
+    → look_up (table_of old) key ≡ o
+    → Removes (removal_of Hash o) key old answer new
+    → Removes (removal (table_of seen) key) key seen answer new
 removes key old seen new o answer v k e h =
     subst (λ (t : KeyTable). Removes (removal (table_of t) key) key t answer new) v
     (subst (λ (d : MapKind). Removes (removal_of d (look_up (table_of old) key)) key old answer new) (sym k)
@@ -24,12 +31,17 @@ removes key old seen new o answer v k e h =
 
 -- ---- a new key of a hash map
 
-pub claims_new : (key : List ℕ) (old seen new : KeyTable) (p : ℕ) → old ≡ seen → is_full (table_of old) ≡ false → IsFree old p → new ≡ with_entry old key p → Claims (of_absent Hash (is_full (table_of seen)) 0) key seen (Ok p) new
+pub claims_new : (key : List ℕ) (old seen new : KeyTable) (p : ℕ)
+    → old ≡ seen → is_full (table_of old) ≡ false
+    → IsFree old p → new ≡ with_entry old key p
+    → Claims (of_absent Hash (is_full (table_of seen)) 0) key seen (Ok p) new
 claims_new key old seen new p v room free h =
     subst (λ (t : KeyTable). Claims (of_absent Hash (is_full (table_of t)) 0) key t (Ok p) new) v
     (subst (λ (b : Bool). Claims (of_absent Hash b 0) key old (Ok p) new) (sym room) (free, h))
 
-pub claims_full : (key : List ℕ) (old seen : KeyTable) → old ≡ seen → is_full (table_of old) ≡ true → Claims (of_absent Hash (is_full (table_of seen)) 0) key seen (Err TooBig) seen
+pub claims_full : (key : List ℕ) (old seen : KeyTable)
+    → old ≡ seen → is_full (table_of old) ≡ true
+    → Claims (of_absent Hash (is_full (table_of seen)) 0) key seen (Err TooBig) seen
 claims_full key old seen v full =
     subst (λ (t : KeyTable). Claims (of_absent Hash (is_full (table_of t)) 0) key t (Err TooBig) t) v
     (subst (λ (b : Bool). Claims (of_absent Hash b 0) key old (Err TooBig) old) (sym full) (refl, refl))
@@ -53,37 +65,57 @@ present_is t flags k (Some j) g = by (flags == no_exist) g
     by true q = cc
     by false q = cc
 
-pub present_found : (t : KeyTable) (key : List ℕ) (flags k : ℕ) → verdict (table_of t) key flags ≡ Present k → look_up (table_of t) key ≡ Some k
+pub present_found : (t : KeyTable) (key : List ℕ) (flags k : ℕ)
+    → verdict (table_of t) key flags ≡ Present k → look_up (table_of t) key ≡ Some k
 present_found t key flags k h = by (nat_le flags exist) h
   where
-    by : (a : Bool) → (if a then of_found (table_of t) flags (look_up (table_of t) key) else Refused Invalid) ≡ Present k → look_up (table_of t) key ≡ Some k
+    by : (a : Bool)
+        → (if a then of_found (table_of t) flags (look_up (table_of t) key) else Refused Invalid) ≡ Present k
+        → look_up (table_of t) key ≡ Some k
     by true g = present_is t flags k (look_up (table_of t) key) g
     by false g = cc
 
 -- an element in use is less than `max_entries`
-pub element_below : (t : KeyTable) (key : List ℕ) (p : ℕ) → IsSound t → look_up (table_of t) key ≡ Some p → p < t.shape.max_entries
+pub element_below : (t : KeyTable) (key : List ℕ) (p : ℕ)
+    → IsSound t → look_up (table_of t) key ≡ Some p → p < t.shape.max_entries
 element_below t key p h e = by (nat_lt p t.shape.max_entries) refl (h.once p)
   where
-    by : (b : Bool) → nat_lt p t.shape.max_entries ≡ b → occurrences p (values_of t.entries) + occurrences p t.kept ≤ (if b then 1 else 0) → p < t.shape.max_entries
+    by : (b : Bool)
+        → nat_lt p t.shape.max_entries ≡ b
+        → occurrences p (values_of t.entries) + occurrences p t.kept ≤ (if b then 1 else 0)
+        → p < t.shape.max_entries
     by true q l = ltb-true p t.shape.max_entries q
     by false q l = let u = in_use p key t.entries e in absurd (omega arith)
 
-pub found_within : (t : KeyTable) (key : List ℕ) (o : Option ℕ) → IsSound t → o ≡ look_up (table_of t) key → IfSome o (λ p. p < t.shape.max_entries)
+pub found_within : (t : KeyTable) (key : List ℕ) (o : Option ℕ)
+    → IsSound t → o ≡ look_up (table_of t) key
+    → IfSome o (λ p. p < t.shape.max_entries)
 found_within t key None h e = tt
 found_within t key (Some p) h e = element_below t key p h (sym e)
 
 -- the element that a claim returns
-claims_within : (old new : KeyTable) (flags p : ℕ) (key : List ℕ) → Claims (verdict (table_of old) key flags) key old (Ok p) new → IsSound new → p < new.shape.max_entries
+claims_within : (old new : KeyTable) (flags p : ℕ) (key : List ℕ)
+    → Claims (verdict (table_of old) key flags) key old (Ok p) new
+    → IsSound new
+    → p < new.shape.max_entries
 claims_within old new flags p key c h = by (verdict (table_of old) key flags) refl c
   where
-    by : (v : Verdict ℕ) → verdict (table_of old) key flags ≡ v → Claims v key old (Ok p) new → p < new.shape.max_entries
+    by : (v : Verdict ℕ)
+        → verdict (table_of old) key flags ≡ v → Claims v key old (Ok p) new
+        → p < new.shape.max_entries
     by (Refused f) e d = cc (d.0)
     by (Present q) e d =
         let same : p ≡ q = cc (d.0) in
-        let at : look_up (table_of new) key ≡ Some p = ap (λ (t : KeyTable). look_up (table_of t) key) d.1 ∙ present_found old key flags q e ∙ ap (λ (x : ℕ). let o : Option ℕ = Some x in o) (sym same) in
+        let at : look_up (table_of new) key ≡ Some p =
+        ap (λ (t : KeyTable). look_up (table_of t) key) d.1
+        ∙ present_found old key flags q e
+        ∙ ap (λ (x : ℕ). let o : Option ℕ = Some x in o) (sym same) in
         element_below new key p h at
     by New e d = subst (λ (t : KeyTable). p < t.shape.max_entries) (sym d.1) d.0.within
 
-pub claims_within_ok : (old new : KeyTable) (flags : ℕ) (key : List ℕ) (answer : Result ℕ MapFault) → Claims (verdict (table_of old) key flags) key old answer new → IsSound new → IfOk answer (λ p. p < new.shape.max_entries)
+pub claims_within_ok : (old new : KeyTable) (flags : ℕ) (key : List ℕ) (answer : Result ℕ MapFault)
+    → Claims (verdict (table_of old) key flags) key old answer new
+    → IsSound new
+    → IfOk answer (λ p. p < new.shape.max_entries)
 claims_within_ok old new flags key (Ok p) c h = claims_within old new flags p key c h
 claims_within_ok old new flags key (Err f) c h = tt

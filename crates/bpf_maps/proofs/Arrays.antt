@@ -23,15 +23,22 @@ module _ (s : MapShape) (array : s.kind ≡ Array) where
   pub sound_array : IsSound (new_keys s)
   sound_array = record {
     once = λ p.
-        let e : occurrences p (values_of (new_entries (λ i. i) s.kind s.max_entries)) ≡ (if nat_lt p s.max_entries then 1 else 0) = ap (λ (es : List (List ℕ × ℕ)). occurrences p (values_of es)) entries_are ∙ once_indexed p s.max_entries in
+        let e : occurrences p (values_of (new_entries (λ i. i) s.kind s.max_entries))
+        ≡ (if nat_lt p s.max_entries then 1 else 0) =
+        ap (λ (es : List (List ℕ × ℕ)). occurrences p (values_of es)) entries_are ∙ once_indexed p s.max_entries in
         omega arith;
     few = let all = length_new in omega arith;
-    sized = subst (λ (es : List (List ℕ × ℕ)). IsSized s.key_size es) (sym entries_are) (subst (λ (n : ℕ). IsSized n (indexed (λ i. i) 0 s.max_entries)) (sym (array_key s array)) (sized_indexed 0 s.max_entries));
+    sized =
+        subst (λ (es : List (List ℕ × ℕ)). IsSized s.key_size es) (sym entries_are)
+        (subst (λ (n : ℕ). IsSized n (indexed (λ i. i) 0 s.max_entries)) (sym (array_key s array))
+        (sized_indexed 0 s.max_entries));
     array = λ _. refl;
   }
 
   -- an index is found if it is in range
-  found_new : (key : List ℕ) (i : ℕ) → index_key i ≡ key → i < 2 ^ 32 → look_up (table_of (new_keys s)) key ≡ (if nat_lt i s.max_entries then Some i else None)
+  found_new : (key : List ℕ) (i : ℕ)
+      → index_key i ≡ key → i < 2 ^ 32
+      → look_up (table_of (new_keys s)) key ≡ (if nat_lt i s.max_entries then Some i else None)
   found_new key i same small =
       let few = few_entries s in
       let m : 0 + s.max_entries ≡ s.max_entries = omega arith in
@@ -41,7 +48,9 @@ module _ (s : MapShape) (array : s.kind ≡ Array) where
       ∙ ap (λ (x : ℕ). if nat_lt i x then Some i else None) m
 
   -- the key after an index that is in range
-  next_new : (key : List ℕ) (i : ℕ) → index_key i ≡ key → i < s.max_entries → next_of (table_of (new_keys s)) key ≡ (if nat_lt (i + 1) s.max_entries then Some (index_key (i + 1)) else None)
+  next_new : (key : List ℕ) (i : ℕ)
+      → index_key i ≡ key → i < s.max_entries
+      → next_of (table_of (new_keys s)) key ≡ (if nat_lt (i + 1) s.max_entries then Some (index_key (i + 1)) else None)
   next_new key i same below =
       let few = few_entries s in
       ap (key_after key) entries_are
@@ -49,20 +58,33 @@ module _ (s : MapShape) (array : s.kind ≡ Array) where
       ∙ after_index s.max_entries i (omega arith) below
 
   -- the key after an absent key
-  next_other : (key : List ℕ) → look_up (table_of (new_keys s)) key ≡ None → next_of (table_of (new_keys s)) key ≡ (if nat_lt 0 s.max_entries then Some (index_key 0) else None)
-  next_other key none = ap (key_after key) entries_are ∙ after_other s.max_entries key (ap (found key) (sym entries_are) ∙ none)
+  next_other : (key : List ℕ)
+      → look_up (table_of (new_keys s)) key ≡ None
+      → next_of (table_of (new_keys s)) key ≡ (if nat_lt 0 s.max_entries then Some (index_key 0) else None)
+  next_other key none =
+      ap (key_after key) entries_are ∙ after_other s.max_entries key (ap (found key) (sym entries_are) ∙ none)
 
 -- ---- the same of a table that is that of an array
 
 module _ {t : KeyTable} (array : t.shape.kind ≡ Array) (whole : t ≡ new_keys t.shape) where
-  pub found_array : (key : List ℕ) (i : ℕ) (b : Bool) → index_key i ≡ key → i < 2 ^ 32 → nat_lt i t.shape.max_entries ≡ b → (if b then Some i else None) ≡ look_up (table_of t) key
+  pub found_array : (key : List ℕ) (i : ℕ) (b : Bool)
+      → index_key i ≡ key → i < 2 ^ 32
+      → nat_lt i t.shape.max_entries ≡ b
+      → (if b then Some i else None) ≡ look_up (table_of t) key
   found_array key i b same small is =
-      ap (λ (x : Bool). if x then Some i else None) (sym is) ∙ sym (found_new t.shape array key i same small) ∙ ap (λ (u : KeyTable). look_up (table_of u) key) (sym whole)
+      ap (λ (x : Bool). if x then Some i else None) (sym is)
+      ∙ sym (found_new t.shape array key i same small)
+      ∙ ap (λ (u : KeyTable). look_up (table_of u) key) (sym whole)
 
-  pub after_present : (key : List ℕ) (i : ℕ) → index_key i ≡ key → i < t.shape.max_entries → next_of (table_of t) key ≡ (if nat_lt (i + 1) t.shape.max_entries then Some (index_key (i + 1)) else None)
-  after_present key i same below = ap (λ (u : KeyTable). next_of (table_of u) key) whole ∙ next_new t.shape array key i same below
+  pub after_present : (key : List ℕ) (i : ℕ)
+      → index_key i ≡ key → i < t.shape.max_entries
+      → next_of (table_of t) key ≡ (if nat_lt (i + 1) t.shape.max_entries then Some (index_key (i + 1)) else None)
+  after_present key i same below =
+      ap (λ (u : KeyTable). next_of (table_of u) key) whole ∙ next_new t.shape array key i same below
 
-  pub after_absent : (key : List ℕ) → look_up (table_of t) key ≡ None → next_of (table_of t) key ≡ (if nat_lt 0 t.shape.max_entries then Some (index_key 0) else None)
+  pub after_absent : (key : List ℕ)
+      → look_up (table_of t) key ≡ None
+      → next_of (table_of t) key ≡ (if nat_lt 0 t.shape.max_entries then Some (index_key 0) else None)
   after_absent key none =
       ap (λ (u : KeyTable). next_of (table_of u) key) whole
       ∙ next_other t.shape array key (ap (λ (u : KeyTable). look_up (table_of u) key) (sym whole) ∙ none)
@@ -77,7 +99,10 @@ unfolding index_key
 spells i = refl
 
 -- the index that four bytes spell
-pub spelled : (key : List ℕ) (n : ℕ) → length key ≡ 4 → ((i : ℕ) → get_or key i 0 < 256) → n ≡ get_or key 0 0 + get_or key 1 0 * 256 + get_or key 2 0 * 65536 + get_or key 3 0 * 16777216 → index_key n ≡ key
+pub spelled : (key : List ℕ) (n : ℕ)
+    → length key ≡ 4 → ((i : ℕ) → get_or key i 0 < 256)
+    → n ≡ get_or key 0 0 + get_or key 1 0 * 256 + get_or key 2 0 * 65536 + get_or key 3 0 * 16777216
+    → index_key n ≡ key
 unfolding index_key
 spelled [] n size small is = absurd (omega arith)
 spelled (a ∷ []) n size small is = absurd (omega arith)
@@ -103,7 +128,10 @@ no_keys s hash = ap (λ (d : MapKind). new_entries (λ i. i) d s.max_entries) ha
 
 sound_hash : (s : MapShape) → s.kind ≡ Hash → IsSound (new_keys s)
 sound_hash s hash = record {
-  once = λ p. let e : occurrences p (values_of (new_entries (λ i. i) s.kind s.max_entries)) ≡ 0 = ap (λ (es : List (List ℕ × ℕ)). occurrences p (values_of es)) (no_keys s hash) in omega arith;
+  once = λ p.
+      let e : occurrences p (values_of (new_entries (λ i. i) s.kind s.max_entries)) ≡ 0 =
+      ap (λ (es : List (List ℕ × ℕ)). occurrences p (values_of es)) (no_keys s hash) in
+      omega arith;
   few = let e : length (new_entries (λ i. i) s.kind s.max_entries) ≡ 0 = ap length (no_keys s hash) in omega arith;
   sized = subst (λ (es : List (List ℕ × ℕ)). IsSized s.key_size es) (sym (no_keys s hash)) tt;
   array = λ array. absurd (hash_no_array s.kind hash array);

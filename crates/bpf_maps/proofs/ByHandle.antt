@@ -18,7 +18,8 @@ use Rattle.bpf_maps.proofs.Slots.{at_lives, within, same_or_other, same_at}
 -- ---- the map of a handle is the one under its key
 
 module _ (maps : Slab StoredMap) where
-  at_handle : (keys : List (Option ℕ)) (p : ℕ) → get_or (by_handle keys maps) p None ≡ option_and_then (get maps) (get_or keys p None)
+  at_handle : (keys : List (Option ℕ)) (p : ℕ)
+      → get_or (by_handle keys maps) p None ≡ option_and_then (get maps) (get_or keys p None)
   at_handle [] p = refl
   at_handle (o ∷ os) zero = refl
   at_handle (o ∷ os) (suc p) = at_handle os p
@@ -36,7 +37,9 @@ abbrev one_if : {A : Type 0} → Option A → ℕ
 one_if o = cond (is_some o) 1 0
 
 module _ {A : Type 0} (xs : List (Option A)) (i : ℕ) where
-  counted : (y : Option A) → i < length xs → count_by is_some (set xs i y) + one_if (get_or xs i None) ≡ count_by is_some xs + one_if y
+  counted : (y : Option A)
+      → i < length xs
+      → count_by is_some (set xs i y) + one_if (get_or xs i None) ≡ count_by is_some xs + one_if y
   counted y l = sum_by-set one_if xs i y None l
 
   one_in : (x : A) → get_or xs i None ≡ Some x → one_if (get_or xs i None) ≡ 1
@@ -51,33 +54,42 @@ module _ {A : Type 0} (xs : List (Option A)) (i : ℕ) where
 
   pub replaced_len : (x y : A) → get_or xs i None ≡ Some x → count_by is_some (set xs i (Some y)) ≡ count_by is_some xs
   replaced_len x y at =
-      let n : count_by is_some (set xs i (Some y)) + one_if (get_or xs i None) ≡ count_by is_some xs + 1 = counted (Some y) (in_list x at) in
+      let n : count_by is_some (set xs i (Some y)) + one_if (get_or xs i None) ≡ count_by is_some xs + 1 =
+      counted (Some y) (in_list x at) in
       let one : one_if (get_or xs i None) ≡ 1 = one_in x at in
       omega arith
 
-  pub filled_len : (y : A) → i < length xs → get_or xs i None ≡ None → count_by is_some (set xs i (Some y)) ≡ count_by is_some xs + 1
+  pub filled_len : (y : A)
+      → i < length xs → get_or xs i None ≡ None
+      → count_by is_some (set xs i (Some y)) ≡ count_by is_some xs + 1
   filled_len y l at =
-      let n : count_by is_some (set xs i (Some y)) + one_if (get_or xs i None) ≡ count_by is_some xs + 1 = counted (Some y) l in
+      let n : count_by is_some (set xs i (Some y)) + one_if (get_or xs i None) ≡ count_by is_some xs + 1 =
+      counted (Some y) l in
       let none : one_if (get_or xs i None) ≡ 0 = ap one_if at in
       omega arith
 
   pub emptied_len : (x : A) → get_or xs i None ≡ Some x → count_by is_some (set xs i None) + 1 ≡ count_by is_some xs
   emptied_len x at =
-      let n : count_by is_some (set xs i None) + one_if (get_or xs i None) ≡ count_by is_some xs + 0 = counted None (in_list x at) in
+      let n : count_by is_some (set xs i None) + one_if (get_or xs i None) ≡ count_by is_some xs + 0 =
+      counted None (in_list x at) in
       let one : one_if (get_or xs i None) ≡ 1 = one_in x at in
       omega arith
 
 -- there are fewer keys than handles if one handle has none
-pub fewer_keys : (keys : List (Option ℕ)) (p : ℕ) → p < length keys → get_or keys p None ≡ None → count_by is_some keys + 1 ≤ length keys
+pub fewer_keys : (keys : List (Option ℕ)) (p : ℕ)
+    → p < length keys → get_or keys p None ≡ None
+    → count_by is_some keys + 1 ≤ length keys
 fewer_keys keys p l free =
     let n : count_by is_some (set keys p (Some 0)) ≡ count_by is_some keys + 1 = filled_len keys p 0 l free in
-    let most : count_by is_some (set keys p (Some 0)) ≤ length (set keys p (Some 0)) = count_by-le-length is_some (set keys p (Some 0)) in
+    let most : count_by is_some (set keys p (Some 0)) ≤ length (set keys p (Some 0)) =
+    count_by-le-length is_some (set keys p (Some 0)) in
     let long = length-set keys p (Some 0) in
     omega arith
 
 -- ---- which handles have a map
 
-pub by_handle_len : (keys : List (Option ℕ)) (maps : Slab StoredMap) → AreKeys keys maps → length (by_handle keys maps) ≡ MAPS
+pub by_handle_len : (keys : List (Option ℕ)) (maps : Slab StoredMap)
+    → AreKeys keys maps → length (by_handle keys maps) ≡ MAPS
 by_handle_len keys maps is = length-map keys _ ∙ is.long
 
 some_mapped : (o : Option StoredMap) → is_some (option_map live_of o) ≡ is_some o
@@ -90,9 +102,14 @@ module _ (keys : List (Option ℕ)) (maps : Slab StoredMap) (is : AreKeys keys m
   handles_are = length-map (by_handle keys maps) _ ∙ by_handle_len keys maps is
 
   live_where : (p : ℕ) → is_some (get_or (live_maps_of (by_handle keys maps)) p None) ≡ is_some (get_or keys p None)
-  live_where p = ap is_some (at_lives (by_handle keys maps) p) ∙ some_mapped (get_or (by_handle keys maps) p None) ∙ by (get_or keys p None) refl
+  live_where p =
+      ap is_some (at_lives (by_handle keys maps) p)
+      ∙ some_mapped (get_or (by_handle keys maps) p None)
+      ∙ by (get_or keys p None) refl
     where
-      by : (o : Option ℕ) → get_or keys p None ≡ o → is_some (get_or (by_handle keys maps) p None) ≡ is_some (get_or keys p None)
+      by : (o : Option ℕ)
+          → get_or keys p None ≡ o
+          → is_some (get_or (by_handle keys maps) p None) ≡ is_some (get_or keys p None)
       by None at = ap is_some (no_key maps keys p at) ∙ sym (ap is_some at)
       by (Some key) at = ap is_some (under_key maps keys p key at) ∙ is.there p key at ∙ sym (ap is_some at)
 
@@ -109,14 +126,20 @@ no_value None h = refl
 no_value (Some x) h = absurd (h x refl)
 
 -- a stored map has one of the handles
-pub in_handles : (keys : List (Option ℕ)) (maps : Slab StoredMap) → AreKeys keys maps → (p : ℕ) (e : StoredMap) → get_or (by_handle keys maps) p None ≡ Some e → p < MAPS
+pub in_handles : (keys : List (Option ℕ)) (maps : Slab StoredMap)
+    → AreKeys keys maps
+    → (p : ℕ) (e : StoredMap) → get_or (by_handle keys maps) p None ≡ Some e
+    → p < MAPS
 in_handles keys maps is p e at =
     let below = within (by_handle keys maps) p e at in
     let long = by_handle_len keys maps is in
     omega arith
 
 -- the handle of a live map has a key
-pub has_key : (a : Inside) {t : LiveMaps} {handle map : ℕ} → as_live_maps a ≡ t → handle ≡ map → IsSome (live_at t map) → IsSome (get_or a.keys handle None)
+pub has_key : (a : Inside) {t : LiveMaps} {handle map : ℕ}
+    → as_live_maps a ≡ t → handle ≡ map
+    → IsSome (live_at t map)
+    → IsSome (get_or a.keys handle None)
 has_key a {handle = handle} {map = map} view same live = by (get_or a.keys handle None) refl
   where
     by : (o : Option ℕ) → get_or a.keys handle None ≡ o → IsSome o
@@ -129,7 +152,10 @@ has_key a {handle = handle} {map = map} view same live = by (get_or a.keys handl
         ∙ ap is_some (at_lives (stored_in a) handle ∙ ap (option_map live_of) (no_key a.maps a.keys handle at))))
 
 -- a map is live if and only if its handle has a key
-pub live_with_key : (a : Inside) {t : LiveMaps} {handle map : ℕ} → as_live_maps a ≡ t → handle ≡ map → AreKeys a.keys a.maps → is_some (get_or a.keys handle None) ≡ is_some (live_at t map)
+pub live_with_key : (a : Inside) {t : LiveMaps} {handle map : ℕ}
+    → as_live_maps a ≡ t → handle ≡ map
+    → AreKeys a.keys a.maps
+    → is_some (get_or a.keys handle None) ≡ is_some (live_at t map)
 live_with_key a {handle = handle} {map = map} view same is =
     sym (live_where a.keys a.maps is handle)
     ∙ ap (λ (p : ℕ). is_some (get_or (live_maps_of (stored_in a)) p None)) same
@@ -137,16 +163,24 @@ live_with_key a {handle = handle} {map = map} view same is =
 
 -- ---- the map under one key is replaced, and the others are not changed
 
-module _ (keys : List (Option ℕ)) (old new : Slab StoredMap) (is : AreKeys keys old) (p key : ℕ) (at : get_or keys p None ≡ Some key) (others : (j : ℕ) → j ≢ key → get new j ≡ get old j) where
+module _ (keys : List (Option ℕ)) (old new : Slab StoredMap) (is : AreKeys keys old) (p key : ℕ)
+    (at : get_or keys p None ≡ Some key)
+    (others : (j : ℕ) → j ≢ key → get new j ≡ get old j) where
   pub others_by_handle : (q : ℕ) → q ≢ p → get_or (by_handle keys new) q None ≡ get_or (by_handle keys old) q None
   others_by_handle q ne = by (get_or keys q None) refl
     where
-      by : (o : Option ℕ) → get_or keys q None ≡ o → get_or (by_handle keys new) q None ≡ get_or (by_handle keys old) q None
+      by : (o : Option ℕ)
+          → get_or keys q None ≡ o
+          → get_or (by_handle keys new) q None ≡ get_or (by_handle keys old) q None
       by None e = no_key new keys q e ∙ sym (no_key old keys q e)
-      by (Some j) e = under_key new keys q j e ∙ others j (λ s. ne (is.own q p key (e ∙ ap Some s) at)) ∙ sym (under_key old keys q j e)
+      by (Some j) e =
+          under_key new keys q j e
+          ∙ others j (λ s. ne (is.own q p key (e ∙ ap Some s) at))
+          ∙ sym (under_key old keys q j e)
 
 -- it was written through a `&mut`
-module _ (keys : List (Option ℕ)) (old : Slab StoredMap) (is : AreKeys keys old) (p key : ℕ) (at : get_or keys p None ≡ Some key) (e f : StoredMap) (there : get old key ≡ Some e) where
+module _ (keys : List (Option ℕ)) (old : Slab StoredMap) (is : AreKeys keys old) (p key : ℕ)
+    (at : get_or keys p None ≡ Some key) (e f : StoredMap) (there : get old key ≡ Some e) where
   abbrev new : Slab StoredMap
   new = with_value old key f
 
@@ -174,7 +208,10 @@ module _ (keys : List (Option ℕ)) (old : Slab StoredMap) (is : AreKeys keys ol
 
 -- ---- a handle gets a key that none has
 
-module _ (keys : List (Option ℕ)) (old new : Slab StoredMap) (is : AreKeys keys old) (p key : ℕ) (free : get_or keys p None ≡ None) (below : p < MAPS) (was : get old key ≡ None) (e : StoredMap) (there : get new key ≡ Some e) (others : (j : ℕ) → j ≢ key → get new j ≡ get old j) where
+module _ (keys : List (Option ℕ)) (old new : Slab StoredMap) (is : AreKeys keys old) (p key : ℕ)
+    (free : get_or keys p None ≡ None) (below : p < MAPS) (was : get old key ≡ None) (e : StoredMap)
+    (there : get new key ≡ Some e)
+    (others : (j : ℕ) → j ≢ key → get new j ≡ get old j) where
   abbrev more : List (Option ℕ)
   more = set keys p (Some key)
 
@@ -199,9 +236,12 @@ module _ (keys : List (Option ℕ)) (old new : Slab StoredMap) (is : AreKeys key
   pub added_others : (q : ℕ) → q ≢ p → get_or (by_handle more new) q None ≡ get_or (by_handle keys old) q None
   added_others q ne = by (get_or keys q None) refl
     where
-      by : (o : Option ℕ) → get_or keys q None ≡ o → get_or (by_handle more new) q None ≡ get_or (by_handle keys old) q None
+      by : (o : Option ℕ)
+          → get_or keys q None ≡ o
+          → get_or (by_handle more new) q None ≡ get_or (by_handle keys old) q None
       by None at = no_key new more q (other_key q ne ∙ at) ∙ sym (no_key old keys q at)
-      by (Some j) at = under_key new more q j (other_key q ne ∙ at) ∙ others j (unused q j at) ∙ sym (under_key old keys q j at)
+      by (Some j) at =
+          under_key new more q j (other_key q ne ∙ at) ∙ others j (unused q j at) ∙ sym (under_key old keys q j at)
 
   pub added_keys : slab_len new ≡ slab_len old + 1 → AreKeys more new
   added_keys one = record {
@@ -221,7 +261,9 @@ module _ (keys : List (Option ℕ)) (old new : Slab StoredMap) (is : AreKeys key
 
 -- ---- a handle loses its key
 
-module _ (keys : List (Option ℕ)) (old new : Slab StoredMap) (is : AreKeys keys old) (p key : ℕ) (at : get_or keys p None ≡ Some key) (gap : get new key ≡ None) (others : (j : ℕ) → j ≢ key → get new j ≡ get old j) where
+module _ (keys : List (Option ℕ)) (old new : Slab StoredMap) (is : AreKeys keys old) (p key : ℕ)
+    (at : get_or keys p None ≡ Some key) (gap : get new key ≡ None)
+    (others : (j : ℕ) → j ≢ key → get new j ≡ get old j) where
   abbrev fewer : List (Option ℕ)
   fewer = set keys p None
 
@@ -246,9 +288,12 @@ module _ (keys : List (Option ℕ)) (old new : Slab StoredMap) (is : AreKeys key
   pub removed_others : (q : ℕ) → q ≢ p → get_or (by_handle fewer new) q None ≡ get_or (by_handle keys old) q None
   removed_others q ne = by (get_or keys q None) refl
     where
-      by : (o : Option ℕ) → get_or keys q None ≡ o → get_or (by_handle fewer new) q None ≡ get_or (by_handle keys old) q None
+      by : (o : Option ℕ)
+          → get_or keys q None ≡ o
+          → get_or (by_handle fewer new) q None ≡ get_or (by_handle keys old) q None
       by None e = no_key new fewer q (kept_key q ne ∙ e) ∙ sym (no_key old keys q e)
-      by (Some j) e = under_key new fewer q j (kept_key q ne ∙ e) ∙ others j (another q j ne e) ∙ sym (under_key old keys q j e)
+      by (Some j) e =
+          under_key new fewer q j (kept_key q ne ∙ e) ∙ others j (another q j ne e) ∙ sym (under_key old keys q j e)
 
   pub removed_keys : slab_len new + 1 ≡ slab_len old → AreKeys fewer new
   removed_keys one = record {
@@ -257,6 +302,7 @@ module _ (keys : List (Option ℕ)) (old new : Slab StoredMap) (is : AreKeys key
         let ne = not_lost q j ej in
         let was = sym (kept_key q ne) ∙ ej in
         ap is_some (others j (another q j ne was)) ∙ is.there q j was;
-    own = λ q r j eq er. is.own q r j (sym (kept_key q (not_lost q j eq)) ∙ eq) (sym (kept_key r (not_lost r j er)) ∙ er);
+    own = λ q r j eq er.
+        is.own q r j (sym (kept_key q (not_lost q j eq)) ∙ eq) (sym (kept_key r (not_lost r j er)) ∙ er);
     all = same_less (one ∙ is.all ∙ sym (emptied_len keys p key at));
   }

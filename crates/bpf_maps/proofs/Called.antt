@@ -25,7 +25,8 @@ copied_is part copied value start at same there =
 
 -- ---- refusals
 
-pub not_claimed : (v : map.Verdict ℕ) (key : List ℕ) (old new : KeyTable) (fault : MapFault) → Claims v key old (Err fault) new → new ≡ old
+pub not_claimed : (v : map.Verdict ℕ) (key : List ℕ) (old new : KeyTable) (fault : MapFault)
+    → Claims v key old (Err fault) new → new ≡ old
 not_claimed (map.Refused f) key old new fault h = h.1
 not_claimed (map.Present p) key old new fault h = absurd (no_element h.0)
   where
@@ -33,18 +34,22 @@ not_claimed (map.Present p) key old new fault h = absurd (no_element h.0)
     no_element e = cc
 not_claimed map.New key old new fault h = absurd h
 
-pub not_removed : (v : Result ℕ MapFault) (key : List ℕ) (old new : KeyTable) (fault : MapFault) → Removes v key old (Err fault) new → new ≡ old
+pub not_removed : (v : Result ℕ MapFault) (key : List ℕ) (old new : KeyTable) (fault : MapFault)
+    → Removes v key old (Err fault) new → new ≡ old
 not_removed (Err f) key old new fault h = h.1
 not_removed (Ok p) key old new fault h = absurd (no_element h.0)
   where
     no_element : ◌≡◌ {A = Result (Unit {0}) MapFault} (Err fault) (Ok tt) → ⊥
     no_element e = cc
 
-module _ (along : LiveMapsRefineValues) (part : List ℕ) (old new : LiveMaps) (k : ℕ) (areas : SameAreas old new) (live : IsSome (live_at new k)) where
+module _ (along : LiveMapsRefineValues) (part : List ℕ) (old new : LiveMaps) (k : ℕ)
+    (areas : SameAreas old new) (live : IsSome (live_at new k)) where
   pub keeps : keys_at new k ≡ keys_at old k → KeepsMap k old part new part
   keeps keys was = (live, (along part old new k areas live).same keys)
 
-  pub removed : (v : Result ℕ MapFault) (key : List ℕ) (done : Unit {0}) → Removes v key (keys_at old k) (Ok done) (keys_at new k) → map_in part new k ≡ map.with_deleted (map_in part old k) key
+  pub removed : (v : Result ℕ MapFault) (key : List ℕ) (done : Unit {0})
+      → Removes v key (keys_at old k) (Ok done) (keys_at new k)
+      → map_in part new k ≡ map.with_deleted (map_in part old k) key
   removed (Ok p) key done h = (along part old new k areas live).delete key p h.1
   removed (Err f) key done h = absurd (no_fault h.0)
     where
@@ -57,7 +62,11 @@ module _ (along : LiveMapsRefineValues) (part : List ℕ) (old new : LiveMaps) (
       (still, (along part old new j areas still).same (ap (λ (o : Option LiveMap). (live_or o).keys) same))
 
 -- a value that is written into one map
-pub keeps_written : ValuesAreWritten → (part : List ℕ) (old new : LiveMaps) (k p : ℕ) (bytes : List ℕ) (j : ℕ) → IsValueAt part new k p bytes → j ≢ k → KeepsMap j old part new part → KeepsMap j old part new (with_value part new k p bytes)
+pub keeps_written : ValuesAreWritten
+    → (part : List ℕ) (old new : LiveMaps) (k p : ℕ) (bytes : List ℕ) (j : ℕ)
+    → IsValueAt part new k p bytes → j ≢ k
+    → KeepsMap j old part new part
+    → KeepsMap j old part new (with_value part new k p bytes)
 keeps_written writes part old new k p bytes j is differ keeps was =
     let (still, same) = keeps was in
     (still, (writes part new k p bytes is).others j differ still ∙ same)

@@ -23,10 +23,14 @@ told_of f is = ap (λ (x : Option LiveMap). f (live_or x)) is
 
 -- the map without its area after one hold is released; None if it was the last
 abbrev held_less : LiveMap → Bool → Option MapWithoutArea
-held_less l last = if last then None else Some (let h : MapWithoutArea = record { keys = l.keys; holds = l.holds - 1 } in h)
+held_less l last =
+    if last then None else Some (let h : MapWithoutArea = record { keys = l.keys; holds = l.holds - 1 } in h)
 
-less_than_held : {o : Option LiveMap} {l : LiveMap} {last : Bool} → o ≡ Some l → nat_le l.holds 1 ≡ last → one_less (option_map without_area o) ≡ held_less l last
-less_than_held {l = l} at is = ap (λ (x : Option LiveMap). one_less (option_map without_area x)) at ∙ ap (held_less l) is
+less_than_held : {o : Option LiveMap} {l : LiveMap} {last : Bool}
+    → o ≡ Some l → nat_le l.holds 1 ≡ last
+    → one_less (option_map without_area o) ≡ held_less l last
+less_than_held {l = l} at is =
+    ap (λ (x : Option LiveMap). one_less (option_map without_area x)) at ∙ ap (held_less l) is
 
 -- the map of `handle` is under `key`
 pub record IsUnder (a : Inside) (t : LiveMaps) (handle map key : ℕ) (e : StoredMap) : Type 0 where
@@ -37,7 +41,11 @@ pub record IsUnder (a : Inside) (t : LiveMaps) (handle map key : ℕ) (e : Store
   pub here : get a.maps key ≡ Some e
 
 -- the same, from the clauses of the calls that lead to the map
-pub is_under : {a : Inside} {t : LiveMaps} {handle map key : ℕ} {e : StoredMap} → as_live_maps a ≡ t → IsWellFormedMaps a → handle ≡ map → get_or a.keys handle None ≡ Some key → get a.maps key ≡ Some e → IsUnder a t handle map key e
+pub is_under : {a : Inside} {t : LiveMaps} {handle map key : ℕ} {e : StoredMap}
+    → as_live_maps a ≡ t → IsWellFormedMaps a
+    → handle ≡ map → get_or a.keys handle None ≡ Some key
+    → get a.maps key ≡ Some e
+    → IsUnder a t handle map key e
 is_under view whole same keyed here = record { view = view; whole = whole; same = same; keyed = keyed; here = here }
 
 -- it is replaced by one with the same shape and area
@@ -51,13 +59,24 @@ pub record IsChange (a : Inside) (t : LiveMaps) (handle map key : ℕ) (old new 
   pub sound : IsSound (keys_in new.map)
 
 -- a map is live
-pub live_here : (a : Inside) {t : LiveMaps} {handle map : ℕ} {e : StoredMap} → as_live_maps a ≡ t → handle ≡ map → get_or (stored_in a) handle None ≡ Some e → live_at t map ≡ Some (live_of e)
-live_here a {handle = handle} {map = map} {e = e} view same here = ap (λ (u : LiveMaps). live_at u map) (sym view) ∙ ap (λ (p : ℕ). get_or (live_maps_of (stored_in a)) p None) (sym same) ∙ live_by (stored_in a) (stored_in a) handle e here
+pub live_here : (a : Inside) {t : LiveMaps} {handle map : ℕ} {e : StoredMap}
+    → as_live_maps a ≡ t → handle ≡ map
+    → get_or (stored_in a) handle None ≡ Some e
+    → live_at t map ≡ Some (live_of e)
+live_here a {handle = handle} {map = map} {e = e} view same here =
+    ap (λ (u : LiveMaps). live_at u map) (sym view)
+    ∙ ap (λ (p : ℕ). get_or (live_maps_of (stored_in a)) p None) (sym same)
+    ∙ live_by (stored_in a) (stored_in a) handle e here
 
 -- a live map is stored
-pub live_stored : (a : Inside) {t : LiveMaps} {handle map : ℕ} → as_live_maps a ≡ t → handle ≡ map → IsSome (live_at t map) → (e : StoredMap) × (get_or (stored_in a) handle None ≡ Some e) × (live_at t map ≡ Some (live_of e))
+pub live_stored : (a : Inside) {t : LiveMaps} {handle map : ℕ}
+    → as_live_maps a ≡ t → handle ≡ map
+    → IsSome (live_at t map)
+    → (e : StoredMap) × (get_or (stored_in a) handle None ≡ Some e) × (live_at t map ≡ Some (live_of e))
 live_stored a {t = t} {handle = handle} view same live =
-    let there : IsSome (live_at (as_live_maps a) handle) = subst (λ (u : LiveMaps). IsSome (live_at u handle)) (sym view) (subst (λ (k : ℕ). IsSome (live_at t k)) (sym same) live) in
+    let there : IsSome (live_at (as_live_maps a) handle) =
+    subst (λ (u : LiveMaps). IsSome (live_at u handle)) (sym view)
+    (subst (λ (k : ℕ). IsSome (live_at t k)) (sym same) live) in
     let e = some_stored (stored_in a) handle there in
     (e.0, e.1, live_here a view same e.1)
 
@@ -72,7 +91,8 @@ module _ {a : Inside} {t : LiveMaps} {handle map key : ℕ} {e : StoredMap} (u :
   pub placed_under : IsInItsArea a.bytes e
   placed_under = u.whole.placed handle e at_handle
 
-module _ {a : Inside} {t : LiveMaps} {handle map key : ℕ} {old new : StoredMap} (c : IsChange a t handle map key old new) where
+module _ {a : Inside} {t : LiveMaps} {handle map key : ℕ} {old new : StoredMap}
+    (c : IsChange a t handle map key old new) where
   abbrev now : Inside
   now = with_stored a key new
 
@@ -94,11 +114,14 @@ module _ {a : Inside} {t : LiveMaps} {handle map key : ℕ} {old new : StoredMap
       ∙ ap (λ (u : LiveMaps). live_at u other) c.under.view
 
   pub areas_stay : SameAreas t (as_live_maps now)
-  areas_stay = one_changed t (as_live_maps now) map (live_of old) (live_of new) live_old live_new c.shape c.start c.stride others_stay
+  areas_stay =
+      one_changed t (as_live_maps now) map (live_of old) (live_of new) live_old live_new c.shape
+      c.start c.stride others_stay
 
   pub whole_stays : IsWellFormedMaps now
   whole_stays =
-      whole_replaced now handle c.under.whole others old new (at_handle c.under) is c.start c.stride c.elements c.shape c.held c.sound refl
+      whole_replaced now handle c.under.whole others old new (at_handle c.under) is c.start c.stride
+      c.elements c.shape c.held c.sound refl
       (changed_keys a.keys a.maps c.under.whole.keys handle key c.under.keyed old new c.under.here) c.under.whole.room
 
   pub laid_stays : IsLaid (as_live_maps now)
@@ -108,7 +131,9 @@ module _ {a : Inside} {t : LiveMaps} {handle map key : ℕ} {old new : StoredMap
   room_stays = sym whole_stays.sum ∙ c.under.whole.sum ∙ ap areas c.under.view
 
   -- a property of the map that does not change
-  pub part_stays : {P : Type 0} (f : LiveMap → P) → f (live_of new) ≡ f (live_of old) → f (live_or (live_at (as_live_maps now) map)) ≡ f (live_or (live_at t map))
+  pub part_stays : {P : Type 0} (f : LiveMap → P)
+      → f (live_of new) ≡ f (live_of old)
+      → f (live_or (live_at (as_live_maps now) map)) ≡ f (live_or (live_at t map))
   part_stays f same = told_of f live_new ∙ same ∙ sym (told_of f live_old)
 
   -- ---- with the bytes, which the call leaves
@@ -120,7 +145,8 @@ module _ {a : Inside} {t : LiveMaps} {handle map key : ℕ} {old new : StoredMap
   sound_before = subst AreSound c.under.view (sound_at c.under.whole)
 
   pub others_keep : (bytes : List ℕ) → KeepsOthers map t bytes (as_live_maps now) bytes
-  others_keep bytes other ne = keeps_live t (as_live_maps now) bytes bytes other (values_stay bytes) (sound_before other) (others_stay other ne)
+  others_keep bytes other ne =
+      keeps_live t (as_live_maps now) bytes bytes other (values_stay bytes) (sound_before other) (others_stay other ne)
 
   -- ---- a change of only the holds
 
@@ -129,9 +155,12 @@ module _ {a : Inside} {t : LiveMaps} {handle map key : ℕ} {old new : StoredMap
     keys_stay = part_stays (λ l. l.keys) (ap keys_in same)
 
     pub itself_keeps : (bytes : List ℕ) → KeepsMap map t bytes (as_live_maps now) bytes
-    itself_keeps bytes = keeps_keys t (as_live_maps now) bytes bytes map (values_stay bytes) (sound_before map) (ap is_some live_new) keys_stay
+    itself_keeps bytes =
+        keeps_keys t (as_live_maps now) bytes bytes map (values_stay bytes) (sound_before map)
+        (ap is_some live_new) keys_stay
 
-    pub one_held_less : new.holds ≡ old.holds - 1 → 1 < old.holds → held_at (as_live_maps now) map ≡ one_less (held_at t map)
+    pub one_held_less : new.holds ≡ old.holds - 1
+        → 1 < old.holds → held_at (as_live_maps now) map ≡ one_less (held_at t map)
     one_held_less holds more =
         ap (option_map without_area) live_new
         ∙ (λ i. let h : MapWithoutArea = record { keys = keys_in (same i); holds = holds i } in Some h)
@@ -142,5 +171,8 @@ pub not_more : (t : LiveMaps) (key : ℕ) {l : LiveMap} → live_at t key ≡ So
 not_more t key here last more = let held = told_of (λ (x : LiveMap). x.holds) here in omega arith
 
 -- a map that is removed had at most one hold
-pub none_held : (t u : LiveMaps) (map : ℕ) {l : LiveMap} → live_at t map ≡ Some l → live_at u map ≡ None → l.holds ≤ 1 → held_at u map ≡ one_less (held_at t map)
+pub none_held : (t u : LiveMaps) (map : ℕ) {l : LiveMap}
+    → live_at t map ≡ Some l → live_at u map ≡ None
+    → l.holds ≤ 1
+    → held_at u map ≡ one_less (held_at t map)
 none_held t u map {l = l} at bt last = ap (option_map without_area) bt ∙ sym (less_than_held at (le-leb l.holds 1 last))

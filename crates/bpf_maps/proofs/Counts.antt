@@ -12,13 +12,19 @@ times-append p [] ys = omega arith
 times-append p (x ∷ xs) ys = let h = times-append p xs ys in omega arith
 
 pub times_self : (p : ℕ) → occurrences p (p ∷ []) ≡ 1
-times_self p = let e : nat_eq p p ≡ true = eq-eqb p p refl in let P : Bool → Type 0 = λ b. (if b then 1 else 0) + 0 ≡ 1 in subst P (sym e) refl
+times_self p =
+    let e : nat_eq p p ≡ true = eq-eqb p p refl in
+    let P : Bool → Type 0 = λ b. (if b then 1 else 0) + 0 ≡ 1 in
+    subst P (sym e) refl
 
-one_of : (p n : ℕ) → (if nat_lt p n then 1 else 0) + ((if nat_eq p n then 1 else 0) + 0) ≡ (if nat_lt p (n + 1) then 1 else 0)
+one_of : (p n : ℕ)
+    → (if nat_lt p n then 1 else 0) + ((if nat_eq p n then 1 else 0) + 0) ≡ (if nat_lt p (n + 1) then 1 else 0)
 one_of p n = grind (arith, nat_tests)
 
 -- the next element
-pub times-next : (p n : ℕ) (xs : List ℕ) → occurrences p xs ≡ (if nat_lt p n then 1 else 0) → occurrences p (xs ++ n ∷ []) ≡ (if nat_lt p (n + 1) then 1 else 0)
+pub times-next : (p n : ℕ) (xs : List ℕ)
+    → occurrences p xs ≡ (if nat_lt p n then 1 else 0)
+    → occurrences p (xs ++ n ∷ []) ≡ (if nat_lt p (n + 1) then 1 else 0)
 times-next p n xs h = times-append p xs (n ∷ []) ∙ ap (λ (k : ℕ). k + occurrences p (n ∷ [])) h ∙ one_of p n
 
 pub values_of-append : {K : Type 0} (es fs : List (K × ℕ)) → values_of (es ++ fs) ≡ values_of es ++ values_of fs
@@ -35,11 +41,17 @@ pub sum-split : (f : List ℕ → ℕ) → IsSum f → (n : ℕ) (xs : List ℕ)
 sum-split f sum n xs = sym (sum (take n xs) (drop n xs)) ∙ ap f (take-append-drop n xs)
 
 -- a key with its element is taken out of the entries
-pub sum-without : (f : List ℕ → ℕ) → IsSum f → (key : List ℕ) (element : ℕ) (es : List (List ℕ × ℕ)) → found key es ≡ Some element → f (values_of (without key es)) + f (element ∷ []) ≡ f (values_of es)
+pub sum-without : (f : List ℕ → ℕ)
+    → IsSum f
+    → (key : List ℕ) (element : ℕ) (es : List (List ℕ × ℕ)) → found key es ≡ Some element
+    → f (values_of (without key es)) + f (element ∷ []) ≡ f (values_of es)
 sum-without f sum key element [] h = absurd (none-some element h)
 sum-without f sum key element (e ∷ es) h = by (is_key key e.0) h (sum-without f sum key element es)
   where
-    by : (b : Bool) → cond b (Some e.1) (found key es) ≡ Some element → (found key es ≡ Some element → f (values_of (without key es)) + f (element ∷ []) ≡ f (values_of es)) → f (values_of (cond b es (e ∷ without key es))) + f (element ∷ []) ≡ f (values_of (e ∷ es))
+    by : (b : Bool)
+        → cond b (Some e.1) (found key es) ≡ Some element
+        → (found key es ≡ Some element → f (values_of (without key es)) + f (element ∷ []) ≡ f (values_of es))
+        → f (values_of (cond b es (e ∷ without key es))) + f (element ∷ []) ≡ f (values_of (e ∷ es))
     by true g rest =
         let here = ap (λ (p : ℕ). f (p ∷ [])) (same_Some e.1 element g) in
         let whole = sum (e.1 ∷ []) (values_of es) in
@@ -52,11 +64,18 @@ sum-without f sum key element (e ∷ es) h = by (is_key key e.0) h (sum-without 
 
 -- the element of a key is in use
 pub in_use : (p : ℕ) (key : List ℕ) (es : List (List ℕ × ℕ)) → found key es ≡ Some p → 1 ≤ occurrences p (values_of es)
-in_use p key es h = let w = sum-without (occurrences p) (times-append p) key p es h in let one = times_self p in omega arith
+in_use p key es h =
+    let w = sum-without (occurrences p) (times-append p) key p es h in let one = times_self p in omega arith
 
 -- the element of a removed key is kept apart
-pub times-kept : (p : ℕ) (key : List ℕ) (element : ℕ) (es : List (List ℕ × ℕ)) (kept : List ℕ) → found key es ≡ Some element → occurrences p (values_of (without key es)) + occurrences p (kept ++ element ∷ []) ≡ occurrences p (values_of es) + occurrences p kept
-times-kept p key element es kept h = let w = sum-without (occurrences p) (times-append p) key element es h in let a = times-append p kept (element ∷ []) in omega arith
+pub times-kept : (p : ℕ) (key : List ℕ) (element : ℕ) (es : List (List ℕ × ℕ)) (kept : List ℕ)
+    → found key es ≡ Some element
+    → occurrences p (values_of (without key es)) + occurrences p (kept ++ element ∷ [])
+    ≡ occurrences p (values_of es) + occurrences p kept
+times-kept p key element es kept h =
+    let w = sum-without (occurrences p) (times-append p) key element es h in
+    let a = times-append p kept (element ∷ []) in
+    omega arith
 
 pub sized-without : (n : ℕ) (key : List ℕ) (es : List (List ℕ × ℕ)) → IsSized n es → IsSized n (without key es)
 sized-without n key [] h = tt
@@ -66,7 +85,8 @@ sized-without n key (e ∷ es) h = by (is_key key e.0) (sized-without n key es h
     by true r = h.1
     by false r = (h.0, r)
 
-pub sized-with : (n : ℕ) (key : List ℕ) (p : ℕ) (es : List (List ℕ × ℕ)) → length key ≡ n → IsSized n es → IsSized n (with_key key p es)
+pub sized-with : (n : ℕ) (key : List ℕ) (p : ℕ) (es : List (List ℕ × ℕ))
+    → length key ≡ n → IsSized n es → IsSized n (with_key key p es)
 sized-with n key p [] e h = (e, tt)
 sized-with n key p (x ∷ es) e h = (h.0, sized-with n key p es e h.1)
 
@@ -75,6 +95,9 @@ pub without-absent : (key : List ℕ) (es : List (List ℕ × ℕ)) → found ke
 without-absent key [] h = refl
 without-absent key (e ∷ es) h = by (is_key key e.0) h (without-absent key es)
   where
-    by : (b : Bool) → cond b (Some e.1) (found key es) ≡ None → (found key es ≡ None → without key es ≡ es) → cond b es (e ∷ without key es) ≡ e ∷ es
+    by : (b : Bool)
+        → cond b (Some e.1) (found key es) ≡ None
+        → (found key es ≡ None → without key es ≡ es)
+        → cond b es (e ∷ without key es) ≡ e ∷ es
     by true g r = absurd (none-some e.1 (sym g))
     by false g r = ap (λ (xs : List (List ℕ × ℕ)). e ∷ xs) (r g)

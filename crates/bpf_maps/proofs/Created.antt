@@ -29,7 +29,9 @@ use Rattle.bpf_maps.proofs.Whole.{laid, sound_at, whole_added, offset_of}
 use Rattle.bpf_maps.proofs.Values.{new_map_in}
 use Rattle.bpf_maps.proofs.Stays.{keeps_live}
 
-pub no_fault : (t : LiveMaps) (s : MapShape) → is_none (free_handle t) ≡ false → areas t + area_by s ≤ LARGEST_SUM → create_fault t s ≡ None
+pub no_fault : (t : LiveMaps) (s : MapShape)
+    → is_none (free_handle t) ≡ false → areas t + area_by s ≤ LARGEST_SUM
+    → create_fault t s ≡ None
 no_fault t s free fits =
     let b : nat_lt LARGEST_SUM (areas t + area_by s) ≡ false = le-ltb LARGEST_SUM (areas t + area_by s) fits in
     ap (λ (x : Bool). if x || nat_lt LARGEST_SUM (areas t + area_by s) then Some NoSpace else None) free
@@ -39,24 +41,30 @@ or_true : (b : Bool) → (b || true) ≡ true
 or_true true = refl
 or_true false = refl
 
-full_fault : (t : LiveMaps) (s : MapShape) → (free_handle t ≡ None) ⊎ (LARGEST_SUM < areas t + area_by s) → create_fault t s ≡ Some NoSpace
+full_fault : (t : LiveMaps) (s : MapShape)
+    → (free_handle t ≡ None) ⊎ (LARGEST_SUM < areas t + area_by s) → create_fault t s ≡ Some NoSpace
 full_fault t s full =
     ⊎_elim
-    (λ (e : free_handle t ≡ None). ap (λ (o : Option ℕ). if is_none o || nat_lt LARGEST_SUM (areas t + area_by s) then Some NoSpace else None) e)
+    (λ (e : free_handle t ≡ None).
+    ap (λ (o : Option ℕ). if is_none o || nat_lt LARGEST_SUM (areas t + area_by s) then Some NoSpace else None) e)
     (λ (l : LARGEST_SUM < areas t + area_by s).
     ap (λ (x : Bool). if x then Some NoSpace else None)
-    (ap (λ (x : Bool). is_none (free_handle t) || x) (lt-ltb LARGEST_SUM (areas t + area_by s) l) ∙ or_true (is_none (free_handle t))))
+    (ap (λ (x : Bool). is_none (free_handle t) || x) (lt-ltb LARGEST_SUM (areas t + area_by s) l)
+    ∙ or_true (is_none (free_handle t))))
     full
 
 -- there is no room
-module _ {a : Inside} {t : LiveMaps} (shape : MapShape) {size : ℕ} (view : as_live_maps a ≡ t) (h : IsWellFormedMaps a) (size_is : size ≡ area_by shape) where
-  pub creates_full : (position is_none a.keys ≡ None) ⊎ (LARGEST_SUM < a.bytes + size) → Creates (create_fault t shape) t shape (Err NoSpace) t
+module _ {a : Inside} {t : LiveMaps} (shape : MapShape) {size : ℕ} (view : as_live_maps a ≡ t)
+    (h : IsWellFormedMaps a) (size_is : size ≡ area_by shape) where
+  pub creates_full : (position is_none a.keys ≡ None) ⊎ (LARGEST_SUM < a.bytes + size)
+      → Creates (create_fault t shape) t shape (Err NoSpace) t
   creates_full full =
       let s = h.sum in
       subst (λ (o : Option MapFault). Creates o t shape (Err NoSpace) t)
       (sym
       (ap (λ (u : LiveMaps). create_fault u shape) (sym view)
-      ∙ full_fault (as_live_maps a) shape (⊎_elim (λ e. inl (lowest_is a.keys a.maps h.keys ∙ e)) (λ l. inr (omega arith)) full)))
+      ∙ full_fault (as_live_maps a) shape
+      (⊎_elim (λ e. inl (lowest_is a.keys a.maps h.keys ∙ e)) (λ l. inr (omega arith)) full)))
       (refl, refl)
 
 -- there is room for another map, at this handle
@@ -68,7 +76,8 @@ pub record IsRoom (a : Inside) (t : LiveMaps) (shape : MapShape) (size handle : 
   pub room : a.bytes + size ≤ LARGEST_SUM
 
 -- the map is in the slab, and its key is that of the handle
-pub record IsAdded (a : Inside) (shape : MapShape) (spares : SpareMaps) (keys : List (Option ℕ)) (maps : Slab StoredMap) (handle key : ℕ) (e : StoredMap) : Type 0 where
+pub record IsAdded (a : Inside) (shape : MapShape) (spares : SpareMaps) (keys : List (Option ℕ))
+    (maps : Slab StoredMap) (handle key : ℕ) (e : StoredMap) : Type 0 where
   pub keys_are : keys ≡ set a.keys handle (Some key)
   pub was : get a.maps key ≡ None
   pub there : get maps key ≡ Some e
@@ -93,7 +102,9 @@ module _ {a : Inside} {t : LiveMaps} {shape : MapShape} {size handle : ℕ} (r :
   h = r.whole
 
   -- the handle is the lowest that has no key
-  front : (handle < length a.keys) × (is_none (get_or a.keys handle None) ≡ true) × ((q : ℕ) → q < handle → is_none (get_or a.keys q None) ≡ false)
+  front : (handle < length a.keys)
+      × (is_none (get_or a.keys handle None) ≡ true)
+      × ((q : ℕ) → q < handle → is_none (get_or a.keys q None) ≡ false)
   front = position-Some is_none a.keys handle None r.free
 
   free : get_or a.keys handle None ≡ None
@@ -113,7 +124,10 @@ module _ {a : Inside} {t : LiveMaps} {shape : MapShape} {size handle : ℕ} (r :
   empty = no_key a.maps a.keys handle free
 
   no_fault_here : create_fault t shape ≡ None
-  no_fault_here = ap (λ (u : LiveMaps). create_fault u shape) (sym view) ∙ no_fault (as_live_maps a) shape (ap is_none (ap free_handle view ∙ lowest)) (let s = h.sum in let z = r.size_is in let m = r.room in omega arith)
+  no_fault_here =
+      ap (λ (u : LiveMaps). create_fault u shape) (sym view)
+      ∙ no_fault (as_live_maps a) shape (ap is_none (ap free_handle view ∙ lowest))
+      (let s = h.sum in let z = r.size_is in let m = r.room in omega arith)
 
   pub was_none : live_at t handle ≡ None
   was_none = ap (λ (u : LiveMaps). live_at u handle) (sym view) ∙ none_by (stored_in a) (stored_in a) handle empty
@@ -121,14 +135,22 @@ module _ {a : Inside} {t : LiveMaps} {shape : MapShape} {size handle : ℕ} (r :
   -- memory was refused
   pub creates_none : Creates (create_fault t shape) t shape (Err Memory) (as_live_maps (record a { refused = true }))
   creates_none =
-      subst (λ (o : Option MapFault). Creates o t shape (Err Memory) (as_live_maps (record a { refused = true }))) (sym no_fault_here)
+      subst (λ (o : Option MapFault). Creates o t shape (Err Memory) (as_live_maps (record a { refused = true })))
+      (sym no_fault_here)
       (ap (λ (u : LiveMaps). let v : LiveMaps = record { maps = u.maps; refused = true } in v) view)
 
   -- there is room for one more map in the slab
   pub has_room : slab_len a.maps + 1 ≤ a.maps.capacity
-  has_room = let few = fewer_keys a.keys handle front.0 free in let all = h.keys.all in let long = h.keys.long in let room = h.room in omega arith
+  has_room =
+      let few = fewer_keys a.keys handle front.0 free in
+      let all = h.keys.all in
+      let long = h.keys.long in
+      let room = h.room in
+      omega arith
 
-  module _ {spares : SpareMaps} {keys : List (Option ℕ)} {maps : Slab StoredMap} {key : ℕ} {e : StoredMap} (d : IsAdded a shape spares keys maps handle key e) where
+  module _ {spares : SpareMaps} {keys : List (Option ℕ)} {maps : Slab StoredMap} {key : ℕ}
+      {e : StoredMap}
+      (d : IsAdded a shape spares keys maps handle key e) where
     abbrev after : Inside
     after = with_new a spares size keys maps
 
@@ -136,16 +158,21 @@ module _ {a : Inside} {t : LiveMaps} {shape : MapShape} {size handle : ℕ} (r :
     stride = d.stride
 
     there : get_or (stored_in after) handle None ≡ Some e
-    there = ap (λ (ks : List (Option ℕ)). get_or (by_handle ks maps) handle None) d.keys_are ∙ added_here a.keys a.maps maps h.keys handle key free below d.was e d.there d.others
+    there =
+        ap (λ (ks : List (Option ℕ)). get_or (by_handle ks maps) handle None) d.keys_are
+        ∙ added_here a.keys a.maps maps h.keys handle key free below d.was e d.there d.others
 
     others : (q : ℕ) → q ≢ handle → get_or (stored_in after) q None ≡ get_or (stored_in a) q None
-    others q ne = ap (λ (ks : List (Option ℕ)). get_or (by_handle ks maps) q None) d.keys_are ∙ added_others a.keys a.maps maps h.keys handle key free below d.was e d.there d.others q ne
+    others q ne =
+        ap (λ (ks : List (Option ℕ)). get_or (by_handle ks maps) q None) d.keys_are
+        ∙ added_others a.keys a.maps maps h.keys handle key free below d.was e d.there d.others q ne
 
     live_new : live_at (as_live_maps after) handle ≡ Some (live_of e)
     live_new = live_by (stored_in after) (stored_in after) handle e there
 
     others_stay : (q : ℕ) → q ≢ handle → live_at (as_live_maps after) q ≡ live_at t q
-    others_stay q ne = others_by (stored_in a) (stored_in after) handle others q ne ∙ ap (λ (u : LiveMaps). live_at u q) view
+    others_stay q ne =
+        others_by (stored_in a) (stored_in after) handle others q ne ∙ ap (λ (u : LiveMaps). live_at u q) view
 
     pub older_stay : (k : ℕ) → IsSome (live_at t k) → live_at (as_live_maps after) k ≡ live_at t k
     older_stay k live = others_stay k (λ e. true≢false (sym live ∙ ap is_some (ap (live_at t) e ∙ was_none)))
@@ -180,8 +207,11 @@ module _ {a : Inside} {t : LiveMaps} {shape : MapShape} {size handle : ℕ} (r :
         let x : area_by (keys_in e.map).shape ≡ area_by shape = ap (λ (q : KeyTable). area_by q.shape) d.table in
         let room = h.room in
         let same = d.capacity in
-        whole_added after handle h others e empty there d.start round elements_there (let o = d.holds in omega arith) (subst IsSound (sym d.table) (sound_new shape)) (let s = r.size_is in omega arith) r.room
-        (subst (λ (ks : List (Option ℕ)). AreKeys ks maps) (sym d.keys_are) (added_keys a.keys a.maps maps h.keys handle key free below d.was e d.there d.others d.len))
+        whole_added after handle h others e empty there d.start round elements_there
+        (let o = d.holds in omega arith) (subst IsSound (sym d.table) (sound_new shape))
+        (let s = r.size_is in omega arith) r.room
+        (subst (λ (ks : List (Option ℕ)). AreKeys ks maps) (sym d.keys_are)
+        (added_keys a.keys a.maps maps h.keys handle key free below d.was e d.there d.others d.len))
         (omega arith)
 
     pub laid_one : IsLaid (as_live_maps after)
@@ -201,23 +231,37 @@ module _ {a : Inside} {t : LiveMaps} {shape : MapShape} {size handle : ℕ} (r :
 
     -- ---- the bytes
 
-    module _ (bytes : List ℕ) {later : List ℕ} (long : length bytes ≡ PART) (written : later ≡ take (STACK_AND_CONTEXT + a.bytes) bytes ++ (replicate size 0 ++ drop (STACK_AND_CONTEXT + a.bytes + size) bytes)) where
+    module _ (bytes : List ℕ) {later : List ℕ} (long : length bytes ≡ PART)
+        (written : later
+        ≡ take (STACK_AND_CONTEXT + a.bytes) bytes
+        ++ (replicate size 0 ++ drop (STACK_AND_CONTEXT + a.bytes + size) bytes)) where
       enough : STACK_AND_CONTEXT + a.bytes + size ≤ length bytes
       enough = let m = r.room in omega arith
 
       pub front_kept : take STACK_AND_CONTEXT later ≡ take STACK_AND_CONTEXT bytes
-      front_kept = ap (take STACK_AND_CONTEXT) written ∙ front_same bytes (replicate size 0) (STACK_AND_CONTEXT + a.bytes) size (length-replicate size 0) enough STACK_AND_CONTEXT (omega arith)
+      front_kept =
+          ap (take STACK_AND_CONTEXT) written
+          ∙ front_same bytes (replicate size 0) (STACK_AND_CONTEXT + a.bytes) size
+          (length-replicate size 0) enough STACK_AND_CONTEXT (omega arith)
 
-      pub cleared_one : (p : ℕ) → p < shape.max_entries → value_in later (as_live_maps after) handle p ≡ replicate shape.value_size 0
+      pub cleared_one : (p : ℕ)
+          → p < shape.max_entries
+          → value_in later (as_live_maps after) handle p ≡ replicate shape.value_size 0
       cleared_one p l =
-          let o : offset (live_of e) p ≡ STACK_AND_CONTEXT + a.bytes + p * e.stride = offset_of e p ∙ ap (λ (n : ℕ). n + p * e.stride) d.start in
-          ap (λ (x : Option LiveMap). take (live_or x).keys.shape.value_size (drop (offset (live_or x) p) later)) live_new
+          let o : offset (live_of e) p ≡ STACK_AND_CONTEXT + a.bytes + p * e.stride =
+          offset_of e p ∙ ap (λ (n : ℕ). n + p * e.stride) d.start in
+          ap (λ (x : Option LiveMap). take (live_or x).keys.shape.value_size (drop (offset (live_or x) p) later))
+          live_new
           ∙ ap (λ (v : ℕ). take v (drop (offset (live_of e) p) later)) value_of
           ∙ ap (λ (n : ℕ). take shape.value_size (drop n later)) o
           ∙ ap (λ (b : List ℕ). take shape.value_size (drop (STACK_AND_CONTEXT + a.bytes + p * e.stride) b)) written
-          ∙ zeros bytes (STACK_AND_CONTEXT + a.bytes) size enough (p * e.stride) shape.value_size (let x = value_ends shape.value_size shape.max_entries e.stride stride p l in let z = r.size_is in omega arith)
+          ∙ zeros bytes (STACK_AND_CONTEXT + a.bytes) size enough (p * e.stride) shape.value_size
+          (let x = value_ends shape.value_size shape.max_entries e.stride stride p l in let z = r.size_is in omega arith)
 
-      kept_at : (j p : ℕ) (f : StoredMap) → get_or (stored_in a) j None ≡ Some f → p < (keys_in f.map).shape.max_entries → take (keys_in f.map).shape.value_size (drop (offset (live_of f) p) later) ≡ take (keys_in f.map).shape.value_size (drop (offset (live_of f) p) bytes)
+      kept_at : (j p : ℕ) (f : StoredMap)
+          → get_or (stored_in a) j None ≡ Some f → p < (keys_in f.map).shape.max_entries
+          → take (keys_in f.map).shape.value_size (drop (offset (live_of f) p) later)
+          ≡ take (keys_in f.map).shape.value_size (drop (offset (live_of f) p) bytes)
       kept_at j p f at l =
           let i = h.placed j f at in
           let s = (keys_in f.map).shape in
@@ -225,7 +269,9 @@ module _ {a : Inside} {t : LiveMaps} {shape : MapShape} {size handle : ℕ} (r :
           let x = value_ends s.value_size s.max_entries f.stride i.stride p l in
           let w = i.within in
           ap (λ (b : List ℕ). take s.value_size (drop (offset (live_of f) p) b)) written
-          ∙ before_same bytes (replicate size 0) (STACK_AND_CONTEXT + a.bytes) size (length-replicate size 0) enough (offset (live_of f) p) s.value_size (omega arith)
+          ∙ before_same bytes (replicate size 0) (STACK_AND_CONTEXT + a.bytes) size
+          (length-replicate size 0) enough (offset (live_of f) p)
+          s.value_size (omega arith)
 
       pub values_kept : SameValues t bytes (as_live_maps after) later
       values_kept j p old_live new_live l =
@@ -237,33 +283,49 @@ module _ {a : Inside} {t : LiveMaps} {shape : MapShape} {size handle : ℕ} (r :
           let m = told_of (λ x. x.keys.shape.max_entries) n in
           ap (λ (x : Option LiveMap). take (live_or x).keys.shape.value_size (drop (offset (live_or x) p) later)) n
           ∙ kept_at j p f.0 f.1 (omega arith)
-          ∙ ap (λ (x : Option LiveMap). take (live_or x).keys.shape.value_size (drop (offset (live_or x) p) bytes)) (sym f.2))
+          ∙ ap (λ (x : Option LiveMap). take (live_or x).keys.shape.value_size (drop (offset (live_or x) p) bytes))
+          (sym f.2))
 
       pub fresh_one : map_in later (as_live_maps after) handle ≡ new_table (λ i. replicate shape.value_size 0) shape
-      fresh_one = new_map_in later (as_live_maps after) handle shape (replicate shape.value_size 0) keys_one (λ array. cleared_one)
+      fresh_one =
+          new_map_in later (as_live_maps after) handle shape (replicate shape.value_size 0) keys_one
+          (λ array. cleared_one)
 
       pub maps_kept : KeepsMaps t bytes (as_live_maps after) later
-      maps_kept k live = keeps_live t (as_live_maps after) bytes later k values_kept (subst AreSound view (sound_at h) k) (older_stay k live) live
+      maps_kept k live =
+          keeps_live t (as_live_maps after) bytes later k values_kept
+          (subst AreSound view (sound_at h) k) (older_stay k live)
+          live
 
 -- ---- a creation that returns a key
 
-pub created : (f : Option MapFault) (old new : LiveMaps) (s : MapShape) (k : ℕ) → Creates f old s (Ok k) new → IsCreated old s k new
+pub created : (f : Option MapFault) (old new : LiveMaps) (s : MapShape) (k : ℕ)
+    → Creates f old s (Ok k) new → IsCreated old s k new
 created None old new s k h = h
 created (Some f) old new s k h = cc (h.0)
 
 -- ---- what a caller can conclude
 
 -- if there is room, a creation is not refused with `NoSpace`
-pub not_full : (old new : LiveMaps) (s : MapShape) (answer : Result ℕ MapFault) → create_fault old s ≡ None → Creates (create_fault old s) old s answer new → answer ≢ Err NoSpace
-not_full old new s answer none made e = subst (λ (a : Result ℕ MapFault). Creates None old s a new) e (subst (λ (f : Option MapFault). Creates f old s answer new) none made)
+pub not_full : (old new : LiveMaps) (s : MapShape) (answer : Result ℕ MapFault)
+    → create_fault old s ≡ None
+    → Creates (create_fault old s) old s answer new
+    → answer ≢ Err NoSpace
+not_full old new s answer none made e =
+    subst (λ (a : Result ℕ MapFault). Creates None old s a new) e
+    (subst (λ (f : Option MapFault). Creates f old s answer new) none made)
 
 -- a new map is at no higher handle than one that was free
-pub made_low : (f : Option MapFault) (old new : LiveMaps) (s : MapShape) (k : ℕ) (answer : Result ℕ MapFault) → live_at old k ≡ None → Creates f old s answer new → IfOk answer (λ made. made ≤ k)
+pub made_low : (f : Option MapFault) (old new : LiveMaps) (s : MapShape) (k : ℕ)
+    (answer : Result ℕ MapFault)
+    → live_at old k ≡ None → Creates f old s answer new
+    → IfOk answer (λ made. made ≤ k)
 made_low f old new s k (Ok made) none h = lowest_most made k old (created f old new s made h).lowest none
 made_low f old new s k (Err e) none h = tt
 
 -- a refusal changes no map
-pub maps_refused : (f : Option MapFault) (old new : LiveMaps) (s : MapShape) (e : MapFault) → Creates f old s (Err e) new → new.maps ≡ old.maps
+pub maps_refused : (f : Option MapFault) (old new : LiveMaps) (s : MapShape) (e : MapFault)
+    → Creates f old s (Err e) new → new.maps ≡ old.maps
 maps_refused (Some f) old new s e h = ap (λ (t : LiveMaps). t.maps) h.1
 maps_refused None old new s Memory h = ap (λ (t : LiveMaps). t.maps) h
 maps_refused None old new s NoEntry h = absurd h
@@ -273,5 +335,9 @@ maps_refused None old new s Invalid h = absurd h
 maps_refused None old new s NoSpace h = absurd h
 
 -- there is as much room if the same handle is the lowest free one, and the areas take as many bytes
-pub same_fault : (old new : LiveMaps) (s : MapShape) → free_handle new ≡ free_handle old → areas new ≡ areas old → create_fault new s ≡ create_fault old s
-same_fault old new s free bytes = ap₂ (λ (o : Option ℕ) (n : ℕ). if is_none o || nat_lt LARGEST_SUM (n + area_by s) then Some NoSpace else None) free bytes
+pub same_fault : (old new : LiveMaps) (s : MapShape)
+    → free_handle new ≡ free_handle old → areas new ≡ areas old
+    → create_fault new s ≡ create_fault old s
+same_fault old new s free bytes =
+    ap₂ (λ (o : Option ℕ) (n : ℕ). if is_none o || nat_lt LARGEST_SUM (n + area_by s) then Some NoSpace else None)
+    free bytes

@@ -30,7 +30,9 @@ few_elements : (d : MapKind) (n : ℕ) → n < 2 ^ 32 → element_count d n < 2 
 few_elements Array n small = small
 few_elements Hash n small = omega arith
 
-pub elements_from : (s : MapShape) (w : ℕ) → w ≡ word_of (elements_of s) → (w % 2 ^ 32 ≡ (elements_of s).count) × (w / 2 ^ 32 ≡ (elements_of s).stride)
+pub elements_from : (s : MapShape) (w : ℕ)
+    → w ≡ word_of (elements_of s)
+    → (w % 2 ^ 32 ≡ (elements_of s).count) × (w / 2 ^ 32 ≡ (elements_of s).stride)
 elements_from s w is =
     let few = few_entries s in
     from_word (elements_of s).count (elements_of s).stride w (few_elements s.kind s.max_entries (omega arith)) is
@@ -52,12 +54,19 @@ module _ (t : LiveMaps) (k : ℕ) (e : Elements) (is : e ≡ elements_at t k) (s
       (only.0, count_is ∙ only.1)
 
   -- a key of another size
-  pub no_key : IsSome (live_at t k) → AreSound t → (key : List ℕ) → (length key ≡ 4 → ⊥) → None ≡ look_up (table_of (keys_at t k)) key
+  pub no_key : IsSome (live_at t k)
+      → AreSound t → (key : List ℕ) → (length key ≡ 4 → ⊥)
+      → None ≡ look_up (table_of (keys_at t k)) key
   no_key live sound key differ =
-      sym (absent_by_size (shape_at t k).key_size key (λ same. differ (same ∙ array_key (shape_at t k) is_array.0)) (keys_at t k).entries (sound k live).sized)
+      sym (absent_by_size (shape_at t k).key_size key
+      (λ same. differ (same ∙ array_key (shape_at t k) is_array.0))
+      (keys_at t k).entries (sound k live).sized)
 
-  module _ (live : IsSome (live_at t k)) (laid : IsLaid t) (packed : IsPacked t) (sound : AreSound t) (key : List ℕ) (i : ℕ) (spells : index_key i ≡ key) (small : i < 2 ^ 32) where
-    stride_of : (o : Option LiveMap) → live_at t k ≡ o → IsSome o → (live_or o).stride ≡ ((live_or o).keys.shape.value_size + 7) / 8 * 8
+  module _ (live : IsSome (live_at t k)) (laid : IsLaid t) (packed : IsPacked t)
+      (sound : AreSound t) (key : List ℕ) (i : ℕ) (spells : index_key i ≡ key) (small : i < 2 ^ 32) where
+    stride_of : (o : Option LiveMap)
+        → live_at t k ≡ o → IsSome o
+        → (live_or o).stride ≡ ((live_or o).keys.shape.value_size + 7) / 8 * 8
     stride_of None at some = absurd (false≢true some)
     stride_of (Some l) at some = packed.stride k l at
 
@@ -65,11 +74,15 @@ module _ (t : LiveMaps) (k : ℕ) (e : Elements) (is : e ≡ elements_at t k) (s
     offset_along : (j : ℕ) → offset_at t k 0 + j * e.stride ≡ offset_at t k j
     unfolding offset
     offset_along j =
-        let stride : e.stride ≡ (live_or (live_at t k)).stride = ap (λ (x : Elements). x.stride) is ∙ sym (stride_of (live_at t k) refl live) in
-        let start : (live_or (live_at t k)).start + 0 * (live_or (live_at t k)).stride ≡ (live_or (live_at t k)).start = omega arith in
+        let stride : e.stride ≡ (live_or (live_at t k)).stride =
+        ap (λ (x : Elements). x.stride) is ∙ sym (stride_of (live_at t k) refl live) in
+        let start : (live_or (live_at t k)).start + 0 * (live_or (live_at t k)).stride ≡ (live_or (live_at t k)).start =
+        omega arith in
         ap (λ (n : ℕ). n + j * e.stride) start ∙ ap (λ (n : ℕ). (live_or (live_at t k)).start + j * n) stride
 
-    found_at : (b : Bool) → nat_lt i (shape_at t k).max_entries ≡ b → (if b then Some i else None) ≡ look_up (table_of (keys_at t k)) key
+    found_at : (b : Bool)
+        → nat_lt i (shape_at t k).max_entries ≡ b
+        → (if b then Some i else None) ≡ look_up (table_of (keys_at t k)) key
     found_at b b_is = found_array is_array.0 ((sound k live).array is_array.0) key i b spells small b_is
 
     -- an index that is out of range
@@ -89,7 +102,9 @@ module _ (t : LiveMaps) (k : ℕ) (e : Elements) (is : e ≡ elements_at t k) (s
       pub element_small : i * e.stride ≤ PART
       element_small = let lies = element_lies.within in let at = offset_along i in omega arith
 
-      pub element_address : (first part : ℕ) → first ≡ part + offset_at t k 0 → (first + i * e.stride) % 2 ^ 64 ≡ value_address part t k (look_up (table_of (keys_at t k)) key)
+      pub element_address : (first part : ℕ)
+          → first ≡ part + offset_at t k 0
+          → (first + i * e.stride) % 2 ^ 64 ≡ value_address part t k (look_up (table_of (keys_at t k)) key)
       element_address first part first_is =
           along part (offset_at t k 0) (i * e.stride) first first_is
           ∙ ap (λ (n : ℕ). (part + n) % 2 ^ 64) (offset_along i)

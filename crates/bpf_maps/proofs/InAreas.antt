@@ -31,7 +31,11 @@ module _ (value max stride : ℕ) (round : stride ≡ (value + 7) / 8 * 8) where
       omega arith
 
   -- the value lies in the part
-  pub element_inside : (start bytes p : ℕ) → STACK_AND_CONTEXT ≤ start → start % 8 ≡ 0 → start + area value max ≤ STACK_AND_CONTEXT + bytes → bytes ≤ LARGEST_SUM → p < max → LiesInPart (start + p * stride) value
+  pub element_inside : (start bytes p : ℕ)
+      → STACK_AND_CONTEXT ≤ start → start % 8 ≡ 0
+      → start + area value max ≤ STACK_AND_CONTEXT + bytes
+      → bytes ≤ LARGEST_SUM → p < max
+      → LiesInPart (start + p * stride) value
   element_inside start bytes p behind aligned within few l = record {
     behind = omega arith;
     within = let i = value_ends p l in omega arith;
@@ -42,7 +46,9 @@ module _ (value max stride : ℕ) (round : stride ≡ (value + 7) / 8 * 8) where
       aligned_at r = let e : p * (r * 8) ≡ p * r * 8 = omega arith in omega arith
 
 -- values of one map
-pub apart_elements : (value stride start p q : ℕ) → stride ≡ (value + 7) / 8 * 8 → p ≢ q → (start + p * stride + value ≤ start + q * stride) ⊎ (start + q * stride + value ≤ start + p * stride)
+pub apart_elements : (value stride start p q : ℕ)
+    → stride ≡ (value + 7) / 8 * 8 → p ≢ q
+    → (start + p * stride + value ≤ start + q * stride) ⊎ (start + q * stride + value ≤ start + p * stride)
 apart_elements value stride start p q round ne =
     ⊎_elim
     (λ (l : p < q). let b = value_before value 0 stride round p q l in inl (omega arith))
@@ -62,16 +68,24 @@ module _ (end size start : ℕ) where
 -- an area of n bytes at s, apart from the area of `size` bytes at `gone` that is freed: it lies before that one and is not moved, or
 -- it lies after it and is moved down
 module _ (gone size s n : ℕ) (apart : (gone + size ≤ s) ⊎ (s + n ≤ gone)) where
-  pub before_or_behind : ((s + n ≤ gone) × (start_without (gone + size) size s ≡ s)) ⊎ ((gone + size ≤ s) × (start_without (gone + size) size s ≡ s - size))
+  pub before_or_behind : ((s + n ≤ gone) × (start_without (gone + size) size s ≡ s))
+      ⊎ ((gone + size ≤ s) × (start_without (gone + size) size s ≡ s - size))
   before_or_behind =
       ⊎_elim
-      (λ (l : s < gone + size). inl (⊎_elim (λ (m : gone + size ≤ s). absurd (omega arith)) (λ (m : s + n ≤ gone). m) apart, same (gone + size) size s l))
+      (λ (l : s < gone + size).
+      inl (
+        ⊎_elim (λ (m : gone + size ≤ s). absurd (omega arith)) (λ (m : s + n ≤ gone). m) apart,
+        same (gone + size) size s l,
+      ))
       (λ (l : gone + size ≤ s). inr (l, lower (gone + size) size s l))
       (cases_lt s (gone + size))
 
 -- two areas that lie apart do so afterwards
-pub apart_still : (gone size s n t m : ℕ) → (gone + size ≤ s) ⊎ (s + n ≤ gone) → (gone + size ≤ t) ⊎ (t + m ≤ gone) → (s + n ≤ t) ⊎ (t + m ≤ s)
-    → (start_without (gone + size) size s + n ≤ start_without (gone + size) size t) ⊎ (start_without (gone + size) size t + m ≤ start_without (gone + size) size s)
+pub apart_still : (gone size s n t m : ℕ)
+    → (gone + size ≤ s) ⊎ (s + n ≤ gone) → (gone + size ≤ t) ⊎ (t + m ≤ gone)
+    → (s + n ≤ t) ⊎ (t + m ≤ s)
+    → (start_without (gone + size) size s + n ≤ start_without (gone + size) size t)
+    ⊎ (start_without (gone + size) size t + m ≤ start_without (gone + size) size s)
 apart_still gone size s n t m one two both =
     ⊎_elim
     (λ x. ⊎_elim
@@ -80,6 +94,11 @@ apart_still gone size s n t m one two both =
     (before_or_behind gone size t m two))
     (λ x. ⊎_elim
     (λ y. let a = x.1 in let b = y.1 in let c = x.0 in let d = y.0 in inr (omega arith))
-    (λ y. let a = x.1 in let b = y.1 in let c = x.0 in let d = y.0 in ⊎_elim (λ z. inl (omega arith)) (λ z. inr (omega arith)) both)
+    (λ y.
+    let a = x.1 in
+    let b = y.1 in
+    let c = x.0 in
+    let d = y.0 in
+    ⊎_elim (λ z. inl (omega arith)) (λ z. inr (omega arith)) both)
     (before_or_behind gone size t m two))
     (before_or_behind gone size s n one)

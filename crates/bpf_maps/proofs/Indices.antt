@@ -39,15 +39,25 @@ same_key i j hi hj = by (nat_eq i j) refl (is_key (index_key i) (index_key j)) r
 behind_first : (a b : ℕ) → b ≤ a → nat_eq a b ≡ false → b + 1 ≤ a
 behind_first a b h f = grind (arith, nat_tests)
 
-pub found_index : (first n k : ℕ) → first + n ≤ 2 ^ 32 → k < 2 ^ 32 → first ≤ k → found (index_key k) (indexed itself first n) ≡ (if nat_lt k (first + n) then Some k else None)
+pub found_index : (first n k : ℕ)
+    → first + n ≤ 2 ^ 32 → k < 2 ^ 32
+    → first ≤ k
+    → found (index_key k) (indexed itself first n) ≡ (if nat_lt k (first + n) then Some k else None)
 unfolding indexed
-found_index first zero k h s l = let e : nat_lt k (first + 0) ≡ false = le-ltb k (first + 0) (omega arith) in ap (λ (b : Bool). if b then Some k else None) (sym e)
+found_index first zero k h s l =
+    let e : nat_lt k (first + 0) ≡ false = le-ltb k (first + 0) (omega arith) in
+    ap (λ (b : Bool). if b then Some k else None) (sym e)
 found_index first (suc n) k h s l =
     let head : is_key (index_key k) (index_key first) ≡ nat_eq k first = same_key k first s (omega arith) in
-    ap (λ (b : Bool). cond b (Some first) (found (index_key k) (indexed itself (first + 1) n))) head ∙ by (nat_eq k first) refl (λ q. found_index (first + 1) n k (omega arith) s q)
+    ap (λ (b : Bool). cond b (Some first) (found (index_key k) (indexed itself (first + 1) n))) head
+    ∙ by (nat_eq k first) refl (λ q. found_index (first + 1) n k (omega arith) s q)
   where
-    by : (b : Bool) → nat_eq k first ≡ b → (first + 1 ≤ k → found (index_key k) (indexed itself (first + 1) n) ≡ (if nat_lt k (first + 1 + n) then Some k else None))
-        → cond b (Some first) (found (index_key k) (indexed itself (first + 1) n)) ≡ (if nat_lt k (first + suc n) then Some k else None)
+    by : (b : Bool)
+        → nat_eq k first ≡ b
+        → (first + 1 ≤ k
+        → found (index_key k) (indexed itself (first + 1) n) ≡ (if nat_lt k (first + 1 + n) then Some k else None))
+        → cond b (Some first) (found (index_key k) (indexed itself (first + 1) n))
+        ≡ (if nat_lt k (first + suc n) then Some k else None)
     by true e r =
         let q : k ≡ first = eqb-true k first e in
         let t : nat_lt k (first + suc n) ≡ true = lt-ltb k (first + suc n) (omega arith) in
@@ -58,49 +68,76 @@ found_index first (suc n) k h s l =
 
 -- ---- the key that follows
 
-pub first_index : (first n : ℕ) → first_key (indexed itself first n) ≡ (if nat_lt 0 n then Some (index_key first) else None)
+pub first_index : (first n : ℕ)
+    → first_key (indexed itself first n) ≡ (if nat_lt 0 n then Some (index_key first) else None)
 unfolding indexed
 first_index first zero = refl
-first_index first (suc n) = let t : nat_lt 0 (suc n) ≡ true = lt-ltb 0 (suc n) (omega arith) in ap (λ (b : Bool). if b then Some (index_key first) else None) (sym t)
+first_index first (suc n) =
+    let t : nat_lt 0 (suc n) ≡ true = lt-ltb 0 (suc n) (omega arith) in
+    ap (λ (b : Bool). if b then Some (index_key first) else None) (sym t)
 
 same_test : (a b c d : ℕ) → a + d ≡ b + c → nat_lt a b ≡ nat_lt c d
 same_test a b c d e = grind (arith, nat_tests)
 
-less : (b : Bool) (i m : ℕ) → i ≡ m → (if b then Some (index_key i) else None) ≡ (if b then Some (index_key m) else None)
+less : (b : Bool) (i m : ℕ)
+    → i ≡ m → (if b then Some (index_key i) else None) ≡ (if b then Some (index_key m) else None)
 less b i m e = ap (λ (x : ℕ). if b then Some (index_key x) else None) e
 
-behind_index : (first n k : ℕ) → first + n ≤ 2 ^ 32 → first ≤ k → k < first + n → key_behind (index_key k) (indexed itself first n) ≡ (if nat_lt (k + 1) (first + n) then Some (index_key (k + 1)) else None)
+behind_index : (first n k : ℕ)
+    → first + n ≤ 2 ^ 32 → first ≤ k
+    → k < first + n
+    → key_behind (index_key k) (indexed itself first n)
+    ≡ (if nat_lt (k + 1) (first + n) then Some (index_key (k + 1)) else None)
 unfolding indexed
 behind_index first zero k h l u = absurd (omega arith)
 behind_index first (suc n) k h l u =
     let head : is_key (index_key k) (index_key first) ≡ nat_eq k first = same_key k first (omega arith) (omega arith) in
-    ap (λ (b : Bool). if b then first_key (indexed itself (first + 1) n) else key_behind (index_key k) (indexed itself (first + 1) n)) head
+    ap (λ (b : Bool).
+    if b then first_key (indexed itself (first + 1) n) else key_behind (index_key k) (indexed itself (first + 1) n))
+    head
     ∙ by (nat_eq k first) refl (λ q. behind_index (first + 1) n k (omega arith) q (omega arith))
   where
-    by : (b : Bool) → nat_eq k first ≡ b → (first + 1 ≤ k → key_behind (index_key k) (indexed itself (first + 1) n) ≡ (if nat_lt (k + 1) (first + 1 + n) then Some (index_key (k + 1)) else None))
-        → (if b then first_key (indexed itself (first + 1) n) else key_behind (index_key k) (indexed itself (first + 1) n)) ≡ (if nat_lt (k + 1) (first + suc n) then Some (index_key (k + 1)) else None)
+    by : (b : Bool)
+        → nat_eq k first ≡ b
+        → (first + 1 ≤ k
+        → key_behind (index_key k) (indexed itself (first + 1) n)
+        ≡ (if nat_lt (k + 1) (first + 1 + n) then Some (index_key (k + 1)) else None))
+        → (if b
+        then first_key (indexed itself (first + 1) n)
+        else key_behind (index_key k) (indexed itself (first + 1) n))
+        ≡ (if nat_lt (k + 1) (first + suc n) then Some (index_key (k + 1)) else None)
     by true e r =
         let q : k ≡ first = eqb-true k first e in
         let t : nat_lt 0 n ≡ nat_lt (k + 1) (first + suc n) = same_test 0 n (k + 1) (first + suc n) (omega arith) in
-        first_index (first + 1) n ∙ ap (λ (b : Bool). if b then Some (index_key (first + 1)) else None) t ∙ less (nat_lt (k + 1) (first + suc n)) (first + 1) (k + 1) (omega arith)
+        first_index (first + 1) n
+        ∙ ap (λ (b : Bool). if b then Some (index_key (first + 1)) else None) t
+        ∙ less (nat_lt (k + 1) (first + suc n)) (first + 1) (k + 1) (omega arith)
     by false e r =
         let m : first + 1 + n ≡ first + suc n = omega arith in
         r (behind_first k first l e) ∙ ap (λ (x : ℕ). if nat_lt (k + 1) x then Some (index_key (k + 1)) else None) m
 
 -- the key after a present index
-pub after_index : (n k : ℕ) → n ≤ 2 ^ 32 → k < n → key_after (index_key k) (indexed itself 0 n) ≡ (if nat_lt (k + 1) n then Some (index_key (k + 1)) else None)
+pub after_index : (n k : ℕ)
+    → n ≤ 2 ^ 32 → k < n
+    → key_after (index_key k) (indexed itself 0 n) ≡ (if nat_lt (k + 1) n then Some (index_key (k + 1)) else None)
 after_index n k h l =
     let t : nat_lt k (0 + n) ≡ true = lt-ltb k (0 + n) (omega arith) in
-    let f : found (index_key k) (indexed itself 0 n) ≡ Some k = found_index 0 n k (omega arith) (omega arith) (omega arith) ∙ ap (λ (b : Bool). if b then Some k else None) t in
+    let f : found (index_key k) (indexed itself 0 n) ≡ Some k =
+    found_index 0 n k (omega arith) (omega arith) (omega arith) ∙ ap (λ (b : Bool). if b then Some k else None) t in
     let m : 0 + n ≡ n = omega arith in
-    ap (λ (o : Option ℕ). if is_some o then key_behind (index_key k) (indexed itself 0 n) else first_key (indexed itself 0 n)) f
+    ap (λ (o : Option ℕ).
+    if is_some o then key_behind (index_key k) (indexed itself 0 n) else first_key (indexed itself 0 n))
+    f
     ∙ behind_index 0 n k (omega arith) (omega arith) (omega arith)
     ∙ ap (λ (x : ℕ). if nat_lt (k + 1) x then Some (index_key (k + 1)) else None) m
 
 -- the key after an absent key
-pub after_other : (n : ℕ) (key : List ℕ) → found key (indexed itself 0 n) ≡ None → key_after key (indexed itself 0 n) ≡ (if nat_lt 0 n then Some (index_key 0) else None)
+pub after_other : (n : ℕ) (key : List ℕ)
+    → found key (indexed itself 0 n) ≡ None
+    → key_after key (indexed itself 0 n) ≡ (if nat_lt 0 n then Some (index_key 0) else None)
 after_other n key h =
-    ap (λ (o : Option ℕ). if is_some o then key_behind key (indexed itself 0 n) else first_key (indexed itself 0 n)) h ∙ first_index 0 n
+    ap (λ (o : Option ℕ). if is_some o then key_behind key (indexed itself 0 n) else first_key (indexed itself 0 n)) h
+    ∙ first_index 0 n
 
 -- ---- the elements
 
@@ -116,7 +153,8 @@ below p n = if nat_lt p n then 1 else 0
 below_next : (p n : ℕ) → (if nat_eq p n then 1 else 0) + below p n ≡ below p (n + 1)
 below_next p n = grind (arith, nat_tests)
 
-times_indexed : (p first n : ℕ) → occurrences p (values_of (indexed itself first n)) + below p first ≡ below p (first + n)
+times_indexed : (p first n : ℕ)
+    → occurrences p (values_of (indexed itself first n)) + below p first ≡ below p (first + n)
 unfolding indexed
 times_indexed p first zero = let e : below p first ≡ below p (first + 0) = ap (below p) (omega arith) in omega arith
 times_indexed p first (suc n) =

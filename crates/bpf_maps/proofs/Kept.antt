@@ -19,7 +19,8 @@ use Rattle.bpf_maps.proofs.Shapes.{hash_no_array}
 
 pub sound : {a : Inside} → IsWellFormedHash a → IsSound (shown a)
 sound {a} h = record {
-  once = λ p. let e = h.once p in let first = sum-split (occurrences p) (times-append p) a.kept a.spare.items in omega arith;
+  once = λ p.
+      let e = h.once p in let first = sum-split (occurrences p) (times-append p) a.kept a.spare.items in omega arith;
   few = let e = h.all in let kept = length-take-le a.kept a.spare.items h.kept in let most = h.kept in omega arith;
   sized = h.sized;
   array = λ array. absurd (hash_no_array a.shape.kind h.kind array);
@@ -36,14 +37,21 @@ abbrev SameKeys : Inside → Inside → Type 0
 SameKeys a b = (f : List ℕ → ℕ) → IsSum f → sum_of f b ≡ sum_of f a
 
 -- the invariant holds after a change that keeps these sums, the capacity and the size of keys
-kept_whole : {a : Inside} (b : Inside) → IsWellFormedHash a → b.shape ≡ a.shape → SameKeys a b → b.kept ≤ length b.spare.items → vec_capacity b.spare ≡ vec_capacity a.spare → TakesKeys b.index a.shape.key_size → bound_of b.index ≡ bound_of a.index → IsSized a.shape.key_size (entries_of b.index) → IsWellFormedHash b
+kept_whole : {a : Inside} (b : Inside)
+    → IsWellFormedHash a → b.shape ≡ a.shape
+    → SameKeys a b → b.kept ≤ length b.spare.items
+    → vec_capacity b.spare ≡ vec_capacity a.spare
+    → TakesKeys b.index a.shape.key_size → bound_of b.index ≡ bound_of a.index
+    → IsSized a.shape.key_size (entries_of b.index)
+    → IsWellFormedHash b
 kept_whole {a} b h shape keys kept capacity takes bound sized =
     let most : b.shape.max_entries ≡ a.shape.max_entries = ap (λ (s : MapShape). s.max_entries) shape in
     record {
       kind = ap (λ (s : MapShape). s.kind) shape ∙ h.kind;
       takes = subst (λ (s : MapShape). TakesKeys b.index s.key_size) (sym shape) takes;
       bound = bound ∙ h.bound ∙ sym most;
-      once = λ p. keys (occurrences p) (times-append p) ∙ h.once p ∙ ap (λ (m : ℕ). if nat_lt p m then 1 else 0) (sym most);
+      once = λ p.
+          keys (occurrences p) (times-append p) ∙ h.once p ∙ ap (λ (m : ℕ). if nat_lt p m then 1 else 0) (sym most);
       all =
           let same = keys length length-append in
           let now = length-map (entries_of b.index) (λ e. e.1) in
@@ -56,9 +64,14 @@ kept_whole {a} b h shape keys kept capacity takes bound sized =
     }
 
 -- another index with the same entries
-pub kept_by_same : {a : Inside} (index : KeyIndex) → IsWellFormedHash a → entries_of index ≡ entries_of a.index → TakesKeys index a.shape.key_size → bound_of index ≡ bound_of a.index → IsWellFormedHash (record a { index = index })
+pub kept_by_same : {a : Inside} (index : KeyIndex)
+    → IsWellFormedHash a → entries_of index ≡ entries_of a.index
+    → TakesKeys index a.shape.key_size → bound_of index ≡ bound_of a.index
+    → IsWellFormedHash (record a { index = index })
 kept_by_same {a} index h same takes bound =
-    kept_whole (record a { index = index }) h refl (λ f sum. ap (λ (es : List (List ℕ × ℕ)). f (values_of es) + f a.spare.items) same) h.kept refl takes bound
+    kept_whole (record a { index = index }) h refl
+    (λ f sum. ap (λ (es : List (List ℕ × ℕ)). f (values_of es) + f a.spare.items) same)
+    h.kept refl takes bound
     (subst (IsSized a.shape.key_size) (sym same) h.sized)
 
 -- ---- an element that is put among the spare ones
@@ -68,13 +81,18 @@ abbrev pub put_at : ℕ → ℕ → List ℕ → List ℕ
 put_at n element xs = take n xs ++ element ∷ (drop 1 (drop n xs) ++ take 1 (drop n xs))
 
 -- what a swap makes of the list with the element at its end
-pub exchanged : (n element : ℕ) (xs : List ℕ) → n ≤ length xs → swap (xs ++ element ∷ []) n (length xs) ≡ put_at n element xs
+pub exchanged : (n element : ℕ) (xs : List ℕ)
+    → n ≤ length xs → swap (xs ++ element ∷ []) n (length xs) ≡ put_at n element xs
 exchanged n element xs within =
     let longer : List ℕ = xs ++ element ∷ [] in
     let count = length-append xs (element ∷ []) in
     sym (swap_is longer n (length xs) 0 (omega arith) (omega arith)) ∙ by n xs within
   where
-    by : (n : ℕ) (xs : List ℕ) → n ≤ length xs → set (set (xs ++ element ∷ []) n (get_or (xs ++ element ∷ []) (length xs) 0)) (length xs) (get_or (xs ++ element ∷ []) n 0) ≡ put_at n element xs
+    by : (n : ℕ) (xs : List ℕ)
+        → n ≤ length xs
+        → set (set (xs ++ element ∷ []) n (get_or (xs ++ element ∷ []) (length xs) 0)) (length xs)
+        (get_or (xs ++ element ∷ []) n 0)
+        ≡ put_at n element xs
     by zero [] w = refl
     by (suc n) [] w = absurd (omega arith)
     by zero (x ∷ xs) w = λ i. get_or-append_seam xs element [] 0 i ∷ set-append_seam xs element [] x i
@@ -91,14 +109,23 @@ sum-put f sum n element xs =
     omega arith
 
 -- the first n + 1 elements are then the first n and that element
-pub first-put : (n element : ℕ) (xs : List ℕ) → n ≤ length xs → take (n + 1) (put_at n element xs) ≡ take n xs ++ element ∷ []
+pub first-put : (n element : ℕ) (xs : List ℕ)
+    → n ≤ length xs → take (n + 1) (put_at n element xs) ≡ take n xs ++ element ∷ []
 first-put n element xs within =
     ap (λ (k : ℕ). take (k + 1) (put_at n element xs)) (sym (length-take-le n xs within))
     ∙ take-append-add (take n xs) (element ∷ (drop 1 (drop n xs) ++ take 1 (drop n xs))) 1
 
 -- a key that is taken out, and its element kept apart
-pub kept_by_remove : {a : Inside} (b : Inside) → IsWellFormedHash a → (key : List ℕ) {element : ℕ} → found key (entries_of a.index) ≡ Some element → b.shape ≡ a.shape → entries_of b.index ≡ without key (entries_of a.index) → b.spare.items ≡ put_at a.kept element a.spare.items → vec_capacity b.spare ≡ vec_capacity a.spare → b.kept ≡ a.kept + 1
-    → TakesKeys b.index a.shape.key_size → bound_of b.index ≡ bound_of a.index → IsWellFormedHash b
+pub kept_by_remove : {a : Inside} (b : Inside)
+    → IsWellFormedHash a
+    → (key : List ℕ) {element : ℕ} → found key (entries_of a.index) ≡ Some element
+    → b.shape ≡ a.shape
+    → entries_of b.index ≡ without key (entries_of a.index)
+    → b.spare.items ≡ put_at a.kept element a.spare.items
+    → vec_capacity b.spare ≡ vec_capacity a.spare
+    → b.kept ≡ a.kept + 1 → TakesKeys b.index a.shape.key_size
+    → bound_of b.index ≡ bound_of a.index
+    → IsWellFormedHash b
 kept_by_remove {a} b h key {element} at shape index spare capacity kept takes bound =
     kept_whole b h shape
     (λ f sum.
@@ -106,12 +133,17 @@ kept_by_remove {a} b h key {element} at shape index spare capacity kept takes bo
     let now = ap (λ (es : List (List ℕ × ℕ)). f (values_of es)) index in
     let more = ap f spare ∙ sum-put f sum a.kept element a.spare.items in
     omega arith)
-    (let more : length b.spare.items ≡ length a.spare.items + 1 = ap length spare ∙ sum-put length length-append a.kept element a.spare.items in let before = h.kept in omega arith)
+    (let more : length b.spare.items ≡ length a.spare.items + 1 =
+    ap length spare ∙ sum-put length length-append a.kept element a.spare.items in
+    let before = h.kept in
+    omega arith)
     capacity takes bound
     (subst (IsSized a.shape.key_size) (sym index) (sized-without a.shape.key_size key (entries_of a.index) h.sized))
 
 -- the last spare element is free if not all are kept apart
-module _ {a : Inside} (h : IsWellFormedHash a) (element : ℕ) (last : element ≡ get_or a.spare.items (vec_len a.spare - 1) element) (some : vec_len a.spare ≢ a.kept) where
+module _ {a : Inside} (h : IsWellFormedHash a) (element : ℕ)
+    (last : element ≡ get_or a.spare.items (vec_len a.spare - 1) element)
+    (some : vec_len a.spare ≢ a.kept) where
   abbrev rest : List ℕ
   rest = take (vec_len a.spare - 1) a.spare.items
 
@@ -123,10 +155,13 @@ module _ {a : Inside} (h : IsWellFormedHash a) (element : ℕ) (last : element �
       let n = vec_len a.spare - 1 in
       let len = a.spare.ok.0 in
       let more = fewer in
-      sym (take_all (suc n) a.spare.items (omega arith)) ∙ take-suc a.spare.items n element (omega arith) ∙ ap (λ (p : ℕ). rest ++ p ∷ []) (sym last)
+      sym (take_all (suc n) a.spare.items (omega arith))
+      ∙ take-suc a.spare.items n element (omega arith)
+      ∙ ap (λ (p : ℕ). rest ++ p ∷ []) (sym last)
 
   pub same_kept : take a.kept rest ≡ take a.kept a.spare.items
-  same_kept = let len = a.spare.ok.0 in let more = fewer in take-take a.kept (vec_len a.spare - 1) a.spare.items (omega arith)
+  same_kept =
+      let len = a.spare.ok.0 in let more = fewer in take-take a.kept (vec_len a.spare - 1) a.spare.items (omega arith)
 
   within_by : (b : Bool) (n k : ℕ) → nat_lt element k ≡ b → n + 1 ≡ (if b then 1 else 0) → element < k
   within_by true n k t e = ltb-true element k t
@@ -136,9 +171,11 @@ module _ {a : Inside} (h : IsWellFormedHash a) (element : ℕ) (last : element �
   zero_by true n e = omega arith
   zero_by false n e = absurd (omega arith)
 
-  counted : occurrences element (values_of (entries_of a.index)) + occurrences element rest + 1 ≡ (if nat_lt element a.shape.max_entries then 1 else 0)
+  counted : occurrences element (values_of (entries_of a.index)) + occurrences element rest + 1
+      ≡ (if nat_lt element a.shape.max_entries then 1 else 0)
   counted =
-      let t : occurrences element a.spare.items ≡ occurrences element rest + occurrences element (element ∷ []) = ap (occurrences element) parts ∙ times-append element rest (element ∷ []) in
+      let t : occurrences element a.spare.items ≡ occurrences element rest + occurrences element (element ∷ []) =
+      ap (occurrences element) parts ∙ times-append element rest (element ∷ []) in
       let s = times_self element in
       let g = h.once element in
       omega arith
@@ -148,7 +185,11 @@ module _ {a : Inside} (h : IsWellFormedHash a) (element : ℕ) (last : element �
       let z = zero_by (nat_lt element a.shape.max_entries) _ counted in
       let first = sum-split (occurrences element) (times-append element) a.kept rest in
       let same = ap (occurrences element) same_kept in
-      record { within = within_by (nat_lt element a.shape.max_entries) _ a.shape.max_entries refl counted; entries = omega arith; kept = omega arith }
+      record {
+        within = within_by (nat_lt element a.shape.max_entries) _ a.shape.max_entries refl counted;
+        entries = omega arith;
+        kept = omega arith;
+      }
 
   pub not_full : is_full (table_of (shown a)) ≡ false
   not_full =
@@ -162,15 +203,28 @@ module _ {a : Inside} (h : IsWellFormedHash a) (element : ℕ) (last : element �
       unequal n m l = grind (arith, nat_tests)
 
   -- a new key gets the last spare element
-  pub kept_by_add : (b : Inside) (key : List ℕ) → length key ≡ a.shape.key_size → b.shape ≡ a.shape → entries_of b.index ≡ with_key key element (entries_of a.index) → b.kept ≡ a.kept → b.spare.items ≡ rest → vec_capacity b.spare ≡ vec_capacity a.spare → TakesKeys b.index a.shape.key_size → bound_of b.index ≡ bound_of a.index → IsWellFormedHash b
+  pub kept_by_add : (b : Inside) (key : List ℕ)
+      → length key ≡ a.shape.key_size → b.shape ≡ a.shape
+      → entries_of b.index ≡ with_key key element (entries_of a.index)
+      → b.kept ≡ a.kept → b.spare.items ≡ rest
+      → vec_capacity b.spare ≡ vec_capacity a.spare
+      → TakesKeys b.index a.shape.key_size → bound_of b.index ≡ bound_of a.index
+      → IsWellFormedHash b
   kept_by_add b key size shape index kept spare capacity takes bound =
       kept_whole b h shape
       (λ f sum.
       let added : List (List ℕ × ℕ) = (key, element) ∷ [] in
-      let more = ap (λ (es : List (List ℕ × ℕ)). f (values_of es)) index ∙ ap f (values_of-append (entries_of a.index) added) ∙ sum (values_of (entries_of a.index)) (element ∷ []) in
+      let more =
+      ap (λ (es : List (List ℕ × ℕ)). f (values_of es)) index
+      ∙ ap f (values_of-append (entries_of a.index) added)
+      ∙ sum (values_of (entries_of a.index)) (element ∷ []) in
       let less = ap f parts ∙ sum rest (element ∷ []) in
       let now = ap f spare in
       omega arith)
-      (let more = fewer in let before = ap length parts ∙ length-append rest (element ∷ []) in let now = ap length spare in omega arith)
+      (let more = fewer in
+      let before = ap length parts ∙ length-append rest (element ∷ []) in
+      let now = ap length spare in
+      omega arith)
       capacity takes bound
-      (subst (IsSized a.shape.key_size) (sym index) (sized-with a.shape.key_size key element (entries_of a.index) size h.sized))
+      (subst (IsSized a.shape.key_size) (sym index)
+      (sized-with a.shape.key_size key element (entries_of a.index) size h.sized))

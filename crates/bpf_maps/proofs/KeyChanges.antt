@@ -14,17 +14,27 @@ abbrev pub with_map : StoredMap → BpfMap → StoredMap
 with_map e map = record { map = map; start = e.start; stride = e.stride; elements = e.elements; holds = e.holds }
 
 -- the map of `handle`, which is under `key`, has another table
-pub record IsKeyChange (a : Inside) (t : LiveMaps) (handle map key : ℕ) (old : StoredMap) (table : BpfMap) : Type 0 where
+pub record IsKeyChange (a : Inside) (t : LiveMaps) (handle map key : ℕ) (old : StoredMap)
+    (table : BpfMap) : Type 0 where
   pub under : IsUnder a t handle map key old
   pub shape : (keys_in table).shape ≡ (keys_in old.map).shape
   pub sound : IsSound (keys_in table)
 
-module _ {a : Inside} {t : LiveMaps} {handle map key : ℕ} {old : StoredMap} {table : BpfMap} (c : IsKeyChange a t handle map key old table) where
+module _ {a : Inside} {t : LiveMaps} {handle map key : ℕ} {old : StoredMap} {table : BpfMap}
+    (c : IsKeyChange a t handle map key old table) where
   abbrev after : Inside
   after = with_stored a key (with_map old table)
 
   change : IsChange a t handle map key old (with_map old table)
-  change = record { under = c.under; start = refl; stride = refl; elements = refl; shape = c.shape; held = (placed_under c.under).held; sound = c.sound }
+  change = record {
+    under = c.under;
+    start = refl;
+    stride = refl;
+    elements = refl;
+    shape = c.shape;
+    held = (placed_under c.under).held;
+    sound = c.sound;
+  }
 
   pub keys_before : keys_in old.map ≡ keys_at t map
   keys_before = sym (told_of (λ l. l.keys) (live_old change))

@@ -25,16 +25,21 @@ module _ {K : Type 0} (bytes : K → List ℕ) where
   first_shown [] = refl
   first_shown (e ∷ es) = refl
 
-  behind_shown : (p : ℕ) (es : List (K × ℕ)) → entry_behind p (shown_by bytes es) ≡ option_map shown_one (entry_behind p es)
+  behind_shown : (p : ℕ) (es : List (K × ℕ))
+      → entry_behind p (shown_by bytes es) ≡ option_map shown_one (entry_behind p es)
   behind_shown p [] = refl
   behind_shown p (e ∷ es) = by (nat_eq p e.1) (first_shown es) (behind_shown p es)
     where
-      by : (b : Bool) → first_entry (shown_by bytes es) ≡ option_map shown_one (first_entry es) → entry_behind p (shown_by bytes es) ≡ option_map shown_one (entry_behind p es)
-          → (if b then first_entry (shown_by bytes es) else entry_behind p (shown_by bytes es)) ≡ option_map shown_one (if b then first_entry es else entry_behind p es)
+      by : (b : Bool)
+          → first_entry (shown_by bytes es) ≡ option_map shown_one (first_entry es)
+          → entry_behind p (shown_by bytes es) ≡ option_map shown_one (entry_behind p es)
+          → (if b then first_entry (shown_by bytes es) else entry_behind p (shown_by bytes es))
+          ≡ option_map shown_one (if b then first_entry es else entry_behind p es)
       by true f r = f
       by false f r = r
 
-  pub next_shown : (element : Option ℕ) (es : List (K × ℕ)) → next_entry element (shown_by bytes es) ≡ option_map shown_one (next_entry element es)
+  pub next_shown : (element : Option ℕ) (es : List (K × ℕ))
+      → next_entry element (shown_by bytes es) ≡ option_map shown_one (next_entry element es)
   next_shown None es = first_shown es
   next_shown (Some p) es = behind_shown p es
 
@@ -71,19 +76,27 @@ behind_index p first (suc n) le = by (nat_eq p first) refl (behind_index p (firs
       where
         by_lt : (first < p) ⊎ (p ≤ first) → first + 1 ≤ p
         by_lt (inl lt) = omega (arith, lt)
-        by_lt (inr ge) = let same : p ≡ first = omega (arith, le, ge) in absurd (true≢false (sym (eq-eqb p first same) ∙ e))
+        by_lt (inr ge) =
+            let same : p ≡ first = omega (arith, le, ge) in absurd (true≢false (sym (eq-eqb p first same) ∙ e))
 
-    by : (b : Bool) → nat_eq p first ≡ b → (first + 1 ≤ p → entry_behind p (indexed itself (first + 1) n) ≡ index_entry (p + 1) (first + 1 + n))
-        → (if b then first_entry (indexed itself (first + 1) n) else entry_behind p (indexed itself (first + 1) n)) ≡ index_entry (p + 1) (first + suc n)
+    by : (b : Bool)
+        → nat_eq p first ≡ b
+        → (first + 1 ≤ p → entry_behind p (indexed itself (first + 1) n) ≡ index_entry (p + 1) (first + 1 + n))
+        → (if b then first_entry (indexed itself (first + 1) n) else entry_behind p (indexed itself (first + 1) n))
+        ≡ index_entry (p + 1) (first + suc n)
     by true e r =
         let same : p ≡ first = eqb-true p first e in
         let next : first + 1 ≡ p + 1 = omega (arith, same) in
-        first_index (first + 1) n ∙ ap (index_entry (first + 1)) end ∙ ap (λ (i : ℕ). index_entry i (first + suc n)) next
+        first_index (first + 1) n
+        ∙ ap (index_entry (first + 1)) end
+        ∙ ap (λ (i : ℕ). index_entry i (first + suc n)) next
     by false e r = r (above e) ∙ ap (index_entry (p + 1)) end
 
-pub next_index : (element : Option ℕ) (n : ℕ) → next_entry element (indexed itself 0 n) ≡ index_entry (option_map_or (λ p. p + 1) element 0) n
+pub next_index : (element : Option ℕ) (n : ℕ)
+    → next_entry element (indexed itself 0 n) ≡ index_entry (option_map_or (λ p. p + 1) element 0) n
 next_index None n = let none : 0 + n ≡ n = omega arith in first_index 0 n ∙ ap (index_entry 0) none
-next_index (Some p) n = let none : 0 + n ≡ n = omega arith in behind_index p 0 n (omega arith) ∙ ap (index_entry (p + 1)) none
+next_index (Some p) n =
+    let none : 0 + n ≡ n = omega arith in behind_index p 0 n (omega arith) ∙ ap (index_entry (p + 1)) none
 
 pub no_index : (i n : ℕ) → n ≤ i → index_entry i n ≡ None
 no_index i n past = ap (λ (b : Bool). if b then placed i else None) (le-ltb i n past)
@@ -94,8 +107,11 @@ some_index i n key below is =
     ∙ ap (λ (k : List ℕ). let o : Option (List ℕ × ℕ) = Some (k, i) in o) (sym is)
 
 -- an array has the entries of its indices
-pub array_entries : (t : KeyTable) → t ≡ new_keys t.shape → t.shape.kind ≡ Array → t.entries ≡ indexed itself 0 t.shape.max_entries
-array_entries t whole kind = ap (λ (u : KeyTable). u.entries) whole ∙ ap (λ (k : MapKind). new_entries itself k t.shape.max_entries) kind
+pub array_entries : (t : KeyTable)
+    → t ≡ new_keys t.shape → t.shape.kind ≡ Array
+    → t.entries ≡ indexed itself 0 t.shape.max_entries
+array_entries t whole kind =
+    ap (λ (u : KeyTable). u.entries) whole ∙ ap (λ (k : MapKind). new_entries itself k t.shape.max_entries) kind
 
 -- ---- the element of an entry is within the map
 
@@ -108,20 +124,33 @@ more false m le = omega (arith, le)
 
 first_occurs : (es : List (List ℕ × ℕ)) (e : List ℕ × ℕ) → first_entry es ≡ Some e → 1 ≤ occurrences e.1 (values_of es)
 first_occurs [] e is = absurd (none-some e is)
-first_occurs (x ∷ es) e is = counted e.1 x.1 (occurrences e.1 (values_of es)) (ap (λ (y : List ℕ × ℕ). y.1) (sym (same_Some x e is)))
+first_occurs (x ∷ es) e is =
+    counted e.1 x.1 (occurrences e.1 (values_of es)) (ap (λ (y : List ℕ × ℕ). y.1) (sym (same_Some x e is)))
 
-behind_occurs : (p : ℕ) (es : List (List ℕ × ℕ)) (e : List ℕ × ℕ) → entry_behind p es ≡ Some e → 1 ≤ occurrences e.1 (values_of es)
+behind_occurs : (p : ℕ) (es : List (List ℕ × ℕ)) (e : List ℕ × ℕ)
+    → entry_behind p es ≡ Some e → 1 ≤ occurrences e.1 (values_of es)
 behind_occurs p [] e is = absurd (none-some e is)
-behind_occurs p (x ∷ es) e is = more (nat_eq e.1 x.1) (occurrences e.1 (values_of es)) (by (nat_eq p x.1) is (first_occurs es e) (behind_occurs p es e))
+behind_occurs p (x ∷ es) e is =
+    more (nat_eq e.1 x.1) (occurrences e.1 (values_of es))
+    (by (nat_eq p x.1) is (first_occurs es e) (behind_occurs p es e))
   where
-    by : (b : Bool) → (if b then first_entry es else entry_behind p es) ≡ Some e → (first_entry es ≡ Some e → 1 ≤ occurrences e.1 (values_of es)) → (entry_behind p es ≡ Some e → 1 ≤ occurrences e.1 (values_of es)) → 1 ≤ occurrences e.1 (values_of es)
+    by : (b : Bool)
+        → (if b then first_entry es else entry_behind p es) ≡ Some e
+        → (first_entry es ≡ Some e → 1 ≤ occurrences e.1 (values_of es))
+        → (entry_behind p es ≡ Some e → 1 ≤ occurrences e.1 (values_of es))
+        → 1 ≤ occurrences e.1 (values_of es)
     by true is f r = f is
     by false is f r = r is
 
-next_occurs : (element : Option ℕ) (es : List (List ℕ × ℕ)) (e : List ℕ × ℕ) → next_entry element es ≡ Some e → 1 ≤ occurrences e.1 (values_of es)
+next_occurs : (element : Option ℕ) (es : List (List ℕ × ℕ)) (e : List ℕ × ℕ)
+    → next_entry element es ≡ Some e → 1 ≤ occurrences e.1 (values_of es)
 next_occurs None es e is = first_occurs es e is
 next_occurs (Some p) es e is = behind_occurs p es e is
 
-pub next_within : (t : KeyTable) (element : Option ℕ) (o : Option (KeyRef × ℕ)) → IsSound t → option_map shown_entry o ≡ next_entry element t.entries → IfSome o (λ e. e.1 < t.shape.max_entries)
+pub next_within : (t : KeyTable) (element : Option ℕ) (o : Option (KeyRef × ℕ))
+    → IsSound t
+    → option_map shown_entry o ≡ next_entry element t.entries
+    → IfSome o (λ e. e.1 < t.shape.max_entries)
 next_within t element None sound is = tt
-next_within t element (Some e) sound is = used_in_entries t e.1 sound (next_occurs element t.entries (key_bytes e.0, e.1) (sym is))
+next_within t element (Some e) sound is =
+    used_in_entries t e.1 sound (next_occurs element t.entries (key_bytes e.0, e.1) (sym is))

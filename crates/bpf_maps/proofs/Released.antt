@@ -26,7 +26,8 @@ pub record IsTaken (a : Inside) (t : LiveMaps) (handle map key : ℕ) (old gone 
   pub value : get (with_value a.maps key old) key ≡ Some gone
 
 -- the keys and the slab without it
-pub record IsLeft (a : Inside) (handle key : ℕ) (old : StoredMap) (keys : List (Option ℕ)) (left : Slab StoredMap) : Type 0 where
+pub record IsLeft (a : Inside) (handle key : ℕ) (old : StoredMap) (keys : List (Option ℕ))
+    (left : Slab StoredMap) : Type 0 where
   pub keys_are : keys ≡ set a.keys handle None
   pub gap : get left key ≡ None
   pub others : (j : ℕ) → j ≢ key → get left j ≡ get (with_value a.maps key old) j
@@ -35,12 +36,14 @@ pub record IsLeft (a : Inside) (handle key : ℕ) (old : StoredMap) (keys : List
 
 -- the maps after it are moved down, with these keys
 pub record IsClosed (keys : List (Option ℕ)) (end size : ℕ) (left maps : Slab StoredMap) : Type 0 where
-  pub each : (p : ℕ) → get_or (by_handle keys maps) p None ≡ option_map (closed_up end size) (get_or (by_handle keys left) p None)
+  pub each : (p : ℕ)
+      → get_or (by_handle keys maps) p None ≡ option_map (closed_up end size) (get_or (by_handle keys left) p None)
   pub are_keys : AreKeys keys maps
   pub capacity : maps.capacity ≡ left.capacity
 
 -- the map is removed: it is taken out, and the later ones move down by the size of its area
-pub record Goes (a : Inside) (t : LiveMaps) (handle map key size : ℕ) (old gone : StoredMap) (keys : List (Option ℕ)) (left maps : Slab StoredMap) (spares : SpareMaps) : Type 0 where
+pub record Goes (a : Inside) (t : LiveMaps) (handle map key size : ℕ) (old gone : StoredMap)
+    (keys : List (Option ℕ)) (left maps : Slab StoredMap) (spares : SpareMaps) : Type 0 where
   pub taken : IsTaken a t handle map key old gone
   pub size_is : size ≡ area_of (live_of gone)
   pub rest : IsLeft a handle key old keys left
@@ -51,15 +54,19 @@ abbrev pub without_stored : Inside → SpareMaps → ℕ → List (Option ℕ) �
 without_stored a spares size keys maps = record a { keys = keys; maps = maps; bytes = a.bytes - size; spares = spares }
 
 -- a map without its area is the same at another address
-held_still : (gone : LiveMap) (o : Option LiveMap) → option_map without_area (option_map (map_without gone) o) ≡ option_map without_area o
+held_still : (gone : LiveMap) (o : Option LiveMap)
+    → option_map without_area (option_map (map_without gone) o) ≡ option_map without_area o
 held_still gone None = refl
 held_still gone (Some l) = refl
 
-lives_closed : (gone : StoredMap) (o : Option StoredMap) → option_map live_of (option_map (closed_up (gone.start + area_of (live_of gone)) (area_of (live_of gone))) o) ≡ option_map (map_without (live_of gone)) (option_map live_of o)
+lives_closed : (gone : StoredMap) (o : Option StoredMap)
+    → option_map live_of (option_map (closed_up (gone.start + area_of (live_of gone)) (area_of (live_of gone))) o)
+    ≡ option_map (map_without (live_of gone)) (option_map live_of o)
 lives_closed gone None = refl
 lives_closed gone (Some e) = refl
 
-module _ {a : Inside} {t : LiveMaps} {handle map key : ℕ} {old gone : StoredMap} (c : IsTaken a t handle map key old gone) where
+module _ {a : Inside} {t : LiveMaps} {handle map key : ℕ} {old gone : StoredMap}
+    (c : IsTaken a t handle map key old gone) where
   abbrev whole : IsWellFormedMaps a
   whole = c.under.whole
 
@@ -88,18 +95,25 @@ module _ {a : Inside} {t : LiveMaps} {handle map key : ℕ} {old gone : StoredMa
 
   module _ {keys : List (Option ℕ)} {left : Slab StoredMap} (l : IsLeft a handle key old keys left) where
     pub left_keys : AreKeys keys left
-    left_keys = subst (λ (ks : List (Option ℕ)). AreKeys ks left) (sym l.keys_are) (removed_keys a.keys (with_value a.maps key old) left keys_before handle key c.under.keyed l.gap l.others l.len)
+    left_keys =
+        subst (λ (ks : List (Option ℕ)). AreKeys ks left) (sym l.keys_are)
+        (removed_keys a.keys (with_value a.maps key old) left keys_before handle key c.under.keyed l.gap l.others l.len)
 
     none_left : get_or (by_handle keys left) handle None ≡ None
-    none_left = ap (λ (ks : List (Option ℕ)). get_or (by_handle ks left) handle None) l.keys_are ∙ removed_here a.keys (with_value a.maps key old) left keys_before handle key c.under.keyed l.gap l.others
+    none_left =
+        ap (λ (ks : List (Option ℕ)). get_or (by_handle ks left) handle None) l.keys_are
+        ∙ removed_here a.keys (with_value a.maps key old) left keys_before handle key c.under.keyed l.gap l.others
 
     others_left : (p : ℕ) → p ≢ handle → get_or (by_handle keys left) p None ≡ get_or (stored_in a) p None
     others_left p ne =
         ap (λ (ks : List (Option ℕ)). get_or (by_handle ks left) p None) l.keys_are
-        ∙ removed_others a.keys (with_value a.maps key old) left keys_before handle key c.under.keyed l.gap l.others p ne
+        ∙ removed_others a.keys (with_value a.maps key old) left keys_before handle key
+        c.under.keyed l.gap l.others p ne
         ∙ changed_others a.keys a.maps whole.keys handle key c.under.keyed old old c.under.here p ne
 
-module _ {a : Inside} {t : LiveMaps} {handle map key size : ℕ} {old gone : StoredMap} {keys : List (Option ℕ)} {left maps : Slab StoredMap} {spares : SpareMaps} (g : Goes a t handle map key size old gone keys left maps spares) where
+module _ {a : Inside} {t : LiveMaps} {handle map key size : ℕ} {old gone : StoredMap}
+    {keys : List (Option ℕ)} {left maps : Slab StoredMap} {spares : SpareMaps}
+    (g : Goes a t handle map key size old gone keys left maps spares) where
   abbrev new : Inside
   new = without_stored a spares size keys maps
 
@@ -109,11 +123,16 @@ module _ {a : Inside} {t : LiveMaps} {handle map key size : ℕ} {old gone : Sto
   was : get_or (stored_in a) handle None ≡ Some gone
   was = was_there g.taken
 
-  closed : (p : ℕ) → p ≢ handle → get_or (stored_in new) p None ≡ option_map (closed_up (gone.start + area_of (live_of gone)) (area_of (live_of gone))) (get_or (stored_in a) p None)
+  closed : (p : ℕ)
+      → p ≢ handle
+      → get_or (stored_in new) p None
+      ≡ option_map (closed_up (gone.start + area_of (live_of gone)) (area_of (live_of gone)))
+      (get_or (stored_in a) p None)
   closed p ne =
       g.closed.each p
       ∙ ap (λ (n : ℕ). option_map (closed_up (gone.start + n) n) (get_or (by_handle keys left) p None)) g.size_is
-      ∙ ap (option_map (closed_up (gone.start + area_of (live_of gone)) (area_of (live_of gone)))) (others_left g.taken g.rest p ne)
+      ∙ ap (option_map (closed_up (gone.start + area_of (live_of gone)) (area_of (live_of gone))))
+      (others_left g.taken g.rest p ne)
 
   empty : get_or (stored_in new) handle None ≡ None
   empty = g.closed.each handle ∙ ap (option_map (closed_up (gone.start + size) size)) (none_left g.taken g.rest)
@@ -145,15 +164,20 @@ module _ {a : Inside} {t : LiveMaps} {handle map key size : ℕ} {old gone : Sto
       omega arith
 
   pub none_now : live_at (as_live_maps new) map ≡ None
-  none_now = ap (λ (p : ℕ). get_or (live_maps_of (stored_in new)) p None) (sym g.taken.under.same) ∙ none_by (stored_in new) (stored_in new) handle empty
+  none_now =
+      ap (λ (p : ℕ). get_or (live_maps_of (stored_in new)) p None) (sym g.taken.under.same)
+      ∙ none_by (stored_in new) (stored_in new) handle empty
 
   -- the other maps
-  lives_close : (p : ℕ) → p ≢ handle → live_at (as_live_maps new) p ≡ option_map (map_without (live_of gone)) (live_at t p)
+  lives_close : (p : ℕ)
+      → p ≢ handle
+      → live_at (as_live_maps new) p ≡ option_map (map_without (live_of gone)) (live_at t p)
   lives_close p ne =
       at_lives (stored_in new) p
       ∙ ap (option_map live_of) (closed p ne)
       ∙ lives_closed gone (get_or (stored_in a) p None)
-      ∙ ap (option_map (map_without (live_of gone))) (sym (at_lives (stored_in a) p) ∙ ap (λ (u : LiveMaps). live_at u p) g.taken.under.view)
+      ∙ ap (option_map (map_without (live_of gone)))
+      (sym (at_lives (stored_in a) p) ∙ ap (λ (u : LiveMaps). live_at u p) g.taken.under.view)
 
   pub closes_up : ClosesUp map t (as_live_maps new)
   closes_up p ne =
@@ -161,15 +185,22 @@ module _ {a : Inside} {t : LiveMaps} {handle map key size : ℕ} {old gone : Sto
       ∙ ap (λ (o : Option LiveMap). option_map (map_without (live_or o)) (live_at t p)) (sym live_gone)
 
   pub less_gone : old.holds ≤ 1 → held_at (as_live_maps new) map ≡ one_less (held_at t map)
-  less_gone last = none_held t (as_live_maps new) map live_gone none_now (subst (λ (e : StoredMap). e.holds ≤ 1) (is_gone g.taken) last)
+  less_gone last =
+      none_held t (as_live_maps new) map live_gone none_now
+      (subst (λ (e : StoredMap). e.holds ≤ 1) (is_gone g.taken) last)
 
   pub others_gone : (p : ℕ) → p ≢ map → held_at (as_live_maps new) p ≡ held_at t p
-  others_gone p ne = ap (option_map without_area) (lives_close p (λ e. ne (e ∙ g.taken.under.same))) ∙ held_still (live_of gone) (live_at t p)
+  others_gone p ne =
+      ap (option_map without_area) (lives_close p (λ e. ne (e ∙ g.taken.under.same)))
+      ∙ held_still (live_of gone) (live_at t p)
 
   -- ---- the bytes
 
   module _ (bytes : List ℕ) {later : List ℕ} (long : length bytes ≡ PART)
-      (written : later ≡ take gone.start bytes ++ (take (STACK_AND_CONTEXT + a.bytes - (gone.start + size)) (drop (gone.start + size) bytes) ++ drop (gone.start + (STACK_AND_CONTEXT + a.bytes - (gone.start + size))) bytes)) where
+      (written : later
+      ≡ take gone.start bytes
+      ++ (take (STACK_AND_CONTEXT + a.bytes - (gone.start + size)) (drop (gone.start + size) bytes)
+      ++ drop (gone.start + (STACK_AND_CONTEXT + a.bytes - (gone.start + size))) bytes)) where
     abbrev many : ℕ
     many = STACK_AND_CONTEXT + a.bytes - (gone.start + size)
 
@@ -180,13 +211,18 @@ module _ {a : Inside} {t : LiveMaps} {handle map key size : ℕ} {old gone : Sto
     in_part = let f = was_whole.few in omega arith
 
     long_moved : length moved ≡ many
-    long_moved = let w = gone_within g.taken in let p = in_part in length-take-le many (drop (gone.start + size) bytes) (omega (arith, length-drop (gone.start + size) bytes))
+    long_moved =
+        let w = gone_within g.taken in
+        let p = in_part in
+        length-take-le many (drop (gone.start + size) bytes) (omega (arith, length-drop (gone.start + size) bytes))
 
     room : gone.start + many ≤ length bytes
     room = let w = gone_within g.taken in let p = in_part in omega arith
 
     pub front_gone : take STACK_AND_CONTEXT later ≡ take STACK_AND_CONTEXT bytes
-    front_gone = ap (take STACK_AND_CONTEXT) written ∙ front_same bytes moved gone.start many long_moved room STACK_AND_CONTEXT (gone_behind g.taken)
+    front_gone =
+        ap (take STACK_AND_CONTEXT) written
+        ∙ front_same bytes moved gone.start many long_moved room STACK_AND_CONTEXT (gone_behind g.taken)
 
     -- the bytes that move are those after it
     from_behind : (x n : ℕ) → x + n ≤ many → take n (drop x moved) ≡ take n (drop (gone.start + size + x) bytes)
@@ -197,8 +233,11 @@ module _ {a : Inside} {t : LiveMaps} {handle map key size : ℕ} {old gone : Sto
         ∙ ap (take n) (drop-drop x (gone.start + size) bytes)
 
     -- a value of another map
-    kept_at : (j p : ℕ) (f : StoredMap) → j ≢ handle → get_or (stored_in a) j None ≡ Some f → p < (keys_in f.map).shape.max_entries
-        → take (keys_in f.map).shape.value_size (drop (offset (map_without (live_of gone) (live_of f)) p) later) ≡ take (keys_in f.map).shape.value_size (drop (offset (live_of f) p) bytes)
+    kept_at : (j p : ℕ) (f : StoredMap)
+        → j ≢ handle → get_or (stored_in a) j None ≡ Some f
+        → p < (keys_in f.map).shape.max_entries
+        → take (keys_in f.map).shape.value_size (drop (offset (map_without (live_of gone) (live_of f)) p) later)
+        ≡ take (keys_in f.map).shape.value_size (drop (offset (live_of f) p) bytes)
     kept_at j p f ne ft l =
         let s = (keys_in f.map).shape in
         let i = was_whole.placed j f ft in
@@ -213,29 +252,44 @@ module _ {a : Inside} {t : LiveMaps} {handle map key size : ℕ} {old gone : Sto
         let before = y.0 in
         let stays = y.1 in
         let same : offset (map_without (live_of gone) (live_of f)) p ≡ offset (live_of f) p = omega arith in
-        ap (λ (n : ℕ). take s.value_size (drop n (take gone.start bytes ++ (moved ++ drop (gone.start + many) bytes)))) same
+        ap (λ (n : ℕ). take s.value_size (drop n (take gone.start bytes ++ (moved ++ drop (gone.start + many) bytes))))
+        same
         ∙ before_same bytes moved gone.start many long_moved room (offset (live_of f) p) s.value_size (omega arith))
         (λ y.
         let behind = y.0 in
         let falls = y.1 in
-        let at_now : offset (map_without (live_of gone) (live_of f)) p ≡ gone.start + (f.start - (gone.start + size) + p * f.stride) = omega arith in
-        let at_then : gone.start + size + (f.start - (gone.start + size) + p * f.stride) ≡ offset (live_of f) p = omega arith in
+        let at_now :
+        offset (map_without (live_of gone) (live_of f)) p ≡ gone.start +
+        (f.start - (gone.start + size) + p * f.stride) =
+        omega arith in
+        let at_then : gone.start + size + (f.start - (gone.start + size) + p * f.stride) ≡ offset (live_of f) p =
+        omega arith in
         let fits : f.start - (gone.start + size) + p * f.stride + s.value_size ≤ many = omega arith in
-        ap (λ (n : ℕ). take s.value_size (drop n (take gone.start bytes ++ (moved ++ drop (gone.start + many) bytes)))) at_now
-        ∙ own bytes moved gone.start many long_moved room (f.start - (gone.start + size) + p * f.stride) s.value_size fits
+        ap (λ (n : ℕ). take s.value_size (drop n (take gone.start bytes ++ (moved ++ drop (gone.start + many) bytes))))
+        at_now
+        ∙ own bytes moved gone.start many long_moved room
+        (f.start - (gone.start + size) + p * f.stride) s.value_size
+        fits
         ∙ from_behind (f.start - (gone.start + size) + p * f.stride) s.value_size fits
         ∙ ap (λ (n : ℕ). take s.value_size (drop n bytes)) at_then)
-        (before_or_behind gone.start (area_of (live_of gone)) f.start (area_of (live_of f)) (beside new handle was_whole gone was empty closed bytes_now j f ne ft))
+        (before_or_behind gone.start (area_of (live_of gone)) f.start (area_of (live_of f))
+        (beside new handle was_whole gone was empty closed bytes_now j f ne ft))
 
     pub values_gone : SameValues t bytes (as_live_maps new) later
     values_gone j p old_live new_live l =
-        let ne : j ≢ map = λ (s : j ≡ map). true≢false (sym new_live ∙ ap is_some (ap (live_at (as_live_maps new)) s ∙ none_now)) in
+        let ne : j ≢ map =
+        λ (s : j ≡ map). true≢false (sym new_live ∙ ap is_some (ap (live_at (as_live_maps new)) s ∙ none_now)) in
         let f = live_stored a {map = j} g.taken.under.view refl old_live in
-        let n : live_at (as_live_maps new) j ≡ Some (map_without (live_of gone) (live_of f.0)) = lives_close j (λ e. ne (e ∙ g.taken.under.same)) ∙ ap (option_map (map_without (live_of gone))) f.2 in
+        let n : live_at (as_live_maps new) j ≡ Some (map_without (live_of gone) (live_of f.0)) =
+        lives_close j (λ e. ne (e ∙ g.taken.under.same)) ∙ ap (option_map (map_without (live_of gone))) f.2 in
         let m = told_of (λ x. x.keys.shape.max_entries) n in
         ap (λ (x : Option LiveMap). take (live_or x).keys.shape.value_size (drop (offset (live_or x) p) later)) n
         ∙ kept_at j p f.0 (λ e. ne (e ∙ g.taken.under.same)) f.1 (omega arith)
-        ∙ ap (λ (x : Option LiveMap). take (live_or x).keys.shape.value_size (drop (offset (live_or x) p) bytes)) (sym f.2)
+        ∙ ap (λ (x : Option LiveMap). take (live_or x).keys.shape.value_size (drop (offset (live_or x) p) bytes))
+        (sym f.2)
 
     pub others_kept : KeepsOthers map t bytes (as_live_maps new) later
-    others_kept other ne = keeps_held t (as_live_maps new) bytes later other values_gone (subst AreSound g.taken.under.view (sound_at was_whole) other) (others_gone other ne)
+    others_kept other ne =
+        keeps_held t (as_live_maps new) bytes later other values_gone
+        (subst AreSound g.taken.under.view (sound_at was_whole) other)
+        (others_gone other ne)

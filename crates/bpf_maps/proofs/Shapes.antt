@@ -10,14 +10,17 @@ within : (low high n : ℕ) → is_from_to low high n ≡ true → n ≤ high
 within low high n h = leb-true n high (and_parts _ _ h).1
 
 key_fits : (k : MapKind) (key value max : ℕ) → IsTrue (is_shape k key value max) → key ≤ longest_key
-key_fits Array key value max h = let e = eqb-true key 4 (and_parts _ _ (and_parts _ _ (and_parts _ _ (and_parts _ _ h).0).0).0).0 in omega arith
-key_fits Hash key value max h = within 1 longest_key key (and_parts _ _ (and_parts _ _ (and_parts _ _ (and_parts _ _ h).0).0).0).0
+key_fits Array key value max h =
+    let e = eqb-true key 4 (and_parts _ _ (and_parts _ _ (and_parts _ _ (and_parts _ _ h).0).0).0).0 in omega arith
+key_fits Hash key value max h =
+    within 1 longest_key key (and_parts _ _ (and_parts _ _ (and_parts _ _ (and_parts _ _ h).0).0).0).0
 
 pub key_fits_room : (s : MapShape) → s.key_size ≤ longest_key
 key_fits_room s = key_fits s.kind s.key_size s.value_size s.max_entries s.listed
 
 value_fits : (k : MapKind) (key value max : ℕ) → IsTrue (is_shape k key value max) → value ≤ longest_value
-value_fits k key value max h = within 1 longest_value value (and_parts _ _ (and_parts _ _ (and_parts _ _ (and_parts _ _ h).0).0).0).1
+value_fits k key value max h =
+    within 1 longest_value value (and_parts _ _ (and_parts _ _ (and_parts _ _ (and_parts _ _ h).0).0).0).1
 
 pub value_fits_room : (s : MapShape) → s.value_size ≤ longest_value
 value_fits_room s = value_fits s.kind s.key_size s.value_size s.max_entries s.listed
@@ -29,7 +32,8 @@ pub few_entries : (s : MapShape) → s.max_entries ≤ most_entries
 few_entries s = few s.kind s.key_size s.value_size s.max_entries s.listed
 
 key_of_array : (k : MapKind) (key value max : ℕ) → k ≡ Array → IsTrue (is_shape k key value max) → key ≡ 4
-key_of_array Array key value max e h = eqb-true key 4 (and_parts _ _ (and_parts _ _ (and_parts _ _ (and_parts _ _ h).0).0).0).0
+key_of_array Array key value max e h =
+    eqb-true key 4 (and_parts _ _ (and_parts _ _ (and_parts _ _ (and_parts _ _ h).0).0).0).0
 key_of_array Hash key value max e h = cc
 
 pub array_key : (s : MapShape) → s.kind ≡ Array → s.key_size ≡ 4

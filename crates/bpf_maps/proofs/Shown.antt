@@ -30,7 +30,8 @@ module _ {K : Type 0} (bytes : K → List ℕ) where
     pub found_shown : (es : List (K × ℕ)) → Tests es → lookup test es ≡ found key (view es)
     found_shown [] h = refl
     found_shown (e ∷ es) h =
-        ap (λ (b : Bool). cond b (Some e.1) (lookup test es)) h.0 ∙ ap (cond (is_key key (bytes e.0)) (Some e.1)) (found_shown es h.1)
+        ap (λ (b : Bool). cond b (Some e.1) (lookup test es)) h.0
+        ∙ ap (cond (is_key key (bytes e.0)) (Some e.1)) (found_shown es h.1)
 
     pub without_shown : (es : List (K × ℕ)) → Tests es → view (remove_entry test es) ≡ without key (view es)
     without_shown [] h = refl
@@ -41,32 +42,46 @@ module _ {K : Type 0} (bytes : K → List ℕ) where
 
     -- ---- the key that follows
 
-    pub behind_shown : (es : List (K × ℕ)) → Tests es → option_map bytes (key_behind_passing test es) ≡ key_behind key (view es)
+    pub behind_shown : (es : List (K × ℕ))
+        → Tests es → option_map bytes (key_behind_passing test es) ≡ key_behind key (view es)
     behind_shown [] h = refl
     behind_shown (e ∷ es) h =
-        by (test e.0) (behind_shown es h.1) ∙ ap (λ (b : Bool). if b then first_key (view es) else key_behind key (view es)) h.0
+        by (test e.0) (behind_shown es h.1)
+        ∙ ap (λ (b : Bool). if b then first_key (view es) else key_behind key (view es)) h.0
       where
-        by : (b : Bool) → option_map bytes (key_behind_passing test es) ≡ key_behind key (view es)
-            → option_map bytes (if b then first_key_of es else key_behind_passing test es) ≡ (if b then first_key (view es) else key_behind key (view es))
+        by : (b : Bool)
+            → option_map bytes (key_behind_passing test es) ≡ key_behind key (view es)
+            → option_map bytes (if b then first_key_of es else key_behind_passing test es)
+            ≡ (if b then first_key (view es) else key_behind key (view es))
         by true r = first_shown es
         by false r = r
 
-    pub following_shown : (es : List (K × ℕ)) → Tests es → option_map bytes (key_following test es) ≡ key_after key (view es)
+    pub following_shown : (es : List (K × ℕ))
+        → Tests es → option_map bytes (key_following test es) ≡ key_after key (view es)
     following_shown es h =
-        by (is_some (lookup test es)) ∙ ap (λ (o : Option ℕ). if is_some o then key_behind key (view es) else first_key (view es)) (found_shown es h)
+        by (is_some (lookup test es))
+        ∙ ap (λ (o : Option ℕ). if is_some o then key_behind key (view es) else first_key (view es)) (found_shown es h)
       where
-        by : (b : Bool) → option_map bytes (if b then key_behind_passing test es else first_key_of es) ≡ (if b then key_behind key (view es) else first_key (view es))
+        by : (b : Bool)
+            → option_map bytes (if b then key_behind_passing test es else first_key_of es)
+            ≡ (if b then key_behind key (view es) else first_key (view es))
         by true = behind_shown es h
         by false = first_shown es
 
     -- the first key follows one that is found nowhere
-    pub first_follows : (es : List (K × ℕ)) → Tests es → lookup test es ≡ None → option_map bytes (first_key_of es) ≡ key_after key (view es)
+    pub first_follows : (es : List (K × ℕ))
+        → Tests es → lookup test es ≡ None
+        → option_map bytes (first_key_of es) ≡ key_after key (view es)
     first_follows es h none =
-        first_shown es ∙ ap (λ (o : Option ℕ). if is_some o then key_behind key (view es) else first_key (view es)) (sym (sym (found_shown es h) ∙ none))
+        first_shown es
+        ∙ ap (λ (o : Option ℕ). if is_some o then key_behind key (view es) else first_key (view es))
+        (sym (sym (found_shown es h) ∙ none))
 
   -- ---- a new key
 
-  pub added_shown : (es fs : List (K × ℕ)) (own : K) (key : List ℕ) (element : ℕ) → bytes own ≡ key → fs ≡ es ++ (own, element) ∷ [] → view fs ≡ with_key key element (view es)
+  pub added_shown : (es fs : List (K × ℕ)) (own : K) (key : List ℕ) (element : ℕ)
+      → bytes own ≡ key → fs ≡ es ++ (own, element) ∷ []
+      → view fs ≡ with_key key element (view es)
   added_shown es fs own key element is e =
       ap view e ∙ shown_by-append es ((own, element) ∷ []) ∙ ap (λ (k : List ℕ). view es ++ (k, element) ∷ []) is
 

@@ -5,7 +5,8 @@ use Rattle.bpf_maps.specs.declared.stored_map.StoredMap.{StoredMap}
 use Rattle.bpf_maps.specs.Live.{LiveMap, LiveMaps, live_at, live_or, shape_at, offset, offset_at, value_in, SameAreas}
 use Rattle.bpf_maps.specs.InMaps.{live_of, live_maps_of}
 
-pub at_lives : (xs : List (Option StoredMap)) (k : ℕ) → get_or (live_maps_of xs) k None ≡ option_map live_of (get_or xs k None)
+pub at_lives : (xs : List (Option StoredMap)) (k : ℕ)
+    → get_or (live_maps_of xs) k None ≡ option_map live_of (get_or xs k None)
 at_lives [] k = refl
 at_lives (x ∷ xs) zero = refl
 at_lives (x ∷ xs) (suc k) = at_lives xs k
@@ -16,14 +17,17 @@ within (x ∷ xs) zero e h = omega arith
 within (x ∷ xs) (suc k) e h = let r = within xs k e h in omega arith
 
 -- a live map as it is stored
-pub stored_of : (xs : List (Option StoredMap)) (k : ℕ) (l : LiveMap) → get_or (live_maps_of xs) k None ≡ Some l → (e : StoredMap) × (get_or xs k None ≡ Some e) × (live_of e ≡ l)
+pub stored_of : (xs : List (Option StoredMap)) (k : ℕ) (l : LiveMap)
+    → get_or (live_maps_of xs) k None ≡ Some l
+    → (e : StoredMap) × (get_or xs k None ≡ Some e) × (live_of e ≡ l)
 stored_of xs k l h = by (get_or xs k None) refl
   where
     by : (o : Option StoredMap) → get_or xs k None ≡ o → (e : StoredMap) × (get_or xs k None ≡ Some e) × (live_of e ≡ l)
     by None e = absurd (none-some l (sym (ap (option_map live_of) e) ∙ sym (at_lives xs k) ∙ h))
     by (Some x) e = (x, e, same_Some (live_of x) l (sym (ap (option_map live_of) e) ∙ sym (at_lives xs k) ∙ h))
 
-pub some_stored : (xs : List (Option StoredMap)) (k : ℕ) → IsSome (get_or (live_maps_of xs) k None) → (e : StoredMap) × (get_or xs k None ≡ Some e)
+pub some_stored : (xs : List (Option StoredMap)) (k : ℕ)
+    → IsSome (get_or (live_maps_of xs) k None) → (e : StoredMap) × (get_or xs k None ≡ Some e)
 some_stored xs k h = by (get_or xs k None) refl
   where
     by : (o : Option StoredMap) → get_or xs k None ≡ o → (e : StoredMap) × (get_or xs k None ≡ Some e)
@@ -38,7 +42,9 @@ module _ (xs ys : List (Option StoredMap)) (k : ℕ) where
   none_by at = at_lives xs k ∙ ap (option_map live_of) at
 
   -- the other slots
-  pub others_by : ((l : ℕ) → l ≢ k → get_or ys l None ≡ get_or xs l None) → (l : ℕ) → l ≢ k → get_or (live_maps_of ys) l None ≡ get_or (live_maps_of xs) l None
+  pub others_by : ((l : ℕ) → l ≢ k → get_or ys l None ≡ get_or xs l None)
+      → (l : ℕ) → l ≢ k
+      → get_or (live_maps_of ys) l None ≡ get_or (live_maps_of xs) l None
   others_by h l ne = at_lives ys l ∙ ap (option_map live_of) (h l ne) ∙ sym (at_lives xs l)
 
 pub offset_same : (l m : LiveMap) (p : ℕ) → l.start ≡ m.start → l.stride ≡ m.stride → offset l p ≡ offset m p
@@ -57,10 +63,14 @@ live_is t k live = by (live_at t k) live
 -- they keep the address of each value, and its bytes
 module _ (old new : LiveMaps) (k : ℕ) (areas : SameAreas old new) (live : IsSome (live_at new k)) where
   pub offsets_stay : (p : ℕ) → offset_at new k p ≡ offset_at old k p
-  offsets_stay p = let m = areas k (live_or (live_at new k)) (live_is new k live) in offset_same (live_or (live_at new k)) m.0 p m.3 m.4 ∙ ap (λ (o : Option LiveMap). offset (live_or o) p) (sym m.1)
+  offsets_stay p =
+      let m = areas k (live_or (live_at new k)) (live_is new k live) in
+      offset_same (live_or (live_at new k)) m.0 p m.3 m.4 ∙ ap (λ (o : Option LiveMap). offset (live_or o) p) (sym m.1)
 
   shape_stays : shape_at new k ≡ shape_at old k
-  shape_stays = let m = areas k (live_or (live_at new k)) (live_is new k live) in m.2 ∙ ap (λ (o : Option LiveMap). (live_or o).keys.shape) (sym m.1)
+  shape_stays =
+      let m = areas k (live_or (live_at new k)) (live_is new k live) in
+      m.2 ∙ ap (λ (o : Option LiveMap). (live_or o).keys.shape) (sym m.1)
 
   pub value_stays : (part : List ℕ) (p : ℕ) → value_in part new k p ≡ value_in part old k p
   value_stays part p =
@@ -79,13 +89,24 @@ pub same_some : {A : Type 0} {o : Option A} {l m : A} → o ≡ Some l → o ≡
 same_some {l = l} {m = m} e f = same_Some l m (sym e ∙ f)
 
 -- an index has one entry
-pub same_at : {A : Type 0} (xs : List (Option A)) {j k : ℕ} {f g : A} → get_or xs k None ≡ Some f → j ≡ k → get_or xs j None ≡ Some g → f ≡ g
+pub same_at : {A : Type 0} (xs : List (Option A)) {j k : ℕ} {f g : A}
+    → get_or xs k None ≡ Some f → j ≡ k → get_or xs j None ≡ Some g → f ≡ g
 same_at xs there same at = same_some there (ap (λ (i : ℕ). get_or xs i None) (sym same) ∙ at)
 
 -- one map that keeps its shape and its area
-pub one_changed : (old new : LiveMaps) (k : ℕ) (a b : LiveMap) → live_at old k ≡ Some a → live_at new k ≡ Some b → b.keys.shape ≡ a.keys.shape → b.start ≡ a.start → b.stride ≡ a.stride → ((j : ℕ) → j ≢ k → live_at new j ≡ live_at old j) → SameAreas old new
+pub one_changed : (old new : LiveMaps) (k : ℕ) (a b : LiveMap)
+    → live_at old k ≡ Some a → live_at new k ≡ Some b
+    → b.keys.shape ≡ a.keys.shape → b.start ≡ a.start
+    → b.stride ≡ a.stride
+    → ((j : ℕ) → j ≢ k → live_at new j ≡ live_at old j)
+    → SameAreas old new
 one_changed old new k a b at bt shape start stride others j l h =
     same_or_other j k
-    (λ (q : j ≡ k). let is : l ≡ b = same_some (ap (live_at new) (sym q) ∙ h) bt in
-    (a, ap (live_at old) q ∙ at, ap (λ (x : LiveMap). x.keys.shape) is ∙ shape, ap (λ (x : LiveMap). x.start) is ∙ start, ap (λ (x : LiveMap). x.stride) is ∙ stride))
+    (λ (q : j ≡ k). let is : l ≡ b = same_some (ap (live_at new) (sym q) ∙ h) bt in (
+      a,
+      ap (live_at old) q ∙ at,
+      ap (λ (x : LiveMap). x.keys.shape) is ∙ shape,
+      ap (λ (x : LiveMap). x.start) is ∙ start,
+      ap (λ (x : LiveMap). x.stride) is ∙ stride,
+    ))
     (λ (ne : j ≢ k). (l, sym (others j ne) ∙ h, refl, refl, refl))

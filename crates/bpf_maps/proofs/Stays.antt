@@ -28,18 +28,31 @@ module _ (old new : LiveMaps) (k : ℕ) (same : held_at new k ≡ held_at old k)
 
 -- ---- with the values
 
-module _ (old new : LiveMaps) (bytes later : List ℕ) (k : ℕ) (values : SameValues old bytes new later) (sound : IsSome (live_at old k) → IsSound (keys_at old k)) where
-  kept : keys_at new k ≡ keys_at old k → IsSome (live_at old k) → IsSome (live_at new k) → map_in later new k ≡ map_in bytes old k
+module _ (old new : LiveMaps) (bytes later : List ℕ) (k : ℕ)
+    (values : SameValues old bytes new later)
+    (sound : IsSome (live_at old k) → IsSound (keys_at old k)) where
+  kept : keys_at new k ≡ keys_at old k
+      → IsSome (live_at old k) → IsSome (live_at new k)
+      → map_in later new k ≡ map_in bytes old k
   kept keys was is =
       ap (λ (q : KeyTable). with_values (value_in later new k) (table_of q)) keys
       ∙ agreeing_tables (value_in later new k) (value_in bytes old k) (keys_at old k)
-      (λ p used. values k p was is (subst (λ (q : KeyTable). p < q.shape.max_entries) (sym keys) (used_in_entries (keys_at old k) p (sound was) used)))
+      (λ p used.
+      values k p was is
+      (subst (λ (q : KeyTable). p < q.shape.max_entries) (sym keys)
+      (used_in_entries (keys_at old k) p (sound was) used)))
 
   pub keeps_live : live_at new k ≡ live_at old k → KeepsMap k old bytes new later
-  keeps_live same live = (ap is_some same ∙ live, kept (ap (λ (o : Option LiveMap). (live_or o).keys) same) live (ap is_some same ∙ live))
+  keeps_live same live = (
+    ap is_some same ∙ live,
+    kept (ap (λ (o : Option LiveMap). (live_or o).keys) same) live (ap is_some same ∙ live),
+  )
 
   pub keeps_held : held_at new k ≡ held_at old k → KeepsMap k old bytes new later
-  keeps_held same live = (held_live old new k same live, kept (same_keys old new k same) live (held_live old new k same live))
+  keeps_held same live = (
+    held_live old new k same live,
+    kept (same_keys old new k same) live (held_live old new k same live),
+  )
 
   -- the elements of the keys are the same
   pub keeps_keys : IsSome (live_at new k) → keys_at new k ≡ keys_at old k → KeepsMap k old bytes new later

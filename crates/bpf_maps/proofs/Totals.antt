@@ -6,12 +6,17 @@ use Rattle.bpf_maps.specs.LiveLaws.{total_same, total_next}
 
 module _ (f : LiveMap → ℕ) where
   -- the sums of two lists whose numbers are equal at all indices but one
-  pub total_but_one : (k : ℕ) (xs ys : List (Option LiveMap)) → ((j : ℕ) → j ≢ k → weight f (get_or ys j None) ≡ weight f (get_or xs j None)) → total f ys + weight f (get_or xs k None) ≡ total f xs + weight f (get_or ys k None)
+  pub total_but_one : (k : ℕ) (xs ys : List (Option LiveMap))
+      → ((j : ℕ) → j ≢ k → weight f (get_or ys j None) ≡ weight f (get_or xs j None))
+      → total f ys + weight f (get_or xs k None) ≡ total f xs + weight f (get_or ys k None)
   unfolding total
   total_but_one zero [] [] h = refl
-  total_but_one zero [] (y ∷ ys) h = let r = total_same f [] ys (λ j. h (suc j) (λ e. absurd (omega arith))) in omega arith
-  total_but_one zero (x ∷ xs) [] h = let r = total_same f xs [] (λ j. h (suc j) (λ e. absurd (omega arith))) in omega arith
-  total_but_one zero (x ∷ xs) (y ∷ ys) h = let r = total_same f xs ys (λ j. h (suc j) (λ e. absurd (omega arith))) in omega arith
+  total_but_one zero [] (y ∷ ys) h =
+      let r = total_same f [] ys (λ j. h (suc j) (λ e. absurd (omega arith))) in omega arith
+  total_but_one zero (x ∷ xs) [] h =
+      let r = total_same f xs [] (λ j. h (suc j) (λ e. absurd (omega arith))) in omega arith
+  total_but_one zero (x ∷ xs) (y ∷ ys) h =
+      let r = total_same f xs ys (λ j. h (suc j) (λ e. absurd (omega arith))) in omega arith
   total_but_one (suc k) [] [] h = refl
   total_but_one (suc k) [] (y ∷ ys) h =
       let r = total_but_one k [] ys (λ j ne. h (suc j) (λ e. ne (omega arith))) in
@@ -39,9 +44,13 @@ keys_of_weight : (o : Option LiveMap) → weight (λ l. length l.keys.entries) o
 keys_of_weight None = refl
 keys_of_weight (Some l) = refl
 
-pub more_keys : (t : LiveMaps) (handle : ℕ) → handle < length t.maps
-    → total (λ l. length l.keys.entries) (take (handle + 1) t.maps) ≡ total (λ l. length l.keys.entries) (take handle t.maps) + length (keys_at t handle).entries
-more_keys t handle within = total_next (λ l. length l.keys.entries) handle t.maps within ∙ ap (λ (n : ℕ). total (λ l. length l.keys.entries) (take handle t.maps) + n) (keys_of_weight (live_at t handle))
+pub more_keys : (t : LiveMaps) (handle : ℕ)
+    → handle < length t.maps
+    → total (λ l. length l.keys.entries) (take (handle + 1) t.maps)
+    ≡ total (λ l. length l.keys.entries) (take handle t.maps) + length (keys_at t handle).entries
+more_keys t handle within =
+    total_next (λ l. length l.keys.entries) handle t.maps within
+    ∙ ap (λ (n : ℕ). total (λ l. length l.keys.entries) (take handle t.maps) + n) (keys_of_weight (live_at t handle))
 
 module _ (f : LiveMap → ℕ) where
   weight_some : (o : Option LiveMap) → IsSome o → weight f o ≡ f (live_or o)
@@ -53,10 +62,14 @@ module _ (f : LiveMap → ℕ) where
   weight_none (Some l) none = absurd (true≢false none)
 
   module _ (t : LiveMaps) (handle : ℕ) (within : handle < length t.maps) where
-    pub one_more_live : IsSome (live_at t handle) → total f (take (handle + 1) t.maps) ≡ total f (take handle t.maps) + f (live_or (live_at t handle))
-    one_more_live live = total_next f handle t.maps within ∙ ap (λ (n : ℕ). total f (take handle t.maps) + n) (weight_some (live_at t handle) live)
+    pub one_more_live : IsSome (live_at t handle)
+        → total f (take (handle + 1) t.maps) ≡ total f (take handle t.maps) + f (live_or (live_at t handle))
+    one_more_live live =
+        total_next f handle t.maps within
+        ∙ ap (λ (n : ℕ). total f (take handle t.maps) + n) (weight_some (live_at t handle) live)
 
-    pub no_more_live : is_some (live_at t handle) ≡ false → total f (take (handle + 1) t.maps) ≡ total f (take handle t.maps)
+    pub no_more_live : is_some (live_at t handle) ≡ false
+        → total f (take (handle + 1) t.maps) ≡ total f (take handle t.maps)
     no_more_live none =
         let next = total_next f handle t.maps within in
         let nothing = weight_none (live_at t handle) none in

@@ -20,24 +20,35 @@ module _ {B : Type 0} (f g : ℕ → B) where
   in_front : (p n : ℕ) → p ≡ p → 1 ≤ (if nat_eq p p then 1 else 0) + n
   in_front p n e = grind arith
 
-  pub agreeing : (es : List (List ℕ × ℕ)) → ((p : ℕ) → 1 ≤ occurrences p (values_of es) → f p ≡ g p) → valued f es ≡ valued g es
+  pub agreeing : (es : List (List ℕ × ℕ))
+      → ((p : ℕ) → 1 ≤ occurrences p (values_of es) → f p ≡ g p) → valued f es ≡ valued g es
   agreeing [] h = refl
   agreeing (e ∷ es) h =
       let head = h e.1 (in_front e.1 (occurrences e.1 (values_of es)) refl) in
       let rest = agreeing es (λ p used. h p (omega arith)) in
       λ i. (e.0, head i) ∷ rest i
 
-  pub agreeing_tables : (t : KeyTable) → ((p : ℕ) → 1 ≤ occurrences p (values_of t.entries) → f p ≡ g p) → with_values f (table_of t) ≡ with_values g (table_of t)
-  agreeing_tables t h = ap (λ (es : List (List ℕ × B)). let m : Table B = record { shape = t.shape; entries = es; deleted = (table_of t).deleted } in m) (agreeing t.entries h)
+  pub agreeing_tables : (t : KeyTable)
+      → ((p : ℕ) → 1 ≤ occurrences p (values_of t.entries) → f p ≡ g p)
+      → with_values f (table_of t) ≡ with_values g (table_of t)
+  agreeing_tables t h =
+      ap (λ (es : List (List ℕ × B)).
+      let m : Table B = record { shape = t.shape; entries = es; deleted = (table_of t).deleted } in m)
+      (agreeing t.entries h)
 
 -- an element in use is one of the map
 used_below : (p n m k : ℕ) → n + m ≤ (if nat_lt p k then 1 else 0) → 1 ≤ n + m → p < k
 used_below p n m k h used = grind arith
 
-pub used_within : (t : KeyTable) (p : ℕ) → IsSound t → 1 ≤ occurrences p (values_of t.entries) + occurrences p t.kept → p < t.shape.max_entries
-used_within t p sound used = used_below p (occurrences p (values_of t.entries)) (occurrences p t.kept) t.shape.max_entries (sound.once p) used
+pub used_within : (t : KeyTable) (p : ℕ)
+    → IsSound t
+    → 1 ≤ occurrences p (values_of t.entries) + occurrences p t.kept
+    → p < t.shape.max_entries
+used_within t p sound used =
+    used_below p (occurrences p (values_of t.entries)) (occurrences p t.kept) t.shape.max_entries (sound.once p) used
 
-pub used_in_entries : (t : KeyTable) (p : ℕ) → IsSound t → 1 ≤ occurrences p (values_of t.entries) → p < t.shape.max_entries
+pub used_in_entries : (t : KeyTable) (p : ℕ)
+    → IsSound t → 1 ≤ occurrences p (values_of t.entries) → p < t.shape.max_entries
 used_in_entries t p sound used = used_within t p sound (omega arith)
 
 -- ---- a value is written
@@ -67,34 +78,49 @@ module _ {B : Type 0} (value : ℕ → B) (p : ℕ) (bytes : B) where
       let n = not_among e.1 (occurrences p (values_of es)) h in
       λ i. (e.0, written_apart e.1 n.0 i) ∷ elsewhere es n.1 i
 
-  pub valued_written : (key : List ℕ) (es : List (List ℕ × ℕ)) → occurrences p (values_of es) ≤ 1 → found key es ≡ Some p → valued written es ≡ set_value (is_key key) (valued value es) bytes
+  pub valued_written : (key : List ℕ) (es : List (List ℕ × ℕ))
+      → occurrences p (values_of es) ≤ 1 → found key es ≡ Some p
+      → valued written es ≡ set_value (is_key key) (valued value es) bytes
   valued_written key [] once h = refl
   valued_written key (e ∷ es) once h = by (valued_written key es) (is_key key e.0) h
     where
-      by : (occurrences p (values_of es) ≤ 1 → found key es ≡ Some p → valued written es ≡ set_value (is_key key) (valued value es) bytes) → (b : Bool) → cond b (Some e.1) (found key es) ≡ Some p → valued written (e ∷ es) ≡ cond b ((e.0, bytes) ∷ valued value es) ((e.0, value e.1) ∷ set_value (is_key key) (valued value es) bytes)
+      by : (occurrences p (values_of es) ≤ 1 → found key es ≡ Some p
+          → valued written es ≡ set_value (is_key key) (valued value es) bytes)
+          → (b : Bool) → cond b (Some e.1) (found key es) ≡ Some p
+          → valued written (e ∷ es)
+          ≡ cond b ((e.0, bytes) ∷ valued value es) ((e.0, value e.1) ∷ set_value (is_key key) (valued value es) bytes)
       by rest true h =
           let same = same_Some e.1 p h in
           λ i. (e.0, written_here e.1 same i) ∷ elsewhere es (once_here e.1 (occurrences p (values_of es)) same once) i
       by rest false h =
           let there = in_use p key es h in
-          λ i. (e.0, written_apart e.1 (once_behind e.1 (occurrences p (values_of es)) once there) i) ∷ rest (let all : (if nat_eq p e.1 then 1 else 0) + occurrences p (values_of es) ≤ 1 = once in omega arith) h i
+          λ i.
+          (e.0, written_apart e.1 (once_behind e.1 (occurrences p (values_of es)) once there) i)
+          ∷ rest (let all : (if nat_eq p e.1 then 1 else 0) + occurrences p (values_of es) ≤ 1 = once in omega arith)
+          h i
 
 once_at_most : (p n m k : ℕ) → n + m ≤ (if nat_lt p k then 1 else 0) → n ≤ 1
 once_at_most p n m k h = grind arith
 
 pub elements_once : (t : KeyTable) → IsSound t → (p : ℕ) → occurrences p (values_of t.entries) ≤ 1
-elements_once t sound p = once_at_most p (occurrences p (values_of t.entries)) (occurrences p t.kept) t.shape.max_entries (sound.once p)
+elements_once t sound p =
+    once_at_most p (occurrences p (values_of t.entries)) (occurrences p t.kept) t.shape.max_entries (sound.once p)
 
-pub table_written : {B : Type 0} (value : ℕ → B) (t : KeyTable) (key : List ℕ) (element : ℕ) (bytes : B) → IsSound t → found key t.entries ≡ Some element
+pub table_written : {B : Type 0} (value : ℕ → B) (t : KeyTable) (key : List ℕ) (element : ℕ) (bytes : B)
+    → IsSound t → found key t.entries ≡ Some element
     → with_values (written value element bytes) (table_of t) ≡ with_object (with_values value (table_of t)) key bytes
 table_written {B} value t key element bytes sound h =
-    ap (λ (es : List (List ℕ × B)). let m : Table B = record { shape = t.shape; entries = es; deleted = (table_of t).deleted } in m) (valued_written value element bytes key t.entries (elements_once t sound element) h)
+    ap (λ (es : List (List ℕ × B)).
+    let m : Table B = record { shape = t.shape; entries = es; deleted = (table_of t).deleted } in m)
+    (valued_written value element bytes key t.entries (elements_once t sound element) h)
 
 -- ---- a new map
 
 -- an array has these bytes at all its indices, and a hash map has no key
 module _ (value : ℕ → List ℕ) (bytes : List ℕ) where
-  valued_indices : (first n : ℕ) → ((i : ℕ) → i < first + n → value i ≡ bytes) → valued value (indexed (λ i. i) first n) ≡ indexed (λ i. bytes) first n
+  valued_indices : (first n : ℕ)
+      → ((i : ℕ) → i < first + n → value i ≡ bytes)
+      → valued value (indexed (λ i. i) first n) ≡ indexed (λ i. bytes) first n
   unfolding indexed
   valued_indices first zero h = refl
   valued_indices first (suc n) h =
@@ -102,12 +128,17 @@ module _ (value : ℕ → List ℕ) (bytes : List ℕ) where
       let rest = valued_indices (first + 1) n (λ i lt. h i (omega (arith, lt))) in
       λ i. (index_key first, head i) ∷ rest i
 
-pub new_map_in : (part : List ℕ) (t : LiveMaps) (k : ℕ) (shape : MapShape) (bytes : List ℕ) → keys_at t k ≡ new_keys shape
-    → (shape.kind ≡ Array → (p : ℕ) → p < shape.max_entries → value_in part t k p ≡ bytes) → map_in part t k ≡ new_table (λ i. bytes) shape
+pub new_map_in : (part : List ℕ) (t : LiveMaps) (k : ℕ) (shape : MapShape) (bytes : List ℕ)
+    → keys_at t k ≡ new_keys shape
+    → (shape.kind ≡ Array → (p : ℕ) → p < shape.max_entries → value_in part t k p ≡ bytes)
+    → map_in part t k ≡ new_table (λ i. bytes) shape
 new_map_in part t k shape bytes keys cleared =
     ap (λ (q : KeyTable). with_values (value_in part t k) (table_of q)) keys
     ∙ ap (λ es. let m : Table (List ℕ) = record { shape = shape; entries = es; deleted = 0 } in m) (by shape.kind refl)
   where
-    by : (d : MapKind) → shape.kind ≡ d → valued (value_in part t k) (new_entries (λ i. i) d shape.max_entries) ≡ new_entries (λ i. bytes) d shape.max_entries
+    by : (d : MapKind)
+        → shape.kind ≡ d
+        → valued (value_in part t k) (new_entries (λ i. i) d shape.max_entries)
+        ≡ new_entries (λ i. bytes) d shape.max_entries
     by Array e = valued_indices (value_in part t k) bytes 0 shape.max_entries (λ i lt. cleared e i (omega (arith, lt)))
     by Hash e = refl

@@ -46,16 +46,20 @@ module _ (size : ℕ) (key : List ℕ) (small : AreBytes key) (long : length key
   number_tests [] h = tt
   number_tests (e ∷ es) h = (same_word e.0 h.0, number_tests es h.1)
 
-  pub word_tests : (word : ℕ) (es : List (ℕ × ℕ)) → word ≡ number_of key → AreBelow (256 ^ size) es → Tests (low_bytes size) key (nat_eq word) es
+  pub word_tests : (word : ℕ) (es : List (ℕ × ℕ))
+      → word ≡ number_of key → AreBelow (256 ^ size) es
+      → Tests (low_bytes size) key (nat_eq word) es
   word_tests word es is h = subst (λ (n : ℕ). Tests (low_bytes size) key (nat_eq n) es) (sym is) (number_tests es h)
 
 -- ---- all numbers are below the bound
 
-pub below-append : (bound word element : ℕ) (es : List (ℕ × ℕ)) → AreBelow bound es → word < bound → AreBelow bound (es ++ (word, element) ∷ [])
+pub below-append : (bound word element : ℕ) (es : List (ℕ × ℕ))
+    → AreBelow bound es → word < bound → AreBelow bound (es ++ (word, element) ∷ [])
 below-append bound word element [] h l = (l, tt)
 below-append bound word element (e ∷ es) h l = (h.0, below-append bound word element es h.1 l)
 
-pub below-remove : (bound : ℕ) (test : ℕ → Bool) (es : List (ℕ × ℕ)) → AreBelow bound es → AreBelow bound (remove_entry test es)
+pub below-remove : (bound : ℕ) (test : ℕ → Bool) (es : List (ℕ × ℕ))
+    → AreBelow bound es → AreBelow bound (remove_entry test es)
 below-remove bound test [] h = tt
 below-remove bound test (e ∷ es) h = by (test e.0) (below-remove bound test es h.1)
   where
@@ -77,8 +81,11 @@ none_passes [] = refl
 none_passes (e ∷ es) = none_passes es
 
 -- a key of another size is followed by the first
-pub after_other_size : (key : List ℕ) (size : ℕ) (es : List (ℕ × ℕ)) → (length key ≡ size → ⊥) → option_map (low_bytes size) (first_key_of es) ≡ key_after key (shown_by (low_bytes size) es)
-after_other_size key size es differ = first_follows (low_bytes size) key (λ (word : ℕ). false) es (tests es) (none_passes es)
+pub after_other_size : (key : List ℕ) (size : ℕ) (es : List (ℕ × ℕ))
+    → (length key ≡ size → ⊥)
+    → option_map (low_bytes size) (first_key_of es) ≡ key_after key (shown_by (low_bytes size) es)
+after_other_size key size es differ =
+    first_follows (low_bytes size) key (λ (word : ℕ). false) es (tests es) (none_passes es)
   where
     tests : (es : List (ℕ × ℕ)) → Tests (low_bytes size) key (λ (word : ℕ). false) es
     tests [] = tt
@@ -110,4 +117,5 @@ spelled_word x =
 pub take_low_bytes : (n m x : ℕ) → n ≤ m → take n (low_bytes m x) ≡ low_bytes n x
 take_low_bytes zero m x h = refl
 take_low_bytes (suc n) zero x h = absurd (omega arith)
-take_low_bytes (suc n) (suc m) x h = ap (λ (bytes : List ℕ). x % 256 ∷ bytes) (take_low_bytes n m (x / 256) (omega arith))
+take_low_bytes (suc n) (suc m) x h =
+    ap (λ (bytes : List ℕ). x % 256 ∷ bytes) (take_low_bytes n m (x / 256) (omega arith))

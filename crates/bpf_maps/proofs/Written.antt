@@ -11,10 +11,19 @@ module _ (xs new : List ℕ) (start size : ℕ) (count : length new ≡ size) (r
   front = length-take-le start xs (omega arith)
 
   pub length_same : length written ≡ length xs
-  length_same = let f = front in omega (arith, length-append (take start xs) (new ++ drop (start + size) xs), length-append new (drop (start + size) xs), length-drop (start + size) xs)
+  length_same =
+      let f = front in
+      omega (
+        arith,
+        length-append (take start xs) (new ++ drop (start + size) xs),
+        length-append new (drop (start + size) xs),
+        length-drop (start + size) xs,
+      )
 
   pub front_same : (n : ℕ) → n ≤ start → take n written ≡ take n xs
-  front_same n l = let f = front in take-append-le n (take start xs) (new ++ drop (start + size) xs) (omega arith) ∙ take-take n start xs l
+  front_same n l =
+      let f = front in
+      take-append-le n (take start xs) (new ++ drop (start + size) xs) (omega arith) ∙ take-take n start xs l
 
   pub before_same : (at n : ℕ) → at + n ≤ start → take n (drop at written) ≡ take n (drop at xs)
   before_same at n l = sym (drop-take at n written) ∙ ap (drop at) (front_same (at + n) l) ∙ drop-take at n xs
@@ -49,7 +58,9 @@ module _ (xs new : List ℕ) (start size : ℕ) (count : length new ≡ size) (r
       ∙ take-append-le n (drop x new) r (omega (arith, length-drop x new))
 
 -- zeros
-pub zeros : (xs : List ℕ) (start size : ℕ) → start + size ≤ length xs → (x n : ℕ) → x + n ≤ size → take n (drop (start + x) (take start xs ++ (replicate size 0 ++ drop (start + size) xs))) ≡ replicate n 0
+pub zeros : (xs : List ℕ) (start size : ℕ)
+    → start + size ≤ length xs → (x n : ℕ) → x + n ≤ size
+    → take n (drop (start + x) (take start xs ++ (replicate size 0 ++ drop (start + size) xs))) ≡ replicate n 0
 zeros xs start size room x n l =
     own xs (replicate size 0) start size (length-replicate size 0) room x n l
     ∙ ap (take n) (drop-replicate x size 0)

@@ -4,6 +4,7 @@ use Rattle.tagged_model.specs.declared.shape.MapShape.{MapShape}
 use Rattle.tagged_model.specs.declared.fault.MapFault.{MapFault}
 use Rattle.bpf_maps.specs.Live.{LiveMaps, Creates, IsCreated}
 
-pub is_created : (fault : Option MapFault) (old new : LiveMaps) (shape : MapShape) (k : ℕ) → Creates fault old shape (Ok k) new → IsCreated old shape k new
+pub is_created : (fault : Option MapFault) (old new : LiveMaps) (shape : MapShape) (k : ℕ)
+    → Creates fault old shape (Ok k) new → IsCreated old shape k new
 is_created None old new shape k made = made
 is_created (Some f) old new shape k made = cc (made.0)

@@ -13,19 +13,27 @@ module _ (fd : ℕ) (shape : MapShape) where
   abbrev entry : Named
   entry = record { fd = fd; target = target.Map shape }
 
-  found : (b : Bool) → IsSome (shape_in (if b then Some (target.Map shape) else None)) → shape_in (if b then Some (target.Map shape) else None) ≡ Some shape
+  found : (b : Bool)
+      → IsSome (shape_in (if b then Some (target.Map shape) else None))
+      → shape_in (if b then Some (target.Map shape) else None) ≡ Some shape
   found true some = refl
   found false some = absurd (true≢false (sym some))
 
-  kept : (other : ℕ) (b : Bool) → IsSome (shapes_named (cond b (entry ∷ []) []) other) → shapes_named (cond b (entry ∷ []) []) other ≡ Some shape
+  kept : (other : ℕ) (b : Bool)
+      → IsSome (shapes_named (cond b (entry ∷ []) []) other)
+      → shapes_named (cond b (entry ∷ []) []) other ≡ Some shape
   unfolding target_of
   kept other true some = found (fd == other) some
   kept other false some = absurd (true≢false (sym some))
 
-  only_shape : (fds : List ℕ) (other : ℕ) → IsSome (shapes_named (entries_of fds (entry ∷ [])) other) → shapes_named (entries_of fds (entry ∷ [])) other ≡ Some shape
+  only_shape : (fds : List ℕ) (other : ℕ)
+      → IsSome (shapes_named (entries_of fds (entry ∷ [])) other)
+      → shapes_named (entries_of fds (entry ∷ [])) other ≡ Some shape
   only_shape fds other some = kept other (is_among fds fd) some
 
-  pub loaded_shape : LoadedMapsHaveShapes → (program a : Accepted) → IsAcceptedAs program.code (entry ∷ []) a → (i : ℕ) → i < length (maps_of a.code)
+  pub loaded_shape : LoadedMapsHaveShapes
+      → (program a : Accepted) → IsAcceptedAs program.code (entry ∷ []) a
+      → (i : ℕ) → i < length (maps_of a.code)
       → shapes_in a (slice_index (maps_of a.code) i) ≡ Some shape
   loaded_shape have program a is i within =
       let fds = maps_of program.code in

@@ -9,14 +9,23 @@ use Rattle.command_frames.specs.declared.command.BadFrame.{BadFrame}
 abbrev the_run : ℕ → List ℕ → List ℕ → Result Command BadFrame
 the_run fd found left = Ok (prog_test_run fd found left)
 
-pub run_read : (body rest left found : List ℕ) (fd : ℕ) → 44 ≤ length body → fd ≡ word_behind 0 body → found ≡ words 10 rest → rest ≡ drop 4 body → left ≡ drop 44 body
+pub run_read : (body rest left found : List ℕ) (fd : ℕ)
+    → 44 ≤ length body → fd ≡ word_behind 0 body
+    → found ≡ words 10 rest → rest ≡ drop 4 body
+    → left ≡ drop 44 body
     → the_run fd found left ≡ command_in 10 body
 run_read body rest left found fd enough number read first second =
     let whole : nat_le 44 (length body) ≡ true = le-leb 44 (length body) enough in
-    let same = ap (λ n. prog_test_run n found left) number ∙ ap (λ ws. prog_test_run (word_behind 0 body) ws left) (read ∙ ap (words 10) first) ∙ ap (prog_test_run (word_behind 0 body) (words 10 (drop 4 body))) second in
+    let same =
+    ap (λ n. prog_test_run n found left) number
+    ∙ ap (λ ws. prog_test_run (word_behind 0 body) ws left) (read ∙ ap (words 10) first)
+    ∙ ap (prog_test_run (word_behind 0 body) (words 10 (drop 4 body))) second in
     rw whole (ap Ok same)
 
-pub parsed_as : (frame body : List ℕ) (number : ℕ) → length frame ≤ longest_frame → number ≡ little_number 2 (drop 2 frame) → body ≡ drop 4 frame → command_in number body ≡ parsed frame
+pub parsed_as : (frame body : List ℕ) (number : ℕ)
+    → length frame ≤ longest_frame → number ≡ little_number 2 (drop 2 frame)
+    → body ≡ drop 4 frame
+    → command_in number body ≡ parsed frame
 parsed_as frame body number short named rest =
     let fits : nat_lt longest_frame (length frame) ≡ false = le-ltb longest_frame (length frame) short in
     rw fits (ap (λ n. command_in n body) named ∙ ap (command_in (little_number 2 (drop 2 frame))) rest)

@@ -45,5 +45,6 @@ unfolding closing
 bad_descriptor = refl
 
 -- the length counts the payload
-with_payload : reply_bytes 2 10 (pos 0) (1 ∷ 0 ∷ 0 ∷ 0 ∷ []) ≡ 12 ∷ 0 ∷ 0 ∷ 0 ∷ 2 ∷ 0 ∷ 10 ∷ 0 ∷ 0 ∷ 0 ∷ 0 ∷ 0 ∷ 1 ∷ 0 ∷ 0 ∷ 0 ∷ []
+with_payload :
+    reply_bytes 2 10 (pos 0) (1 ∷ 0 ∷ 0 ∷ 0 ∷ []) ≡ 12 ∷ 0 ∷ 0 ∷ 0 ∷ 2 ∷ 0 ∷ 10 ∷ 0 ∷ 0 ∷ 0 ∷ 0 ∷ 0 ∷ 1 ∷ 0 ∷ 0 ∷ 0 ∷ []
 with_payload = refl

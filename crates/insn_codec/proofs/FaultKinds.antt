@@ -43,7 +43,9 @@ more_first_slots : (bytes : List ℕ) → HasFirstSlot 10 bytes → HasFirstSlot
 more_first_slots bytes h = (h.0, more_insns h.0 h.1, h.2)
 
 begins_first : (i : Insn) (bytes : List ℕ) → Begins i bytes → take 8 bytes ≡ slot_bytes (first i)
-begins_first i bytes h = ap (take 8) (whole_of_begins i (first i) (second i) bytes refl h) ∙ take-append_seam (slot_bytes (first i)) (flat_map slot_bytes (second i) ++ drop (length (spelling i)) bytes)
+begins_first i bytes h =
+    ap (take 8) (whole_of_begins i (first i) (second i) bytes refl h)
+    ∙ take-append_seam (slot_bytes (first i)) (flat_map slot_bytes (second i) ++ drop (length (spelling i)) bytes)
 
 insn_first_slot : (bytes : List ℕ) → HasInsn bytes → HasFirstSlot 10 bytes
 insn_first_slot bytes h = (h.0, h.1, begins_first h.0 bytes h.2)

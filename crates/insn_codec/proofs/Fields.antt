@@ -54,10 +54,12 @@ bits_listed bits.Bits16 op dst how = refl
 bits_listed _ op dst how = refl
 
 pub listed-first : (i : Insn) → listed (form_of i) (first i) ≡ true
-listed-first (Alu wide o dst src) = rw (one_operand-fields src (opcode (alu_number o) (source_bit src) (alu_class wide)) dst (alu_offset o)) (offset_listed-alu wide o src)
+listed-first (Alu wide o dst src) =
+    rw (one_operand-fields src (opcode (alu_number o) (source_bit src) (alu_class wide)) dst (alu_offset o)) (offset_listed-alu wide o src)
 listed-first (Movsx m) = offset_listed-movsx m.wide m.bits m.listed
 listed-first (End how width dst) = bits_listed width (end_opcode how) dst how
-listed-first (Jump wide condition dst src off) = one_operand-fields src (opcode (condition_number condition) (source_bit src) (jump_class wide)) dst (offset_bits off)
+listed-first (Jump wide condition dst src off) =
+    one_operand-fields src (opcode (condition_number condition) (source_bit src) (jump_class wide)) dst (offset_bits off)
 listed-first (Store s dst src off) = one_operand-fields src (memory_opcode 3 s (2 + source_bit src)) dst (offset_bits off)
 listed-first (Atomic s o dst src off) = ap is_some (atomic_number_again o)
 listed-first _ = refl
@@ -105,11 +107,26 @@ pub record IsFront (top : ℕ) (s : SlotFields) : Type 0 where
   pub imm : s.imm < 2 ^ 32
 
 pub IsFront-first : (top : ℕ) (i : Insn) → 2 ≤ top → IsInsnUpTo top i → IsFront top (first i)
-IsFront-first top (Alu wide o dst src) some h = record { dst = h.0; src = src_field_le top src h.1; offset = omega (arith, alu_offset_le o); imm = imm_field_lt top src h.1 }
+IsFront-first top (Alu wide o dst src) some h = record {
+  dst = h.0;
+  src = src_field_le top src h.1;
+  offset = omega (arith, alu_offset_le o);
+  imm = imm_field_lt top src h.1;
+}
 IsFront-first top (Movsx m) some h = record { dst = h.0; src = h.1; offset = omega (arith, extended_bits_le m.bits); imm = lit< tt }
 IsFront-first top (End how width dst) some h = record { dst = h; src = zero_le top; offset = lit< tt; imm = omega (arith, kept_bits_le width) }
-IsFront-first top (Jump wide condition dst src off) some h = record { dst = h.0; src = src_field_le top src h.1; offset = offset_bits_lt off h.2; imm = imm_field_lt top src h.1 }
-IsFront-first top (Store s dst src off) some h = record { dst = h.0; src = src_field_le top src h.1; offset = offset_bits_lt off h.2; imm = imm_field_lt top src h.1 }
+IsFront-first top (Jump wide condition dst src off) some h = record {
+  dst = h.0;
+  src = src_field_le top src h.1;
+  offset = offset_bits_lt off h.2;
+  imm = imm_field_lt top src h.1;
+}
+IsFront-first top (Store s dst src off) some h = record {
+  dst = h.0;
+  src = src_field_le top src h.1;
+  offset = offset_bits_lt off h.2;
+  imm = imm_field_lt top src h.1;
+}
 IsFront-first top (Atomic s o dst src off) some h = record { dst = h.0; src = h.1; offset = offset_bits_lt off h.2; imm = atomic_number_lt o }
 IsFront-first top _ some h = record { dst = omega arith; src = omega arith; offset = omega (arith, ints); imm = omega (arith, ints) }
 

@@ -44,7 +44,10 @@ not_listed {bytes} {f} r unlisted h =
 byte_opcode : (bytes : List ℕ) → IsBytes bytes → (slot_of bytes).opcode < 256
 byte_opcode bytes fits = omega (arith, fits 0, opcode-slot_of bytes)
 
-has_first_slot : {bytes : List ℕ} {f : OpcodeForm} (top : ℕ) → IsRead bytes f → listed f (slot_of bytes) ≡ true → (slot_of bytes).dst ≤ top → (slot_of bytes).src ≤ top → HasFirstSlot top bytes
+has_first_slot : {bytes : List ℕ} {f : OpcodeForm} (top : ℕ)
+    → IsRead bytes f → listed f (slot_of bytes) ≡ true
+    → (slot_of bytes).dst ≤ top → (slot_of bytes).src ≤ top
+    → HasFirstSlot top bytes
 has_first_slot {bytes} {f} top r ok dst src =
     let fields = IsSlot-slot_of bytes r.fits r.long in
     let has = form_of_slot f (slot_of bytes) (byte_opcode bytes r.fits) r.form in
@@ -73,7 +76,10 @@ IsRight bytes found = (kind : FaultKind) → found ≡ Some kind → HasFault by
 told : (bytes : List ℕ) (found : FaultKind) → HasFault bytes found → IsRight bytes (Some found)
 told bytes found h kind e = subst (HasFault bytes) (same_Some found kind e) h
 
-by_register : {bytes : List ℕ} {f : OpcodeForm} → IsRead bytes f → listed f (slot_of bytes) ≡ true → (HasInsn bytes → ⊥) → IsRight bytes (cond (leb (slot_of bytes).dst 10 && leb (slot_of bytes).src 10) (second_fault f (slot_of bytes).src (drop 8 bytes)) (Some Register))
+by_register : {bytes : List ℕ} {f : OpcodeForm}
+    → IsRead bytes f → listed f (slot_of bytes) ≡ true
+    → (HasInsn bytes → ⊥)
+    → IsRight bytes (cond (leb (slot_of bytes).dst 10 && leb (slot_of bytes).src 10) (second_fault f (slot_of bytes).src (drop 8 bytes)) (Some Register))
 by_register {bytes} {f} r ok none =
     let s = slot_of bytes in
     let fields = IsSlot-slot_of bytes r.fits r.long in
@@ -90,7 +96,11 @@ by_form {bytes} {f} r none =
     cond_both (listed f s) (cond (leb s.dst 10 && leb s.src 10) (second_fault f s.src (drop 8 bytes)) (Some Register)) (Some Reserved) (IsRight bytes)
     (λ ok. by_register r ok none) (λ unlisted. told bytes Reserved (r.long, known bytes f (r.fits 0) r.form, not_listed r unlisted))
 
-by_opcode : (bytes : List ℕ) → IsBytes bytes → 8 ≤ length bytes → (HasInsn bytes → ⊥) → (o : Option OpcodeForm) → form_at (slot_of bytes).opcode ≡ o → IsRight bytes (fault_by_form o (slot_of bytes) (drop 8 bytes))
+by_opcode : (bytes : List ℕ)
+    → IsBytes bytes → 8 ≤ length bytes
+    → (HasInsn bytes → ⊥)
+    → (o : Option OpcodeForm) → form_at (slot_of bytes).opcode ≡ o
+    → IsRight bytes (fault_by_form o (slot_of bytes) (drop 8 bytes))
 by_opcode bytes fits long none None is = told bytes Opcode (long, unknown bytes is)
 by_opcode bytes fits long none (Some f) is = by_form (record { fits = fits; long = long; form = is }) none
 
@@ -102,7 +112,11 @@ has_fault bytes kind fits e =
     (λ short. told bytes Ragged (ltb-true _ _ short)) (λ long. by_opcode bytes fits (ltb-false _ _ long) none (form_at (slot_of bytes).opcode) refl) kind e
 
 -- if the first slot has valid fields, the fault is that of the second slot
-pub fault_by_second : (f : OpcodeForm) (s t : SlotFields) (rest : List ℕ) (kind : FaultKind) → s ≡ t → listed f s ≡ true → s.dst ≤ 10 → s.src ≤ 10 → second_fault f t.src rest ≡ Some kind → fault_in_form f t rest ≡ Some kind
+pub fault_by_second : (f : OpcodeForm) (s t : SlotFields) (rest : List ℕ) (kind : FaultKind)
+    → s ≡ t → listed f s ≡ true
+    → s.dst ≤ 10 → s.src ≤ 10
+    → second_fault f t.src rest ≡ Some kind
+    → fault_in_form f t rest ≡ Some kind
 unfolding fault_in_form
 fault_by_second f s t rest kind same ok dst src second =
     let ok-t : listed f t ≡ true = ap (listed f) (sym same) ∙ ok in

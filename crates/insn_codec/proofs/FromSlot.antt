@@ -35,7 +35,11 @@ use Rattle.insn_set.specs.Spelling.{first, source_bit, src_field, imm_field, IsO
 use Rattle.insn_codec.proofs.ReadBack.{op_at, narrow_at, bits_at, movsx_at, load_insn, atomic_insn, wide_insn, insn_at}
 use Rattle.insn_codec.specs.Spelled.{operand_at, source_number}
 
-slot_same : (s : SlotFields) {op dst src offset imm : ℕ} → s.opcode ≡ op → s.dst ≡ dst → s.src ≡ src → s.offset ≡ offset → s.imm ≡ imm → slot op dst src offset imm ≡ s
+slot_same : (s : SlotFields) {op dst src offset imm : ℕ}
+    → s.opcode ≡ op → s.dst ≡ dst
+    → s.src ≡ src → s.offset ≡ offset
+    → s.imm ≡ imm
+    → slot op dst src offset imm ≡ s
 slot_same s a b c d e = rw (← a, ← b, ← c, ← d, ← e) refl
 
 half_fits : (n : ℕ) → n < 2 ^ 16 → FitsSigned w16 (cast_signed w16 n)
@@ -79,7 +83,10 @@ alu_number-op_at op.Div offset = grind (arith, nat_tests)
 alu_number-op_at op.Mod offset = grind (arith, nat_tests)
 alu_number-op_at _ offset = refl
 
-alu_offset-op_at : (wide : Bool) (o : AluOp) (z : SourceBit) (offset : ℕ) → IsTrue (alu_offset o == 0) → offset_listed wide o z offset ≡ true → offset < 8 → offset ≡ alu_offset (op_at o offset)
+alu_offset-op_at : (wide : Bool) (o : AluOp) (z : SourceBit) (offset : ℕ)
+    → IsTrue (alu_offset o == 0) → offset_listed wide o z offset ≡ true
+    → offset < 8
+    → offset ≡ alu_offset (op_at o offset)
 alu_offset-op_at wide op.SignedDiv z offset unsigned h few = absurd (false≢true unsigned)
 alu_offset-op_at wide op.SignedMod z offset unsigned h few = absurd (false≢true unsigned)
 alu_offset-op_at wide op.Mov source.Imm offset unsigned h few = grind (arith, nat_tests)
@@ -95,7 +102,8 @@ is_movsx : (wide : Bool) (c : AluOp) (z : SourceBit) (offset : ℕ) → offset_l
 is_movsx wide op.Mov source.Reg offset h many = (refl, refl, grind (arith, nat_tests), grind (arith, nat_tests))
 is_movsx wide _ z offset h many = absurd (grind (arith, nat_tests))
 
-first-movsx_at : (wide : Bool) (b : ExtendedBits) (dst src : ℕ) → IsTrue (wide || is_short b) → first (movsx_at wide b dst src) ≡ slot (opcode 11 1 (alu_class wide)) dst src (extended_bits b) 0
+first-movsx_at : (wide : Bool) (b : ExtendedBits) (dst src : ℕ)
+    → IsTrue (wide || is_short b) → first (movsx_at wide b dst src) ≡ slot (opcode 11 1 (alu_class wide)) dst src (extended_bits b) 0
 first-movsx_at true b dst src h = refl
 first-movsx_at false narrow.Bits32 dst src h = absurd cc
 first-movsx_at false _ dst src h = refl
@@ -115,33 +123,49 @@ pub record IsOf (f : OpcodeForm) (s : SlotFields) : Type 0 where
   pub offset : s.offset < 2 ^ 16
   pub imm : s.imm < 2 ^ 32
 
-first-alu : {wide : Bool} {c : AluOp} {z : SourceBit} {s : SlotFields} → IsOf (form.Alu wide c z) s → s.offset < 8 → first (Alu wide (op_at c s.offset) s.dst (operand_at z s)) ≡ s
+first-alu : {wide : Bool} {c : AluOp} {z : SourceBit} {s : SlotFields}
+    → IsOf (form.Alu wide c z) s → s.offset < 8
+    → first (Alu wide (op_at c s.offset) s.dst (operand_at z s)) ≡ s
 first-alu {wide} {c} {z} {s} h few =
     let parts = and_parts (one_operand z s) (offset_listed wide c z s.offset) h.listed in
-    slot_same s (rw (alu_number-op_at c s.offset, source_bit-operand_at z s) h.opcode) refl (src_field-operand_at z s parts.0) (alu_offset-op_at wide c z s.offset h.form parts.1 few) (imm_field-operand_at z s parts.0 h.imm)
+    slot_same s
+    (rw (alu_number-op_at c s.offset, source_bit-operand_at z s) h.opcode)
+    refl (src_field-operand_at z s parts.0)
+    (alu_offset-op_at wide c z s.offset h.form parts.1 few)
+    (imm_field-operand_at z s parts.0 h.imm)
 
-first-movsx : {wide : Bool} {c : AluOp} {z : SourceBit} {s : SlotFields} → IsOf (form.Alu wide c z) s → 8 ≤ s.offset → first (movsx_at wide (narrow_at s.offset) s.dst s.src) ≡ s
+first-movsx : {wide : Bool} {c : AluOp} {z : SourceBit} {s : SlotFields}
+    → IsOf (form.Alu wide c z) s → 8 ≤ s.offset
+    → first (movsx_at wide (narrow_at s.offset) s.dst s.src) ≡ s
 first-movsx {wide} {c} {z} {s} h many =
     let parts = and_parts (one_operand z s) (offset_listed wide c z s.offset) h.listed in
     let m = is_movsx wide c z s.offset parts.1 many in
     let imm : s.imm ≡ 0 = eqb-true s.imm 0 (rw m.1 at parts.0) in
-    first-movsx_at wide (narrow_at s.offset) s.dst s.src m.3 ∙ slot_same s (omega (arith, h.opcode, ap alu_number m.0, ap source_number m.1)) refl refl (sym m.2) imm
+    first-movsx_at wide (narrow_at s.offset) s.dst s.src m.3
+    ∙ slot_same s (omega (arith, h.opcode, ap alu_number m.0, ap source_number m.1)) refl refl (sym m.2) imm
 
 kept_bits-bits_at : (imm : ℕ) → (eqb imm 16 || eqb imm 32 || eqb imm 64) ≡ true → imm ≡ kept_bits (bits_at imm)
 kept_bits-bits_at imm h = grind (arith, nat_tests)
 
-first-load_insn : (z : AccessSize) (signed : Bool) (dst src offset : ℕ) → IsTrue (not (signed && is_double z)) → offset < 2 ^ 16 → first (load_insn z signed dst src (cast_signed w16 offset)) ≡ slot (load_opcode signed z) dst src offset 0
+first-load_insn : (z : AccessSize) (signed : Bool) (dst src offset : ℕ)
+    → IsTrue (not (signed && is_double z)) → offset < 2 ^ 16
+    → first (load_insn z signed dst src (cast_signed w16 offset)) ≡ slot (load_opcode signed z) dst src offset 0
 first-load_insn size.Double true dst src offset listed h = absurd (false≢true listed)
 first-load_insn _ true dst src offset listed h = rw (of_z-to_z w16 offset h) refl
 first-load_insn _ _ dst src offset listed h = rw (of_z-to_z w16 offset h) refl
 
-load_up_to : (top : ℕ) (z : AccessSize) (signed : Bool) (dst src offset : ℕ) → dst ≤ top → src ≤ top → offset < 2 ^ 16 → IsInsnUpTo top (load_insn z signed dst src (cast_signed w16 offset))
+load_up_to : (top : ℕ) (z : AccessSize) (signed : Bool) (dst src offset : ℕ)
+    → dst ≤ top → src ≤ top
+    → offset < 2 ^ 16
+    → IsInsnUpTo top (load_insn z signed dst src (cast_signed w16 offset))
 load_up_to top size.Double true dst src offset d s h = tt
 load_up_to top _ true dst src offset d s h = (d, s, half_fits offset h)
 load_up_to top _ _ dst src offset d s h = (d, s, half_fits offset h)
 
 -- the operation of an immediate
-pub atomic_of : (imm : ℕ) (o : Option AtomicOp) → atomic_by_number imm ≡ o → is_some o ≡ true → (op : AtomicOp) × (atomic_by_number imm ≡ Some op) × (imm ≡ atomic_number op)
+pub atomic_of : (imm : ℕ) (o : Option AtomicOp)
+    → atomic_by_number imm ≡ o → is_some o ≡ true
+    → (op : AtomicOp) × (atomic_by_number imm ≡ Some op) × (imm ≡ atomic_number op)
 atomic_of imm None e h = absurd cc
 atomic_of imm (Some op) e h = (op, e, sym (atomic_number_is imm op e))
 
@@ -161,7 +185,9 @@ first-wide {s} h =
 
 wide_up_to : (top src : ℕ) (s : SlotFields) → s.dst ≤ top → s.imm < 2 ^ 32 → IsInsnUpTo top (wide_insn src s 0)
 wide_up_to top src s dst h =
-    cond_both (eqb src 0) (Const s.dst (s.imm + 2 ^ 32 * 0)) (cond (eqb src 1) (MapFd s.dst (cast_signed w32 s.imm)) (MapValue s.dst (cast_signed w32 s.imm) 0)) (λ i. IsInsnUpTo top i)
+    cond_both (eqb src 0) (Const s.dst (s.imm + 2 ^ 32 * 0))
+    (cond (eqb src 1) (MapFd s.dst (cast_signed w32 s.imm)) (MapValue s.dst (cast_signed w32 s.imm) 0))
+    (λ i. IsInsnUpTo top i)
     (λ e. (dst, omega (arith, h)))
     (λ e. cond_both (eqb src 1) (MapFd s.dst (cast_signed w32 s.imm)) (MapValue s.dst (cast_signed w32 s.imm) 0) (λ i. IsInsnUpTo top i)
     (λ e. (dst, word_fits s.imm h)) (λ e. (dst, word_fits s.imm h, omega arith)))
@@ -183,7 +209,8 @@ first-insn_at form.Jal s h =
     let zero = zeros s.dst s.src (eqb s.offset 0) h.listed in
     slot_same s h.opcode zero.0 zero.1 (eqb-true s.offset 0 zero.2) (imm_same s h.imm)
 first-insn_at (form.Jump wide cond z) s h =
-    slot_same s (rw (source_bit-operand_at z s) h.opcode) refl (src_field-operand_at z s h.listed) (offset_same s h.offset) (imm_field-operand_at z s h.listed h.imm)
+    slot_same s (rw (source_bit-operand_at z s) h.opcode) refl (src_field-operand_at z s h.listed) (offset_same s h.offset)
+    (imm_field-operand_at z s h.listed h.imm)
 first-insn_at form.Call s h =
     let zero = zeros s.dst s.src (eqb s.offset 0) h.listed in
     slot_same s h.opcode zero.0 zero.1 (eqb-true s.offset 0 zero.2) (imm_same s h.imm)
@@ -191,9 +218,11 @@ first-insn_at form.Exit s h =
     let parts = and_parts (eqb s.dst 0 && eqb s.src 0 && eqb s.offset 0) (eqb s.imm 0) h.listed in
     let zero = zeros s.dst s.src (eqb s.offset 0) parts.0 in
     slot_same s h.opcode zero.0 zero.1 (eqb-true s.offset 0 zero.2) (eqb-true s.imm 0 parts.1)
-first-insn_at (form.Load z signed) s h = first-load_insn z signed s.dst s.src s.offset h.form h.offset ∙ slot_same s h.opcode refl refl refl (eqb-true s.imm 0 h.listed)
+first-insn_at (form.Load z signed) s h =
+    first-load_insn z signed s.dst s.src s.offset h.form h.offset ∙ slot_same s h.opcode refl refl refl (eqb-true s.imm 0 h.listed)
 first-insn_at (form.Store size z) s h =
-    slot_same s (rw (source_bit-operand_at z s) h.opcode) refl (src_field-operand_at z s h.listed) (offset_same s h.offset) (imm_field-operand_at z s h.listed h.imm)
+    slot_same s (rw (source_bit-operand_at z s) h.opcode) refl (src_field-operand_at z s h.listed) (offset_same s h.offset)
+    (imm_field-operand_at z s h.listed h.imm)
 first-insn_at (form.Atomic size) s h =
     let o = atomic_of s.imm (atomic_by_number s.imm) refl h.listed in
     ap (λ k. first (atomic_insn size k s)) o.1 ∙ slot_same s h.opcode refl refl (offset_same s h.offset) o.2

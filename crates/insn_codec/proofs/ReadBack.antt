@@ -61,7 +61,8 @@ load_insn size.Word true dst src off = Load (record { size = size.Word; signed =
 load_insn size.Double true dst src off = Exit
 
 abbrev pub wide_insn : ℕ → SlotFields → ℕ → Insn
-wide_insn src s next = cond (src == 0) (Const s.dst (s.imm + 2 ^ 32 * next)) (cond (src == 1) (MapFd s.dst (cast_signed w32 s.imm)) (MapValue s.dst (cast_signed w32 s.imm) next))
+wide_insn src s next =
+    cond (src == 0) (Const s.dst (s.imm + 2 ^ 32 * next)) (cond (src == 1) (MapFd s.dst (cast_signed w32 s.imm)) (MapValue s.dst (cast_signed w32 s.imm) next))
 
 abbrev pub atomic_insn : AtomicSize → Option AtomicOp → SlotFields → Insn
 atomic_insn z None s = Exit
@@ -112,32 +113,41 @@ bits_again _ = refl
 IsTrue-prop : (b : Bool) → IsProp (IsTrue b)
 IsTrue-prop b = hlevel props
 
-movsx_same : (wide : Bool) (b : ExtendedBits) (dst src : ℕ) (p q : IsTrue (wide || is_short b)) → Movsx (record { wide = wide; bits = b; dst = dst; src = src; listed = p }) ≡ Movsx (record { wide = wide; bits = b; dst = dst; src = src; listed = q })
+movsx_same : (wide : Bool) (b : ExtendedBits) (dst src : ℕ) (p q : IsTrue (wide || is_short b))
+    → Movsx (record { wide = wide; bits = b; dst = dst; src = src; listed = p }) ≡ Movsx (record { wide = wide; bits = b; dst = dst; src = src; listed = q })
 movsx_same wide b dst src p q =
     ap (λ (h : IsTrue (wide || is_short b)). Movsx (record { wide = wide; bits = b; dst = dst; src = src; listed = h })) (IsTrue-prop (wide || is_short b) p q)
 
-pub movsx_again : (wide : Bool) (b : ExtendedBits) (dst src : ℕ) (h : IsTrue (wide || is_short b)) (other : Insn) → cond (ltb (extended_bits b) 8) other (movsx_at wide (narrow_at (extended_bits b)) dst src) ≡ Movsx (record { wide = wide; bits = b; dst = dst; src = src; listed = h })
+pub movsx_again : (wide : Bool) (b : ExtendedBits) (dst src : ℕ) (h : IsTrue (wide || is_short b)) (other : Insn)
+    → cond (ltb (extended_bits b) 8) other (movsx_at wide (narrow_at (extended_bits b)) dst src)
+    ≡ Movsx (record { wide = wide; bits = b; dst = dst; src = src; listed = h })
 movsx_again false narrow.Bits32 dst src h other = absurd cc
 movsx_again true narrow.Bits32 dst src h other = movsx_same true narrow.Bits32 dst src refl h
 movsx_again wide b dst src h other = movsx_same wide b dst src refl h
 
-load_same : (z : AccessSize) (signed : Bool) (dst src : ℕ) (off : ℤ) (p q : IsTrue (not (signed && is_double z))) → Load (record { size = z; signed = signed; dst = dst; src = src; off = off; listed = p }) ≡ Load (record { size = z; signed = signed; dst = dst; src = src; off = off; listed = q })
+load_same : (z : AccessSize) (signed : Bool) (dst src : ℕ) (off : ℤ) (p q : IsTrue (not (signed && is_double z)))
+    → Load (record { size = z; signed = signed; dst = dst; src = src; off = off; listed = p })
+    ≡ Load (record { size = z; signed = signed; dst = dst; src = src; off = off; listed = q })
 load_same z signed dst src off p q =
-    ap (λ (h : IsTrue (not (signed && is_double z))). Load (record { size = z; signed = signed; dst = dst; src = src; off = off; listed = h })) (IsTrue-prop (not (signed && is_double z)) p q)
+    ap (λ (h : IsTrue (not (signed && is_double z))). Load (record { size = z; signed = signed; dst = dst; src = src; off = off; listed = h }))
+    (IsTrue-prop (not (signed && is_double z)) p q)
 
-pub load_again : (z : AccessSize) (signed : Bool) (dst src : ℕ) (off : ℤ) (h : IsTrue (not (signed && is_double z))) → load_insn z signed dst src off ≡ Load (record { size = z; signed = signed; dst = dst; src = src; off = off; listed = h })
+pub load_again : (z : AccessSize) (signed : Bool) (dst src : ℕ) (off : ℤ) (h : IsTrue (not (signed && is_double z)))
+    → load_insn z signed dst src off ≡ Load (record { size = z; signed = signed; dst = dst; src = src; off = off; listed = h })
 load_again size.Double true dst src off h = absurd cc
 load_again z true dst src off h = load_same z true dst src off refl h
 load_again z _ dst src off h = load_same z false dst src off refl h
 
 pub insn_at-first : (i : Insn) → IsInsn i → insn_at (form_of i) (first i) (next i) ≡ i
-insn_at-first (Alu wide o dst src) h = rw (alu_offset_below o, op_again o, operand_again src (opcode (alu_number o) (source_bit src) (alu_class wide)) dst (alu_offset o) h.1) refl
+insn_at-first (Alu wide o dst src) h =
+    rw (alu_offset_below o, op_again o, operand_again src (opcode (alu_number o) (source_bit src) (alu_class wide)) dst (alu_offset o) h.1) refl
 insn_at-first (Movsx m) h = movsx_again m.wide m.bits m.dst m.src m.listed (Alu m.wide (op_at op.Mov (extended_bits m.bits)) m.dst (operand.Reg m.src))
 insn_at-first (Neg wide dst) h = refl
 insn_at-first (End how width dst) h = rw (bits_again width) refl
 insn_at-first (Ja off) h = ap Ja (offset_again off h)
 insn_at-first (Jal off) h = ap Jal (imm_again off h)
-insn_at-first (Jump wide condition dst src off) h = rw (operand_again src (opcode (condition_number condition) (source_bit src) (jump_class wide)) dst (offset_bits off) h.1, offset_again off h.2) refl
+insn_at-first (Jump wide condition dst src off) h =
+    rw (operand_again src (opcode (condition_number condition) (source_bit src) (jump_class wide)) dst (offset_bits off) h.1, offset_again off h.2) refl
 insn_at-first (Call id) h = ap Call (imm_again id h)
 insn_at-first Exit h = refl
 insn_at-first (Load l) h = rw (offset_again l.off h.2) (load_again l.size l.signed l.dst l.src l.off l.listed)

@@ -49,8 +49,10 @@ unfolding slot_of
 slot_bytes-slot_of (a ∷ b ∷ c ∷ d ∷ e ∷ f ∷ g ∷ h ∷ rest) fits long =
     let bytes : List ℕ = a ∷ b ∷ c ∷ d ∷ e ∷ f ∷ g ∷ h ∷ rest in
     let registers : 16 * (b / 16) + b % 16 ≡ b = omega arith in
-    let offset : to_le_bytes w16 (from_le_bytes w16 (c ∷ d ∷ [])) ≡ c ∷ d ∷ [] = le_bytes_2 (c ∷ d ∷ []) _ refl (IsBytes-take 2 (drop 2 bytes) (IsBytes-drop 2 bytes fits)) refl in
-    let imm : to_le_bytes w32 (from_le_bytes w32 (e ∷ f ∷ g ∷ h ∷ [])) ≡ e ∷ f ∷ g ∷ h ∷ [] = le_bytes_4 (e ∷ f ∷ g ∷ h ∷ []) _ refl (IsBytes-take 4 (drop 4 bytes) (IsBytes-drop 4 bytes fits)) refl in
+    let offset : to_le_bytes w16 (from_le_bytes w16 (c ∷ d ∷ [])) ≡ c ∷ d ∷ [] =
+    le_bytes_2 (c ∷ d ∷ []) _ refl (IsBytes-take 2 (drop 2 bytes) (IsBytes-drop 2 bytes fits)) refl in
+    let imm : to_le_bytes w32 (from_le_bytes w32 (e ∷ f ∷ g ∷ h ∷ [])) ≡ e ∷ f ∷ g ∷ h ∷ [] =
+    le_bytes_4 (e ∷ f ∷ g ∷ h ∷ []) _ refl (IsBytes-take 4 (drop 4 bytes) (IsBytes-drop 4 bytes fits)) refl in
     ap (λ (r : ℕ). a ∷ r ∷ (to_le_bytes w16 (from_le_bytes w16 (c ∷ d ∷ [])) ++ to_le_bytes w32 (from_le_bytes w32 (e ∷ f ∷ g ∷ h ∷ [])))) registers
     ∙ ap (λ (x : List ℕ). a ∷ b ∷ (x ++ to_le_bytes w32 (from_le_bytes w32 (e ∷ f ∷ g ∷ h ∷ [])))) offset
     ∙ ap (λ (x : List ℕ). a ∷ b ∷ c ∷ d ∷ x) imm
@@ -67,10 +69,17 @@ IsSlot-slot_of bytes fits long = record {
 }
 
 -- the bytes begin with one slot, or with two
-one_slot : (ss : List SlotFields) (bytes : List ℕ) → IsBytes bytes → 8 ≤ length bytes → ss ≡ slot_of bytes ∷ [] → take (length (flat_map slot_bytes ss)) bytes ≡ flat_map slot_bytes ss
+one_slot : (ss : List SlotFields) (bytes : List ℕ)
+    → IsBytes bytes → 8 ≤ length bytes
+    → ss ≡ slot_of bytes ∷ []
+    → take (length (flat_map slot_bytes ss)) bytes ≡ flat_map slot_bytes ss
 one_slot ss bytes fits long e = rw (e, slot_bytes-slot_of bytes fits long) refl
 
-two_slots : (ss : List SlotFields) (bytes : List ℕ) → IsBytes bytes → 8 ≤ length bytes → 8 ≤ length (drop 8 bytes) → ss ≡ slot_of bytes ∷ slot_of (drop 8 bytes) ∷ [] → take (length (flat_map slot_bytes ss)) bytes ≡ flat_map slot_bytes ss
+two_slots : (ss : List SlotFields) (bytes : List ℕ)
+    → IsBytes bytes → 8 ≤ length bytes
+    → 8 ≤ length (drop 8 bytes)
+    → ss ≡ slot_of bytes ∷ slot_of (drop 8 bytes) ∷ []
+    → take (length (flat_map slot_bytes ss)) bytes ≡ flat_map slot_bytes ss
 two_slots ss bytes fits long more e =
     let first = slot_bytes-slot_of bytes fits long in
     let second = slot_bytes-slot_of (drop 8 bytes) (IsBytes-drop 8 bytes fits) more in
@@ -80,7 +89,11 @@ pub begins_one : (i : Insn) (bytes : List ℕ) → IsBytes bytes → 8 ≤ lengt
 unfolding spelling
 begins_one i bytes fits long e = one_slot (slots i) bytes fits long e
 
-pub begins_two : (i : Insn) (bytes rest : List ℕ) → IsBytes bytes → 8 ≤ length bytes → rest ≡ drop 8 bytes → 8 ≤ length rest → slots i ≡ slot_of bytes ∷ slot_of rest ∷ [] → Begins i bytes
+pub begins_two : (i : Insn) (bytes rest : List ℕ)
+    → IsBytes bytes → 8 ≤ length bytes
+    → rest ≡ drop 8 bytes → 8 ≤ length rest
+    → slots i ≡ slot_of bytes ∷ slot_of rest ∷ []
+    → Begins i bytes
 unfolding spelling
 begins_two i bytes rest fits long rest-is long_rest slots-is =
     let more : 8 ≤ length (drop 8 bytes) = rw rest-is at long_rest in
@@ -88,17 +101,25 @@ begins_two i bytes rest fits long rest-is long_rest slots-is =
     two_slots (slots i) bytes fits long more e
 
 -- the bytes begin with the slots that were read of them
-pub begins_read : (i : Insn) (s : RawSlot) (t : Option RawSlot) (bytes rest : List ℕ) → IsBytes bytes → 8 ≤ length bytes → rest ≡ drop 8 bytes → fields s ≡ slot_of bytes → IsSecond rest t → slots i ≡ map fields (s ∷ option_to_list t) → Begins i bytes
+pub begins_read : (i : Insn) (s : RawSlot) (t : Option RawSlot) (bytes rest : List ℕ)
+    → IsBytes bytes → 8 ≤ length bytes
+    → rest ≡ drop 8 bytes → fields s ≡ slot_of bytes
+    → IsSecond rest t
+    → slots i ≡ map fields (s ∷ option_to_list t)
+    → Begins i bytes
 begins_read i s None bytes rest fits long rest-is first second read =
     begins_one i bytes fits long (read ∙ ap (λ (x : SlotFields). x ∷ []) first)
 begins_read i s (Some t) bytes rest fits long rest-is first second read =
-    begins_two i bytes rest fits long rest-is second.0 (read ∙ ap (λ (x : SlotFields). x ∷ fields t ∷ []) first ∙ ap (λ (x : SlotFields). slot_of bytes ∷ x ∷ []) second.1)
+    begins_two i bytes rest fits long rest-is second.0
+    (read ∙ ap (λ (x : SlotFields). x ∷ fields t ∷ []) first ∙ ap (λ (x : SlotFields). slot_of bytes ∷ x ∷ []) second.1)
 
 -- conversely, if the bytes are those of a slot and a rest
 slot_before : {s : SlotFields} {bytes : List ℕ} (rest : List ℕ) → IsSlot s → bytes ≡ slot_bytes s ++ rest → (slot_of bytes ≡ s) × (8 ≤ length bytes)
 slot_before {s} rest fits whole = (ap slot_of whole ∙ slot_of-append rest fits, omega (arith, ap length whole, length-append (slot_bytes s) rest))
 
-pub whole_of_begins : (i : Insn) (s : SlotFields) (others : List SlotFields) (bytes : List ℕ) → slots i ≡ s ∷ others → Begins i bytes → bytes ≡ slot_bytes s ++ (flat_map slot_bytes others ++ drop (length (spelling i)) bytes)
+pub whole_of_begins : (i : Insn) (s : SlotFields) (others : List SlotFields) (bytes : List ℕ)
+    → slots i ≡ s ∷ others → Begins i bytes
+    → bytes ≡ slot_bytes s ++ (flat_map slot_bytes others ++ drop (length (spelling i)) bytes)
 unfolding spelling
 whole_of_begins i s others bytes e h =
     let rest = drop (length (spelling i)) bytes in
@@ -106,13 +127,22 @@ whole_of_begins i s others bytes e h =
     ∙ ap (λ (x : List ℕ). x ++ rest) (h ∙ ap (flat_map slot_bytes) e)
     ∙ append_assoc (slot_bytes s) (flat_map slot_bytes others) rest
 
-pub first_of_begins : {s : SlotFields} (i : Insn) (others : List SlotFields) (bytes : List ℕ) → IsSlot s → slots i ≡ s ∷ others → Begins i bytes → (slot_of bytes ≡ s) × (8 ≤ length bytes)
-first_of_begins {s} i others bytes fits e h = slot_before (flat_map slot_bytes others ++ drop (length (spelling i)) bytes) fits (whole_of_begins i s others bytes e h)
+pub first_of_begins : {s : SlotFields} (i : Insn) (others : List SlotFields) (bytes : List ℕ)
+    → IsSlot s → slots i ≡ s ∷ others
+    → Begins i bytes
+    → (slot_of bytes ≡ s) × (8 ≤ length bytes)
+first_of_begins {s} i others bytes fits e h =
+    slot_before (flat_map slot_bytes others ++ drop (length (spelling i)) bytes) fits (whole_of_begins i s others bytes e h)
 
-pub second_of_begins : {t : SlotFields} (i : Insn) (s : SlotFields) (bytes : List ℕ) → IsSlot t → slots i ≡ s ∷ t ∷ [] → Begins i bytes → (slot_of (drop 8 bytes) ≡ t) × (8 ≤ length (drop 8 bytes))
+pub second_of_begins : {t : SlotFields} (i : Insn) (s : SlotFields) (bytes : List ℕ)
+    → IsSlot t → slots i ≡ s ∷ t ∷ []
+    → Begins i bytes
+    → (slot_of (drop 8 bytes) ≡ t) × (8 ≤ length (drop 8 bytes))
 second_of_begins {t} i s bytes fits e h = slot_before (drop (length (spelling i)) bytes) fits (ap (drop 8) (whole_of_begins i s (t ∷ []) bytes e h))
 
 -- the spelling is that of a first slot and, if there is one, of a second
-pub spelled_by : (i : Insn) (s : RawSlot) (next : Option RawSlot) → map fields (s ∷ option_to_list next) ≡ slots i → spelling i ≡ slot_bytes (fields s) ++ flat_map slot_bytes (map fields (option_to_list next))
+pub spelled_by : (i : Insn) (s : RawSlot) (next : Option RawSlot)
+    → map fields (s ∷ option_to_list next) ≡ slots i
+    → spelling i ≡ slot_bytes (fields s) ++ flat_map slot_bytes (map fields (option_to_list next))
 unfolding spelling
 spelled_by i s next slots-are = ap (flat_map slot_bytes) (sym slots-are)

@@ -1,6 +1,6 @@
 //! Decoding of a slot by the class of its opcode (RFC 9669, section 3.3). The class and the code determine the form of an instruction; a
-//! function for each form checks the fields and writes the instruction to an entry. Each returns the second slot of the instruction, which
-//! none of them has: so that `read_slot` returns their results as they are, and a success is known in each arm.
+//! function for each form checks the fields and writes the instruction to `entry`, its element in the program's list of instructions. None
+//! of these instructions has a second slot, so each function returns `None` for it, and `read_slot` returns its result unchanged.
 
 ghost use Rattle.std.specs.Prelude.{◌≡◌, ◌≢◌, ◌+◌, ◌*◌, ◌/◌, ◌%◌, ◌≤◌, [], ◌∷◌, None, Bool, true, IfSome, IfOk, IfErr, OnOk, IsTrue};
 ghost use Rattle.insn_set.specs.Slot.{fields};
@@ -238,7 +238,7 @@ fn read_goto_far(entry: &mut Insn, slot: &RawSlot) -> Result<Option<RawSlot>, Fa
     Ok(None)
 }
 
-/// Reads a call.
+/// Reads a call of a helper into `entry`: the constant of the slot is the helper's number. Its registers and its offset have to be 0.
 fn read_call(entry: &mut Insn, slot: &RawSlot) -> Result<Option<RawSlot>, FaultKind>
     requires opcode { slot.now.opcode ≡ opcode_of form.Call }
     ensures value { OnOk result (IsInsn entry.new) }

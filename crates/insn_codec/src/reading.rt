@@ -18,8 +18,8 @@ use crate::fault::{CodecFault, FaultKind};
 use crate::opcode::{SourceBit, lists_second};
 use insn_set::{Insn, RawSlot, Reg};
 
-/// Reads the wide instruction of this first slot into an entry, with its second slot at the front of the bytes, and returns the second
-/// slot. `Err` with the kind of the fault if that slot is missing or wrong.
+/// Reads a wide instruction into `entry` (RFC 9669, section 5.4). Its first slot is `slot`, with the destination `dst`, and its second is at
+/// the front of `rest`. Returns the second slot; `Err` with the kind of the fault if it is missing or wrong.
 fn read_wide(entry: &mut Insn, slot: &RawSlot, dst: Reg, rest: &[u8]) -> Result<RawSlot, FaultKind>
     requires opcode { slot.now.opcode ≡ 0x18 }
     requires listed { IsTrue (listed Wide (fields slot.now)) }

@@ -33,29 +33,51 @@ abbrev BothKeep : ℕ → Condition → Range → Range → ℕ → ℕ → Edge
 BothKeep n condition a b x y e =
     (holds n condition x y ≡ true → IsPairOn e.0 x y) × (holds n condition x y ≡ false → IsPairOn e.1 x y)
 
-stay : (n : ℕ) (condition : Condition) (a b : Range) (x y : ℕ) → IsMember x a → IsMember y b → BothKeep n condition a b x y (unchanged a b)
+stay : (n : ℕ) (condition : Condition) (a b : Range) (x y : ℕ)
+    → IsMember x a → IsMember y b → BothKeep n condition a b x y (unchanged a b)
 stay n condition a b x y h k = ((λ _. (h, k)), (λ _. (h, k)))
 
-edges_keep : (n : ℕ) (condition : Condition) (a b : Range) (x y : ℕ) → IsMember x a → IsMember y b → BothKeep n condition a b x y (edges condition a b)
-edges_keep n Equal a b x y h k = ((λ t. equal_keeps a b x y h k (eqb-true x y t)), (λ t. different_keeps a b x y h k (eqb-false x y t)))
-edges_keep n NotEqual a b x y h k =
-    ((λ t. different_keeps a b x y h k (eqb-false x y (not-true (x == y) t))), (λ t. equal_keeps a b x y h k (eqb-true x y (not-false (x == y) t))))
-edges_keep n Above a b x y h k = ((λ t. above_keeps a b x y h k (ltb-true y x t)), (λ t. at_most_keeps a b x y h k (ltb-false y x t)))
-edges_keep n BelowOrEqual a b x y h k = ((λ t. at_most_keeps a b x y h k (leb-true x y t)), (λ t. above_keeps a b x y h k (leb-false x y t)))
-edges_keep n Below a b x y h k =
-    ((λ t. turned_keeps (where_above b a) x y (above_keeps b a y x k h (ltb-true x y t))), (λ t. turned_keeps (where_at_most b a) x y (at_most_keeps b a y x k h (ltb-false x y t))))
-edges_keep n AboveOrEqual a b x y h k =
-    ((λ t. turned_keeps (where_at_most b a) x y (at_most_keeps b a y x k h (leb-true y x t))), (λ t. turned_keeps (where_above b a) x y (above_keeps b a y x k h (leb-false y x t))))
+edges_keep : (n : ℕ) (condition : Condition) (a b : Range) (x y : ℕ)
+    → IsMember x a → IsMember y b
+    → BothKeep n condition a b x y (edges condition a b)
+edges_keep n Equal a b x y h k = (
+  (λ t. equal_keeps a b x y h k (eqb-true x y t)),
+  (λ t. different_keeps a b x y h k (eqb-false x y t)),
+)
+edges_keep n NotEqual a b x y h k = (
+  (λ t. different_keeps a b x y h k (eqb-false x y (not-true (x == y) t))),
+  (λ t. equal_keeps a b x y h k (eqb-true x y (not-false (x == y) t))),
+)
+edges_keep n Above a b x y h k = (
+  (λ t. above_keeps a b x y h k (ltb-true y x t)),
+  (λ t. at_most_keeps a b x y h k (ltb-false y x t)),
+)
+edges_keep n BelowOrEqual a b x y h k = (
+  (λ t. at_most_keeps a b x y h k (leb-true x y t)),
+  (λ t. above_keeps a b x y h k (leb-false x y t)),
+)
+edges_keep n Below a b x y h k = (
+  (λ t. turned_keeps (where_above b a) x y (above_keeps b a y x k h (ltb-true x y t))),
+  (λ t. turned_keeps (where_at_most b a) x y (at_most_keeps b a y x k h (ltb-false x y t))),
+)
+edges_keep n AboveOrEqual a b x y h k = (
+  (λ t. turned_keeps (where_at_most b a) x y (at_most_keeps b a y x k h (leb-true y x t))),
+  (λ t. turned_keeps (where_above b a) x y (above_keeps b a y x k h (leb-false y x t))),
+)
 edges_keep n condition a b x y h k = stay n condition a b x y h k
 
 -- an operand below 2 ^ n is not cut
 seen_whole : (n x : ℕ) → x < 2 ^ n → operand_bits n x ≡ x
 seen_whole n x h = cond_both (nat_lt n 64) (x % 2 ^ n) x (λ v. v ≡ x) (λ _. mod-eq_of_lt h) (λ _. refl)
 
-pub refined_keep : (n : ℕ) (condition : Condition) (a b : Range) (x y : ℕ) → IsMember x a → IsMember y b → (IsTrue (compares n condition x y) → IsPairOn (refined n condition a b).0 x y) × (IsFalse (compares n condition x y) → IsPairOn (refined n condition a b).1 x y)
+pub refined_keep : (n : ℕ) (condition : Condition) (a b : Range) (x y : ℕ)
+    → IsMember x a → IsMember y b
+    → (IsTrue (compares n condition x y) → IsPairOn (refined n condition a b).0 x y)
+    × (IsFalse (compares n condition x y) → IsPairOn (refined n condition a b).1 x y)
 refined_keep n condition a b x y h k =
     cond_both (nat_lt a.hi (2 ^ n) && nat_lt b.hi (2 ^ n)) (edges condition a b) (unchanged a b)
-    (λ e. (IsTrue (compares n condition x y) → IsPairOn e.0 x y) × (IsFalse (compares n condition x y) → IsPairOn e.1 x y))
+    (λ e.
+    (IsTrue (compares n condition x y) → IsPairOn e.0 x y) × (IsFalse (compares n condition x y) → IsPairOn e.1 x y))
     (λ t.
     let parts = and_parts (nat_lt a.hi (2 ^ n)) (nat_lt b.hi (2 ^ n)) t in
     let seen_x : operand_bits n x ≡ x = seen_whole n x (omega (arith, ltb-true a.hi (2 ^ n) parts.0, h.to)) in
@@ -97,7 +119,8 @@ edges_words AboveOrEqual a b p q =
     (turned_words (where_at_most b a) (at_most_words b a q p), turned_words (where_above b a) (above_words b a q p))
 edges_words condition a b p q = ((p, q), (p, q))
 
-pub refined_words : (n : ℕ) (condition : Condition) (a b : Range) → IsOfWords a → IsOfWords b → BothWords (refined n condition a b)
+pub refined_words : (n : ℕ) (condition : Condition) (a b : Range)
+    → IsOfWords a → IsOfWords b → BothWords (refined n condition a b)
 refined_words n condition a b p q =
     cond_both (nat_lt a.hi (2 ^ n) && nat_lt b.hi (2 ^ n)) (edges condition a b) (unchanged a b) BothWords
     (λ _. edges_words condition a b p q)

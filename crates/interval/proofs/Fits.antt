@@ -38,24 +38,34 @@ if_constant p b r s f g = cond_both (is_constant b) r s (λ q. q.hi < p) (λ _. 
 
 sum_fits : (n : ℕ) (a b : Range) → a.hi < 2 ^ n → b.hi < 2 ^ n → (sum_range n a b).hi < 2 ^ n
 sum_fits n a b p q =
-    if_lt (2 ^ n) (a.hi + b.hi) (2 ^ n) _ _ (λ (t : a.hi + b.hi < 2 ^ n). span_below _ _ _ (omega (arith, a.ordered, b.ordered)) t)
-    (if_le (2 ^ n) (2 ^ n) (a.lo + b.lo) _ _ (λ (t : 2 ^ n ≤ a.lo + b.lo). span_below _ _ _ (omega (arith, a.ordered, b.ordered)) (omega arith)) (full_below n))
+    if_lt (2 ^ n) (a.hi + b.hi) (2 ^ n) _ _
+    (λ (t : a.hi + b.hi < 2 ^ n). span_below _ _ _ (omega (arith, a.ordered, b.ordered)) t)
+    (if_le (2 ^ n) (2 ^ n) (a.lo + b.lo) _ _
+    (λ (t : 2 ^ n ≤ a.lo + b.lo). span_below _ _ _ (omega (arith, a.ordered, b.ordered)) (omega arith))
+    (full_below n))
 
 difference_fits : (n : ℕ) (a b : Range) → a.hi < 2 ^ n → b.hi < 2 ^ n → (difference_range n a b).hi < 2 ^ n
 difference_fits n a b p q =
     if_le (2 ^ n) b.hi a.lo _ _ (λ (t : b.hi ≤ a.lo). span_below _ _ _ (omega (arith, a.ordered)) (omega arith))
-    (if_lt (2 ^ n) a.hi b.lo _ _ (λ (t : a.hi < b.lo). span_below _ _ _ (omega (arith, a.ordered, b.ordered)) (omega (arith, a.ordered, b.ordered))) (full_below n))
+    (if_lt (2 ^ n) a.hi b.lo _ _
+    (λ (t : a.hi < b.lo). span_below _ _ _ (omega (arith, a.ordered, b.ordered)) (omega (arith, a.ordered, b.ordered)))
+    (full_below n))
 
 product_fits : (n : ℕ) (a b : Range) → (product_range n a b).hi < 2 ^ n
 product_fits n a b =
-    if_lt (2 ^ n) (a.hi * b.hi) (2 ^ n) _ _ (λ (t : a.hi * b.hi < 2 ^ n). span_below _ _ _ (omega (arith, mul-le a.lo b.lo a.hi b.hi a.ordered b.ordered)) t) (full_below n)
+    if_lt (2 ^ n) (a.hi * b.hi) (2 ^ n) _ _
+    (λ (t : a.hi * b.hi < 2 ^ n). span_below _ _ _ (omega (arith, mul-le a.lo b.lo a.hi b.hi a.ordered b.ordered)) t)
+    (full_below n)
 
 quotient_fits : (p : ℕ) (a b : Range) → a.hi < p → (quotient_range a b).hi < p
 quotient_fits p a b h =
-    if_le p 1 b.lo _ _ (λ _. span_below _ _ _ (omega (arith, div-le_self a.lo b.hi, a.ordered)) (omega (arith, div-le_self a.hi b.lo))) (span_below _ _ _ (omega arith) h)
+    if_le p 1 b.lo _ _
+    (λ _. span_below _ _ _ (omega (arith, div-le_self a.lo b.hi, a.ordered)) (omega (arith, div-le_self a.hi b.lo)))
+    (span_below _ _ _ (omega arith) h)
 
 remainder_fits : (p : ℕ) (a b : Range) → a.hi < p → (remainder_range a b).hi < p
-remainder_fits p a b h = if_le p 1 b.lo _ _ (λ _. span_below _ _ _ (omega arith) (omega arith)) (span_below _ _ _ (omega arith) h)
+remainder_fits p a b h =
+    if_le p 1 b.lo _ _ (λ _. span_below _ _ _ (omega arith) (omega arith)) (span_below _ _ _ (omega arith) h)
 
 digits_below : (a b : Range) → digits_end a b < 2 ^ 64
 digits_below a b =
@@ -66,11 +76,15 @@ digits_below a b =
 
 scaled_fits : (n k : ℕ) (a : Range) → (scaled_range n a k).hi < 2 ^ n
 scaled_fits n k a =
-    if_lt (2 ^ n) (a.hi * 2 ^ k) (2 ^ n) _ _ (λ (t : a.hi * 2 ^ k < 2 ^ n). span_below _ _ _ (omega (arith, mul-le-mul_right (2 ^ k) a.ordered)) t) (full_below n)
+    if_lt (2 ^ n) (a.hi * 2 ^ k) (2 ^ n) _ _
+    (λ (t : a.hi * 2 ^ k < 2 ^ n). span_below _ _ _ (omega (arith, mul-le-mul_right (2 ^ k) a.ordered)) t)
+    (full_below n)
 
 shift_right_fits : (n p : ℕ) (a b : Range) → a.hi < p → (shift_right_range n a b).hi < p
 shift_right_fits n p a b h =
-    if_constant p b _ _ (span_below _ _ _ (omega (arith, shr_le a.lo (b.lo % n), a.ordered)) (omega (arith, shr_le a.hi (b.lo % n)))) (span_below _ _ _ (omega arith) h)
+    if_constant p b _ _
+    (span_below _ _ _ (omega (arith, shr_le a.lo (b.lo % n), a.ordered)) (omega (arith, shr_le a.hi (b.lo % n))))
+    (span_below _ _ _ (omega arith) h)
 
 -- ---- all operators
 
@@ -79,7 +93,10 @@ kept_below bits.Bits16 = omega arith
 kept_below bits.Bits32 = omega arith
 kept_below bits.Bits64 = omega arith
 
-alu_range_fits : (n : ℕ) (op : AluOp) (a b : Range) → 2 ^ n ≤ 2 ^ 64 → a.hi < 2 ^ n → b.hi < 2 ^ n → (alu_range n op a b).hi < 2 ^ 64
+alu_range_fits : (n : ℕ) (op : AluOp) (a b : Range)
+    → 2 ^ n ≤ 2 ^ 64 → a.hi < 2 ^ n
+    → b.hi < 2 ^ n
+    → (alu_range n op a b).hi < 2 ^ 64
 alu_range_fits n Add a b w p q = omega (arith, sum_fits n a b p q)
 alu_range_fits n Sub a b w p q = omega (arith, difference_fits n a b p q)
 alu_range_fits n Mul a b w p q = omega (arith, product_fits n a b)
@@ -87,19 +104,26 @@ alu_range_fits n Div a b w p q = quotient_fits (2 ^ 64) a b (omega arith)
 alu_range_fits n SignedDiv a b w p q = omega (arith, full_below n)
 alu_range_fits n Or a b w p q = span_below _ _ _ (omega (arith, a.ordered, b.ordered)) (digits_below a b)
 alu_range_fits n And a b w p q = span_below _ _ _ (omega arith) (omega arith)
-alu_range_fits n ShiftLeft a b w p q = if_constant (2 ^ 64) b _ _ (omega (arith, scaled_fits n (b.lo % n) a)) (omega (arith, full_below n))
+alu_range_fits n ShiftLeft a b w p q =
+    if_constant (2 ^ 64) b _ _ (omega (arith, scaled_fits n (b.lo % n) a)) (omega (arith, full_below n))
 alu_range_fits n ShiftRight a b w p q = shift_right_fits n (2 ^ 64) a b (omega arith)
 alu_range_fits n Mod a b w p q = remainder_fits (2 ^ 64) a b (omega arith)
 alu_range_fits n SignedMod a b w p q = omega (arith, full_below n)
 alu_range_fits n Xor a b w p q = span_below _ _ _ (omega arith) (digits_below a b)
 alu_range_fits n Mov a b w p q = omega arith
 alu_range_fits n SignedShiftRight a b w p q =
-    if_lt (2 ^ 64) a.hi (2 ^ (n - 1)) _ _ (λ _. shift_right_fits n (2 ^ 64) a b (omega arith)) (omega (arith, full_below n))
+    if_lt (2 ^ 64) a.hi (2 ^ (n - 1)) _ _
+    (λ _. shift_right_fits n (2 ^ 64) a b (omega arith))
+    (omega (arith, full_below n))
 
-general_range_fits : (n : ℕ) (op : Operator) (a b : Range) → 2 ^ n ≤ 2 ^ 64 → a.hi < 2 ^ n → b.hi < 2 ^ n → (general_range n op a b).hi < 2 ^ 64
+general_range_fits : (n : ℕ) (op : Operator) (a b : Range)
+    → 2 ^ n ≤ 2 ^ 64 → a.hi < 2 ^ n
+    → b.hi < 2 ^ n
+    → (general_range n op a b).hi < 2 ^ 64
 general_range_fits n (Binary op) a b w p q = alu_range_fits n op a b w p q
 general_range_fits n Neg a b w p q = omega (arith, full_below n)
-general_range_fits n (SignExtend from) a b w p q = if_lt (2 ^ 64) b.hi (2 ^ (extended_bits from - 1)) _ _ (λ _. omega arith) (omega (arith, full_below n))
+general_range_fits n (SignExtend from) a b w p q =
+    if_lt (2 ^ 64) b.hi (2 ^ (extended_bits from - 1)) _ _ (λ _. omega arith) (omega (arith, full_below n))
 general_range_fits n (End how kept) a b w p q = kept_below kept
 
 end_fits : (how : ByteOrder) (kept : KeptBits) (v : ℕ) → byte_order how kept v < 2 ^ 64
@@ -111,16 +135,24 @@ end_fits how bits.Bits64 v = byte_order_below how bits.Bits64 v
 lowest : (r : Range) → IsMember r.lo r
 lowest r = record { from = omega arith; to = r.ordered }
 
-result_fits : (n : ℕ) (op : Operator) (a b : Range) → 2 ^ n ≤ 2 ^ 64 → a.hi < 2 ^ n → b.hi < 2 ^ n → (result_range n op a b).hi < 2 ^ 64
+result_fits : (n : ℕ) (op : Operator) (a b : Range)
+    → 2 ^ n ≤ 2 ^ 64 → a.hi < 2 ^ n
+    → b.hi < 2 ^ n
+    → (result_range n op a b).hi < 2 ^ 64
 result_fits n op a b w p q =
-    let some : IsMember (combined n op a.lo b.lo) (general_range n op a b) = general_range_sound n op a b a.lo b.lo w p q (lowest a) (lowest b) in
+    let some : IsMember (combined n op a.lo b.lo) (general_range n op a b) =
+    general_range_sound n op a b a.lo b.lo w p q (lowest a) (lowest b) in
     cond_both (are_constants op a b) (constant (combined n op a.lo b.lo)) (general_range n op a b) (λ r. r.hi < 2 ^ 64)
     (λ _. omega (arith, some.to, general_range_fits n op a b w p q))
     (λ _. general_range_fits n op a b w p q)
 
-pub table_fits : (n : ℕ) (op : Operator) (a b : Range) → 2 ^ n ≤ 2 ^ 64 → (operand_range n a).hi < 2 ^ n → (operand_range n b).hi < 2 ^ n → (range_of n op a b).hi < 2 ^ 64
+pub table_fits : (n : ℕ) (op : Operator) (a b : Range)
+    → 2 ^ n ≤ 2 ^ 64 → (operand_range n a).hi < 2 ^ n
+    → (operand_range n b).hi < 2 ^ n
+    → (range_of n op a b).hi < 2 ^ 64
 table_fits n (End how kept) a b w p q =
-    cond_both (is_constant a) (constant (combined n (End how kept) a.lo b.lo)) (full (kept_bits kept)) (λ r. r.hi < 2 ^ 64)
+    cond_both (is_constant a) (constant (combined n (End how kept) a.lo b.lo))
+    (full (kept_bits kept)) (λ r. r.hi < 2 ^ 64)
     (λ _. end_fits how kept a.lo)
     (λ _. kept_below kept)
 table_fits n op a b w p q = result_fits n op (operand_range n a) (operand_range n b) w p q

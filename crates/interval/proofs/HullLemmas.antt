@@ -11,7 +11,10 @@ hull_holds a b x = (
   (λ (h : IsMember x b). record { from = omega (arith, h.from); to = omega (arith, h.to) }),
 )
 
-pub hull_is_least : (a b c : Range) → ((x : ℕ) → IsMember x a → IsMember x c) → ((x : ℕ) → IsMember x b → IsMember x c) → (x : ℕ) → IsMember x (hull a b) → IsMember x c
+pub hull_is_least : (a b c : Range)
+    → ((x : ℕ) → IsMember x a → IsMember x c) → ((x : ℕ) → IsMember x b → IsMember x c)
+    → (x : ℕ) → IsMember x (hull a b)
+    → IsMember x c
 hull_is_least a b c of_a of_b x h =
     let low_a = of_a a.lo (record { from = le_refl a.lo; to = a.ordered }) in
     let high_a = of_a a.hi (record { from = a.ordered; to = le_refl a.hi }) in

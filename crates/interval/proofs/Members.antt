@@ -19,14 +19,21 @@ only_member r x t h = omega (arith, eqb-true r.lo r.hi t, h.from, h.to)
 
 -- ---- a row with a condition
 
-pub where_lt : (m n : ℕ) (r s : Range) (v : ℕ) → (m < n → IsMember v r) → (n ≤ m → IsMember v s) → IsMember v (if nat_lt m n then r else s)
+pub where_lt : (m n : ℕ) (r s : Range) (v : ℕ)
+    → (m < n → IsMember v r) → (n ≤ m → IsMember v s)
+    → IsMember v (if nat_lt m n then r else s)
 where_lt m n r s v f g =
     cond_both (nat_lt m n) r s (λ q. IsMember v q) (λ t. f (ltb-true m n t)) (λ t. g (ltb-false m n t))
 
-pub where_le : (m n : ℕ) (r s : Range) (v : ℕ) → (m ≤ n → IsMember v r) → (n < m → IsMember v s) → IsMember v (if nat_le m n then r else s)
+pub where_le : (m n : ℕ) (r s : Range) (v : ℕ)
+    → (m ≤ n → IsMember v r) → (n < m → IsMember v s)
+    → IsMember v (if nat_le m n then r else s)
 where_le m n r s v f g =
     cond_both (nat_le m n) r s (λ q. IsMember v q) (λ t. f (leb-true m n t)) (λ t. g (leb-false m n t))
 
-pub where_constant : (b r s : Range) (v y : ℕ) → IsMember y b → (y ≡ b.lo → IsMember v r) → IsMember v s → IsMember v (if is_constant b then r else s)
+pub where_constant : (b r s : Range) (v y : ℕ)
+    → IsMember y b → (y ≡ b.lo → IsMember v r)
+    → IsMember v s
+    → IsMember v (if is_constant b then r else s)
 where_constant b r s v y h f g =
     cond_both (is_constant b) r s (λ q. IsMember v q) (λ t. f (only_member b y t h)) (λ t. g)

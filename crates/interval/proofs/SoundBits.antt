@@ -17,19 +17,30 @@ pub and_sound : (a b : Range) (x y : ℕ) → IsMember x a → IsMember y b → 
 and_sound a b x y h k = in_span _ _ _ (omega arith) (omega (arith, and_le_l x y, and_le_r x y))
 
 -- a member has no more digits than the greater end
-few_digits : (a b : Range) (x : ℕ) → a.hi < 2 ^ 64 → b.hi < 2 ^ 64 → x ≤ max a.hi b.hi → x < 2 ^ binary_digits (max a.hi b.hi)
+few_digits : (a b : Range) (x : ℕ)
+    → a.hi < 2 ^ 64 → b.hi < 2 ^ 64
+    → x ≤ max a.hi b.hi
+    → x < 2 ^ binary_digits (max a.hi b.hi)
 few_digits a b x p q h = omega (arith, below_digits (max a.hi b.hi) (omega arith))
 
-pub or_sound : (a b : Range) (x y : ℕ) → a.hi < 2 ^ 64 → b.hi < 2 ^ 64 → IsMember x a → IsMember y b → IsMember (bit_or x y) (or_range a b)
+pub or_sound : (a b : Range) (x y : ℕ)
+    → a.hi < 2 ^ 64 → b.hi < 2 ^ 64
+    → IsMember x a → IsMember y b
+    → IsMember (bit_or x y) (or_range a b)
 or_sound a b x y p q h k =
     let below : bit_or x y < 2 ^ binary_digits (max a.hi b.hi) =
-    or_lt (binary_digits (max a.hi b.hi)) x y (few_digits a b x p q (omega arith)) (few_digits a b y p q (omega arith)) in
+    or_lt (binary_digits (max a.hi b.hi)) x y (few_digits a b x p q (omega arith))
+    (few_digits a b y p q (omega arith)) in
     in_span _ _ _ (omega (arith, le_or_l x y, le_or_r x y)) (omega arith)
 
-pub xor_sound : (a b : Range) (x y : ℕ) → a.hi < 2 ^ 64 → b.hi < 2 ^ 64 → IsMember x a → IsMember y b → IsMember (bit_xor x y) (xor_range a b)
+pub xor_sound : (a b : Range) (x y : ℕ)
+    → a.hi < 2 ^ 64 → b.hi < 2 ^ 64
+    → IsMember x a → IsMember y b
+    → IsMember (bit_xor x y) (xor_range a b)
 xor_sound a b x y p q h k =
     let below : bit_xor x y < 2 ^ binary_digits (max a.hi b.hi) =
-    xor_lt (binary_digits (max a.hi b.hi)) x y (few_digits a b x p q (omega arith)) (few_digits a b y p q (omega arith)) in
+    xor_lt (binary_digits (max a.hi b.hi)) x y (few_digits a b x p q (omega arith))
+    (few_digits a b y p q (omega arith)) in
     in_span _ _ _ (omega arith) (omega arith)
 
 -- ---- shifts
@@ -39,19 +50,28 @@ scaled_sound n k a x h =
     let least : a.lo * 2 ^ k ≤ x * 2 ^ k = mul-le-mul_right (2 ^ k) h.from in
     let most : x * 2 ^ k ≤ a.hi * 2 ^ k = mul-le-mul_right (2 ^ k) h.to in
     where_lt _ _ _ _ _
-    (λ (small : a.hi * 2 ^ k < 2 ^ n). let same : (x * 2 ^ k) % 2 ^ n ≡ x * 2 ^ k = mod-eq_of_lt (omega arith) in in_span _ _ _ (omega arith) (omega arith))
+    (λ (small : a.hi * 2 ^ k < 2 ^ n).
+    let same : (x * 2 ^ k) % 2 ^ n ≡ x * 2 ^ k = mod-eq_of_lt (omega arith) in
+    in_span _ _ _ (omega arith) (omega arith))
     (λ large. in_full n _ (below_pow n (x * 2 ^ k)))
 
-pub shift_left_sound : (n : ℕ) (a b : Range) (x y : ℕ) → IsMember x a → IsMember y b → IsMember (shift_left n x y) (shift_left_range n a b)
+pub shift_left_sound : (n : ℕ) (a b : Range) (x y : ℕ)
+    → IsMember x a → IsMember y b
+    → IsMember (shift_left n x y) (shift_left_range n a b)
 shift_left_sound n a b x y h k =
     where_constant b _ _ _ y k
-    (λ (e : y ≡ b.lo). subst (λ v. IsMember (shift_left n x v) (scaled_range n a (b.lo % n))) (sym e) (scaled_sound n (b.lo % n) a x h))
+    (λ (e : y ≡ b.lo).
+    subst (λ v. IsMember (shift_left n x v) (scaled_range n a (b.lo % n))) (sym e) (scaled_sound n (b.lo % n) a x h))
     (in_full n _ (below_pow n (x * 2 ^ (y % n))))
 
-pub shift_right_sound : (n : ℕ) (a b : Range) (x y : ℕ) → IsMember x a → IsMember y b → IsMember (shift_right n x y) (shift_right_range n a b)
+pub shift_right_sound : (n : ℕ) (a b : Range) (x y : ℕ)
+    → IsMember x a → IsMember y b
+    → IsMember (shift_right n x y) (shift_right_range n a b)
 shift_right_sound n a b x y h k =
     where_constant b _ _ _ y k
-    (λ (e : y ≡ b.lo). let same : shift_right n x y ≡ shift_right n x b.lo = ap (shift_right n x) e in in_span _ _ _ (omega (arith, shr_mono (b.lo % n) h.from)) (omega (arith, shr_mono (b.lo % n) h.to)))
+    (λ (e : y ≡ b.lo).
+    let same : shift_right n x y ≡ shift_right n x b.lo = ap (shift_right n x) e in
+    in_span _ _ _ (omega (arith, shr_mono (b.lo % n) h.from)) (omega (arith, shr_mono (b.lo % n) h.to)))
     (in_span _ _ _ (omega arith) (omega (arith, shr_le x (y % n))))
 
 -- a number whose sign bit is 0 is itself
@@ -62,22 +82,29 @@ pub unsigned_below : (n : ℕ) (z : ℤ) → unsigned n z < 2 ^ n
 unsigned_below n (pos m) = below_pow n m
 unsigned_below n (negsuc m) = omega (arith, pow_pos n)
 
-pub signed_shift_right_sound : (n : ℕ) (a b : Range) (x y : ℕ) → a.hi < 2 ^ n → IsMember x a → IsMember y b → IsMember (signed_shift_right n x y) (signed_shift_right_range n a b)
+pub signed_shift_right_sound : (n : ℕ) (a b : Range) (x y : ℕ)
+    → a.hi < 2 ^ n → IsMember x a
+    → IsMember y b
+    → IsMember (signed_shift_right n x y) (signed_shift_right_range n a b)
 signed_shift_right_sound n a b x y p h k =
     where_lt _ _ _ _ _
     (λ (small : a.hi < 2 ^ (n - 1)).
     let plain : signed_shift_right n x y ≡ shift_right n x y =
-    ap (λ z. unsigned n (int_shr z (y % n))) (signed_small n x (omega arith)) ∙ mod-eq_of_lt (omega (arith, shr_le x (y % n))) in
+    ap (λ z. unsigned n (int_shr z (y % n))) (signed_small n x (omega arith))
+    ∙ mod-eq_of_lt (omega (arith, shr_le x (y % n))) in
     subst (λ v. IsMember v (shift_right_range n a b)) (sym plain) (shift_right_sound n a b x y h k))
     (λ large. in_full n _ (unsigned_below n (int_shr (signed n x) (y % n))))
 
-pub sign_extend_sound : (n k : ℕ) (b : Range) (y : ℕ) → b.hi < 2 ^ n → IsMember y b → IsMember (sign_extend n k y) (sign_extend_range n k b)
+pub sign_extend_sound : (n k : ℕ) (b : Range) (y : ℕ)
+    → b.hi < 2 ^ n → IsMember y b
+    → IsMember (sign_extend n k y) (sign_extend_range n k b)
 sign_extend_sound n k b y q h =
     where_lt _ _ _ _ _
     (λ (small : b.hi < 2 ^ (k - 1)).
     let half : 2 ^ (k - 1) ≤ 2 ^ k = pow-le-pow_right {n = 2} (omega arith) (omega arith) in
     let low : y % 2 ^ k ≡ y = mod-eq_of_lt (omega arith) in
     let plain : sign_extend n k y ≡ y =
-    ap (λ v. unsigned n (signed k v)) low ∙ (ap (unsigned n) (signed_small k y (omega arith)) ∙ mod-eq_of_lt (omega arith)) in
+    ap (λ v. unsigned n (signed k v)) low
+    ∙ (ap (unsigned n) (signed_small k y (omega arith)) ∙ mod-eq_of_lt (omega arith)) in
     subst (λ v. IsMember v b) (sym plain) h)
     (λ large. in_full n _ (unsigned_below n (signed k (y % 2 ^ k))))

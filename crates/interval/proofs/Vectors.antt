@@ -106,7 +106,11 @@ abbrev EdgeRow : Type 0
 EdgeRow = ℕ × Condition × Range × Range × Edge × Edge
 
 abbrev AreEdgeRows : List EdgeRow → Type 0
-AreEdgeRows rows = map {B = Edge × Edge} (λ (row : EdgeRow). let edges = refined row.0 row.1 row.2 row.3 in (on_edge edges.0, on_edge edges.1)) rows ≡ map (λ (row : EdgeRow). (row.4, row.5)) rows
+AreEdgeRows rows =
+    map {B = Edge × Edge}
+    (λ (row : EdgeRow). let edges = refined row.0 row.1 row.2 row.3 in (on_edge edges.0, on_edge edges.1))
+    rows
+    ≡ map (λ (row : EdgeRow). (row.4, row.5)) rows
 
 edges_that_are_told : AreEdgeRows (
     (64, Equal, constant 0, constant 1, None, Some ((0, 0), (1, 1)))
@@ -120,8 +124,14 @@ edges_that_are_told : AreEdgeRows (
 edges_that_are_told = refl
 
 -- low halves of greater numbers, signs and common bits give no new range
-edges_that_tell_nothing : AreEdgeRows (
-    (32, Below, span 0 255, constant 0x1_0000_0007, Some ((0, 255), (0x1_0000_0007, 0x1_0000_0007)), Some ((0, 255), (0x1_0000_0007, 0x1_0000_0007)))
+edges_that_tell_nothing : AreEdgeRows ((
+  32,
+  Below,
+  span 0 255,
+  constant 0x1_0000_0007,
+  Some ((0, 255), (0x1_0000_0007, 0x1_0000_0007)),
+  Some ((0, 255), (0x1_0000_0007, 0x1_0000_0007)),
+)
     ∷ (64, SignedAbove, span 0 255, constant 7, Some ((0, 255), (7, 7)), Some ((0, 255), (7, 7)))
     ∷ (64, CommonBit, span 0 255, constant 0, Some ((0, 255), (0, 0)), Some ((0, 255), (0, 0)))
     ∷ [])

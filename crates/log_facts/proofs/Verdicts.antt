@@ -10,8 +10,11 @@ use Rattle.verifier.specs.declared.cost.Cost.{Cost}
 use Rattle.verifier.specs.declared.fault.VerifyFault.{VerifyFault}
 
 -- a text that ends with the verdict of the pass has the verdict on the program
-pub says_verdict : (code : List Insn) (named : List Named) (known : List KnownFacts) (verdict : Result Cost VerifyFault) (is_accepted : Bool) (text : List ℕ) → is_accepted ≡ is_ok verdict
-    → IsJudged code named known verdict → EndsInVerdict verdict text → SaysVerdict code named is_accepted text
+pub says_verdict : (code : List Insn) (named : List Named) (known : List KnownFacts)
+    (verdict : Result Cost VerifyFault) (is_accepted : Bool) (text : List ℕ)
+    → is_accepted ≡ is_ok verdict → IsJudged code named known verdict
+    → EndsInVerdict verdict text
+    → SaysVerdict code named is_accepted text
 says_verdict code named known (Ok cost) true text is judged ends = (cost, judged.1, ends)
 says_verdict code named known (Ok cost) false text is judged ends = absurd (false≢true is)
 says_verdict code named known (Err fault) true text is judged ends = absurd (true≢false is)

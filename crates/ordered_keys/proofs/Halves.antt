@@ -15,12 +15,15 @@ nothing (suc i) = refl
 pub dropped : {X : Type 0} (n : ℕ) (xs : List X) (i : ℕ) → slice_get (drop n xs) i ≡ slice_get xs (n + i)
 dropped zero xs i = ap (slice_get xs) (let e : i ≡ 0 + i = omega arith in e)
 dropped (suc n) [] i = nothing i ∙ sym (nothing (suc n + i))
-dropped (suc n) (x ∷ xs) i = dropped n xs i ∙ ap (slice_get (x ∷ xs)) (let e : suc (n + i) ≡ suc n + i = omega arith in e)
+dropped (suc n) (x ∷ xs) i =
+    dropped n xs i ∙ ap (slice_get (x ∷ xs)) (let e : suc (n + i) ≡ suc n + i = omega arith in e)
 
 -- an entry of the second of two lists
 pub appended : {X : Type 0} (xs ys : List X) (i : ℕ) → slice_get (xs ++ ys) (length xs + i) ≡ slice_get ys i
 appended [] ys i = ap (slice_get ys) (let e : 0 + i ≡ i = omega arith in e)
-appended (x ∷ xs) ys i = ap (slice_get (x ∷ (xs ++ ys))) (let e : length (x ∷ xs) + i ≡ suc (length xs + i) = omega arith in e) ∙ appended xs ys i
+appended (x ∷ xs) ys i =
+    ap (slice_get (x ∷ (xs ++ ys))) (let e : length (x ∷ xs) + i ≡ suc (length xs + i) = omega arith in e)
+    ∙ appended xs ys i
 
 module _ {X : Type 0} (es : List X) (i half : ℕ) (taken : X) (within : i < length es) (less : half < length es) where
   abbrev pub last : ℕ
@@ -33,13 +36,21 @@ module _ {X : Type 0} (es : List X) (i half : ℕ) (taken : X) (within : i < len
   moved_is = swap_is es i last taken within (omega arith)
 
   long : length moved ≡ length es
-  long = ap length (sym moved_is) ∙ length-set (set es i (get_or es last taken)) last (get_or es i taken) ∙ length-set es i (get_or es last taken)
+  long =
+      ap length (sym moved_is)
+      ∙ length-set (set es i (get_or es last taken)) last (get_or es i taken)
+      ∙ length-set es i (get_or es last taken)
 
   front_is : take last moved ≡ swap_remove es i taken
-  front_is = ap (take last) (sym moved_is) ∙ take-set-le last (set es i (get_or es last taken)) last (get_or es i taken) (omega arith)
+  front_is =
+      ap (take last) (sym moved_is)
+      ∙ take-set-le last (set es i (get_or es last taken)) last (get_or es i taken) (omega arith)
 
   last_is : get_or moved last taken ≡ get_or es i taken
-  last_is = ap (λ (xs : List X). get_or xs last taken) (sym moved_is) ∙ get_or-set_same (set es i (get_or es last taken)) last (get_or es i taken) taken (let l = length-set es i (get_or es last taken) in omega arith)
+  last_is =
+      ap (λ (xs : List X). get_or xs last taken) (sym moved_is)
+      ∙ get_or-set_same (set es i (get_or es last taken)) last (get_or es i taken) taken
+      (let l = length-set es i (get_or es last taken) in omega arith)
 
   many : length (drop half moved) ≡ length es - half
   many = let d = length-drop half moved in let l = long in omega arith
@@ -61,15 +72,25 @@ module _ {X : Type 0} (es : List X) (i half : ℕ) (taken : X) (within : i < len
   pub taken_here : taken ≡ get_or (drop half moved) (length (drop half moved) - 1) taken → slice_get es i ≡ Some taken
   taken_here is =
       let at : half + (length (drop half moved) - 1) ≡ last = (let m = many in omega arith) in
-      let same : taken ≡ get_or es i taken = is ∙ get_or-drop half moved (length (drop half moved) - 1) taken ∙ ap (λ (n : ℕ). get_or moved n taken) at ∙ last_is in
+      let same : taken ≡ get_or es i taken =
+      is
+      ∙ get_or-drop half moved (length (drop half moved) - 1) taken
+      ∙ ap (λ (n : ℕ). get_or moved n taken) at
+      ∙ last_is in
       slice_get-get_or es i taken within ∙ ap (λ (x : X). let o : Option X = Some x in o) (sym same)
 
   -- what is left of both halves
-  pub rest_is : {front rows left : List X} → front ≡ take half moved → rows ≡ drop half moved → left ≡ take (length rows - 1) rows → front ++ left ≡ swap_remove es i taken
+  pub rest_is : {front rows left : List X}
+      → front ≡ take half moved → rows ≡ drop half moved
+      → left ≡ take (length rows - 1) rows
+      → front ++ left ≡ swap_remove es i taken
   rest_is {front} {rows} {left} first second all_but_one =
       ap (λ (xs : List X). xs ++ left) first
       ∙ ap (λ (xs : List X). take half moved ++ xs) (all_but_one ∙ ap (λ (xs : List X). take (length xs - 1) xs) second)
       ∙ halves
 
-  pub taken_is : {rows : List X} → rows ≡ drop half moved → taken ≡ get_or rows (length rows - 1) taken → slice_get es i ≡ Some taken
+  pub taken_is : {rows : List X}
+      → rows ≡ drop half moved
+      → taken ≡ get_or rows (length rows - 1) taken
+      → slice_get es i ≡ Some taken
   taken_is second is = taken_here (is ∙ ap (λ (xs : List X). get_or xs (length xs - 1) taken) second)

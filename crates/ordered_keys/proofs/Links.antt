@@ -40,18 +40,24 @@ module _ (ls : List Link) (bound element u : ℕ) (x y : Link) where
   abbrev pub pushed : List Link
   pushed = set l2 bound (record { before = element; after = y.after })
 
-  pub is_pushed : length ls ≡ bound + 1 → element < bound → u ≢ element → u ≤ bound → u ≡ before_in ls bound → x ≡ link_at ls u → y ≡ link_at l2 bound → IsPushed (after_in ls) (before_in ls) (after_in pushed) (before_in pushed) element bound
+  pub is_pushed : length ls ≡ bound + 1
+      → element < bound → u ≢ element
+      → u ≤ bound → u ≡ before_in ls bound
+      → x ≡ link_at ls u → y ≡ link_at l2 bound
+      → IsPushed (after_in ls) (before_in ls) (after_in pushed) (before_in pushed) element bound
   is_pushed long p_b u_p u_b u_is x_is y_is =
       let long1 : length l1 ≡ bound + 1 = length-set ls u (record { before = x.before; after = element }) ∙ long in
       let long2 : length l2 ≡ bound + 1 = length-set l1 element (record { before = u; after = bound }) ∙ long1 in
       let bp : bound ≢ element = (λ e. absurd (omega arith)) in
       let pb : element ≢ bound = (λ e. absurd (omega arith)) in
-      let at3 : link_at pushed bound ≡ record { before = element; after = y.after } = written l2 bound _ (omega arith) in
+      let at3 : link_at pushed bound ≡ record { before = element; after = y.after } =
+      written l2 bound _ (omega arith) in
       let at2 : link_at l2 element ≡ record { before = u; after = bound } = written l1 element _ (omega arith) in
       let at1 : link_at l1 u ≡ record { before = x.before; after = element } = written ls u _ (omega arith) in
       let after : Link → ℕ = λ l. l.after in
       let before : Link → ℕ = λ l. l.before in
-      let end_after : after_in pushed bound ≡ after_in l1 bound = ap after at3 ∙ ap after y_is ∙ ap after (unwritten l1 element bound _ bp) in
+      let end_after : after_in pushed bound ≡ after_in l1 bound =
+      ap after at3 ∙ ap after y_is ∙ ap after (unwritten l1 element bound _ bp) in
       record {
         last = subst (λ v. after_in pushed v ≡ element) u_is (elim (decided u bound) [
           | inl e ↦ ap (after_in pushed) e ∙ end_after ∙ ap (after_in l1) (sym e) ∙ ap after at1
@@ -62,7 +68,9 @@ module _ (ls : List Link) (bound element u : ℕ) (x y : Link) where
             let d : q ≢ u = (λ e. q_u (e ∙ u_is)) in
             elim (decided q bound) [
               | inl e ↦ ap (after_in pushed) e ∙ end_after ∙ ap (after_in l1) (sym e) ∙ ap after (unwritten ls u q _ d)
-              | inr n ↦ ap after (unwritten l2 bound q _ n) ∙ ap after (unwritten l1 element q _ q_p) ∙ ap after (unwritten ls u q _ d)
+              | inr n ↦ ap after (unwritten l2 bound q _ n)
+                  ∙ ap after (unwritten l1 element q _ q_p)
+                  ∙ ap after (unwritten ls u q _ d)
             ];
         before = ap before (unwritten l2 bound element _ pb) ∙ ap before at2 ∙ u_is;
         end = ap before at3;
@@ -83,7 +91,11 @@ module _ (ls : List Link) (u v : ℕ) (x y : Link) where
   abbrev pub unlinked : List Link
   unlinked = set m1 v (record { before = u; after = y.after })
 
-  pub is_unlinked : (p : ℕ) → u < length ls → v < length ls → u ≡ before_in ls p → v ≡ after_in ls p → x ≡ link_at ls u → y ≡ link_at m1 v → IsUnlinked (after_in ls) (before_in ls) (after_in unlinked) (before_in unlinked) p
+  pub is_unlinked : (p : ℕ)
+      → u < length ls → v < length ls
+      → u ≡ before_in ls p → v ≡ after_in ls p
+      → x ≡ link_at ls u → y ≡ link_at m1 v
+      → IsUnlinked (after_in ls) (before_in ls) (after_in unlinked) (before_in unlinked) p
   is_unlinked p ul vl u_is v_is x_is y_is =
       let long1 : length m1 ≡ length ls = length-set ls u (record { before = x.before; after = v }) in
       let at2 : link_at unlinked v ≡ record { before = u; after = y.after } = written m1 v _ (omega arith) in
@@ -98,7 +110,11 @@ module _ (ls : List Link) (u v : ℕ) (x y : Link) where
         afters = λ q q_u.
             let d : q ≢ u = (λ e. q_u (e ∙ u_is)) in
             elim (decided q v) [
-              | inl e ↦ ap (after_in unlinked) e ∙ ap after at2 ∙ ap after y_is ∙ ap (after_in m1) (sym e) ∙ ap after (unwritten ls u q _ d)
+              | inl e ↦ ap (after_in unlinked) e
+                  ∙ ap after at2
+                  ∙ ap after y_is
+                  ∙ ap (after_in m1) (sym e)
+                  ∙ ap after (unwritten ls u q _ d)
               | inr n ↦ ap after (unwritten m1 v q _ n) ∙ ap after (unwritten ls u q _ d)
             ];
         before = ap (before_in unlinked) (sym v_is) ∙ ap before at2 ∙ u_is;
@@ -142,7 +158,8 @@ module _ {o : Inside} (h : IsRing o) where
   pub before_apart : (p : ℕ) → p < o.bound → occurrences p (elements_in o) ≡ 0 → g o.bound ≢ p
   before_apart p l n e = elim (before_end f g o.bound (elements_in o) o.bound h.linked) [
     | inl q ↦ absurd (omega arith)
-    | inr m ↦ let s : occurrences (g o.bound) (elements_in o) ≡ occurrences p (elements_in o) = ap (λ q. occurrences q (elements_in o)) e in absurd (omega arith)
+    | inr m ↦ let s : occurrences (g o.bound) (elements_in o) ≡ occurrences p (elements_in o) =
+        ap (λ q. occurrences q (elements_in o)) e in absurd (omega arith)
   ]
 
   pub before_within : (p : ℕ) → 0 < occurrences p (elements_in o) → g p ≤ o.bound
@@ -164,28 +181,39 @@ module _ {o : Inside} (h : IsRing o) where
     abbrev g' : ℕ → ℕ
     g' = before_in b.links.items
 
-    module _ (more : b.count ≡ o.count + 1) (l : p < o.bound) (n : occurrences p (elements_in o) ≡ 0) (k : IsPushed f g f' g' p o.bound) where
+    module _ (more : b.count ≡ o.count + 1) (l : p < o.bound)
+        (n : occurrences p (elements_in o) ≡ 0) (k : IsPushed f g f' g' p o.bound) where
       path : IsPath f' g' o.bound (elements_in o ++ p ∷ []) o.bound
-      path = path_pushed f g f' g' o.bound (elements_in o) o.bound p k h.linked (λ e. absurd (omega arith)) n outside outside h.once
+      path =
+          path_pushed f g f' g' o.bound (elements_in o) o.bound p k h.linked
+          (λ e. absurd (omega arith)) n outside outside h.once
 
       pub elements_pushed : elements_in b ≡ elements_in o ++ p ∷ []
       elements_pushed =
-          let len : length (elements_in o ++ p ∷ []) ≡ b.count = length-append (elements_in o) (p ∷ []) ∙ ap (λ i. i + 1) (length-chain f o.count o.bound) ∙ sym more in
-          ap (chain f' b.count) same ∙ ap (λ i. chain f' i o.bound) (sym len) ∙ chain_of_path f' g' o.bound (elements_in o ++ p ∷ []) o.bound path
+          let len : length (elements_in o ++ p ∷ []) ≡ b.count =
+          length-append (elements_in o) (p ∷ []) ∙ ap (λ i. i + 1) (length-chain f o.count o.bound) ∙ sym more in
+          ap (chain f' b.count) same
+          ∙ ap (λ i. chain f' i o.bound) (sym len)
+          ∙ chain_of_path f' g' o.bound (elements_in o ++ p ∷ []) o.bound path
 
       pub ring_pushed : IsRing b
       ring_pushed =
           let xs = elements_in o ++ p ∷ [] in
           record {
             long = let e = h.long in omega arith;
-            linked = subst (λ i. IsPath f' g' i (elements_in b) i) (sym same) (subst (λ ys. IsPath f' g' o.bound ys o.bound) (sym elements_pushed) path);
-            within = subst (λ i. AreWithin i (elements_in b)) (sym same) (subst (AreWithin o.bound) (sym elements_pushed) (within-append o.bound p (elements_in o) h.within l));
+            linked =
+                subst (λ i. IsPath f' g' i (elements_in b) i) (sym same)
+                (subst (λ ys. IsPath f' g' o.bound ys o.bound) (sym elements_pushed) path);
+            within =
+                subst (λ i. AreWithin i (elements_in b)) (sym same)
+                (subst (AreWithin o.bound) (sym elements_pushed) (within-append o.bound p (elements_in o) h.within l));
             once = λ q. subst (λ ys. occurrences q ys ≤ 1) (sym elements_pushed) (one q);
           }
         where
           one : (q : ℕ) → occurrences q (elements_in o ++ p ∷ []) ≤ 1
           one q = let t = times-append q (elements_in o) (p ∷ []) in let o1 = h.once q in elim (decided q p) [
-            | inl e ↦ let s : occurrences q (elements_in o) ≡ occurrences p (elements_in o) = ap (λ z. occurrences z (elements_in o)) e in let u = single q p in omega arith
+            | inl e ↦ let s : occurrences q (elements_in o) ≡ occurrences p (elements_in o) =
+                ap (λ z. occurrences z (elements_in o)) e in let u = single q p in omega arith
             | inr d ↦ let z = none q p d in omega arith
           ]
 
@@ -195,25 +223,39 @@ module _ {o : Inside} (h : IsRing o) where
 
       pub elements_left : elements_in b ≡ taken_out p (elements_in o)
       elements_left =
-          let len : length (taken_out p (elements_in o)) ≡ b.count = (let t = taken_length p (elements_in o) m in let c = length-chain f o.count o.bound in omega arith) in
-          ap (chain f' b.count) same ∙ ap (λ i. chain f' i o.bound) (sym len) ∙ chain_of_path f' g' o.bound (taken_out p (elements_in o)) o.bound path_out
+          let len : length (taken_out p (elements_in o)) ≡ b.count =
+          (let t = taken_length p (elements_in o) m in let c = length-chain f o.count o.bound in omega arith) in
+          ap (chain f' b.count) same
+          ∙ ap (λ i. chain f' i o.bound) (sym len)
+          ∙ chain_of_path f' g' o.bound (taken_out p (elements_in o)) o.bound path_out
 
       pub ring_left : IsRing b
       ring_left = record {
         long = let e = h.long in omega arith;
-        linked = subst (λ i. IsPath f' g' i (elements_in b) i) (sym same) (subst (λ ys. IsPath f' g' o.bound ys o.bound) (sym elements_left) path_out);
-        within = subst (λ i. AreWithin i (elements_in b)) (sym same) (subst (AreWithin o.bound) (sym elements_left) (taken_within o.bound p (elements_in o) h.within));
-        once = λ q. subst (λ ys. occurrences q ys ≤ 1) (sym elements_left) (let t = taken_times p q (elements_in o) m in let o1 = h.once q in omega arith);
+        linked =
+            subst (λ i. IsPath f' g' i (elements_in b) i) (sym same)
+            (subst (λ ys. IsPath f' g' o.bound ys o.bound) (sym elements_left) path_out);
+        within =
+            subst (λ i. AreWithin i (elements_in b)) (sym same)
+            (subst (AreWithin o.bound) (sym elements_left) (taken_within o.bound p (elements_in o) h.within));
+        once = λ q.
+            subst (λ ys. occurrences q ys ≤ 1) (sym elements_left)
+            (let t = taken_times p q (elements_in o) m in let o1 = h.once q in omega arith);
       }
 
 -- ---- the code's steps
 
 -- the link that is read at an index
-pub read : (o : Inside) (p : ℕ) (x : Link) → x ≡ get_or o.links.items p x → p < vec_len o.links → x ≡ link_at o.links.items p
+pub read : (o : Inside) (p : ℕ) (x : Link)
+    → x ≡ get_or o.links.items p x → p < vec_len o.links
+    → x ≡ link_at o.links.items p
 read o p x e l = get_or_read_under o.links.items p o.links.len x (lone_link 0) e l o.links.ok.0
 
 -- an element is put last
-module _ (o : Inside) (h : IsRing o) (t : Order) (view : order_of o ≡ t) (p : ℕ) (within : p < t.bound) (new : occurrences p t.elements ≡ 0) (few : length t.elements < t.bound) (last : Link) (last_is : last ≡ get_or o.links.items o.bound last) where
+module _ (o : Inside) (h : IsRing o) (t : Order) (view : order_of o ≡ t) (p : ℕ)
+    (within : p < t.bound) (new : occurrences p t.elements ≡ 0) (few : length t.elements < t.bound)
+    (last : Link)
+    (last_is : last ≡ get_or o.links.items o.bound last) where
   bounds : o.bound ≡ t.bound
   bounds = ap (λ (t : Order). t.bound) view
 
@@ -245,30 +287,43 @@ module _ (o : Inside) (h : IsRing o) (t : Order) (view : order_of o ≡ t) (p : 
   apart : last.before ≢ p
   apart e = before_apart h p below new_here (sym before_at ∙ e)
 
-  module _ (x y : Link) (x_is : x ≡ get_or o.links.items last.before x) (y_is : y ≡ get_or (l2 o.links.items o.bound p last.before x y) o.bound y) where
+  module _ (x y : Link)
+      (x_is : x ≡ get_or o.links.items last.before x)
+      (y_is : y ≡ get_or (l2 o.links.items o.bound p last.before x y) o.bound y) where
     abbrev pub after_push : Inside
     after_push = record {
-      links = with_item (with_item (with_item o.links last.before (record { before = x.before; after = p })) p (record { before = last.before; after = o.bound })) o.bound (record { before = p; after = y.after });
+      links =
+          with_item (with_item (with_item o.links last.before (record { before = x.before; after = p }))
+          p (record { before = last.before; after = o.bound }))
+          o.bound (record { before = p; after = y.after });
       bound = o.bound;
       count = o.count + 1;
     }
 
-    known : IsPushed (after_in o.links.items) (before_in o.links.items) (after_in after_push.links.items) (before_in after_push.links.items) p o.bound
+    known : IsPushed (after_in o.links.items) (before_in o.links.items)
+        (after_in after_push.links.items) (before_in after_push.links.items)
+        p o.bound
     known =
         let long : length o.links.items ≡ o.bound + 1 = sym o.links.ok.0 ∙ h.long in
         let long1 = length-set o.links.items last.before (record { before = x.before; after = p }) in
-        let long2 = length-set (l1 o.links.items o.bound p last.before x y) p (record { before = last.before; after = o.bound }) in
-        is_pushed o.links.items o.bound p last.before x y long below apart last_below before_at (read o last.before x x_is last_within)
-        (get_or_read_under (l2 o.links.items o.bound p last.before x y) o.bound (o.bound + 1) y (lone_link 0) y_is (omega arith) (omega arith))
+        let long2 =
+        length-set (l1 o.links.items o.bound p last.before x y) p (record { before = last.before; after = o.bound }) in
+        is_pushed o.links.items o.bound p last.before x y long below apart last_below before_at
+        (read o last.before x x_is last_within)
+        (get_or_read_under (l2 o.links.items o.bound p last.before x y) o.bound (o.bound + 1) y
+        (lone_link 0) y_is (omega arith) (omega arith))
 
     pub push_ring : IsRing after_push
     push_ring = ring_pushed h after_push p refl refl refl below new_here known
 
     pub push_elements : elements_in after_push ≡ t.elements ++ p ∷ []
-    push_elements = elements_pushed h after_push p refl refl refl below new_here known ∙ ap (λ (t : Order). t.elements ++ p ∷ []) view
+    push_elements =
+        elements_pushed h after_push p refl refl refl below new_here known
+        ∙ ap (λ (t : Order). t.elements ++ p ∷ []) view
 
 -- an element is taken out
-module _ (o : Inside) (h : IsRing o) (t : Order) (view : order_of o ≡ t) (p : ℕ) (member : 0 < occurrences p t.elements) where
+module _ (o : Inside) (h : IsRing o) (t : Order) (view : order_of o ≡ t) (p : ℕ)
+    (member : 0 < occurrences p t.elements) where
   pub member_here : 0 < occurrences p (elements_in o)
   member_here = subst (λ (t : Order). 0 < occurrences p t.elements) (sym view) member
 
@@ -280,36 +335,58 @@ module _ (o : Inside) (h : IsRing o) (t : Order) (view : order_of o ≡ t) (p : 
     link_here = read o p link link_is member_within
 
     pub before_inside : link.before < vec_len o.links
-    before_inside = let l = before_within h p member_here in let e = ap (λ (l : Link). l.before) link_here in let long = h.long in omega arith
+    before_inside =
+        let l = before_within h p member_here in
+        let e = ap (λ (l : Link). l.before) link_here in
+        let long = h.long in
+        omega arith
 
     pub after_inside : link.after < vec_len o.links
-    after_inside = let l = after_within h p member_here in let e = ap (λ (l : Link). l.after) link_here in let long = h.long in omega arith
+    after_inside =
+        let l = after_within h p member_here in
+        let e = ap (λ (l : Link). l.after) link_here in
+        let long = h.long in
+        omega arith
 
-    module _ (x y : Link) (x_is : x ≡ get_or o.links.items link.before x) (y_is : y ≡ get_or (m1 o.links.items link.before link.after x y) link.after y) where
+    module _ (x y : Link)
+        (x_is : x ≡ get_or o.links.items link.before x)
+        (y_is : y ≡ get_or (m1 o.links.items link.before link.after x y) link.after y) where
       abbrev pub after_remove : Inside
       after_remove = record {
-        links = with_item (with_item o.links link.before (record { before = x.before; after = link.after })) link.after (record { before = link.before; after = y.after });
+        links =
+            with_item (with_item o.links link.before (record { before = x.before; after = link.after }))
+            link.after (record { before = link.before; after = y.after });
         bound = o.bound;
         count = o.count - 1;
       }
 
       less : o.count - 1 + 1 ≡ o.count
-      less = let t = taken_length p (elements_in o) member_here in let c = length-chain (after_in o.links.items) o.count o.bound in omega arith
+      less =
+          let t = taken_length p (elements_in o) member_here in
+          let c = length-chain (after_in o.links.items) o.count o.bound in
+          omega arith
 
-      known_out : IsUnlinked (after_in o.links.items) (before_in o.links.items) (after_in after_remove.links.items) (before_in after_remove.links.items) p
+      known_out : IsUnlinked (after_in o.links.items) (before_in o.links.items)
+          (after_in after_remove.links.items) (before_in after_remove.links.items)
+          p
       known_out =
           let ok : o.links.len ≡ length o.links.items = o.links.ok.0 in
           let long1 = length-set o.links.items link.before (record { before = x.before; after = link.after }) in
           let b = before_inside in
           let a = after_inside in
-          is_unlinked o.links.items link.before link.after x y p (omega arith) (omega arith) (ap (λ (l : Link). l.before) link_here) (ap (λ (l : Link). l.after) link_here) (read o link.before x x_is before_inside)
-          (get_or_read_under (m1 o.links.items link.before link.after x y) link.after o.links.len y (lone_link 0) y_is after_inside (omega arith))
+          is_unlinked o.links.items link.before link.after x y p (omega arith) (omega arith)
+          (ap (λ (l : Link). l.before) link_here) (ap (λ (l : Link). l.after) link_here)
+          (read o link.before x x_is before_inside)
+          (get_or_read_under (m1 o.links.items link.before link.after x y) link.after o.links.len y
+          (lone_link 0) y_is after_inside (omega arith))
 
       pub remove_ring : IsRing after_remove
       remove_ring = ring_left h after_remove p refl refl less member_here known_out
 
       pub remove_elements : elements_in after_remove ≡ taken_out p t.elements
-      remove_elements = elements_left h after_remove p refl refl less member_here known_out ∙ ap (λ (t : Order). taken_out p t.elements) view
+      remove_elements =
+          elements_left h after_remove p refl refl less member_here known_out
+          ∙ ap (λ (t : Order). taken_out p t.elements) view
 
 -- all elements are taken out: the bound is linked to itself
 module _ (o : Inside) (h : IsRing o) where

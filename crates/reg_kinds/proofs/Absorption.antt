@@ -30,15 +30,19 @@ order_prop x y = hlevel props
 same_range : (lo hi lo' hi' : ℕ) (p : lo ≤ hi) (q : lo' ≤ hi') → lo ≡ lo' → hi ≡ hi' → made lo hi p ≡ made lo' hi' q
 same_range lo hi lo' hi' p q e f =
     let same : (h : lo ≤ hi) → made lo hi p ≡ made lo hi h = λ h. ap (made lo hi) (order_prop lo hi p h) in
-    let moved : (h : lo' ≤ hi) → made lo hi p ≡ made lo' hi h = subst (λ (x : ℕ). (h : x ≤ hi) → made lo hi p ≡ made x hi h) e same in
+    let moved : (h : lo' ≤ hi) → made lo hi p ≡ made lo' hi h =
+    subst (λ (x : ℕ). (h : x ≤ hi) → made lo hi p ≡ made x hi h) e same in
     subst (λ (y : ℕ). (h : lo' ≤ y) → made lo hi p ≡ made lo' y h) f moved q
 
 -- the hull of a range and a range that it includes
 pub hull_holds : (a b : Range) → a.lo ≤ b.lo → b.hi ≤ a.hi → hull a b ≡ a
-hull_holds a b low high = same_range (hull a b).lo (hull a b).hi a.lo a.hi (hull a b).ordered a.ordered (omega (arith, low)) (omega (arith, high))
+hull_holds a b low high =
+    same_range (hull a b).lo (hull a b).hi a.lo a.hi (hull a b).ordered a.ordered
+    (omega (arith, low)) (omega (arith, high))
 
 hull_itself : (a : Range) → hull a a ≡ a
-hull_itself a = same_range (hull a a).lo (hull a a).hi a.lo a.hi (hull a a).ordered a.ordered (omega arith) (omega arith)
+hull_itself a =
+    same_range (hull a a).lo (hull a a).hi a.lo a.hi (hull a a).ordered a.ordered (omega arith) (omega arith)
 
 pub offsets_itself : (p : ValuePointer) → offsets_hull p p ≡ p
 offsets_itself p = same_pointer (offsets_hull p p) p refl (omega (arith, ints, clamps)) (omega (arith, ints, clamps))
@@ -49,8 +53,12 @@ kinds_itself (Scalar a) = ap Scalar (hull_itself a)
 kinds_itself (MapRef m) = cond-true (m == m) (MapRef m) Unreadable (number_test.laws.refl m)
 kinds_itself (Stack x) = cond-true (int_eq x x) (Stack x) Unreadable (offset_test.laws.refl x)
 kinds_itself Ctx = refl
-kinds_itself (Value p) = cond-true (p.map == p.map) (Value (offsets_hull p p)) Unreadable (number_test.laws.refl p.map) ∙ ap Value (offsets_itself p)
-kinds_itself (MaybeValue m s) = cond-true ((m == m) && (s == s)) (MaybeValue m s) Unreadable (ap₂ (◌&&◌) (number_test.laws.refl m) (number_test.laws.refl s))
+kinds_itself (Value p) =
+    cond-true (p.map == p.map) (Value (offsets_hull p p)) Unreadable (number_test.laws.refl p.map)
+    ∙ ap Value (offsets_itself p)
+kinds_itself (MaybeValue m s) =
+    cond-true ((m == m) && (s == s)) (MaybeValue m s) Unreadable
+    (ap₂ (◌&&◌) (number_test.laws.refl m) (number_test.laws.refl s))
 
 -- ---- slots
 

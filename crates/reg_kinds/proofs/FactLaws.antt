@@ -49,7 +49,8 @@ slots_associate h (Bytes x) (Spill j) (Spill k) = sym (first_bytes x (kind_join 
 slots_associate h (Spill i) (Bytes y) (Bytes z) = ap Bytes (and_zero_l z)
 slots_associate h (Spill i) (Bytes y) (Spill k) = refl
 slots_associate h (Spill i) (Spill j) (Bytes z) = last_bytes z (kind_join i j)
-slots_associate h (Spill i) (Spill j) (Spill k) = first_spilled (kind_join i j) k ∙ (ap spilled (h i j k) ∙ sym (last_spilled i (kind_join j k)))
+slots_associate h (Spill i) (Spill j) (Spill k) =
+    first_spilled (kind_join i j) k ∙ (ap spilled (h i j k) ∙ sym (last_spilled i (kind_join j k)))
 
 -- ---- facts
 
@@ -68,5 +69,11 @@ slot_of_join a b i h = tabulate-at (λ n. slot_join (slot_at a n) (slot_at b n))
 pub facts_associate : KindsAssociate → SlotsAssociate → FactsAssociate
 facts_associate h k a b c =
     same_facts (facts_join (facts_join a b) c) (facts_join a (facts_join b c))
-    (same_table _ _ 11 Unreadable (λ r l. ap (λ x. kind_join x (kind_at c r)) (kind_of_join a b r l) ∙ (h (kind_at a r) (kind_at b r) (kind_at c r) ∙ sym (ap (kind_join (kind_at a r)) (kind_of_join b c r l)))))
-    (same_table _ _ 64 (Bytes 0) (λ i l. ap (λ x. slot_join x (slot_at c i)) (slot_of_join a b i l) ∙ (k (slot_at a i) (slot_at b i) (slot_at c i) ∙ sym (ap (slot_join (slot_at a i)) (slot_of_join b c i l)))))
+    (same_table _ _ 11 Unreadable
+    (λ r l.
+    ap (λ x. kind_join x (kind_at c r)) (kind_of_join a b r l)
+    ∙ (h (kind_at a r) (kind_at b r) (kind_at c r) ∙ sym (ap (kind_join (kind_at a r)) (kind_of_join b c r l)))))
+    (same_table _ _ 64 (Bytes 0)
+    (λ i l.
+    ap (λ x. slot_join x (slot_at c i)) (slot_of_join a b i l)
+    ∙ (k (slot_at a i) (slot_at b i) (slot_at c i) ∙ sym (ap (slot_join (slot_at a i)) (slot_of_join b c i l)))))

@@ -22,11 +22,16 @@ pub record Test (X : Type 0) (Same : X → X → Type 0) : Type 0 where
 abbrev pub joined : {X : Type 0} → (X → Kind) → (X → X → Bool) → (X → X → X) → X → X → Kind
 joined C test merge x y = if test x y then C (merge x y) else Unreadable
 
-pub joined_commutes : {X : Type 0} {Same : X → X → Type 0} (C : X → Kind) (by : Test X Same) (merge : X → X → X) → ((x y : X) → Same x y → C (merge x y) ≡ C (merge y x)) → (x y : X) → joined C by.test merge x y ≡ joined C by.test merge y x
+pub joined_commutes : {X : Type 0} {Same : X → X → Type 0} (C : X → Kind) (by : Test X Same)
+    (merge : X → X → X)
+    → ((x y : X) → Same x y → C (merge x y) ≡ C (merge y x))
+    → (x y : X) → joined C by.test merge x y ≡ joined C by.test merge y x
 joined_commutes C by merge m x y =
     elim (cases_Bool (by.test x y)) [
-      | inl t ↦ cond-true (by.test x y) (C (merge x y)) Unreadable t ∙ (m x y (by.tells x y t) ∙ sym (cond-true (by.test y x) (C (merge y x)) Unreadable (by.laws.symm y x ∙ t)))
-      | inr t ↦ cond-false (by.test x y) (C (merge x y)) Unreadable t ∙ sym (cond-false (by.test y x) (C (merge y x)) Unreadable (by.laws.symm y x ∙ t))
+      | inl t ↦ cond-true (by.test x y) (C (merge x y)) Unreadable t
+          ∙ (m x y (by.tells x y t) ∙ sym (cond-true (by.test y x) (C (merge y x)) Unreadable (by.laws.symm y x ∙ t)))
+      | inr t ↦ cond-false (by.test x y) (C (merge x y)) Unreadable t
+          ∙ sym (cond-false (by.test y x) (C (merge y x)) Unreadable (by.laws.symm y x ∙ t))
     ]
 
 module _ {X : Type 0} {Same : X → X → Type 0} (C : X → Kind) (by : Test X Same) (merge : X → X → X) where
@@ -36,26 +41,40 @@ module _ {X : Type 0} {Same : X → X → Type 0} (C : X → Kind) (by : Test X 
   no : (x y : X) → by.test x y ≡ false → joined C by.test merge x y ≡ Unreadable
   no x y t = cond-false (by.test x y) (C (merge x y)) Unreadable t
 
-  module _ (kj : (x y : X) → kind_join (C x) (C y) ≡ joined C by.test merge x y) (ul : (z : X) → kind_join Unreadable (C z) ≡ Unreadable) (ur : (x : X) → kind_join (C x) Unreadable ≡ Unreadable) (ml : (x y z : X) → by.test (merge x y) z ≡ by.test x z) (mr : (x y z : X) → by.test x (merge y z) ≡ by.test x y) where
+  module _
+      (kj : (x y : X) → kind_join (C x) (C y) ≡ joined C by.test merge x y)
+      (ul : (z : X) → kind_join Unreadable (C z) ≡ Unreadable)
+      (ur : (x : X) → kind_join (C x) Unreadable ≡ Unreadable)
+      (ml : (x y z : X) → by.test (merge x y) z ≡ by.test x z)
+      (mr : (x y z : X) → by.test x (merge y z) ≡ by.test x y) where
     -- the join of the first two with a third
-    left_yes : (x y z : X) → by.test x y ≡ true → kind_join (joined C by.test merge x y) (C z) ≡ joined C by.test merge (merge x y) z
+    left_yes : (x y z : X)
+        → by.test x y ≡ true
+        → kind_join (joined C by.test merge x y) (C z) ≡ joined C by.test merge (merge x y) z
     left_yes x y z t = ap (λ i. kind_join i (C z)) (yes x y t) ∙ kj (merge x y) z
 
     left_no : (x y z : X) → by.test x y ≡ false → kind_join (joined C by.test merge x y) (C z) ≡ Unreadable
     left_no x y z t = ap (λ i. kind_join i (C z)) (no x y t) ∙ ul z
 
-    right_yes : (x y z : X) → by.test y z ≡ true → kind_join (C x) (joined C by.test merge y z) ≡ joined C by.test merge x (merge y z)
+    right_yes : (x y z : X)
+        → by.test y z ≡ true
+        → kind_join (C x) (joined C by.test merge y z) ≡ joined C by.test merge x (merge y z)
     right_yes x y z t = ap (kind_join (C x)) (yes y z t) ∙ kj x (merge y z)
 
     right_no : (x y z : X) → by.test y z ≡ false → kind_join (C x) (joined C by.test merge y z) ≡ Unreadable
     right_no x y z t = ap (kind_join (C x)) (no y z t) ∙ ur x
 
-    both_ways : (x y z : X) → C (merge (merge x y) z) ≡ C (merge x (merge y z)) → kind_join (joined C by.test merge x y) (C z) ≡ kind_join (C x) (joined C by.test merge y z)
+    both_ways : (x y z : X)
+        → C (merge (merge x y) z) ≡ C (merge x (merge y z))
+        → kind_join (joined C by.test merge x y) (C z) ≡ kind_join (C x) (joined C by.test merge y z)
     both_ways x y z m =
         elim (cases_Bool (by.test x y)) [
           | inl t ↦ elim (cases_Bool (by.test y z)) [
-            | inl u ↦ left_yes x y z t ∙ (yes (merge x y) z (ml x y z ∙ (by.laws.congr x y z t ∙ u)) ∙ (m ∙ sym (right_yes x y z u ∙ yes x (merge y z) (mr x y z ∙ t))))
-            | inr u ↦ left_yes x y z t ∙ (no (merge x y) z (ml x y z ∙ (by.laws.congr x y z t ∙ u)) ∙ sym (right_no x y z u))
+            | inl u ↦ left_yes x y z t
+                ∙ (yes (merge x y) z (ml x y z ∙ (by.laws.congr x y z t ∙ u))
+                ∙ (m ∙ sym (right_yes x y z u ∙ yes x (merge y z) (mr x y z ∙ t))))
+            | inr u ↦ left_yes x y z t
+                ∙ (no (merge x y) z (ml x y z ∙ (by.laws.congr x y z t ∙ u)) ∙ sym (right_no x y z u))
           ]
           | inr t ↦ elim (cases_Bool (by.test y z)) [
             | inl u ↦ left_no x y z t ∙ sym (right_yes x y z u ∙ no x (merge y z) (mr x y z ∙ t))
@@ -63,7 +82,16 @@ module _ {X : Type 0} {Same : X → X → Type 0} (C : X → Kind) (by : Test X 
           ]
         ]
 
-pub joined_associates : {X : Type 0} {Same : X → X → Type 0} (C : X → Kind) (by : Test X Same) (merge : X → X → X) → ((x y : X) → kind_join (C x) (C y) ≡ joined C by.test merge x y) → ((z : X) → kind_join Unreadable (C z) ≡ Unreadable) → ((x : X) → kind_join (C x) Unreadable ≡ Unreadable) → ((x y z : X) → by.test (merge x y) z ≡ by.test x z) → ((x y z : X) → by.test x (merge y z) ≡ by.test x y) → ((x y z : X) → C (merge (merge x y) z) ≡ C (merge x (merge y z))) → (x y z : X) → kind_join (joined C by.test merge x y) (C z) ≡ kind_join (C x) (joined C by.test merge y z)
+pub joined_associates : {X : Type 0} {Same : X → X → Type 0} (C : X → Kind) (by : Test X Same)
+    (merge : X → X → X)
+    → ((x y : X) → kind_join (C x) (C y) ≡ joined C by.test merge x y)
+    → ((z : X) → kind_join Unreadable (C z) ≡ Unreadable)
+    → ((x : X) → kind_join (C x) Unreadable ≡ Unreadable)
+    → ((x y z : X) → by.test (merge x y) z ≡ by.test x z)
+    → ((x y z : X) → by.test x (merge y z) ≡ by.test x y)
+    → ((x y z : X) → C (merge (merge x y) z) ≡ C (merge x (merge y z)))
+    → (x y z : X)
+    → kind_join (joined C by.test merge x y) (C z) ≡ kind_join (C x) (joined C by.test merge y z)
 joined_associates C by merge kj ul ur ml mr ma x y z = both_ways C by merge kj ul ur ml mr x y z (ma x y z)
 
 -- ---- the tests of the kinds
@@ -97,15 +125,21 @@ abbrev pub map_test : Test ValuePointer (λ p q. p.map ≡ q.map)
 map_test =
     record {
       test = λ p q. p.map == q.map;
-      laws = record { refl = λ p. nat_eq_equiv.refl p.map; symm = λ p q. nat_eq_equiv.symm p.map q.map; congr = λ p q r. nat_eq_equiv.congr p.map q.map r.map };
+      laws = record {
+        refl = λ p. nat_eq_equiv.refl p.map;
+        symm = λ p q. nat_eq_equiv.symm p.map q.map;
+        congr = λ p q r. nat_eq_equiv.congr p.map q.map r.map;
+      };
       tells = λ p q. eqb-true p.map q.map;
     }
 
 -- ---- the hull of offsets
 
 pub hull_turned : (p q : ValuePointer) → p.map ≡ q.map → offsets_hull p q ≡ offsets_hull q p
-hull_turned p q e = same_pointer (offsets_hull p q) (offsets_hull q p) e (omega (arith, ints, clamps)) (omega (arith, ints, clamps))
+hull_turned p q e =
+    same_pointer (offsets_hull p q) (offsets_hull q p) e (omega (arith, ints, clamps)) (omega (arith, ints, clamps))
 
 pub hull_regrouped : (p q r : ValuePointer) → offsets_hull (offsets_hull p q) r ≡ offsets_hull p (offsets_hull q r)
 hull_regrouped p q r =
-    same_pointer (offsets_hull (offsets_hull p q) r) (offsets_hull p (offsets_hull q r)) refl (omega (arith, ints, clamps)) (omega (arith, ints, clamps))
+    same_pointer (offsets_hull (offsets_hull p q) r) (offsets_hull p (offsets_hull q r)) refl
+    (omega (arith, ints, clamps)) (omega (arith, ints, clamps))

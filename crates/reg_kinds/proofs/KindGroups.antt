@@ -41,35 +41,60 @@ different _ _ d = refl
 -- if i and j have different constructors, the join of i with a join of j is unreadable
 different_from_join : (i j k : Kind) → differ i j ≡ true → kind_join i (kind_join j k) ≡ Unreadable
 different_from_join i (Scalar a) (Scalar b) d = different i (Scalar (hull a b)) d
-different_from_join i (MapRef m) (MapRef n) d = cond_both (m == n) (MapRef m) Unreadable (λ x. kind_join i x ≡ Unreadable) (λ _. different i (MapRef m) d) (λ _. nothing_last i)
-different_from_join i (Stack x) (Stack y) d = cond_both (int_eq x y) (Stack x) Unreadable (λ x. kind_join i x ≡ Unreadable) (λ _. different i (Stack x) d) (λ _. nothing_last i)
+different_from_join i (MapRef m) (MapRef n) d =
+    cond_both (m == n) (MapRef m) Unreadable (λ x. kind_join i x ≡ Unreadable)
+    (λ _. different i (MapRef m) d) (λ _. nothing_last i)
+different_from_join i (Stack x) (Stack y) d =
+    cond_both (int_eq x y) (Stack x) Unreadable (λ x. kind_join i x ≡ Unreadable)
+    (λ _. different i (Stack x) d) (λ _. nothing_last i)
 different_from_join i Ctx Ctx d = different i Ctx d
-different_from_join i (Value p) (Value q) d = cond_both (p.map == q.map) (Value (offsets_hull p q)) Unreadable (λ x. kind_join i x ≡ Unreadable) (λ _. different i (Value (offsets_hull p q)) d) (λ _. nothing_last i)
-different_from_join i (MaybeValue m s) (MaybeValue n t) d = cond_both ((m == n) && (s == t)) (MaybeValue m s) Unreadable (λ x. kind_join i x ≡ Unreadable) (λ _. different i (MaybeValue m s) d) (λ _. nothing_last i)
+different_from_join i (Value p) (Value q) d =
+    cond_both (p.map == q.map) (Value (offsets_hull p q)) Unreadable
+    (λ x. kind_join i x ≡ Unreadable) (λ _. different i (Value (offsets_hull p q)) d)
+    (λ _. nothing_last i)
+different_from_join i (MaybeValue m s) (MaybeValue n t) d =
+    cond_both ((m == n) && (s == t)) (MaybeValue m s) Unreadable (λ x. kind_join i x ≡ Unreadable)
+    (λ _. different i (MaybeValue m s) d) (λ _. nothing_last i)
 different_from_join i _ _ d = nothing_last i
 
 first_differs : (i j k : Kind) → differ i j ≡ true → kind_join (kind_join i j) k ≡ kind_join i (kind_join j k)
 first_differs i j k d = ap (λ x. kind_join x k) (different i j d) ∙ sym (different_from_join i j k d)
 
 -- the same for the other order of the three kinds, by commutativity
-last_differs : HullCommutes → (i j k : Kind) → differ k j ≡ true → kind_join (kind_join i j) k ≡ kind_join i (kind_join j k)
+last_differs : HullCommutes
+    → (i j k : Kind) → differ k j ≡ true
+    → kind_join (kind_join i j) k ≡ kind_join i (kind_join j k)
 last_differs h i j k d =
     kinds_commute h (kind_join i j) k
     ∙ (ap (kind_join k) (kinds_commute h i j)
     ∙ (sym (first_differs k j i d) ∙ (kinds_commute h (kind_join k j) i ∙ ap (kind_join i) (kinds_commute h k j))))
 
-pub kinds_associate : HullCommutes → HullAssociates → (i j k : Kind) → kind_join (kind_join i j) k ≡ kind_join i (kind_join j k)
+pub kinds_associate : HullCommutes
+    → HullAssociates
+    → (i j k : Kind) → kind_join (kind_join i j) k ≡ kind_join i (kind_join j k)
 kinds_associate h g Unreadable j k = refl
 kinds_associate h g (Scalar a) (Scalar b) (Scalar c) = ap Scalar (g a b c)
 kinds_associate h g (Scalar a) (Scalar b) k = last_differs h (Scalar a) (Scalar b) k refl
-kinds_associate h g (MapRef l) (MapRef m) (MapRef n) = joined_associates MapRef number_test (λ x y. x) (λ x y. refl) (λ x. refl) (λ x. refl) (λ x y z. refl) (λ x y z. refl) (λ x y z. refl) l m n
+kinds_associate h g (MapRef l) (MapRef m) (MapRef n) =
+    joined_associates MapRef number_test (λ x y. x) (λ x y. refl) (λ x. refl) (λ x. refl)
+    (λ x y z. refl) (λ x y z. refl) (λ x y z. refl) l m
+    n
 kinds_associate h g (MapRef l) (MapRef m) k = last_differs h (MapRef l) (MapRef m) k refl
-kinds_associate h g (Stack x) (Stack y) (Stack z) = joined_associates Stack offset_test (λ x y. x) (λ x y. refl) (λ x. refl) (λ x. refl) (λ x y z. refl) (λ x y z. refl) (λ x y z. refl) x y z
+kinds_associate h g (Stack x) (Stack y) (Stack z) =
+    joined_associates Stack offset_test (λ x y. x) (λ x y. refl) (λ x. refl) (λ x. refl)
+    (λ x y z. refl) (λ x y z. refl) (λ x y z. refl) x y
+    z
 kinds_associate h g (Stack x) (Stack y) k = last_differs h (Stack x) (Stack y) k refl
 kinds_associate h g Ctx Ctx Ctx = refl
 kinds_associate h g Ctx Ctx k = last_differs h Ctx Ctx k refl
-kinds_associate h g (Value p) (Value q) (Value r) = joined_associates Value map_test offsets_hull (λ x y. refl) (λ x. refl) (λ x. refl) (λ x y z. refl) (λ x y z. refl) (λ x y z. ap Value (hull_regrouped x y z)) p q r
+kinds_associate h g (Value p) (Value q) (Value r) =
+    joined_associates Value map_test offsets_hull (λ x y. refl) (λ x. refl) (λ x. refl)
+    (λ x y z. refl) (λ x y z. refl) (λ x y z. ap Value (hull_regrouped x y z))
+    p q r
 kinds_associate h g (Value p) (Value q) k = last_differs h (Value p) (Value q) k refl
-kinds_associate h g (MaybeValue l s) (MaybeValue m t) (MaybeValue n u) = joined_associates (λ (p : ℕ × ℕ). MaybeValue p.0 p.1) pair_test (λ x y. x) (λ x y. refl) (λ x. refl) (λ x. refl) (λ x y z. refl) (λ x y z. refl) (λ x y z. refl) (l, s) (m, t) (n, u)
+kinds_associate h g (MaybeValue l s) (MaybeValue m t) (MaybeValue n u) =
+    joined_associates (λ (p : ℕ × ℕ). MaybeValue p.0 p.1) pair_test (λ x y. x) (λ x y. refl)
+    (λ x. refl) (λ x. refl) (λ x y z. refl) (λ x y z. refl)
+    (λ x y z. refl) (l, s) (m, t) (n, u)
 kinds_associate h g (MaybeValue l s) (MaybeValue m t) k = last_differs h (MaybeValue l s) (MaybeValue m t) k refl
 kinds_associate h g i j k = first_differs i j k refl

@@ -22,7 +22,10 @@ none_joined f e long =
       rest = λ k le. refl;
     }
 
-pub one_joined : {f e g : Facts} (n : ℕ) (h : Facts) → n < 11 → AreJoinedBelow f e n g → h ≡ with_kind g n (kind_join (kind_at g n) (kind_at e n)) → AreJoinedBelow f e (n + 1) h
+pub one_joined : {f e g : Facts} (n : ℕ) (h : Facts)
+    → n < 11 → AreJoinedBelow f e n g
+    → h ≡ with_kind g n (kind_join (kind_at g n) (kind_at e n))
+    → AreJoinedBelow f e (n + 1) h
 one_joined {f = f} {e = e} {g = g} n h low below is =
     let within = below.long in
     let after : Facts = with_kind g n (kind_join (kind_at g n) (kind_at e n)) in
@@ -30,13 +33,16 @@ one_joined {f = f} {e = e} {g = g} n h low below is =
     record {
       long = length-set g.registers n (kind_join (kind_at g n) (kind_at e n)) ∙ below.long;
       kept = below.kept;
-      done = fill_more (λ k. kind_join (kind_at f k) (kind_at e k)) g.registers n (kind_join (kind_at g n) (kind_at e n)) Unreadable (omega (arith, within, low))
+      done =
+          fill_more (λ k. kind_join (kind_at f k) (kind_at e k)) g.registers n
+          (kind_join (kind_at g n) (kind_at e n)) Unreadable (omega (arith, within, low))
           (ap (λ k. kind_join k (kind_at e n)) (below.rest n (omega arith))) below.done;
       rest = rest_more g.registers f.registers n (kind_join (kind_at g n) (kind_at e n)) Unreadable below.rest;
     } in
     subst (λ (x : Facts). AreJoinedBelow f e (n + 1) x) (sym is) more
 
-pub all_joined : (f e g : Facts) → AreJoinedBelow f e 11 g → g ≡ with_registers f (λ r. kind_join (kind_at f r) (kind_at e r))
+pub all_joined : (f e g : Facts)
+    → AreJoinedBelow f e 11 g → g ≡ with_registers f (λ r. kind_join (kind_at f r) (kind_at e r))
 all_joined f e g h =
     same_facts g (with_registers f (λ r. kind_join (kind_at f r) (kind_at e r)))
     (filled (λ r. kind_join (kind_at f r) (kind_at e r)) g.registers 11 Unreadable h.long (λ k lt. h.done k lt))

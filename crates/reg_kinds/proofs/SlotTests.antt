@@ -24,7 +24,9 @@ none_first test = refl
 
 pub none_more : (n : ℕ) (test : ℕ → Bool) → any_below n test ≡ false → test n ≡ false → any_below (n + 1) test ≡ false
 unfolding any_below
-none_more n test e f = let one : suc n ≡ n + 1 = omega arith in subst (λ k. any_below k test ≡ false) one (or_from (test n) (any_below n test) f e)
+none_more n test e f =
+    let one : suc n ≡ n + 1 = omega arith in
+    subst (λ k. any_below k test ≡ false) one (or_from (test n) (any_below n test) f e)
 
 pub one_below : (n i : ℕ) (test : ℕ → Bool) → i < n → test i ≡ true → any_below n test ≡ true
 unfolding any_below
@@ -38,13 +40,15 @@ one_below (suc n) i test lt e =
 pub none_below : (n : ℕ) (test : ℕ → Bool) → ((i : ℕ) → i < n → test i ≡ false) → any_below n test ≡ false
 unfolding any_below
 none_below zero test none = refl
-none_below (suc n) test none = or_from (test n) (any_below n test) (none n (omega arith)) (none_below n test (λ i lt. none i (omega (arith, lt))))
+none_below (suc n) test none =
+    or_from (test n) (any_below n test) (none n (omega arith)) (none_below n test (λ i lt. none i (omega (arith, lt))))
 
 -- ---- slots that an access does not touch
 
 apart : (p n i : ℕ) → (8 * i + 8 ≤ p) ⊎ (p + n ≤ 8 * i) → touches p n i ≡ false
 apart p n i (inl le) = ap (λ b. b && nat_lt (8 * i) (p + n)) (le-ltb p (8 * i + 8) le)
-apart p n i (inr le) = ap (λ b. nat_lt p (8 * i + 8) && b) (le-ltb (8 * i) (p + n) le) ∙ and-false (nat_lt p (8 * i + 8))
+apart p n i (inr le) =
+    ap (λ b. nat_lt p (8 * i + 8) && b) (le-ltb (8 * i) (p + n) le) ∙ and-false (nat_lt p (8 * i + 8))
 
 no_bits : (p n i : ℕ) → (8 * i + 8 ≤ p) ⊎ (p + n ≤ 8 * i) → bits_in p n i ≡ 0
 no_bits p n i (inl le) =
@@ -62,10 +66,12 @@ lacks_none : (s : Slot) → lacks s 0 ≡ false
 lacks_none (Bytes mask) = ap (λ (x : ℕ). not (x == 0)) (and_zero_r mask)
 lacks_none (Spill k) = refl
 
-pub spill_apart : (f : Facts) (p n i : ℕ) → (8 * i + 8 ≤ p) ⊎ (p + n ≤ 8 * i) → is_touched_spill (slot_at f i) (touches p n i) ≡ false
+pub spill_apart : (f : Facts) (p n i : ℕ)
+    → (8 * i + 8 ≤ p) ⊎ (p + n ≤ 8 * i) → is_touched_spill (slot_at f i) (touches p n i) ≡ false
 spill_apart f p n i h = unspilled (slot_at f i) (touches p n i) (apart p n i h)
 
-pub lacks_apart : (f : Facts) (p n i : ℕ) → (8 * i + 8 ≤ p) ⊎ (p + n ≤ 8 * i) → lacks (slot_at f i) (bits_in p n i) ≡ false
+pub lacks_apart : (f : Facts) (p n i : ℕ)
+    → (8 * i + 8 ≤ p) ⊎ (p + n ≤ 8 * i) → lacks (slot_at f i) (bits_in p n i) ≡ false
 lacks_apart f p n i h = ap (lacks (slot_at f i)) (no_bits p n i h) ∙ lacks_none (slot_at f i)
 
 -- ---- reads that are permitted
@@ -79,16 +85,26 @@ missing_at f n p = any_below 64 (λ i. lacks (slot_at f i) (bits_in p n i))
 abbrev pub told_of : Bool → Bool → Result (Unit {0}) Reason
 told_of a b = if a then Err PartOfSpill else (if b then Err UnwrittenStack else Ok tt)
 
-input_at : (f : Facts) (x : ℤ) (n p : ℕ) (a b : Bool) → (if is_in_stack x n then Some (byte_index x) else None) ≡ Some p → a ≡ spill_at f n p → b ≡ missing_at f n p → told_of a b ≡ stack_input f x n
+input_at : (f : Facts) (x : ℤ) (n p : ℕ) (a b : Bool)
+    → (if is_in_stack x n then Some (byte_index x) else None) ≡ Some p
+    → a ≡ spill_at f n p → b ≡ missing_at f n p
+    → told_of a b ≡ stack_input f x n
 input_at f x n p a b at e g =
     let h = cond_some (is_in_stack x n) (byte_index x) p at in
     ap (λ a. told_of a b) e
     ∙ ap (told_of (spill_at f n p)) g
     ∙ sym (ap (λ q. told_of (spill_at f n q) (missing_at f n q)) h.1)
-    ∙ sym (ap (λ t. if not t then Err OutsideStack else told_of (spill_at f n (byte_index x)) (missing_at f n (byte_index x))) h.0)
+    ∙ sym (ap (λ t.
+    if not t then Err OutsideStack else told_of (spill_at f n (byte_index x)) (missing_at f n (byte_index x)))
+    h.0)
 
-pub input_is : (f : Facts) (x y : ℤ) (n p : ℕ) (a b : Bool) → y ≡ x → (if is_in_stack y n then Some (byte_index y) else None) ≡ Some p → a ≡ spill_at f n p → b ≡ missing_at f n p → told_of a b ≡ stack_input f x n
-input_is f x y n p a b same at e g = input_at f x n p a b (subst (λ z. (if is_in_stack z n then Some (byte_index z) else None) ≡ Some p) same at) e g
+pub input_is : (f : Facts) (x y : ℤ) (n p : ℕ) (a b : Bool)
+    → y ≡ x
+    → (if is_in_stack y n then Some (byte_index y) else None) ≡ Some p
+    → a ≡ spill_at f n p → b ≡ missing_at f n p
+    → told_of a b ≡ stack_input f x n
+input_is f x y n p a b same at e g =
+    input_at f x n p a b (subst (λ z. (if is_in_stack z n then Some (byte_index z) else None) ≡ Some p) same at) e g
 
 -- ---- bits
 

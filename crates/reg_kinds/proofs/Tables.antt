@@ -7,23 +7,31 @@ use Rattle.reg_kinds.specs.declared.facts.Facts.{Facts}
 use Rattle.reg_kinds.specs.Kinds.{tabulate}
 use Rattle.reg_kinds.specs.TableLaws.{tabulate-at, length-tabulate}
 
-pub filled : {X : Type 0} (f : ℕ → X) (xs : List X) (n : ℕ) (d : X) → length xs ≡ n → ((k : ℕ) → k < n → get_or xs k d ≡ f k) → xs ≡ tabulate n f
+pub filled : {X : Type 0} (f : ℕ → X) (xs : List X) (n : ℕ) (d : X)
+    → length xs ≡ n → ((k : ℕ) → k < n → get_or xs k d ≡ f k) → xs ≡ tabulate n f
 unfolding tabulate
 filled f xs n d l h = fill_by_all f xs n d l h
 
 -- tables of equal functions are equal
-pub same_table : {X : Type 0} (f g : ℕ → X) (n : ℕ) (d : X) → ((k : ℕ) → k < n → f k ≡ g k) → tabulate n f ≡ tabulate n g
+pub same_table : {X : Type 0} (f g : ℕ → X) (n : ℕ) (d : X)
+    → ((k : ℕ) → k < n → f k ≡ g k) → tabulate n f ≡ tabulate n g
 same_table f g n d h = filled g (tabulate n f) n d (length-tabulate f n) (λ k l. tabulate-at f n k d l ∙ h k l)
 
 -- one more element is written
-pub fill_more : {X : Type 0} (f : ℕ → X) (xs : List X) (i : ℕ) (v d : X) → i < length xs → v ≡ f i → ((k : ℕ) → k < i → get_or xs k d ≡ f k) → (k : ℕ) → k < i + 1 → get_or (set xs i v) k d ≡ f k
+pub fill_more : {X : Type 0} (f : ℕ → X) (xs : List X) (i : ℕ) (v d : X)
+    → i < length xs → v ≡ f i
+    → ((k : ℕ) → k < i → get_or xs k d ≡ f k) → (k : ℕ) → k < i + 1
+    → get_or (set xs i v) k d ≡ f k
 fill_more f xs i v d l e h =
     below_more _ _
     (λ k lt. get_or-set_other xs i k v d (omega arith) ∙ h k lt)
     (get_or-set_same xs i v d l ∙ e)
 
 -- elements above it are not changed
-pub rest_more : {X : Type 0} (xs ys : List X) (i : ℕ) (v d : X) → ((k : ℕ) → i ≤ k → get_or xs k d ≡ get_or ys k d) → (k : ℕ) → i + 1 ≤ k → get_or (set xs i v) k d ≡ get_or ys k d
+pub rest_more : {X : Type 0} (xs ys : List X) (i : ℕ) (v d : X)
+    → ((k : ℕ) → i ≤ k → get_or xs k d ≡ get_or ys k d)
+    → (k : ℕ) → i + 1 ≤ k
+    → get_or (set xs i v) k d ≡ get_or ys k d
 rest_more xs ys i v d h k l = get_or-set_other xs i k v d (omega arith) ∙ h k (omega arith)
 
 -- facts are determined by their registers and their slots

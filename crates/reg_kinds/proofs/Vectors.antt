@@ -51,7 +51,8 @@ at_entry = (refl, refl, refl, refl)
 of_slots : (slot_join (Bytes 0x0f) (Bytes 0x3c) ≡ Bytes 0x0c) × (slot_join (Spill Ctx) (Bytes 0xff) ≡ Bytes 0)
 of_slots = (refl, refl)
 
-offsets_of_both : value_ends (kind_join (Value (value_span 3 (pos 0) (pos 8))) (Value (value_span 3 (pos 4) (pos 16)))) ≡ Some (3, pos 0, pos 16)
+offsets_of_both : value_ends (kind_join (Value (value_span 3 (pos 0) (pos 8))) (Value (value_span 3 (pos 4) (pos 16))))
+    ≡ Some (3, pos 0, pos 16)
 offsets_of_both = refl
 
 look_ups_differ : kind_join lookup other_lookup ≡ Unreadable
@@ -133,13 +134,16 @@ copies_of_null :
 unfolding tabulate
 copies_of_null = (refl, refl, refl, refl)
 
-copies_of_a_value : (value_ends (kind_at not_null 6) ≡ Some (3, pos 0, pos 0)) × (slot_at not_null 4 ≡ Spill (Value (value_span 3 (pos 0) (pos 0))))
+copies_of_a_value : (value_ends (kind_at not_null 6) ≡ Some (3, pos 0, pos 0))
+    × (slot_at not_null 4 ≡ Spill (Value (value_span 3 (pos 0) (pos 0))))
 unfolding tabulate
 copies_of_a_value = (refl, refl)
 
 -- ---- reasons and kinds
 
-numbers_of_reasons : map number (JumpOutside ∷ NoDirectValue ∷ UnreadableRegister ∷ MaybeNull ∷ UnalignedAtomic ∷ Memory ∷ []) ≡ 1 ∷ 9 ∷ 20 ∷ 30 ∷ 36 ∷ 40 ∷ []
+numbers_of_reasons :
+    map number (JumpOutside ∷ NoDirectValue ∷ UnreadableRegister ∷ MaybeNull ∷ UnalignedAtomic ∷ Memory ∷ [])
+    ≡ 1 ∷ 9 ∷ 20 ∷ 30 ∷ 36 ∷ 40 ∷ []
 numbers_of_reasons = refl
 
 look_up_is_a_pointer : (is_pointer (Scalar (constant 0)) ≡ false) × (is_pointer lookup ≡ true)

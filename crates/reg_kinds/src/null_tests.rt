@@ -79,6 +79,8 @@ pub fn settle_both(facts: &mut Facts, taken: &mut Facts, site: usize, null: bool
     settle_both_stacks(facts, taken, site, null);
 }
 
+/// The registers on both edges of a null test of the result of the look-up at slot `site`: `taken` gets those on the edge on which it is
+/// null if `null`, and `facts` those on the other edge. Stack slots are not changed.
 fn settle_both_registers(facts: &mut Facts, taken: &mut Facts, site: usize, null: bool)
     ensures taken { taken.new ≡ with_registers taken.old
         (λ r. kind_settled site null (kind_at facts.old r)) }
@@ -91,6 +93,8 @@ fn settle_both_registers(facts: &mut Facts, taken: &mut Facts, site: usize, null
     }
 }
 
+/// The stack slots on both edges of a null test of the result of the look-up at slot `site`: `taken` gets those on the edge on which it is
+/// null if `null`, and `facts` those on the other edge. Registers are not changed.
 fn settle_both_stacks(facts: &mut Facts, taken: &mut Facts, site: usize, null: bool)
     ensures taken { taken.new ≡ with_slots taken.old
         (λ i. slot_settled site null (slot_at facts.old i)) }

@@ -39,7 +39,9 @@ look_up_first = put Word 10 (minus 4) (pos 0) ∷ copy 2 10 ∷ less 2 4 ∷ Map
 
 -- ..; if r0 != 0 goto +2; r0 = 0; exit; r0 = *(u64 *)(r0 + 0); exit
 abbrev first_value : List Insn
-first_value = look_up_first ++ (Jump true NotEqual 0 (Imm (pos 0)) (pos 2) ∷ set 0 (pos 0) ∷ Exit ∷ get Double 0 0 (pos 0) ∷ Exit ∷ [])
+first_value =
+    look_up_first
+    ++ (Jump true NotEqual 0 (Imm (pos 0)) (pos 2) ∷ set 0 (pos 0) ∷ Exit ∷ get Double 0 0 (pos 0) ∷ Exit ∷ [])
 
 value_is_read : result_of first_value (only (array (5 ∷ 0 ∷ 0 ∷ 0 ∷ 0 ∷ 0 ∷ 0 ∷ 0 ∷ []))) (context 0) [] ≡ Value 5
 unfolding run begins_at gathered known_helpers numbered
@@ -48,8 +50,26 @@ value_is_read = refl
 -- *(u32 *)(r10 - 4) = 0; ..; if r6 > 7 goto +3; r0 += r6; r0 = *(u8 *)(r0 + 0): a byte of the packet chooses the byte of the value
 abbrev chosen_byte : List Insn
 chosen_byte =
-    (set 2 (pos 0) ∷ copy 3 10 ∷ less 3 1 ∷ set 4 (pos 1) ∷ Call (pos 26) ∷ get Byte 6 10 (minus 1) ∷ put Word 10 (minus 8) (pos 0) ∷ copy 2 10 ∷ less 2 8 ∷ MapFd 1 (pos 3) ∷ Call (pos 1) ∷ [])
-    ++ (Jump true Equal 0 (Imm (pos 0)) (pos 4) ∷ Jump true Above 6 (Imm (pos 7)) (pos 3) ∷ Alu true Add 0 (Reg 6) ∷ get Byte 0 0 (pos 0) ∷ Exit ∷ set 0 (pos 9) ∷ Exit ∷ [])
+    (set 2 (pos 0)
+    ∷ copy 3 10
+    ∷ less 3 1
+    ∷ set 4 (pos 1)
+    ∷ Call (pos 26)
+    ∷ get Byte 6 10 (minus 1)
+    ∷ put Word 10 (minus 8) (pos 0)
+    ∷ copy 2 10
+    ∷ less 2 8
+    ∷ MapFd 1 (pos 3)
+    ∷ Call (pos 1)
+    ∷ [])
+    ++ (Jump true Equal 0 (Imm (pos 0)) (pos 4)
+    ∷ Jump true Above 6 (Imm (pos 7)) (pos 3)
+    ∷ Alu true Add 0 (Reg 6)
+    ∷ get Byte 0 0 (pos 0)
+    ∷ Exit
+    ∷ set 0 (pos 9)
+    ∷ Exit
+    ∷ [])
 
 abbrev eight_bytes : MapsByDescriptor
 eight_bytes = only (array (10 ∷ 11 ∷ 12 ∷ 13 ∷ 14 ∷ 15 ∷ 16 ∷ 17 ∷ []))
@@ -86,7 +106,9 @@ unfolding run begins_at gathered numbered index_key
 direct_outside = (refl, refl)
 
 -- r1 = map_value 3 + 0 ll; *(u64 *)(r1 + 0) = 6; r0 = 0
-direct_value_is_written : left_of (MapValue 1 (pos 3) 0 ∷ put Double 1 (pos 0) (pos 6) ∷ set 0 (pos 0) ∷ Exit ∷ []) eight_bytes (context 0) [] 3 ≡ Some (array (6 ∷ 0 ∷ 0 ∷ 0 ∷ 0 ∷ 0 ∷ 0 ∷ 0 ∷ []))
+direct_value_is_written : left_of (MapValue 1 (pos 3) 0 ∷ put Double 1 (pos 0) (pos 6) ∷ set 0 (pos 0) ∷ Exit ∷ [])
+    eight_bytes (context 0) [] 3
+    ≡ Some (array (6 ∷ 0 ∷ 0 ∷ 0 ∷ 0 ∷ 0 ∷ 0 ∷ 0 ∷ []))
 unfolding run begins_at gathered numbered index_key
 direct_value_is_written = refl
 
@@ -105,7 +127,8 @@ key_0 = record {
   deleted = 0;
 }
 
-no_direct_value : (result_of (direct 0) (only two_values) (context 0) [] ≡ Fault) × (result_of (direct 0) (only key_0) (context 0) [] ≡ Fault)
+no_direct_value : (result_of (direct 0) (only two_values) (context 0) [] ≡ Fault)
+    × (result_of (direct 0) (only key_0) (context 0) [] ≡ Fault)
 unfolding run begins_at gathered numbered index_key
 no_direct_value = (refl, refl)
 
@@ -122,7 +145,8 @@ abbrev loaded : Insn → Outcome
 loaded offset = result_of (four_bytes offset ++ (Exit ∷ [])) (λ m. None) (context 4) packet
 
 abbrev loaded_bytes : Insn → Outcome
-loaded_bytes offset = result_of (four_bytes offset ++ (get Word 0 10 (minus 8) ∷ Exit ∷ [])) (λ m. None) (context 4) packet
+loaded_bytes offset =
+    result_of (four_bytes offset ++ (get Word 0 10 (minus 8) ∷ Exit ∷ [])) (λ m. None) (context 4) packet
 
 whole_packet : (loaded (set 2 (pos 0)) ≡ Value 0) × (loaded_bytes (set 2 (pos 0)) ≡ Value 67305985)
 unfolding run begins_at gathered known_helpers
@@ -151,9 +175,33 @@ key_1 = only (hash ((1 ∷ 0 ∷ 0 ∷ 0 ∷ [], 5 ∷ 0 ∷ 0 ∷ 0 ∷ 0 ∷ 0
 -- looks up key 1, deletes it, adds key 2 and writes through the pointer to the deleted value; 1 if key 1 is absent
 abbrev replaces_the_key : List Insn
 replaces_the_key =
-    (put Word 10 (minus 4) (pos 1) ∷ copy 2 10 ∷ less 2 4 ∷ MapFd 1 (pos 3) ∷ Call (pos 1) ∷ Jump true Equal 0 (Imm (pos 0)) (pos 18) ∷ copy 6 0 ∷ [])
-    ++ (copy 2 10 ∷ less 2 4 ∷ MapFd 1 (pos 3) ∷ Call (pos 3) ∷ put Word 10 (minus 4) (pos 2) ∷ put Double 10 (minus 16) (pos 6) ∷ [])
-    ++ (copy 2 10 ∷ less 2 4 ∷ copy 3 10 ∷ less 3 16 ∷ MapFd 1 (pos 3) ∷ set 4 (pos 0) ∷ Call (pos 2) ∷ put Double 6 (pos 0) (pos 7) ∷ Exit ∷ set 0 (pos 1) ∷ Exit ∷ [])
+    (put Word 10 (minus 4) (pos 1)
+    ∷ copy 2 10
+    ∷ less 2 4
+    ∷ MapFd 1 (pos 3)
+    ∷ Call (pos 1)
+    ∷ Jump true Equal 0 (Imm (pos 0)) (pos 18)
+    ∷ copy 6 0
+    ∷ [])
+    ++ (copy 2 10
+    ∷ less 2 4
+    ∷ MapFd 1 (pos 3)
+    ∷ Call (pos 3)
+    ∷ put Word 10 (minus 4) (pos 2)
+    ∷ put Double 10 (minus 16) (pos 6)
+    ∷ [])
+    ++ (copy 2 10
+    ∷ less 2 4
+    ∷ copy 3 10
+    ∷ less 3 16
+    ∷ MapFd 1 (pos 3)
+    ∷ set 4 (pos 0)
+    ∷ Call (pos 2)
+    ∷ put Double 6 (pos 0) (pos 7)
+    ∷ Exit
+    ∷ set 0 (pos 1)
+    ∷ Exit
+    ∷ [])
 
 -- -7, too big; after the run the map is empty
 full_with_the_deleted_key :
@@ -168,9 +216,18 @@ full_with_the_deleted_key = (refl, refl, refl)
 -- *(u32 *)(r10 - 4) = 1; *(u64 *)(r10 - 16) = 6; r2 = r10; r2 += -4; r3 = r10; r3 += -16; r1 = map_fd 3 ll; r4 = 0; call 2; exit
 abbrev puts_a_key : List Insn
 puts_a_key =
-    (put Word 10 (minus 4) (pos 1) ∷ put Double 10 (minus 16) (pos 6) ∷ copy 2 10 ∷ less 2 4 ∷ copy 3 10 ∷ less 3 16 ∷ MapFd 1 (pos 3) ∷ set 4 (pos 0) ∷ [])
+    (put Word 10 (minus 4) (pos 1)
+    ∷ put Double 10 (minus 16) (pos 6)
+    ∷ copy 2 10
+    ∷ less 2 4
+    ∷ copy 3 10
+    ∷ less 3 16
+    ∷ MapFd 1 (pos 3)
+    ∷ set 4 (pos 0)
+    ∷ [])
     ++ (Call (pos 2) ∷ Exit ∷ [])
 
-key_is_put : left_of puts_a_key (only (hash [])) (context 0) [] 3 ≡ Some (hash ((1 ∷ 0 ∷ 0 ∷ 0 ∷ [], 6 ∷ 0 ∷ 0 ∷ 0 ∷ 0 ∷ 0 ∷ 0 ∷ 0 ∷ []) ∷ []))
+key_is_put : left_of puts_a_key (only (hash [])) (context 0) [] 3
+    ≡ Some (hash ((1 ∷ 0 ∷ 0 ∷ 0 ∷ [], 6 ∷ 0 ∷ 0 ∷ 0 ∷ 0 ∷ 0 ∷ 0 ∷ 0 ∷ []) ∷ []))
 unfolding run begins_at gathered known_helpers numbered
 key_is_put = refl

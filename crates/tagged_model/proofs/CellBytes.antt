@@ -25,22 +25,36 @@ none_read : (byte : ℕ → Option ℕ) (p : ℕ) → gathered byte p zero ≡ S
 unfolding gathered
 none_read byte p = refl
 
-one_more_read : (byte : ℕ → Option ℕ) (p n b : ℕ) (bs : List ℕ) → byte p ≡ Some b → gathered byte (suc p) n ≡ Some bs → gathered byte p (suc n) ≡ Some (b ∷ bs)
+one_more_read : (byte : ℕ → Option ℕ) (p n b : ℕ) (bs : List ℕ)
+    → byte p ≡ Some b → gathered byte (suc p) n ≡ Some bs
+    → gathered byte p (suc n) ≡ Some (b ∷ bs)
 unfolding gathered
-one_more_read byte p n b bs e f = ap (λ o. and_then o (λ x. and_then (gathered byte (suc p) n) (λ xs. Some (x ∷ xs)))) e ∙ ap (λ o. and_then o (λ xs. Some (b ∷ xs))) f
+one_more_read byte p n b bs e f =
+    ap (λ o. and_then o (λ x. and_then (gathered byte (suc p) n) (λ xs. Some (x ∷ xs)))) e
+    ∙ ap (λ o. and_then o (λ xs. Some (b ∷ xs))) f
 
 one_more_small : (b x n : ℕ) → b < 256 → x < 256 ^ n → b + 256 * x < 256 ^ suc n
 one_more_small b x n h g = rw pow-suc (omega arith)
 
-pub all_read : (byte : ℕ → Option ℕ) (n p : ℕ) → IsSmall byte → ((k : ℕ) → k < n → (b : ℕ) × (byte (p + k) ≡ Some b)) → AreRead byte p n
-all_read byte zero p small there = record { list = []; read = none_read byte p; count = refl; bytes = all_none; small = omega arith }
+pub all_read : (byte : ℕ → Option ℕ) (n p : ℕ)
+    → IsSmall byte
+    → ((k : ℕ) → k < n → (b : ℕ) × (byte (p + k) ≡ Some b))
+    → AreRead byte p n
+all_read byte zero p small there = record {
+  list = [];
+  read = none_read byte p;
+  count = refl;
+  bytes = all_none;
+  small = omega arith;
+}
   where
     all_none : All (λ b. b < 256) []
     all_none k d lt = absurd (omega arith)
 all_read byte (suc n) p small there =
     let first = there 0 (omega arith) in
     let here : byte p ≡ Some first.0 = ap byte (omega arith) ∙ first.1 in
-    let rest = all_read byte n (suc p) small (λ k lt. let r = there (suc k) (omega arith) in (r.0, ap byte (omega arith) ∙ r.1)) in
+    let rest =
+    all_read byte n (suc p) small (λ k lt. let r = there (suc k) (omega arith) in (r.0, ap byte (omega arith) ∙ r.1)) in
     record {
       list = first.0 ∷ rest.list;
       read = one_more_read byte p n first.0 rest.list here rest.read;
@@ -54,7 +68,9 @@ all_read byte (suc n) p small there =
     all_more b bs h g (suc k) d lt = g k d (omega arith)
 
 -- bytes that are zeros make 0
-pub zeros_read : (byte : ℕ → Option ℕ) (n p : ℕ) → ((k : ℕ) → k < n → byte (p + k) ≡ Some 0) → (bs : List ℕ) × (gathered byte p n ≡ Some bs) × (number_of bs ≡ 0)
+pub zeros_read : (byte : ℕ → Option ℕ) (n p : ℕ)
+    → ((k : ℕ) → k < n → byte (p + k) ≡ Some 0)
+    → (bs : List ℕ) × (gathered byte p n ≡ Some bs) × (number_of bs ≡ 0)
 zeros_read byte zero p zeros = ([], none_read byte p, refl)
 zeros_read byte (suc n) p zeros =
     let here : byte p ≡ Some 0 = ap byte (omega arith) ∙ zeros 0 (omega arith) in

@@ -28,7 +28,11 @@ answers_of_loads = (refl, refl, refl)
 
 abbrev empty : RunMap
 empty = record {
-  table = record { shape = record { kind = Hash; key_size = 1; value_size = 2; max_entries = 1; listed = refl }; entries = []; deleted = 0 };
+  table = record {
+    shape = record { kind = Hash; key_size = 1; value_size = 2; max_entries = 1; listed = refl };
+    entries = [];
+    deleted = 0;
+  };
   count = 0;
   values = λ number. [];
 }

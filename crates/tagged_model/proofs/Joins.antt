@@ -28,12 +28,14 @@ least_below x z u h = omega (arith, ints, clamps)
 greatest_above : (y w u : ℤ) → u ≤ℤ y → u ≤ℤ int_max y w
 greatest_above y w u h = omega (arith, ints, clamps)
 
-value_left : (witness : Witness) (p q : ValuePointer) (v : Tagged) → IsValueOf witness p v → IsValueOf witness (offsets_hull p q) v
+value_left : (witness : Witness) (p q : ValuePointer) (v : Tagged)
+    → IsValueOf witness p v → IsValueOf witness (offsets_hull p q) v
 value_left witness p q v h = (h.0, h.1, h.2, least_below p.lo q.lo h.1 h.3, greatest_above p.hi q.hi h.1 h.4, h.5)
 
 module _ (witness : Witness) (holds_both : HullHoldsBoth) where
   -- a kind, or none
-  or_nothing : (b : Bool) (k : Kind) (v : Tagged) → IsOfKind witness k v → IsOfKind witness (if b then k else Unreadable) v
+  or_nothing : (b : Bool) (k : Kind) (v : Tagged)
+      → IsOfKind witness k v → IsOfKind witness (if b then k else Unreadable) v
   or_nothing b k v h = cond_both b k Unreadable (λ l. IsOfKind witness l v) (λ _. h) (λ _. tt)
 
   value_joined : (j k : Kind) (v : Tagged) → IsOfKind witness j v → IsOfKind witness (kind_join j k) v
@@ -41,7 +43,8 @@ module _ (witness : Witness) (holds_both : HullHoldsBoth) where
   value_joined (MapRef m) (MapRef n) v h = or_nothing (m == n) (MapRef m) v h
   value_joined (Stack x) (Stack y) v h = or_nothing (int_eq x y) (Stack x) v h
   value_joined Ctx Ctx v h = h
-  value_joined (Value p) (Value q) v h = or_nothing (p.map == q.map) (Value (offsets_hull p q)) v (value_left witness p q v h)
+  value_joined (Value p) (Value q) v h =
+      or_nothing (p.map == q.map) (Value (offsets_hull p q)) v (value_left witness p q v h)
   value_joined (MaybeValue m s) (MaybeValue n t) v h = or_nothing ((m == n) && (s == t)) (MaybeValue m s) v h
   value_joined j k v h = tt
 
@@ -56,7 +59,8 @@ module _ (witness : Witness) (holds_both : HullHoldsBoth) where
 
   null_joined : (j k : Kind) (c : Cell) → HoldsNull witness j c → HasSlot witness (spilled (kind_join j k)) c
   null_joined (MaybeValue m s) (MaybeValue n t) c h =
-      cond_both ((m == n) && (s == t)) (MaybeValue m s) Unreadable (λ k. HasSlot witness (spilled k) c) (λ _. inr h) (λ _. no_bytes c)
+      cond_both ((m == n) && (s == t)) (MaybeValue m s) Unreadable
+      (λ k. HasSlot witness (spilled k) c) (λ _. inr h) (λ _. no_bytes c)
   null_joined (MaybeValue m s) k c h = no_bytes c
   null_joined j k c h = absurd h
 
@@ -64,7 +68,9 @@ module _ (witness : Witness) (holds_both : HullHoldsBoth) where
   in_both x y z e g h one = omega arith
 
   slot_joined : (t u : Slot) (c : Cell) → HasSlot witness t c → HasSlot witness (slot_join t u) c
-  slot_joined (Bytes x) (Bytes y) c h = λ i lt e. h i lt (in_both (bit_at x i) (bit_at y i) (bit_at (bit_and x y) i) (bit_at_and x y i) (bit_at-lt y i) (bit_at-lt x i) e)
+  slot_joined (Bytes x) (Bytes y) c h = λ i lt e.
+      h i lt
+      (in_both (bit_at x i) (bit_at y i) (bit_at (bit_and x y) i) (bit_at_and x y i) (bit_at-lt y i) (bit_at-lt x i) e)
   slot_joined (Spill j) (Spill k) c (inl h) = whole_spilled (kind_join j k) c (h.0, h.1, value_joined j k h.0 h.2, h.3)
   slot_joined (Spill j) (Spill k) c (inr h) = null_joined j k c h
   slot_joined t u c h = no_bytes c

@@ -26,7 +26,9 @@ unfolding any_below
 none_below zero test e i lt = absurd (omega arith)
 none_below (suc n) test e i lt =
     let h = or_parts (test n) (any_below n test) e in
-    ⊎_elim (λ below. none_below n test h.1 i below) (λ le. let same : n ≡ i = omega arith in subst (λ k. test k ≡ false) same h.0) (cases_lt i n)
+    ⊎_elim (λ below. none_below n test h.1 i below)
+    (λ le. let same : n ≡ i = omega arith in subst (λ k. test k ≡ false) same h.0)
+    (cases_lt i n)
 
 -- ---- the conditions of a read
 
@@ -37,10 +39,22 @@ record MayRead (f : Facts) (x : ℤ) (n : ℕ) : Type 0 where
 
 may_read : (f : Facts) (x : ℤ) (n : ℕ) → stack_input f x n ≡ Ok tt → MayRead f x n
 may_read f x n e =
-    let h = passed (is_in_stack x n) (any_below 64 (λ i. is_touched_spill (slot_at f i) (touches (byte_index x) n i))) (any_below 64 (λ i. lacks (slot_at f i) (bits_in (byte_index x) n i))) e in
-    record { within = h.0; spills = none_below 64 (λ i. is_touched_spill (slot_at f i) (touches (byte_index x) n i)) h.1; there = none_below 64 (λ i. lacks (slot_at f i) (bits_in (byte_index x) n i)) h.2 }
+    let h =
+    passed (is_in_stack x n)
+    (any_below 64 (λ i. is_touched_spill (slot_at f i) (touches (byte_index x) n i)))
+    (any_below 64 (λ i. lacks (slot_at f i) (bits_in (byte_index x) n i)))
+    e in
+    record {
+      within = h.0;
+      spills = none_below 64 (λ i. is_touched_spill (slot_at f i) (touches (byte_index x) n i)) h.1;
+      there = none_below 64 (λ i. lacks (slot_at f i) (bits_in (byte_index x) n i)) h.2;
+    }
   where
-    passed : (a b c : Bool) → ◌≡◌ {A = Result (Unit {0}) Reason} (if not a then Err OutsideStack else (if b then Err PartOfSpill else (if c then Err UnwrittenStack else Ok tt))) (Ok tt) → (a ≡ true) × (b ≡ false) × (c ≡ false)
+    passed : (a b c : Bool)
+        → ◌≡◌ {A = Result (Unit {0}) Reason}
+        (if not a then Err OutsideStack else (if b then Err PartOfSpill else (if c then Err UnwrittenStack else Ok tt)))
+        (Ok tt)
+        → (a ≡ true) × (b ≡ false) × (c ≡ false)
     passed true false false e = (refl, refl, refl)
     passed true false true e = absurd (refused UnwrittenStack tt e)
     passed true true c e = absurd (refused PartOfSpill tt e)
@@ -48,20 +62,36 @@ may_read f x n e =
 
 -- if all bits of an access are set in the mask, and bit j is one of them, it is set in the mask
 set_there : (mask bits j : ℕ) → not (bit_and mask bits == bits) ≡ false → bit_at bits j ≡ 1 → bit_at mask j ≡ 1
-set_there mask bits j e one = each_in_mask mask bits j (eqb-true (bit_and mask bits) bits (not-false (bit_and mask bits == bits) e)) one
+set_there mask bits j e one =
+    each_in_mask mask bits j (eqb-true (bit_and mask bits) bits (not-false (bit_and mask bits == bits) e)) one
 
-slot_there : (witness : Witness) (t : Slot) (c : Cell) (p n i j : ℕ) → j < 8 → p ≤ 8 * i + j → 8 * i + j < p + n → HasSlot witness t c → is_touched_spill t (touches p n i) ≡ false → lacks t (bits_in p n i) ≡ false → (b : ℕ) × (byte_at c j ≡ Some b)
-slot_there witness (slot.Bytes mask) c p n i j few from to has s l = has j few (set_there mask (bits_in p n i) j l (bit_in p n i j few from to))
+slot_there : (witness : Witness) (t : Slot) (c : Cell) (p n i j : ℕ)
+    → j < 8 → p ≤ 8 * i + j
+    → 8 * i + j < p + n → HasSlot witness t c
+    → is_touched_spill t (touches p n i) ≡ false → lacks t (bits_in p n i) ≡ false
+    → (b : ℕ) × (byte_at c j ≡ Some b)
+slot_there witness (slot.Bytes mask) c p n i j few from to has s l =
+    has j few (set_there mask (bits_in p n i) j l (bit_in p n i j few from to))
 slot_there witness (slot.Spill k) c p n i j few from to has s l =
-    absurd (false≢true (sym s ∙ and_from (ltb p (8 * i + 8)) (ltb (8 * i) (p + n)) (lt-ltb p (8 * i + 8) (omega arith)) (lt-ltb (8 * i) (p + n) (omega arith))))
+    absurd (false≢true (sym s
+    ∙ and_from (ltb p (8 * i + 8)) (ltb (8 * i) (p + n)) (lt-ltb p (8 * i + 8) (omega arith))
+    (lt-ltb (8 * i) (p + n) (omega arith))))
 
-pub stack_read_many : (witness : Witness) (f : Facts) (s : RunState) (x : ℤ) (n : ℕ) → IsInRange s → AdmitsBy witness f s → stack_input f x n ≡ Ok tt → (bs : List ℕ) × (stack_bytes s x n ≡ Some bs) × (length bs ≡ n) × AreBytes bs
+pub stack_read_many : (witness : Witness) (f : Facts) (s : RunState) (x : ℤ) (n : ℕ)
+    → IsInRange s → AdmitsBy witness f s
+    → stack_input f x n ≡ Ok tt
+    → (bs : List ℕ) × (stack_bytes s x n ≡ Some bs) × (length bs ≡ n) × AreBytes bs
 stack_read_many witness f s x n proper admits e =
     let may = may_read f x n e in
     let p = byte_index x in
     let within = (in_stack n x may.within).1 in
     let there : (k : ℕ) → k < n → (b : ℕ) × (stack_byte s (p + k) ≡ Some b) = λ k lt.
     let i = (p + k) / 8 in let j = (p + k) % 8 in let fits : i < 64 = omega arith in
-    slot_there witness (slot_at f i) (s.cells i) p n i j (omega arith) (omega arith) (omega arith) (admits.slots i) (may.spills i fits) (may.there i fits) in
-    let read = all_read (stack_byte s) n p (λ q b h. proper.bytes (q / 8) (q % 8) b h) there in
-    (read.list, cond-true (is_in_stack x n) (gathered (stack_byte s) p n) None may.within ∙ read.read, read.count, read.bytes)
+    slot_there witness (slot_at f i) (s.cells i) p n i j (omega arith) (omega arith) (omega arith)
+    (admits.slots i) (may.spills i fits) (may.there i fits) in
+    let read = all_read (stack_byte s) n p (λ q b h. proper.bytes (q / 8) (q % 8) b h) there in (
+      read.list,
+      cond-true (is_in_stack x n) (gathered (stack_byte s) p n) None may.within ∙ read.read,
+      read.count,
+      read.bytes,
+    )

@@ -36,24 +36,39 @@ module _ (i : ℕ) (c : Cell) (p : ℕ) (new : List ℕ) where
   not_new t j few e =
       let h = and_parts (leb p (8 * i + j)) (ltb (8 * i + j) (p + length new)) e in
       let from = leb-true p (8 * i + j) h.0 in let to = ltb-true (8 * i + j) (p + length new) h.1 in
-      ⊎_elim (λ f. let g = ltb-false p (8 * i + 8) f in omega arith) (λ f. let g = ltb-false (8 * i) (p + length new) f in omega arith)
+      ⊎_elim (λ f. let g = ltb-false p (8 * i + 8) f in omega arith)
+      (λ f. let g = ltb-false (8 * i) (p + length new) f in omega arith)
       (and_cases (ltb p (8 * i + 8)) (ltb (8 * i) (p + length new)) t)
 
   pub byte_over : (j : ℕ) → j < 8 → byte_at (cell_over i c p new) j ≡ after j
   byte_over j few =
       cond_both (touches p (length new) i) (bytes after) c (λ (d : Cell). byte_at d j ≡ after j)
       (λ t. refl)
-      (λ t. ⊎_elim (λ e. absurd (not_new t j few e)) (λ e. sym (cond-false (IsNew j) (slice_get new (8 * i + j - p)) (byte_at c j) e)) (cases_Bool (IsNew j)))
+      (λ t.
+      ⊎_elim (λ e. absurd (not_new t j few e))
+      (λ e. sym (cond-false (IsNew j) (slice_get new (8 * i + j - p)) (byte_at c j) e))
+      (cases_Bool (IsNew j)))
 
-  new_there : (j : ℕ) → j < 8 → p ≤ 8 * i + j → 8 * i + j < p + length new → (b : ℕ) × (byte_at (cell_over i c p new) j ≡ Some b)
+  new_there : (j : ℕ)
+      → j < 8 → p ≤ 8 * i + j
+      → 8 * i + j < p + length new
+      → (b : ℕ) × (byte_at (cell_over i c p new) j ≡ Some b)
   new_there j few from to =
-      let is = and_from (leb p (8 * i + j)) (ltb (8 * i + j) (p + length new)) (le-leb p (8 * i + j) from) (lt-ltb (8 * i + j) (p + length new) to) in
-      (get_or new (8 * i + j - p) 0, byte_over j few ∙ cond-true (IsNew j) (slice_get new (8 * i + j - p)) (byte_at c j) is ∙ slice_get-get_or new (8 * i + j - p) 0 (omega arith))
+      let is =
+      and_from (leb p (8 * i + j)) (ltb (8 * i + j) (p + length new)) (le-leb p (8 * i + j) from)
+      (lt-ltb (8 * i + j) (p + length new) to) in (
+        get_or new (8 * i + j - p) 0,
+        byte_over j few
+            ∙ cond-true (IsNew j) (slice_get new (8 * i + j - p)) (byte_at c j) is
+            ∙ slice_get-get_or new (8 * i + j - p) 0 (omega arith),
+      )
 
   old_there : (j b : ℕ) → j < 8 → byte_at c j ≡ Some b → (d : ℕ) × (byte_at (cell_over i c p new) j ≡ Some d)
   old_there j b few e =
       ⊎_elim
-      (λ t. let h = and_parts (leb p (8 * i + j)) (ltb (8 * i + j) (p + length new)) t in new_there j few (leb-true p (8 * i + j) h.0) (ltb-true (8 * i + j) (p + length new) h.1))
+      (λ t.
+      let h = and_parts (leb p (8 * i + j)) (ltb (8 * i + j) (p + length new)) t in
+      new_there j few (leb-true p (8 * i + j) h.0) (ltb-true (8 * i + j) (p + length new) h.1))
       (λ t. (b, byte_over j few ∙ cond-false (IsNew j) (slice_get new (8 * i + j - p)) (byte_at c j) t ∙ e))
       (cases_Bool (IsNew j))
 
@@ -80,9 +95,12 @@ module _ (i : ℕ) (c : Cell) (p : ℕ) (new : List ℕ) where
   bits_there : (lo : ℕ) → lo ≤ length new → HasBytes (bits_in p lo i) (cell_over i c p new)
   bits_there lo le j few one = let h = only_in p lo i j one in let to = h.1 in new_there j few h.0 (omega arith)
 
-  slot_over : (witness : Witness) (t : Slot) (lo : ℕ) → lo ≤ length new → HasSlot witness t c → HasSlot witness (bytes_over t (bits_in p lo i)) (cell_over i c p new)
+  slot_over : (witness : Witness) (t : Slot) (lo : ℕ)
+      → lo ≤ length new → HasSlot witness t c
+      → HasSlot witness (bytes_over t (bits_in p lo i)) (cell_over i c p new)
   slot_over witness (slot.Bytes mask) lo le has = λ j few one.
-      ⊎_elim (λ old. let b = has j few old in old_there j b.0 few b.1) (λ fresh. bits_there lo le j few fresh) (of_either mask (bits_in p lo i) j one)
+      ⊎_elim (λ old. let b = has j few old in old_there j b.0 few b.1)
+      (λ fresh. bits_there lo le j few fresh) (of_either mask (bits_in p lo i) j one)
   slot_over witness (slot.Spill k) lo le has = bits_there lo le
 
   -- an access of more bytes touches at least the same slots
@@ -96,11 +114,15 @@ module _ (i : ℕ) (c : Cell) (p : ℕ) (new : List ℕ) where
           let to = ltb-true (8 * i) (p + length new) h.1 in
           and_from (ltb p (8 * i + 8)) (ltb (8 * i) (p + hi)) h.0 (lt-ltb (8 * i) (p + hi) (omega arith))
 
-  pub slot_filled : (witness : Witness) (t : Slot) (lo hi : ℕ) → lo ≤ length new → length new ≤ hi → HasSlot witness t c → HasSlot witness (if touches p hi i then bytes_over t (bits_in p lo i) else t) (cell_over i c p new)
+  pub slot_filled : (witness : Witness) (t : Slot) (lo hi : ℕ)
+      → lo ≤ length new → length new ≤ hi
+      → HasSlot witness t c
+      → HasSlot witness (if touches p hi i then bytes_over t (bits_in p lo i) else t) (cell_over i c p new)
   slot_filled witness t lo hi le more has =
       cond_both (touches p hi i) (bytes_over t (bits_in p lo i)) t (λ u. HasSlot witness u (cell_over i c p new))
       (λ _. slot_over witness t lo le has)
-      (λ e. subst (HasSlot witness t) (sym (cond-false (touches p (length new) i) (bytes after) c (untouched hi more e))) has)
+      (λ e.
+      subst (HasSlot witness t) (sym (cond-false (touches p (length new) i) (bytes after) c (untouched hi more e))) has)
 
 -- ---- the state
 
@@ -112,7 +134,10 @@ shorter x n hi le e =
     let low : (x +ℤ pos n) ≤ℤ pos 0 = omega (arith, ints) in
     and_from (int_le (negsuc 511) x) (int_le (x +ℤ pos n) (pos 0)) h.0 (grind (arith, ints))
 
-pub stack_write_many : (witness : Witness) (f g : Facts) (s : RunState) (x : ℤ) (lo hi : ℕ) (bs : List ℕ) → IsInRange s → AdmitsBy witness f s → AreSmall bs → lo ≤ length bs → length bs ≤ hi → stack_filled f x lo hi ≡ Ok g
+pub stack_write_many : (witness : Witness) (f g : Facts) (s : RunState) (x : ℤ) (lo hi : ℕ) (bs : List ℕ)
+    → IsInRange s → AdmitsBy witness f s
+    → AreSmall bs → lo ≤ length bs
+    → length bs ≤ hi → stack_filled f x lo hi ≡ Ok g
     → (t : RunState) × (stack_written s x bs ≡ Some t) × AdmitsBy witness g t × IsInRange t
 stack_write_many witness f g s x lo hi bs proper admits small le more e =
     let p = byte_index x in
@@ -122,9 +147,19 @@ stack_write_many witness f g s x lo hi bs proper admits small le more e =
       cond-true (is_in_stack x (length bs)) (Some t) None (shorter x (length bs) hi more h.0),
       subst (λ g. AdmitsBy witness g t) h.1 (record {
         registers = admits.registers;
-        slots = λ i. in_table (λ u. HasSlot witness u (cell_over i (s.cells i) p bs)) (λ i. if touches p hi i then bytes_over (slot_at f i) (bits_in p lo i) else slot_at f i) 64 i (slot.Bytes 0)
-            (slot_filled i (s.cells i) p bs witness (slot_at f i) lo hi le more (admits.slots i)) (no_bytes (cell_over i (s.cells i) p bs));
+        slots = λ i.
+            in_table (λ u. HasSlot witness u (cell_over i (s.cells i) p bs))
+            (λ i. if touches p hi i then bytes_over (slot_at f i) (bits_in p lo i) else slot_at f i)
+            64 i (slot.Bytes 0)
+            (slot_filled i (s.cells i) p bs witness (slot_at f i) lo hi le more (admits.slots i))
+            (no_bytes (cell_over i (s.cells i) p bs));
         objects = admits.objects;
       }),
-      record { bytes = λ i. small_over i (s.cells i) p bs (proper.bytes i) small; words = proper.words; count = proper.count; values = proper.values; packet = proper.packet },
+      record {
+        bytes = λ i. small_over i (s.cells i) p bs (proper.bytes i) small;
+        words = proper.words;
+        count = proper.count;
+        values = proper.values;
+        packet = proper.packet;
+      },
     )

@@ -27,7 +27,8 @@ new_of_hash t key flags e = of_object (look_up t key) (known (nat_le flags exist
     of_kind Hash e = refl
     of_kind Array e = absurd (let z : ⊥ = cc in z)
 
-    present : (b : Bool) (a : ℕ) → ◌≡◌ {A = Verdict ℕ} (if b then Refused Exists else Present a) New → t.shape.kind ≡ Hash
+    present : (b : Bool) (a : ℕ)
+        → ◌≡◌ {A = Verdict ℕ} (if b then Refused Exists else Present a) New → t.shape.kind ≡ Hash
     present true a e = absurd (let z : ⊥ = cc in z)
     present false a e = absurd (let z : ⊥ = cc in z)
 
@@ -44,18 +45,28 @@ no_array k e f = let same : Hash ≡ Array = sym e ∙ f in cc
 
 -- ---- the invariants
 
-module _ (shape : MapShape) (t : RunMap) (is : IsMapOf shape t) (bytes : (number : ℕ) → AreBytes (t.values number)) where
+module _ (shape : MapShape) (t : RunMap) (is : IsMapOf shape t)
+    (bytes : (number : ℕ) → AreBytes (t.values number)) where
   unchanged : KeepsShape shape t t
   unchanged = record { is = is; more = omega arith; bytes = bytes }
 
   module _ (value : List ℕ) (size : length value ≡ shape.value_size) (small : AreBytes value) where
-    sized_at : (count k : ℕ) → ((number : ℕ) → number < count → length (t.values number) ≡ shape.value_size) → (number : ℕ) → (number ≡ k → Unit {0}) → ((number ≡ k → ⊥) → number < count) → length (set_at t.values k value number) ≡ shape.value_size
+    sized_at : (count k : ℕ)
+        → ((number : ℕ) → number < count → length (t.values number) ≡ shape.value_size)
+        → (number : ℕ) → (number ≡ k → Unit {0}) → ((number ≡ k → ⊥) → number < count)
+        → length (set_at t.values k value number) ≡ shape.value_size
     sized_at count k all number _ other =
-        cond_both (number == k) value (t.values number) (λ v. length v ≡ shape.value_size) (λ _. size) (λ e. all number (other (eqb-false number k e)))
+        cond_both (number == k) value (t.values number) (λ v. length v ≡ shape.value_size)
+        (λ _. size) (λ e. all number (other (eqb-false number k e)))
 
     valued : (number : ℕ) → KeepsShape shape t (with_value t number value)
     valued number = record {
-      is = record { shaped = is.shaped; indices = is.indices; owns = is.owns; sized = λ k lt. sized_at t.count number is.sized k (λ _. tt) (λ _. lt) };
+      is = record {
+        shaped = is.shaped;
+        indices = is.indices;
+        owns = is.owns;
+        sized = λ k lt. sized_at t.count number is.sized k (λ _. tt) (λ _. lt);
+      };
       more = omega arith;
       bytes = values_small t number value small bytes;
     }
@@ -65,14 +76,17 @@ module _ (shape : MapShape) (t : RunMap) (is : IsMapOf shape t) (bytes : (number
       is = record {
         shaped = is.shaped;
         indices = λ array. absurd (no_array shape.kind (sym (ap (λ (s : MapShape). s.kind) is.shaped) ∙ hash) array);
-        owns = owns_with (t.count + 1) key t.count t.table.entries (omega arith) (owns_more t.count (t.count + 1) t.table.entries (omega arith) is.owns);
+        owns =
+            owns_with (t.count + 1) key t.count t.table.entries (omega arith)
+            (owns_more t.count (t.count + 1) t.table.entries (omega arith) is.owns);
         sized = λ k lt. sized_at t.count t.count is.sized k (λ _. tt) (λ other. omega arith);
       };
       more = omega arith;
       bytes = values_small t t.count value small bytes;
     }
 
-    put_keeps : (key : List ℕ) (v : Verdict ℕ) → (v ≡ New → t.table.shape.kind ≡ Hash) → KeepsShape shape t (put t key value v).map
+    put_keeps : (key : List ℕ) (v : Verdict ℕ)
+        → (v ≡ New → t.table.shape.kind ≡ Hash) → KeepsShape shape t (put t key value v).map
     put_keeps key (Refused fault) h = unchanged
     put_keeps key (Present number) h = valued number
     put_keeps key New h = with_new_object key (h refl)
@@ -80,12 +94,15 @@ module _ (shape : MapShape) (t : RunMap) (is : IsMapOf shape t) (bytes : (number
     pub updated_keeps : (key : List ℕ) (flags : ℕ) → KeepsShape shape t (updated t key value flags).map
     updated_keeps key flags = put_keeps key (verdict t.table key flags) (new_of_hash t.table key flags)
 
-  taken_keeps : (key : List ℕ) (r : Result ℕ MapFault) → ((number : ℕ) → r ≡ Ok number → t.table.shape.kind ≡ Hash) → KeepsShape shape t (taken_out t key r).map
+  taken_keeps : (key : List ℕ) (r : Result ℕ MapFault)
+      → ((number : ℕ) → r ≡ Ok number → t.table.shape.kind ≡ Hash)
+      → KeepsShape shape t (taken_out t key r).map
   taken_keeps key (Err fault) h = unchanged
   taken_keeps key (Ok number) h = record {
     is = record {
       shaped = is.shaped;
-      indices = λ array. absurd (no_array shape.kind (sym (ap (λ (s : MapShape). s.kind) is.shaped) ∙ h number refl) array);
+      indices = λ array.
+          absurd (no_array shape.kind (sym (ap (λ (s : MapShape). s.kind) is.shaped) ∙ h number refl) array);
       owns = owns_without t.count key t.table.entries is.owns;
       sized = is.sized;
     };
@@ -94,4 +111,6 @@ module _ (shape : MapShape) (t : RunMap) (is : IsMapOf shape t) (bytes : (number
   }
 
   pub removed_keeps : (key : List ℕ) → KeepsShape shape t (removed t key).map
-  removed_keeps key = taken_keeps key (removal t.table key) (λ number e. removed_of_hash t.table.shape.kind (look_up t.table key) number e)
+  removed_keeps key =
+      taken_keeps key (removal t.table key)
+      (λ number e. removed_of_hash t.table.shape.kind (look_up t.table key) number e)

@@ -9,8 +9,10 @@ use Rattle.tagged_model.specs.Table.{Table, Verdict, Refused, Present, New, no_e
 use Rattle.tagged_model.specs.MapLaws.{MapVerdictsMatchLookUps}
 
 -- a property of each possible verdict
-module _ {A : Type 0} (t : Table A) (key : List ℕ) (flags : ℕ) (P : Verdict A → Type 0) (refused : P (Refused Invalid) × P (Refused NoEntry) × P (Refused TooBig) × P (Refused Exists))
-    (present : (a : A) → look_up t key ≡ Some a → P (Present a)) (new : look_up t key ≡ None → P New) where
+module _ {A : Type 0} (t : Table A) (key : List ℕ) (flags : ℕ) (P : Verdict A → Type 0)
+    (refused : P (Refused Invalid) × P (Refused NoEntry) × P (Refused TooBig) × P (Refused Exists))
+    (present : (a : A) → look_up t key ≡ Some a → P (Present a))
+    (new : look_up t key ≡ None → P New) where
   of_kind : look_up t key ≡ None → (k : MapKind) → P (of_absent k (is_full t) flags)
   of_kind absent Array = refused.2
   of_kind absent Hash =
@@ -19,10 +21,13 @@ module _ {A : Type 0} (t : Table A) (key : List ℕ) (flags : ℕ) (P : Verdict 
 
   of_object : (o : Option A) → look_up t key ≡ o → P (of_found t flags o)
   of_object None e = of_kind e t.shape.kind
-  of_object (Some a) e = cond_both (flags == no_exist) (Refused Exists) (Present a) P (λ _. refused.3) (λ _. present a e)
+  of_object (Some a) e =
+      cond_both (flags == no_exist) (Refused Exists) (Present a) P (λ _. refused.3) (λ _. present a e)
 
   each : P (verdict t key flags)
-  each = cond_both (nat_le flags exist) (of_found t flags (look_up t key)) (Refused Invalid) P (λ _. of_object (look_up t key) refl) (λ _. refused.0)
+  each =
+      cond_both (nat_le flags exist) (of_found t flags (look_up t key)) (Refused Invalid) P
+      (λ _. of_object (look_up t key) refl) (λ _. refused.0)
 
 module _ {A : Type 0} where
   not_present : (fault : MapFault) (object : A) → ◌≡◌ {A = Verdict A} (Refused fault) (Present object) → ⊥
@@ -34,13 +39,21 @@ module _ {A : Type 0} where
 pub tell : (A : Type 0) → MapVerdictsMatchLookUps A
 tell A = record {
   present = λ t key flags object.
-      each t key flags (λ v. v ≡ Present object → look_up t key ≡ Some object)
-      (λ e. absurd (not_present Invalid object e), λ e. absurd (not_present NoEntry object e), λ e. absurd (not_present TooBig object e), λ e. absurd (not_present Exists object e))
+      each t key flags (λ v. v ≡ Present object → look_up t key ≡ Some object) (
+        λ e. absurd (not_present Invalid object e),
+        λ e. absurd (not_present NoEntry object e),
+        λ e. absurd (not_present TooBig object e),
+        λ e. absurd (not_present Exists object e),
+      )
       (λ a found e. found ∙ same a object e)
       (λ absent e. absurd (new_is object e));
   new = λ t key flags.
-      each t key flags (λ v. v ≡ New → look_up t key ≡ None)
-      (λ e. absurd (not_new Invalid e), λ e. absurd (not_new NoEntry e), λ e. absurd (not_new TooBig e), λ e. absurd (not_new Exists e))
+      each t key flags (λ v. v ≡ New → look_up t key ≡ None) (
+        λ e. absurd (not_new Invalid e),
+        λ e. absurd (not_new NoEntry e),
+        λ e. absurd (not_new TooBig e),
+        λ e. absurd (not_new Exists e),
+      )
       (λ a found e. absurd (new_is a (sym e)))
       (λ absent e. absent);
   memory = λ t key flags.

@@ -40,7 +40,10 @@ only_shifted n a i one =
     within from =
         ⊎_elim
         (λ lt. omega arith)
-        (λ le. absurd (clash (bit_at ((2 ^ n - 1) * 2 ^ a) i) (bit_of_shifted (2 ^ n - 1) a i from ∙ bit_at_ones_above n (i - a) le) one))
+        (λ le.
+        absurd (clash (bit_at ((2 ^ n - 1) * 2 ^ a) i)
+        (bit_of_shifted (2 ^ n - 1) a i from ∙ bit_at_ones_above n (i - a) le)
+        one))
         (cases_lt (i - a) n)
 
 -- ---- the bits of n bytes of a slot
@@ -75,16 +78,19 @@ both_set x y z e f g h = omega arith
 pub in_mask : (mask p n i : ℕ) → i < n → bit_and mask (byte_bits p n) ≡ byte_bits p n → bit_at mask (p % 8 + i) ≡ 1
 in_mask mask p n i h e =
     let bits = byte_bits p n in let j = p % 8 + i in
-    both_set (bit_at mask j) (bit_at bits j) (bit_at (bit_and mask bits) j) (bit_at_and mask bits j) (ap (λ m. bit_at m j) e) (touched_bit p n i h) (bit_at-lt mask j)
+    both_set (bit_at mask j) (bit_at bits j) (bit_at (bit_and mask bits) j) (bit_at_and mask bits j)
+    (ap (λ m. bit_at m j) e) (touched_bit p n i h) (bit_at-lt mask j)
 
 one_set : (x y z : ℕ) → z ≡ max x y → z ≡ 1 → x < 2 → y < 2 → (x ≡ 1) ⊎ (y ≡ 1)
 one_set x y z e f g h = grind arith
 
 -- a bit that is set in the union of two masks is set in one of them
 pub of_either : (x y i : ℕ) → bit_at (bit_or x y) i ≡ 1 → (bit_at x i ≡ 1) ⊎ (bit_at y i ≡ 1)
-of_either x y i e = one_set (bit_at x i) (bit_at y i) (bit_at (bit_or x y) i) (bit_at_or x y i) e (bit_at-lt x i) (bit_at-lt y i)
+of_either x y i e =
+    one_set (bit_at x i) (bit_at y i) (bit_at (bit_or x y) i) (bit_at_or x y i) e (bit_at-lt x i) (bit_at-lt y i)
 
 -- if all of these bits are in a mask, each of them is
 pub each_in_mask : (mask bits j : ℕ) → bit_and mask bits ≡ bits → bit_at bits j ≡ 1 → bit_at mask j ≡ 1
 each_in_mask mask bits j e one =
-    both_set (bit_at mask j) (bit_at bits j) (bit_at (bit_and mask bits) j) (bit_at_and mask bits j) (ap (λ m. bit_at m j) e) one (bit_at-lt mask j)
+    both_set (bit_at mask j) (bit_at bits j) (bit_at (bit_and mask bits) j) (bit_at_and mask bits j)
+    (ap (λ m. bit_at m j) e) one (bit_at-lt mask j)

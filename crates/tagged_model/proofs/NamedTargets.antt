@@ -24,11 +24,17 @@ parts ns i n within is =
     ∙ ap (λ (m : Named). m ∷ drop (suc i) ns) (sym is)
     ∙ ap (λ (k : ℕ). n ∷ drop k ns) (sym (add-one i))
 
-pub found_here : (ns : List Named) (i : ℕ) (n : Named) (fd : ℕ) → i < length ns → n ≡ get_or ns i n → n.fd ≡ fd → target_of (drop i ns) fd ≡ Some n.target
+pub found_here : (ns : List Named) (i : ℕ) (n : Named) (fd : ℕ)
+    → i < length ns → n ≡ get_or ns i n
+    → n.fd ≡ fd
+    → target_of (drop i ns) fd ≡ Some n.target
 found_here ns i n fd within is same =
     ap (λ (ms : List Named). target_of ms fd) (parts ns i n within is) ∙ front_is n (drop (i + 1) ns) fd same
 
-pub found_later : (ns : List Named) (i : ℕ) (n : Named) (fd : ℕ) → i < length ns → n ≡ get_or ns i n → (n.fd ≡ fd → ⊥) → target_of (drop i ns) fd ≡ target_of (drop (i + 1) ns) fd
+pub found_later : (ns : List Named) (i : ℕ) (n : Named) (fd : ℕ)
+    → i < length ns → n ≡ get_or ns i n
+    → (n.fd ≡ fd → ⊥)
+    → target_of (drop i ns) fd ≡ target_of (drop (i + 1) ns) fd
 found_later ns i n fd within is other =
     ap (λ (ms : List Named). target_of ms fd) (parts ns i n within is) ∙ front_is_not n (drop (i + 1) ns) fd other
 

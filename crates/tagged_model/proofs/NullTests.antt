@@ -20,14 +20,20 @@ use Rattle.tagged_model.proofs.Unknown.{has_kind, admitted_by}
 
 -- after a null test of a site, its value has the settled kind, and a slot that holds it has the settled slot
 record Tells (witness : Witness) (site : ℕ) (null : Bool) : Type 0 where
-  of_value : (m : ℕ) (v : Tagged) → v ≡ witness.gave site → IsLookup witness m v → IsOfKind witness (settled_value null m) v
-  of_slot : (m : ℕ) (c : Cell) → HasSlot witness (Spill (kind.MaybeValue m site)) c → HasSlot witness (settled_spill null m) c
+  of_value : (m : ℕ) (v : Tagged)
+      → v ≡ witness.gave site → IsLookup witness m v
+      → IsOfKind witness (settled_value null m) v
+  of_slot : (m : ℕ) (c : Cell)
+      → HasSlot witness (Spill (kind.MaybeValue m site)) c
+      → HasSlot witness (settled_spill null m) c
 
 module _ (witness : Witness) (site : ℕ) (null : Bool) (tells : Tells witness site null) where
   register_settled : (k : Kind) (o : Option Tagged) → HasKind witness k o → HasKind witness (kind_settled site null k) o
   register_settled (kind.MaybeValue m s) o h =
       cond_both (s == site) (settled_value null m) (kind.MaybeValue m s) (λ k. HasKind witness k o)
-      (λ t. has_kind witness (settled_value null m) o h.0 h.1 (tells.of_value m h.0 (h.2.0 ∙ ap witness.gave (eqb-true s site t)) h.2.1))
+      (λ t.
+      has_kind witness (settled_value null m) o h.0 h.1
+      (tells.of_value m h.0 (h.2.0 ∙ ap witness.gave (eqb-true s site t)) h.2.1))
       (λ _. h)
   register_settled k o h = h
 
@@ -65,16 +71,21 @@ module _ (witness : Witness) (site : ℕ) (is_null : witness.gave site ≡ Scala
 -- ---- it is a pointer to the start of a value
 
 module _ (witness : Witness) (site : ℕ) (is_pointer : witness.gave site ≢ Scalar 0) where
-  start_of : (m : ℕ) (v : Tagged) → v ≡ witness.gave site → IsLookup witness m v → IsOfKind witness (kind.Value (value_span m (pos 0) (pos 0))) v
+  start_of : (m : ℕ) (v : Tagged)
+      → v ≡ witness.gave site → IsLookup witness m v
+      → IsOfKind witness (kind.Value (value_span m (pos 0) (pos 0))) v
   start_of m v e (inl z) = absurd (is_pointer (sym e ∙ z))
   start_of m v e (inr h) = (h.0, pos 0, h.1, omega (arith, ints, clamps), omega (arith, ints, clamps), h.2)
 
-  start_slot : (m : ℕ) (c : Cell) → HasSlot witness (Spill (kind.MaybeValue m site)) c → HasSlot witness (Spill (kind.Value (value_span m (pos 0) (pos 0)))) c
+  start_slot : (m : ℕ) (c : Cell)
+      → HasSlot witness (Spill (kind.MaybeValue m site)) c
+      → HasSlot witness (Spill (kind.Value (value_span m (pos 0) (pos 0)))) c
   start_slot m c (inl h) = inl (h.0, h.1, start_of m h.0 h.2.0 h.2.1, h.3)
   start_slot m c (inr h) = absurd (is_pointer h.0)
 
   start_tells : Tells witness site false
   start_tells = record { of_value = start_of; of_slot = start_slot }
 
-  pub start_settled : (f : Facts) (s : RunState) → AdmitsBy witness f s → AdmitsBy witness (facts_settled site false f) s
+  pub start_settled : (f : Facts) (s : RunState)
+      → AdmitsBy witness f s → AdmitsBy witness (facts_settled site false f) s
   start_settled = settled witness site false start_tells

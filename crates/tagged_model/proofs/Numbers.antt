@@ -18,8 +18,13 @@ pub full_scalar : (k x : ℕ) → x < 2 ^ k → 2 ^ k ≤ 2 ^ 64 → IsScalarOf 
 full_scalar k x h g = let p = in_full x (2 ^ k) (2 ^ 64) h g in (x, refl, record { from = p.0; to = p.1 }, p.2)
 
 -- a number of this many bytes, sign-extended or zero-extended
-pub widened_is : (witness : Witness) (size : AccessSize) (signed : Bool) (x : ℕ) → x < 256 ^ bytes_of size → IsOfKind witness (loaded size signed) (Scalar (widened size signed x))
-widened_is witness size true x h = full_scalar 64 (widened size true x) (unsigned_small (signed (8 * bytes_of size) (x % 2 ^ (8 * bytes_of size)))) (omega arith)
+pub widened_is : (witness : Witness) (size : AccessSize) (signed : Bool) (x : ℕ)
+    → x < 256 ^ bytes_of size
+    → IsOfKind witness (loaded size signed) (Scalar (widened size signed x))
+widened_is witness size true x h =
+    full_scalar 64 (widened size true x)
+    (unsigned_small (signed (8 * bytes_of size) (x % 2 ^ (8 * bytes_of size))))
+    (omega arith)
 widened_is witness Byte false x h = full_scalar 8 x h (omega arith)
 widened_is witness Half false x h = full_scalar 16 x h (omega arith)
 widened_is witness Word false x h = full_scalar 32 x h (omega arith)

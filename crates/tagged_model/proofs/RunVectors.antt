@@ -34,7 +34,9 @@ answer code = result_of code no_maps (context 0) []
 
 -- programs without their `exit`, and their results on an empty packet
 abbrev AreAnswers : List (List Insn × Outcome) → Type 0
-AreAnswers rows = map (λ (row : List Insn × Outcome). answer (row.0 ++ (Exit ∷ []))) rows ≡ map (λ (row : List Insn × Outcome). row.1) rows
+AreAnswers rows =
+    map (λ (row : List Insn × Outcome). answer (row.0 ++ (Exit ∷ []))) rows
+    ≡ map (λ (row : List Insn × Outcome). row.1) rows
 
 -- dst = n, and dst = src
 abbrev pub set : ℕ → ℤ → Insn
@@ -60,11 +62,25 @@ operators : AreAnswers (
     -- quotient by zero: r0 = 7; r1 = 0; r0 /= r1
     (set 0 (pos 7) ∷ set 1 (pos 0) ∷ Alu true Div 0 (Reg 1) ∷ [], Value 0)
     -- least divided by minus one: r0 = 0x8000000000000000 ll; r1 = -1; r0 s/= r1; r0 >>= 32
-    ∷ (Const 0 0x8000_0000_0000_0000 ∷ set 1 (minus 1) ∷ Alu true SignedDiv 0 (Reg 1) ∷ Alu true ShiftRight 0 (Imm (pos 32)) ∷ [], Value 2147483648)
+    ∷ (
+      Const 0 0x8000_0000_0000_0000
+          ∷ set 1 (minus 1)
+          ∷ Alu true SignedDiv 0 (Reg 1)
+          ∷ Alu true ShiftRight 0 (Imm (pos 32))
+          ∷ [],
+      Value 2147483648,
+    )
     -- least modulo minus one: r0 = 0x8000000000000000 ll; r1 = -1; r0 s%= r1
     ∷ (Const 0 0x8000_0000_0000_0000 ∷ set 1 (minus 1) ∷ Alu true SignedMod 0 (Reg 1) ∷ [], Value 0)
     -- upper half of low remainder: r0 = 0xffffffff00000007 ll; r1 = 0; w0 %= w1; r0 >>= 32
-    ∷ (Const 0 0xffff_ffff_0000_0007 ∷ set 1 (pos 0) ∷ Alu false Mod 0 (Reg 1) ∷ Alu true ShiftRight 0 (Imm (pos 32)) ∷ [], Value 0)
+    ∷ (
+      Const 0 0xffff_ffff_0000_0007
+          ∷ set 1 (pos 0)
+          ∷ Alu false Mod 0 (Reg 1)
+          ∷ Alu true ShiftRight 0 (Imm (pos 32))
+          ∷ [],
+      Value 0,
+    )
     -- low remainder by zero: r0 = 0xffffffff00000007 ll; r1 = 0; w0 %= w1
     ∷ (Const 0 0xffff_ffff_0000_0007 ∷ set 1 (pos 0) ∷ Alu false Mod 0 (Reg 1) ∷ [], Value 7)
     -- shift by the width: r0 = 5; r1 = 64; r0 <<= r1
@@ -83,7 +99,14 @@ stack : AreAnswers (
     -- half stored and loaded: *(u16 *)(r10 - 8) = 7; r0 = *(u16 *)(r10 - 8)
     (put Half 10 (minus 8) (pos 7) ∷ get Half 0 10 (minus 8) ∷ [], Value 7)
     -- pointer spilled and filled: *(u64 *)(r10 - 8) = r10; r1 = *(u64 *)(r10 - 8); *(u64 *)(r1 - 16) = 9; r0 = *(u64 *)(r10 - 16)
-    ∷ (put_register Double 10 (minus 8) 10 ∷ get Double 1 10 (minus 8) ∷ put Double 1 (minus 16) (pos 9) ∷ get Double 0 10 (minus 16) ∷ [], Value 9)
+    ∷ (
+      put_register Double 10 (minus 8) 10
+          ∷ get Double 1 10 (minus 8)
+          ∷ put Double 1 (minus 16) (pos 9)
+          ∷ get Double 0 10 (minus 16)
+          ∷ [],
+      Value 9,
+    )
     -- half stored over pointer: *(u64 *)(r10 - 8) = r10; *(u16 *)(r10 - 8) = 7; r0 = *(u16 *)(r10 - 8)
     ∷ (put_register Double 10 (minus 8) 10 ∷ put Half 10 (minus 8) (pos 7) ∷ get Half 0 10 (minus 8) ∷ [], Value 7)
     -- pointer moved far: r2 = r10; r2 += 536870912; r0 = 0
@@ -98,9 +121,11 @@ stack = refl
 
 -- r1 = *(u32 *)(r1 + 0); if r1 == 0 goto +2; r0 = 1; exit; r0 = 0; exit
 abbrev whether_empty : List Insn
-whether_empty = get Word 1 1 (pos 0) ∷ Jump true Equal 1 (Imm (pos 0)) (pos 2) ∷ set 0 (pos 1) ∷ Exit ∷ set 0 (pos 0) ∷ Exit ∷ []
+whether_empty =
+    get Word 1 1 (pos 0) ∷ Jump true Equal 1 (Imm (pos 0)) (pos 2) ∷ set 0 (pos 1) ∷ Exit ∷ set 0 (pos 0) ∷ Exit ∷ []
 
-empty_or_not : (answer whether_empty ≡ Value 0) × (result_of whether_empty no_maps (context 3) (1 ∷ 2 ∷ 3 ∷ []) ≡ Value 1)
+empty_or_not :
+    (answer whether_empty ≡ Value 0) × (result_of whether_empty no_maps (context 3) (1 ∷ 2 ∷ 3 ∷ []) ≡ Value 1)
 unfolding run begins_at gathered
 empty_or_not = (refl, refl)
 
@@ -148,7 +173,14 @@ faults_of_memory : AreAnswers (
     -- overwritten pointer read: *(u64 *)(r10 - 8) = r10; *(u16 *)(r10 - 8) = 0; r0 = *(u16 *)(r10 - 6)
     ∷ (put_register Double 10 (minus 8) 10 ∷ put Half 10 (minus 8) (pos 0) ∷ get Half 0 10 (minus 6) ∷ [], Fault)
     -- overwritten pointer filled: *(u64 *)(r10 - 8) = r10; *(u16 *)(r10 - 8) = 0; r2 = *(u64 *)(r10 - 8); r0 = 0
-    ∷ (put_register Double 10 (minus 8) 10 ∷ put Half 10 (minus 8) (pos 0) ∷ get Double 2 10 (minus 8) ∷ set 0 (pos 0) ∷ [], Fault)
+    ∷ (
+      put_register Double 10 (minus 8) 10
+          ∷ put Half 10 (minus 8) (pos 0)
+          ∷ get Double 2 10 (minus 8)
+          ∷ set 0 (pos 0)
+          ∷ [],
+      Fault,
+    )
     -- part of pointer stored: *(u32 *)(r10 - 8) = r10; r0 = 0
     ∷ (put_register Word 10 (minus 8) 10 ∷ set 0 (pos 0) ∷ [], Fault)
     -- part of pointer read: *(u64 *)(r10 - 8) = r10; r0 = *(u16 *)(r10 - 6)

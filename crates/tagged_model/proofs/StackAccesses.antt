@@ -24,24 +24,32 @@ chosen true x y r e = (refl, same_ok x y e)
 chosen false x y r e = absurd (refused r y e)
 
 -- if two steps in sequence are Ok, so is each of them
-pub given_ok : {A B : Type 0} (r : Result A Reason) (f : A → Result B Reason) (y : B) → and_then_ok r f ≡ Ok y → (x : A) × (r ≡ Ok x) × (f x ≡ Ok y)
+pub given_ok : {A B : Type 0} (r : Result A Reason) (f : A → Result B Reason) (y : B)
+    → and_then_ok r f ≡ Ok y → (x : A) × (r ≡ Ok x) × (f x ≡ Ok y)
 given_ok (Ok x) f y e = (x, refl, e)
 given_ok (Err r) f y e = absurd (refused r y e)
 
 -- ---- byte indices
 
-after_tests : {B : Type 0} (a b : Bool) (t : ℕ × ℕ) (f : ℕ × ℕ → Result B Reason) (y : B) → and_then_ok (if not a then Err OutsideStack else (if not b then Err UnalignedStack else Ok t)) f ≡ Ok y → (a ≡ true) × (b ≡ true) × (f t ≡ Ok y)
+after_tests : {B : Type 0} (a b : Bool) (t : ℕ × ℕ) (f : ℕ × ℕ → Result B Reason) (y : B)
+    → and_then_ok (if not a then Err OutsideStack else (if not b then Err UnalignedStack else Ok t)) f ≡ Ok y
+    → (a ≡ true) × (b ≡ true) × (f t ≡ Ok y)
 after_tests true true t f y e = (refl, refl, e)
 after_tests true false t f y e = absurd (refused UnalignedStack y e)
 after_tests false b t f y e = absurd (refused OutsideStack y e)
 
 -- the byte index of an access that is permitted, its alignment, and the result of what follows
-pub at_byte_index : {B : Type 0} (offset : ℤ) (size : AccessSize) (f : ℕ × ℕ → Result B Reason) (y : B) → and_then_ok (touched offset size) f ≡ Ok y → (access_start offset size ≡ Some (byte_index offset)) × (byte_index offset % bytes_of size ≡ 0) × (f (byte_index offset / 8, byte_bits (byte_index offset) (bytes_of size)) ≡ Ok y)
+pub at_byte_index : {B : Type 0} (offset : ℤ) (size : AccessSize) (f : ℕ × ℕ → Result B Reason) (y : B)
+    → and_then_ok (touched offset size) f ≡ Ok y
+    → (access_start offset size ≡ Some (byte_index offset))
+    × (byte_index offset % bytes_of size ≡ 0)
+    × (f (byte_index offset / 8, byte_bits (byte_index offset) (bytes_of size)) ≡ Ok y)
 at_byte_index offset size f y e =
     let n = bytes_of size in
     let p = byte_index offset in
     let h = after_tests (is_in_stack offset n) (is_aligned offset n) (p / 8, byte_bits p n) f y e in (
-      cond-true (is_in_stack offset n && is_aligned offset n) (Some p) None (and_from (is_in_stack offset n) (is_aligned offset n) h.0 h.1),
+      cond-true (is_in_stack offset n && is_aligned offset n) (Some p) None
+          (and_from (is_in_stack offset n) (is_aligned offset n) h.0 h.1),
       eqb-true (p % n) 0 h.1,
       h.2,
     )

@@ -45,16 +45,23 @@ abbrev pub passes : (ℕ → Bool) → List ℕ → Bool
 passes test [] = true
 passes test (b ∷ bs) = test b && passes test bs
 
-pub passes-append : (test : ℕ → Bool) (xs ys : List ℕ) → passes test xs ≡ true → passes test ys ≡ true → passes test (xs ++ ys) ≡ true
+pub passes-append : (test : ℕ → Bool) (xs ys : List ℕ)
+    → passes test xs ≡ true → passes test ys ≡ true → passes test (xs ++ ys) ≡ true
 passes-append test [] ys p q = q
-passes-append test (x ∷ xs) ys p q = let both = and_parts (test x) (passes test xs) p in rw both.0 (passes-append test xs ys both.1 q)
+passes-append test (x ∷ xs) ys p q =
+    let both = and_parts (test x) (passes test xs) p in rw both.0 (passes-append test xs ys both.1 q)
 
-pub passes_more : (test other : ℕ → Bool) (xs : List ℕ) → ((b : ℕ) → test b ≡ true → other b ≡ true) → passes test xs ≡ true → passes other xs ≡ true
+pub passes_more : (test other : ℕ → Bool) (xs : List ℕ)
+    → ((b : ℕ) → test b ≡ true → other b ≡ true) → passes test xs ≡ true
+    → passes other xs ≡ true
 passes_more test other [] more p = refl
-passes_more test other (x ∷ xs) more p = let both = and_parts (test x) (passes test xs) p in rw (more x both.0) (passes_more test other xs more both.1)
+passes_more test other (x ∷ xs) more p =
+    let both = and_parts (test x) (passes test xs) p in rw (more x both.0) (passes_more test other xs more both.1)
 
 -- the longest front of bytes that pass
-run_is : (test : ℕ → Bool) (xs s : List ℕ) → passes test xs ≡ true → test (get_or s 0 0) ≡ false → prefix_len test (xs ++ s) ≡ length xs
+run_is : (test : ℕ → Bool) (xs s : List ℕ)
+    → passes test xs ≡ true → test (get_or s 0 0) ≡ false
+    → prefix_len test (xs ++ s) ≡ length xs
 run_is test [] [] p stop = refl
 run_is test [] (b ∷ s) p stop = rw stop refl
 run_is test (x ∷ xs) s p stop =
@@ -62,15 +69,21 @@ run_is test (x ∷ xs) s p stop =
     let more : prefix_len test (xs ++ s) ≡ length xs = run_is test xs s both.1 stop in
     rw both.0 (omega arith)
 
-run_taken : (test : ℕ → Bool) (xs s : List ℕ) → passes test xs ≡ true → test (get_or s 0 0) ≡ false → take (prefix_len test (xs ++ s)) (xs ++ s) ≡ xs
+run_taken : (test : ℕ → Bool) (xs s : List ℕ)
+    → passes test xs ≡ true → test (get_or s 0 0) ≡ false
+    → take (prefix_len test (xs ++ s)) (xs ++ s) ≡ xs
 run_taken test xs s p stop = ap (λ (n : ℕ). take n (xs ++ s)) (run_is test xs s p stop) ∙ take-append_seam xs s
 
-run_dropped : (test : ℕ → Bool) (xs s : List ℕ) → passes test xs ≡ true → test (get_or s 0 0) ≡ false → drop (prefix_len test (xs ++ s)) (xs ++ s) ≡ s
+run_dropped : (test : ℕ → Bool) (xs s : List ℕ)
+    → passes test xs ≡ true → test (get_or s 0 0) ≡ false
+    → drop (prefix_len test (xs ++ s)) (xs ++ s) ≡ s
 run_dropped test xs s p stop = ap (λ (n : ℕ). drop n (xs ++ s)) (run_is test xs s p stop) ∙ drop-append_seam xs s
 
 -- ---- symbols
 
-none_found : {A : Type 0} (p q : A → Bool) (xs : List A) → ((x : A) → q x ≡ true → p x ≡ false) → AllByRecursion (λ (x : A). q x ≡ true) xs → find p xs ≡ None
+none_found : {A : Type 0} (p q : A → Bool) (xs : List A)
+    → ((x : A) → q x ≡ true → p x ≡ false) → AllByRecursion (λ (x : A). q x ≡ true) xs
+    → find p xs ≡ None
 none_found p q [] f each = refl
 none_found p q (x ∷ xs) f each = rw (f x each.0) (none_found p q xs f each.1)
 
@@ -80,13 +93,18 @@ begins_no_name [] = false
 begins_no_name (x ∷ []) = not (is_name_byte x)
 begins_no_name (x ∷ y ∷ z) = not (is_name_byte x) || not (is_name_byte y)
 
-no_name_begins : (a b : ℕ) (t z : List ℕ) → is_name_byte a ≡ true → is_name_byte b ≡ true → begins_no_name z ≡ true → starts_with nat_eq (a ∷ b ∷ t) z ≡ false
+no_name_begins : (a b : ℕ) (t z : List ℕ)
+    → is_name_byte a ≡ true → is_name_byte b ≡ true
+    → begins_no_name z ≡ true
+    → starts_with nat_eq (a ∷ b ∷ t) z ≡ false
 no_name_begins a b t [] p q h = absurd (false≢true h)
 no_name_begins a b t (x ∷ []) p q h = rw (differ_back x a is_name_byte (not-true (is_name_byte x) h) p) refl
 no_name_begins a b t (x ∷ y ∷ z) p q h =
     elim (or_cases (not (is_name_byte x)) (not (is_name_byte y)) h) [
       | inl first ↦ rw (differ_back x a is_name_byte (not-true (is_name_byte x) first) p) refl
-      | inr second ↦ rw (differ_back y b is_name_byte (not-true (is_name_byte y) second) q) (and_right (eqb x a) false refl)
+      | inr second ↦ rw
+          (differ_back y b is_name_byte (not-true (is_name_byte y) second) q)
+          (and_right (eqb x a) false refl)
     ]
 
 pub symbols_no_name : AllByRecursion (λ (z : List ℕ). begins_no_name z ≡ true) symbols
@@ -94,13 +112,17 @@ symbols_no_name = search rules
 
 name_no_symbol : (a b : ℕ) (t : List ℕ) → is_name_byte a ≡ true → is_name_byte b ≡ true → symbol_at (a ∷ b ∷ t) ≡ None
 unfolding symbol_at
-name_no_symbol a b t p q = none_found (λ z. starts_with nat_eq (a ∷ b ∷ t) z) begins_no_name symbols (λ z h. no_name_begins a b t z p q h) symbols_no_name
+name_no_symbol a b t p q =
+    none_found (λ z. starts_with nat_eq (a ∷ b ∷ t) z) begins_no_name symbols
+    (λ z h. no_name_begins a b t z p q h) symbols_no_name
 
 abbrev pub begins_no_digit : List ℕ → Bool
 begins_no_digit [] = false
 begins_no_digit (x ∷ z) = not (is_ascii_digit x)
 
-no_digit_begins : (a : ℕ) (t z : List ℕ) → is_ascii_digit a ≡ true → begins_no_digit z ≡ true → starts_with nat_eq (a ∷ t) z ≡ false
+no_digit_begins : (a : ℕ) (t z : List ℕ)
+    → is_ascii_digit a ≡ true → begins_no_digit z ≡ true
+    → starts_with nat_eq (a ∷ t) z ≡ false
 no_digit_begins a t [] p h = absurd (false≢true h)
 no_digit_begins a t (x ∷ z) p h = rw (differ_back x a is_ascii_digit (not-true (is_ascii_digit x) h) p) refl
 
@@ -109,7 +131,9 @@ symbols_no_digit = search rules
 
 digit_no_symbol : (a : ℕ) (t : List ℕ) → is_ascii_digit a ≡ true → symbol_at (a ∷ t) ≡ None
 unfolding symbol_at
-digit_no_symbol a t p = none_found (λ z. starts_with nat_eq (a ∷ t) z) begins_no_digit symbols (λ z h. no_digit_begins a t z p h) symbols_no_digit
+digit_no_symbol a t p =
+    none_found (λ z. starts_with nat_eq (a ∷ t) z) begins_no_digit symbols
+    (λ z h. no_digit_begins a t z p h) symbols_no_digit
 
 -- a byte that may continue a symbol: `<`, `=` or `>`
 abbrev pub prolongs : ℕ → Bool
@@ -128,7 +152,9 @@ tells_apart [] (b ∷ z) = prolongs b
 tells_apart (a ∷ y) [] = false
 tells_apart (a ∷ y) (b ∷ z) = not (eqb b a) || tells_apart y z
 
-begins_no_other : (y z s : List ℕ) → tells_apart y z ≡ true → prolongs (get_or s 0 0) ≡ false → starts_with nat_eq (y ++ s) z ≡ false
+begins_no_other : (y z s : List ℕ)
+    → tells_apart y z ≡ true → prolongs (get_or s 0 0) ≡ false
+    → starts_with nat_eq (y ++ s) z ≡ false
 begins_no_other [] [] s h stop = absurd (false≢true h)
 begins_no_other [] (b ∷ z) [] h stop = refl
 begins_no_other [] (b ∷ z) (c ∷ s) h stop = rw (differ b c prolongs h stop) refl
@@ -147,28 +173,37 @@ abbrev pub is_picked : List ℕ → List (List ℕ) → Bool
 is_picked y [] = false
 is_picked y (z ∷ zs) = bytes_eq y z || (tells_apart y z && is_picked y zs)
 
-picked : (y s : List ℕ) (zs : List (List ℕ)) → is_picked y zs ≡ true → prolongs (get_or s 0 0) ≡ false → find (λ z. starts_with nat_eq (y ++ s) z) zs ≡ Some y
+picked : (y s : List ℕ) (zs : List (List ℕ))
+    → is_picked y zs ≡ true → prolongs (get_or s 0 0) ≡ false
+    → find (λ z. starts_with nat_eq (y ++ s) z) zs ≡ Some y
 picked y s [] h stop = absurd (false≢true h)
 picked y s (z ∷ zs) h stop =
     elim (or_cases (bytes_eq y z) (tells_apart y z && is_picked y zs) h) [
       | inl same ↦
           let e : y ≡ z = (bytes_eq-Decides y z).0 same in
-          let begins : starts_with nat_eq (y ++ s) z ≡ true = subst (λ (w : List ℕ). starts_with nat_eq (y ++ s) w ≡ true) e (begins_itself y s) in
+          let begins : starts_with nat_eq (y ++ s) z ≡ true =
+          subst (λ (w : List ℕ). starts_with nat_eq (y ++ s) w ≡ true) e (begins_itself y s) in
           rw begins (ap (λ (w : List ℕ). Some w) (sym e))
       | inr later ↦
           let both = and_parts (tells_apart y z) (is_picked y zs) later in
           rw (begins_no_other y z s both.0 stop) (picked y s zs both.1 stop)
     ]
 
-symbol_first : (y s : List ℕ) → is_picked y symbols ≡ true → prolongs (get_or s 0 0) ≡ false → symbol_at (y ++ s) ≡ Some y
+symbol_first : (y s : List ℕ)
+    → is_picked y symbols ≡ true → prolongs (get_or s 0 0) ≡ false
+    → symbol_at (y ++ s) ≡ Some y
 unfolding symbol_at
 symbol_first y s h stop = picked y s symbols h stop
 
-token_of_symbol : (text y rest : List ℕ) → symbol_at text ≡ Some y → drop (length y) text ≡ rest → token_at text ≡ Some (symbol y, rest)
+token_of_symbol : (text y rest : List ℕ)
+    → symbol_at text ≡ Some y → drop (length y) text ≡ rest
+    → token_at text ≡ Some (symbol y, rest)
 unfolding token_at
 token_of_symbol text y rest found after = rw (found, after) refl
 
-pub symbol_front : (y s : List ℕ) → is_picked y symbols ≡ true → prolongs (get_or s 0 0) ≡ false → token_at (y ++ s) ≡ Some (symbol y, s)
+pub symbol_front : (y s : List ℕ)
+    → is_picked y symbols ≡ true → prolongs (get_or s 0 0) ≡ false
+    → token_at (y ++ s) ≡ Some (symbol y, s)
 symbol_front y s h stop = token_of_symbol (y ++ s) y s (symbol_first y s h stop) (drop-append_seam y s)
 
 -- ---- names
@@ -179,11 +214,17 @@ is_long_name [] = false
 is_long_name (a ∷ []) = false
 is_long_name (a ∷ b ∷ n) = is_name_start a && passes is_name_byte (b ∷ n)
 
-token_of_name : (text n rest : List ℕ) → symbol_at text ≡ None → is_name_start (get_or text 0 0) ≡ true → take (prefix_len is_name_byte text) text ≡ n → drop (prefix_len is_name_byte text) text ≡ rest → token_at text ≡ Some (name n, rest)
+token_of_name : (text n rest : List ℕ)
+    → symbol_at text ≡ None → is_name_start (get_or text 0 0) ≡ true
+    → take (prefix_len is_name_byte text) text ≡ n
+    → drop (prefix_len is_name_byte text) text ≡ rest
+    → token_at text ≡ Some (name n, rest)
 unfolding token_at name_at
 token_of_name text n rest none start taken after = rw (none, start, taken, after) refl
 
-pub name_front : (n s : List ℕ) → is_long_name n ≡ true → is_name_byte (get_or s 0 0) ≡ false → token_at (n ++ s) ≡ Some (name n, s)
+pub name_front : (n s : List ℕ)
+    → is_long_name n ≡ true → is_name_byte (get_or s 0 0) ≡ false
+    → token_at (n ++ s) ≡ Some (name n, s)
 name_front [] s h stop = absurd (false≢true h)
 name_front (a ∷ []) s h stop = absurd (false≢true h)
 name_front (a ∷ b ∷ n) s h stop =
@@ -191,7 +232,9 @@ name_front (a ∷ b ∷ n) s h stop =
     let first = start_in_name a both.0 in
     let second = and_parts (is_name_byte b) (passes is_name_byte n) both.1 in
     let all : passes is_name_byte (a ∷ b ∷ n) ≡ true = rw first both.1 in
-    token_of_name (a ∷ b ∷ n ++ s) (a ∷ b ∷ n) s (name_no_symbol a b (n ++ s) first second.0) both.0 (run_taken is_name_byte (a ∷ b ∷ n) s all stop) (run_dropped is_name_byte (a ∷ b ∷ n) s all stop)
+    token_of_name (a ∷ b ∷ n ++ s) (a ∷ b ∷ n) s (name_no_symbol a b (n ++ s) first second.0) both.0
+    (run_taken is_name_byte (a ∷ b ∷ n) s all stop)
+    (run_dropped is_name_byte (a ∷ b ∷ n) s all stop)
 
 -- ---- numbers
 
@@ -206,7 +249,9 @@ pub decimal_digits : (n : ℕ) → n < 2 ^ 64 → passes is_ascii_digit (decimal
 decimal_digits n fits = sym (passes-digits (decimal n)) ∙ digits_decimal own n fits
 
 -- the second byte is not the `x` of a hexadecimal number
-no_x : (ds s : List ℕ) → passes is_ascii_digit ds ≡ true → is_name_byte (get_or s 0 0) ≡ false → eqb (get_or (ds ++ s) 0 0) 120 ≡ false
+no_x : (ds s : List ℕ)
+    → passes is_ascii_digit ds ≡ true → is_name_byte (get_or s 0 0) ≡ false
+    → eqb (get_or (ds ++ s) 0 0) 120 ≡ false
 no_x [] s p stop = differ_back (get_or s 0 0) 120 is_name_byte stop refl
 no_x (d ∷ ds) s p stop = differ d 120 is_ascii_digit (and_parts (is_ascii_digit d) (passes is_ascii_digit ds) p).0 refl
 
@@ -220,21 +265,36 @@ no_hexadecimal text h = rw h (middle_false (eqb (get_or text 0 0) 48) (is_hex_di
 no_digit_after : (b : ℕ) → is_name_byte b ≡ false → is_ascii_digit b ≡ false
 no_digit_after b h = grind (arith, nat_tests)
 
-token_of_number : (text ds rest : List ℕ) → symbol_at text ≡ None → is_name_start (get_or text 0 0) ≡ false → is_hexadecimal text ≡ false → is_ascii_digit (get_or text 0 0) ≡ true → take (prefix_len is_ascii_digit text) text ≡ ds → drop (prefix_len is_ascii_digit text) text ≡ rest → token_at text ≡ Some (number (value_of (digits_value 10 ds)), rest)
+token_of_number : (text ds rest : List ℕ)
+    → symbol_at text ≡ None → is_name_start (get_or text 0 0) ≡ false
+    → is_hexadecimal text ≡ false → is_ascii_digit (get_or text 0 0) ≡ true
+    → take (prefix_len is_ascii_digit text) text ≡ ds
+    → drop (prefix_len is_ascii_digit text) text ≡ rest
+    → token_at text ≡ Some (number (value_of (digits_value 10 ds)), rest)
 unfolding token_at name_at number_at
-token_of_number text ds rest none start hexadecimal digit taken after = rw (none, start, hexadecimal, digit, taken, after) refl
+token_of_number text ds rest none start hexadecimal digit taken after =
+    rw (none, start, hexadecimal, digit, taken, after) refl
 
-digits_front : (ds s : List ℕ) → 0 < length ds → passes is_ascii_digit ds ≡ true → is_name_byte (get_or s 0 0) ≡ false → token_at (ds ++ s) ≡ Some (number (value_of (digits_value 10 ds)), s)
+digits_front : (ds s : List ℕ)
+    → 0 < length ds → passes is_ascii_digit ds ≡ true
+    → is_name_byte (get_or s 0 0) ≡ false
+    → token_at (ds ++ s) ≡ Some (number (value_of (digits_value 10 ds)), s)
 digits_front [] s some p stop = absurd (omega arith)
 digits_front (d ∷ ds) s some p stop =
     let both = and_parts (is_ascii_digit d) (passes is_ascii_digit ds) p in
     let stops = no_digit_after (get_or s 0 0) stop in
-    token_of_number (d ∷ ds ++ s) (d ∷ ds) s (digit_no_symbol d (ds ++ s) both.0) (digit_no_start d both.0) (no_hexadecimal (d ∷ ds ++ s) (no_x ds s both.1 stop)) both.0 (run_taken is_ascii_digit (d ∷ ds) s p stops) (run_dropped is_ascii_digit (d ∷ ds) s p stops)
+    token_of_number (d ∷ ds ++ s) (d ∷ ds) s (digit_no_symbol d (ds ++ s) both.0)
+    (digit_no_start d both.0)
+    (no_hexadecimal (d ∷ ds ++ s) (no_x ds s both.1 stop))
+    both.0 (run_taken is_ascii_digit (d ∷ ds) s p stops)
+    (run_dropped is_ascii_digit (d ∷ ds) s p stops)
 
 value_of_is : (n : ℕ) → n < 2 ^ 64 → value_of n ≡ Some n
 value_of_is n fits = let h : ltb n (2 ^ 64) ≡ true = lt-ltb _ _ fits in rw h refl
 
-pub number_front : (n : ℕ) (s : List ℕ) → n < 2 ^ 64 → is_name_byte (get_or s 0 0) ≡ false → token_at (decimal n ++ s) ≡ Some (number (Some n), s)
+pub number_front : (n : ℕ) (s : List ℕ)
+    → n < 2 ^ 64 → is_name_byte (get_or s 0 0) ≡ false
+    → token_at (decimal n ++ s) ≡ Some (number (Some n), s)
 number_front n s fits stop =
     digits_front (decimal n) s (decimal_nonempty n fits) (decimal_digits n fits) stop
     ∙ ap (λ (m : ℕ). Some (number (value_of m), s)) (digits_value-decimal own n fits)

@@ -71,12 +71,17 @@ name_bytes (a ∷ b ∷ n) h =
     let both = and_parts (is_name_start a) (passes is_name_byte (b ∷ n)) h in
     rw (start_in_name a both.0) both.1
 
-graphic_first : (bs : List ℕ) → is_picked [] symbols ≡ false → is_picked bs symbols ≡ true → passes is_ascii_graphic bs ≡ true → is_ascii_graphic (get_or bs 0 0) ≡ true
+graphic_first : (bs : List ℕ)
+    → is_picked [] symbols ≡ false → is_picked bs symbols ≡ true
+    → passes is_ascii_graphic bs ≡ true
+    → is_ascii_graphic (get_or bs 0 0) ≡ true
 graphic_first [] none h p = absurd (false≢true (sym none ∙ h))
 graphic_first (b ∷ bs) none h p = (and_parts (is_ascii_graphic b) (passes is_ascii_graphic bs) p).0
 
 -- the first byte of a list that is not empty is the first byte of each longer list
-first_stays : (test : ℕ → Bool) (bs s : List ℕ) → test 0 ≡ false → test (get_or bs 0 0) ≡ true → get_or (bs ++ s) 0 0 ≡ get_or bs 0 0
+first_stays : (test : ℕ → Bool) (bs s : List ℕ)
+    → test 0 ≡ false → test (get_or bs 0 0) ≡ true
+    → get_or (bs ++ s) 0 0 ≡ get_or bs 0 0
 first_stays test [] s none h = absurd (false≢true (sym none ∙ h))
 first_stays test (b ∷ bs) s none h = refl
 
@@ -99,31 +104,43 @@ seen (symbol y) rest h =
     let both = and_parts (is_picked y symbols) (passes is_ascii_graphic y) h.0 in
     record { all = both.1; first = graphic_first y refl both.0 both.1 }
 
-laid_first : (t : Token) (rest : TokenLayout) → IsApart (Some t ∷ rest) → get_or (laid_out (Some t ∷ rest)) 0 0 ≡ get_or (lexeme t) 0 0
+laid_first : (t : Token) (rest : TokenLayout)
+    → IsApart (Some t ∷ rest) → get_or (laid_out (Some t ∷ rest)) 0 0 ≡ get_or (lexeme t) 0 0
 laid_first t rest h = first_stays is_ascii_graphic (lexeme t) (laid_out rest) refl (seen t rest h).first
 
 -- ---- the text after a token
 
-word_ends : (rest : TokenLayout) → IsApart rest → ends_word rest ≡ true → is_name_byte (get_or (laid_out rest) 0 0) ≡ false
+word_ends : (rest : TokenLayout)
+    → IsApart rest → ends_word rest ≡ true
+    → is_name_byte (get_or (laid_out rest) 0 0) ≡ false
 word_ends [] h e = refl
 word_ends (None ∷ rest) h e = refl
 word_ends (Some (name n) ∷ rest) h e = absurd (false≢true e)
 word_ends (Some (number v) ∷ rest) h e = absurd (false≢true e)
-word_ends (Some (symbol y) ∷ rest) h e = ap is_name_byte (laid_first (symbol y) rest h) ∙ not-true (is_name_byte (get_or y 0 0)) e
+word_ends (Some (symbol y) ∷ rest) h e =
+    ap is_name_byte (laid_first (symbol y) rest h) ∙ not-true (is_name_byte (get_or y 0 0)) e
 
 sign_ends : (rest : TokenLayout) → IsApart rest → ends_sign rest ≡ true → prolongs (get_or (laid_out rest) 0 0) ≡ false
 sign_ends [] h e = refl
 sign_ends (None ∷ rest) h e = refl
-sign_ends (Some (name n) ∷ rest) h e = ap prolongs (laid_first (name n) rest h) ∙ start_prolongs_none (get_or n 0 0) (name_first n h.0)
+sign_ends (Some (name n) ∷ rest) h e =
+    ap prolongs (laid_first (name n) rest h) ∙ start_prolongs_none (get_or n 0 0) (name_first n h.0)
 sign_ends (Some (number None) ∷ rest) h e = absurd h
-sign_ends (Some (number (Some n)) ∷ rest) h e = ap prolongs (laid_first (number (Some n)) rest h) ∙ digit_prolongs_none (get_or (decimal n) 0 0) (decimal_first n h.0)
-sign_ends (Some (symbol y) ∷ rest) h e = ap prolongs (laid_first (symbol y) rest h) ∙ not-true (prolongs (get_or y 0 0)) e
+sign_ends (Some (number (Some n)) ∷ rest) h e =
+    ap prolongs (laid_first (number (Some n)) rest h)
+    ∙ digit_prolongs_none (get_or (decimal n) 0 0) (decimal_first n h.0)
+sign_ends (Some (symbol y) ∷ rest) h e =
+    ap prolongs (laid_first (symbol y) rest h) ∙ not-true (prolongs (get_or y 0 0)) e
 
-front : (t : Token) (rest : TokenLayout) → IsApart (Some t ∷ rest) → token_at (lexeme t ++ laid_out rest) ≡ Some (t, laid_out rest)
+front : (t : Token) (rest : TokenLayout)
+    → IsApart (Some t ∷ rest) → token_at (lexeme t ++ laid_out rest) ≡ Some (t, laid_out rest)
 front (name n) rest h = name_front n (laid_out rest) h.0 (word_ends rest h.2 h.1)
 front (number None) rest h = absurd h
 front (number (Some n)) rest h = number_front n (laid_out rest) h.0 (word_ends rest h.2 h.1)
-front (symbol y) rest h = symbol_front y (laid_out rest) (and_parts (is_picked y symbols) (passes is_ascii_graphic y) h.0).0 (sign_ends rest h.2 h.1)
+front (symbol y) rest h =
+    symbol_front y (laid_out rest)
+    (and_parts (is_picked y symbols) (passes is_ascii_graphic y) h.0).0
+    (sign_ends rest h.2 h.1)
 
 -- ---- tokens
 
@@ -142,8 +159,12 @@ pub laid_tokens : (l : TokenLayout) → IsApart l → HasTokens (laid_out l) (to
 laid_tokens [] h = refl
 laid_tokens (None ∷ rest) h = space_before (laid_out rest) (tokens_of rest) (laid_tokens rest h)
 laid_tokens (Some t ∷ rest) h =
-    let skipped : skip_blanks (lexeme t ++ laid_out rest) ≡ lexeme t ++ laid_out rest = none_skipped (lexeme t) (laid_out rest) (seen t rest h).first in
-    (laid_out rest, taken (skip_blanks (laid_out (Some t ∷ rest))) t (laid_out rest) (ap token_at skipped ∙ front t rest h), laid_tokens rest (apart_rest t rest h))
+    let skipped : skip_blanks (lexeme t ++ laid_out rest) ≡ lexeme t ++ laid_out rest =
+    none_skipped (lexeme t) (laid_out rest) (seen t rest h).first in (
+      laid_out rest,
+      taken (skip_blanks (laid_out (Some t ∷ rest))) t (laid_out rest) (ap token_at skipped ∙ front t rest h),
+      laid_tokens rest (apart_rest t rest h),
+    )
 
 -- ---- bytes
 
@@ -163,15 +184,21 @@ plain_no_feed b h = λ e. false≢true (sym (ap is_plain e) ∙ h)
 laid_plain : (l : TokenLayout) → IsApart l → passes is_plain (laid_out l) ≡ true
 laid_plain [] h = refl
 laid_plain (None ∷ rest) h = laid_plain rest h
-laid_plain (Some t ∷ rest) h = passes-append is_plain (lexeme t) (laid_out rest) (passes_more is_ascii_graphic is_plain (lexeme t) graphic_plain (seen t rest h).all) (laid_plain rest (apart_rest t rest h))
+laid_plain (Some t ∷ rest) h =
+    passes-append is_plain (lexeme t) (laid_out rest)
+    (passes_more is_ascii_graphic is_plain (lexeme t) graphic_plain (seen t rest h).all)
+    (laid_plain rest (apart_rest t rest h))
 
 ascii_of_plain : (bs : List ℕ) → passes is_plain bs ≡ true → IsAscii bs
 ascii_of_plain [] p = IsAscii-nil
-ascii_of_plain (b ∷ bs) p = let both = and_parts (is_plain b) (passes is_plain bs) p in IsAscii-cons b bs (plain_ascii b both.0) (ascii_of_plain bs both.1)
+ascii_of_plain (b ∷ bs) p =
+    let both = and_parts (is_plain b) (passes is_plain bs) p in
+    IsAscii-cons b bs (plain_ascii b both.0) (ascii_of_plain bs both.1)
 
 line_of_plain : (bs : List ℕ) → passes is_plain bs ≡ true → AllByRecursion (λ b. b ≢ 10) bs
 line_of_plain [] p = tt
-line_of_plain (b ∷ bs) p = let both = and_parts (is_plain b) (passes is_plain bs) p in (plain_no_feed b both.0, line_of_plain bs both.1)
+line_of_plain (b ∷ bs) p =
+    let both = and_parts (is_plain b) (passes is_plain bs) p in (plain_no_feed b both.0, line_of_plain bs both.1)
 
 pub laid_ascii : (l : TokenLayout) → IsApart l → IsAscii (laid_out l)
 laid_ascii l h = ascii_of_plain (laid_out l) (laid_plain l h)

@@ -15,7 +15,8 @@ use Rattle.text_line.proofs.Longest.{each_symbol, no_digit_symbol, name_bytes, n
 
 name_no_symbol : {A : Type 0} (bytes : List ℕ) → is_name bytes ≡ true → begins_no_name bytes ≡ true → A
 name_no_symbol [] h other = absurd (false≢true h)
-name_no_symbol (a ∷ []) h other = absurd (both_ways (is_name_byte a) (not-true (is_name_byte a) other) (start_in_name a (name_bytes (a ∷ []) h).0))
+name_no_symbol (a ∷ []) h other =
+    absurd (both_ways (is_name_byte a) (not-true (is_name_byte a) other) (start_in_name a (name_bytes (a ∷ []) h).0))
 name_no_symbol (a ∷ b ∷ n) h other =
     let both = and_parts (is_name_byte a) (is_name_byte b && list_all is_name_byte n) (name_bytes (a ∷ b ∷ n) h).1 in
     let second = and_parts (is_name_byte b) (list_all is_name_byte n) both.1 in
@@ -40,11 +41,17 @@ one_value bytes v w (inr h) (inr k) =
 
 symbol_name : {A : Type 0} (bytes z : List ℕ) → bytes ≡ z → Contains symbols z → is_name bytes ≡ true → A
 symbol_name bytes z same among is =
-    name_no_symbol bytes is (subst (λ (t : List ℕ). begins_no_name t ≡ true) (sym same) (each_symbol (λ s. begins_no_name s ≡ true) z symbols_no_name among))
+    name_no_symbol bytes is
+    (subst (λ (t : List ℕ). begins_no_name t ≡ true) (sym same)
+    (each_symbol (λ s. begins_no_name s ≡ true) z symbols_no_name among))
 
-symbol_number : {A : Type 0} (bytes z : List ℕ) (v : Option ℕ) → bytes ≡ z → Contains symbols z → IsToken bytes (number v) → A
+symbol_number : {A : Type 0} (bytes z : List ℕ) (v : Option ℕ)
+    → bytes ≡ z → Contains symbols z → IsToken bytes (number v) → A
 symbol_number bytes z v same among is =
-    absurd (no_digit_symbol bytes (subst (λ (t : List ℕ). begins_no_digit t ≡ true) (sym same) (each_symbol (λ s. begins_no_digit s ≡ true) z symbols_no_digit among)) (number_first bytes v is))
+    absurd (no_digit_symbol bytes
+    (subst (λ (t : List ℕ). begins_no_digit t ≡ true) (sym same)
+    (each_symbol (λ s. begins_no_digit s ≡ true) z symbols_no_digit among))
+    (number_first bytes v is))
 
 name_number : {A : Type 0} (bytes : List ℕ) (v : Option ℕ) → is_name bytes ≡ true → IsToken bytes (number v) → A
 name_number bytes v is h = start_no_digit (slice_index bytes 0) (name_bytes bytes is).0 (number_first bytes v h)
@@ -64,13 +71,21 @@ one_token bytes (symbol s) (symbol z) h k = ap symbol (sym h.0 ∙ k.0)
 
 same_front_bytes : (text x y r s : List ℕ) → text ≡ x ++ r → text ≡ y ++ s → length x ≡ length y → (x ≡ y) × (r ≡ s)
 same_front_bytes text x y r s e f n = (
-  sym (take-append_seam x r) ∙ ap (take (length x)) (sym e ∙ f) ∙ ap (λ (k : ℕ). take k (y ++ s)) n ∙ take-append_seam y s,
-  sym (drop-append_seam x r) ∙ ap (drop (length x)) (sym e ∙ f) ∙ ap (λ (k : ℕ). drop k (y ++ s)) n ∙ drop-append_seam y s,
+  sym (take-append_seam x r)
+      ∙ ap (take (length x)) (sym e ∙ f)
+      ∙ ap (λ (k : ℕ). take k (y ++ s)) n
+      ∙ take-append_seam y s,
+  sym (drop-append_seam x r)
+      ∙ ap (drop (length x)) (sym e ∙ f)
+      ∙ ap (λ (k : ℕ). drop k (y ++ s)) n
+      ∙ drop-append_seam y s,
 )
 
-pub same_begin : (text : List ℕ) (t u : Token) (r s : List ℕ) → BeginsWith text t r → BeginsWith text u s → (t ≡ u) × (r ≡ s)
+pub same_begin : (text : List ℕ) (t u : Token) (r s : List ℕ)
+    → BeginsWith text t r → BeginsWith text u s → (t ≡ u) × (r ≡ s)
 same_begin text t u r s h k =
-    let n : length h.bytes ≡ length k.bytes = omega (arith, h.longest u k.bytes s k.parts k.is_token, k.longest t h.bytes r h.parts h.is_token) in
+    let n : length h.bytes ≡ length k.bytes =
+    omega (arith, h.longest u k.bytes s k.parts k.is_token, k.longest t h.bytes r h.parts h.is_token) in
     let same = same_front_bytes text h.bytes k.bytes r s h.parts k.parts n in
     (one_token k.bytes t u (subst (λ (bytes : List ℕ). IsToken bytes t) same.0 h.is_token) k.is_token, same.1)
 
@@ -81,7 +96,9 @@ record IsBare (text : List ℕ) : Type 0 where
   no_start : is_name_start (slice_index text 0) ≡ false
   no_digit : is_ascii_digit (slice_index text 0) ≡ false
 
-none_of : {A B : Type 0} (f : A → B) (o : Option A) (b h d : Bool) (x y z : B) → or_else (option_map f o) (or_else (cond b (Some x) None) (cond h (Some y) (cond d (Some z) None))) ≡ None → (o ≡ None) × (b ≡ false) × (d ≡ false)
+none_of : {A B : Type 0} (f : A → B) (o : Option A) (b h d : Bool) (x y z : B)
+    → or_else (option_map f o) (or_else (cond b (Some x) None) (cond h (Some y) (cond d (Some z) None))) ≡ None
+    → (o ≡ None) × (b ≡ false) × (d ≡ false)
 none_of f (Some a) b h d x y z e = absurd cc
 none_of f None true h d x y z e = absurd cc
 none_of f None false true d x y z e = absurd cc
@@ -91,15 +108,21 @@ none_of f None false false false x y z e = (refl, refl, refl)
 is_bare : (text : List ℕ) → token_at text ≡ None → IsBare text
 unfolding token_at name_at number_at
 is_bare text e =
-    let none = none_of _ (symbol_at text) (is_name_start (slice_index text 0)) (is_hexadecimal text) (is_ascii_digit (slice_index text 0)) _ _ _ e in
+    let none =
+    none_of _ (symbol_at text) (is_name_start (slice_index text 0)) (is_hexadecimal text)
+    (is_ascii_digit (slice_index text 0)) _ _ _ e in
     record { symbol_none = none.0; no_start = none.1; no_digit = none.2 }
 
 not_bare : (text : List ℕ) (t : Token) (front back : List ℕ) → IsBare text → text ≡ front ++ back → IsToken front t → ⊥
-not_bare text (symbol s) front back bare e h = no_symbol_there text s back bare.symbol_none (symbol_back text s front back e h.0) h.1
-not_bare text (name n) front back bare e h = both_ways (is_name_start (slice_index text 0)) bare.no_start (name_first text front back e h.1)
-not_bare text (number v) front back bare e h = both_ways (is_ascii_digit (slice_index text 0)) bare.no_digit (digit_first text front back v e h)
+not_bare text (symbol s) front back bare e h =
+    no_symbol_there text s back bare.symbol_none (symbol_back text s front back e h.0) h.1
+not_bare text (name n) front back bare e h =
+    both_ways (is_name_start (slice_index text 0)) bare.no_start (name_first text front back e h.1)
+not_bare text (number v) front back bare e h =
+    both_ways (is_ascii_digit (slice_index text 0)) bare.no_digit (digit_first text front back v e h)
 
-found_as : (text : List ℕ) (t : Token) (rest : List ℕ) (o : Option (Token × List ℕ)) → BeginsWith text t rest → token_at text ≡ o → o ≡ Some (t, rest)
+found_as : (text : List ℕ) (t : Token) (rest : List ℕ) (o : Option (Token × List ℕ))
+    → BeginsWith text t rest → token_at text ≡ o → o ≡ Some (t, rest)
 found_as text t rest None h e = absurd (not_bare text t h.bytes rest (is_bare text e) h.parts h.is_token)
 found_as text t rest (Some p) h e =
     let same = same_begin text p.0 t p.1 rest (taken text p.0 p.1 e) h in

@@ -94,15 +94,24 @@ abbrev Follows : TokenLayout → Type 0
 Follows rest = (ends_word rest ≡ true) × IsApart rest
 
 -- a number that is at most `most`
-number_apart : (most : ℕ) (n : Option ℕ) (rest : TokenLayout) → most < 2 ^ 64 → is_at_most most n ≡ true → Follows rest → IsApart (Some (number n) ∷ rest)
+number_apart : (most : ℕ) (n : Option ℕ) (rest : TokenLayout)
+    → most < 2 ^ 64 → is_at_most most n ≡ true
+    → Follows rest
+    → IsApart (Some (number n) ∷ rest)
 number_apart most None rest small fits h = absurd (false≢true fits)
 number_apart most (Some n) rest small fits h = (omega (arith, leb-true n most fits), h.0, h.1)
 
-imm_apart : (negative : Bool) (n : Option ℕ) (rest : TokenLayout) → is_at_most (cond negative 2147483648 2147483647) n ≡ true → Follows rest → IsApart (Some (number n) ∷ rest)
+imm_apart : (negative : Bool) (n : Option ℕ) (rest : TokenLayout)
+    → is_at_most (cond negative 2147483648 2147483647) n ≡ true
+    → Follows rest
+    → IsApart (Some (number n) ∷ rest)
 imm_apart true n rest fits h = number_apart 2147483648 n rest (lit< tt) fits h
 imm_apart false n rest fits h = number_apart 2147483647 n rest (lit< tt) fits h
 
-offset_apart : (negative : Bool) (n : Option ℕ) (rest : TokenLayout) → is_at_most (cond negative 32768 32767) n ≡ true → Follows rest → IsApart (Some (number n) ∷ rest)
+offset_apart : (negative : Bool) (n : Option ℕ) (rest : TokenLayout)
+    → is_at_most (cond negative 32768 32767) n ≡ true
+    → Follows rest
+    → IsApart (Some (number n) ∷ rest)
 offset_apart true n rest fits h = number_apart 32768 n rest (lit< tt) fits h
 offset_apart false n rest fits h = number_apart 32767 n rest (lit< tt) fits h
 
@@ -111,58 +120,153 @@ minus_apart true l ends h = (refl, ends, h)
 minus_apart false l ends h = h
 
 constant_apart : (n : Number) (rest : TokenLayout) → imm_fits n ≡ true → Follows rest → IsApart (constant n rest)
-constant_apart n rest fits h = minus_apart n.negative (Some (number n.magnitude) ∷ rest) refl (imm_apart n.negative n.magnitude rest fits h)
+constant_apart n rest fits h =
+    minus_apart n.negative (Some (number n.magnitude) ∷ rest) refl (imm_apart n.negative n.magnitude rest fits h)
 
-operand_apart : (wide : Bool) (src : SourceOperand) (rest : TokenLayout) → IsSource src → source_fits src ≡ true → Follows rest → IsApart (operand_layout wide src rest)
+operand_apart : (wide : Bool) (src : SourceOperand) (rest : TokenLayout)
+    → IsSource src → source_fits src ≡ true
+    → Follows rest
+    → IsApart (operand_layout wide src rest)
 operand_apart wide (source.Number n) rest s fits h = constant_apart n rest fits h
 operand_apart wide (source.Reg r) rest s fits h = (register_word wide r s, h.0, h.1)
 
 -- with its number in range, and no label
-destination_apart : (long : Bool) (to : JumpTarget) → target_fits long to ≡ true → to_label to ≡ false → IsApart (destination to [])
-destination_apart true (target.Number n) fits none = (sign_sign n.negative, refl, imm_apart n.negative n.magnitude [] fits (refl, tt))
-destination_apart false (target.Number n) fits none = (sign_sign n.negative, refl, offset_apart n.negative n.magnitude [] fits (refl, tt))
+destination_apart : (long : Bool) (to : JumpTarget)
+    → target_fits long to ≡ true → to_label to ≡ false → IsApart (destination to [])
+destination_apart true (target.Number n) fits none = (
+  sign_sign n.negative,
+  refl,
+  imm_apart n.negative n.magnitude [] fits (refl, tt),
+)
+destination_apart false (target.Number n) fits none = (
+  sign_sign n.negative,
+  refl,
+  offset_apart n.negative n.magnitude [] fits (refl, tt),
+)
 destination_apart long target.Label fits none = absurd (false≢true (sym none))
 
-address_apart : (signed : Bool) (s : AccessSize) (at : Address) (rest : TokenLayout) → at.base ≤ 10 → offset_fits at.offset ≡ true → ends_sign rest ≡ true → IsApart rest → IsApart (address (size_name signed s) at rest)
+address_apart : (signed : Bool) (s : AccessSize) (at : Address) (rest : TokenLayout)
+    → at.base ≤ 10 → offset_fits at.offset ≡ true
+    → ends_sign rest ≡ true → IsApart rest
+    → IsApart (address (size_name signed s) at rest)
 address_apart signed s at rest base fits ends h =
-    let digits : IsApart (Some (number at.offset.magnitude) ∷ sign (codes ")") ∷ rest) = offset_apart at.offset.negative at.offset.magnitude (sign (codes ")") ∷ rest) fits (refl, (refl, ends, h)) in
-    (refl, refl, (refl, refl, (size_word signed s, refl, (refl, refl, (refl, refl, (refl, refl, (register_word true at.base base, refl, (sign_sign at.offset.negative, refl, digits))))))))
+    let digits : IsApart (Some (number at.offset.magnitude) ∷ sign (codes ")") ∷ rest) =
+    offset_apart at.offset.negative at.offset.magnitude (sign (codes ")") ∷ rest) fits (refl, (refl, ends, h)) in (
+      refl,
+      refl,
+      (
+        refl,
+        refl,
+        (
+          size_word signed s,
+          refl,
+          (
+            refl,
+            refl,
+            (
+              refl,
+              refl,
+              (refl, refl, (register_word true at.base base, refl, (sign_sign at.offset.negative, refl, digits))),
+            ),
+          ),
+        ),
+      ),
+    )
 
 -- ---- forms: registers up to 10, and numbers in range
 
-operation_apart : (wide : Bool) (dst : ℕ) (o : Operation) → dst ≤ 10 → IsOperation wide o → form_fits (form.Operation wide dst o) ≡ true → IsApart (operation_layout wide dst o)
-operation_apart wide dst (operation.Binary op src) d h fits = (alu_sign op, refl, operand_apart wide src [] h fits (refl, tt))
-operation_apart wide dst (operation.SignExtend from src) d h fits = (refl, refl, (refl, refl, (narrow_word from, refl, (refl, refl, (register_word wide src h.0, refl, tt)))))
+operation_apart : (wide : Bool) (dst : ℕ) (o : Operation)
+    → dst ≤ 10 → IsOperation wide o
+    → form_fits (form.Operation wide dst o) ≡ true
+    → IsApart (operation_layout wide dst o)
+operation_apart wide dst (operation.Binary op src) d h fits = (
+  alu_sign op,
+  refl,
+  operand_apart wide src [] h fits (refl, tt),
+)
+operation_apart wide dst (operation.SignExtend from src) d h fits = (
+  refl,
+  refl,
+  (refl, refl, (narrow_word from, refl, (refl, refl, (register_word wide src h.0, refl, tt)))),
+)
 operation_apart wide dst operation.Neg d h fits = (refl, refl, (refl, refl, (register_word wide dst d, refl, tt)))
-operation_apart wide dst (operation.End how bits) d h fits = (refl, refl, (order_word how bits, refl, (register_word wide dst d, refl, tt)))
+operation_apart wide dst (operation.End how bits) d h fits = (
+  refl,
+  refl,
+  (order_word how bits, refl, (register_word wide dst d, refl, tt)),
+)
 
 -- a constant is below 2 ^ 64
 abbrev IsShortForm : Form → Type 0
 IsShortForm (form.WideLoad dst (value.Number (Some n))) = n < 2 ^ 64
 IsShortForm _ = Unit {0}
 
-value_apart : (dst : ℕ) (v : WideValue) (rest : TokenLayout) → IsShortForm (form.WideLoad dst v) → form_fits (form.WideLoad dst v) ≡ true → Follows rest → IsApart (value_layout v rest)
+value_apart : (dst : ℕ) (v : WideValue) (rest : TokenLayout)
+    → IsShortForm (form.WideLoad dst v) → form_fits (form.WideLoad dst v) ≡ true
+    → Follows rest
+    → IsApart (value_layout v rest)
 value_apart dst (value.Number None) rest k fits h = absurd (false≢true fits)
 value_apart dst (value.Number (Some n)) rest k fits h = (k, h.0, h.1)
 value_apart dst (value.MapFd fd) rest k fits h = (refl, refl, constant_apart fd rest fits h)
 value_apart dst (value.MapValue fd off) rest k fits h =
-    let both = and_parts (imm_fits fd) (next_imm_fits off) fits in
-    (refl, refl, constant_apart fd (space ∷ sign (codes "+") ∷ space ∷ Some (number off) ∷ rest) both.0 (refl, (refl, refl, number_apart 4294967295 off rest (lit< tt) both.1 h)))
+    let both = and_parts (imm_fits fd) (next_imm_fits off) fits in (
+      refl,
+      refl,
+      constant_apart fd
+          (space ∷ sign (codes "+") ∷ space ∷ Some (number off) ∷ rest)
+          both.0
+          (refl, (refl, refl, number_apart 4294967295 off rest (lit< tt) both.1 h)),
+    )
 
 form_apart : (f : Form) → IsForm f → IsShortForm f → form_fits f ≡ true → names_label f ≡ false → IsApart (layout f [])
-form_apart (form.Operation wide dst o) h k fits none = (register_word wide dst h.0, refl, operation_apart wide dst o h.0 h.1 fits)
+form_apart (form.Operation wide dst o) h k fits none = (
+  register_word wide dst h.0,
+  refl,
+  operation_apart wide dst o h.0 h.1 fits,
+)
 form_apart (form.Jump true to) h k fits none = (refl, refl, destination_apart true to fits none)
 form_apart (form.Jump false to) h k fits none = (refl, refl, destination_apart false to fits none)
 form_apart (form.Branch wide cond dst src to) h k fits none =
-    let both = and_parts (source_fits src) (target_fits false to) fits in
-    (refl, refl, (register_word wide dst h.0, refl, (condition_sign cond, refl, operand_apart wide src (space ∷ word (codes "goto") ∷ space ∷ destination to []) h.1 both.0 (refl, (refl, refl, destination_apart false to both.1 none)))))
-form_apart (form.Access (access.Load size signed dst) at) h k fits none = (register_word true dst h.1.0, refl, (refl, refl, address_apart signed size at [] h.0 fits refl tt))
+    let both = and_parts (source_fits src) (target_fits false to) fits in (
+      refl,
+      refl,
+      (
+        register_word wide dst h.0,
+        refl,
+        (
+          condition_sign cond,
+          refl,
+          operand_apart wide src
+              (space ∷ word (codes "goto") ∷ space ∷ destination to [])
+              h.1 both.0
+              (refl, (refl, refl, destination_apart false to both.1 none)),
+        ),
+      ),
+    )
+form_apart (form.Access (access.Load size signed dst) at) h k fits none = (
+  register_word true dst h.1.0,
+  refl,
+  (refl, refl, address_apart signed size at [] h.0 fits refl tt),
+)
 form_apart (form.Access (access.Store size src) at) h k fits none =
     let both = and_parts (source_fits src) (offset_fits at.offset) fits in
-    address_apart false size at (space ∷ sign (codes "=") ∷ space ∷ operand_layout true src []) h.0 both.1 refl (refl, refl, operand_apart true src [] h.1 both.0 (refl, tt))
-form_apart (form.Access (access.Atomic size op src) at) h k fits none =
-    (refl, refl, address_apart false (access_size size) at (space ∷ sign (atomic_symbol op) ∷ space ∷ reg true src ∷ []) h.0 fits refl (atomic_sign op, refl, (register_word true src h.1, refl, tt)))
-form_apart (form.WideLoad dst v) h k fits none = (register_word true dst h, refl, (refl, refl, value_apart dst v (space ∷ word (codes "ll") ∷ []) k fits (refl, (refl, refl, tt))))
+    address_apart false size at
+    (space ∷ sign (codes "=") ∷ space ∷ operand_layout true src [])
+    h.0 both.1 refl
+    (refl, refl, operand_apart true src [] h.1 both.0 (refl, tt))
+form_apart (form.Access (access.Atomic size op src) at) h k fits none = (
+  refl,
+  refl,
+  address_apart false (access_size size) at
+      (space ∷ sign (atomic_symbol op) ∷ space ∷ reg true src ∷ [])
+      h.0 fits refl
+      (atomic_sign op, refl, (register_word true src h.1, refl, tt)),
+)
+form_apart (form.WideLoad dst v) h k fits none = (
+  register_word true dst h,
+  refl,
+  (refl, refl, value_apart dst v (space ∷ word (codes "ll") ∷ []) k fits (refl, (refl, refl, tt))),
+)
 form_apart (form.Call id) h k fits none = (refl, refl, constant_apart id [] fits (refl, tt))
 form_apart form.Exit h k fits none = (refl, refl, tt)
 

@@ -33,7 +33,8 @@ over_none text e =
           ap token_at (length_zero text len) ∙ empty_none
       | inr comment ↦
           let front : take 2 text ≡ codes "//" = sym ((bytes_eq-Decides (codes "//") (take 2 text)).0 comment) in
-          let whole : text ≡ 47 ∷ 47 ∷ drop 2 text = sym (take-append-drop 2 text) ∙ ap (λ (t : List ℕ). t ++ drop 2 text) front in
+          let whole : text ≡ 47 ∷ 47 ∷ drop 2 text =
+          sym (take-append-drop 2 text) ∙ ap (λ (t : List ℕ). t ++ drop 2 text) front in
           ap token_at whole ∙ comment_none (drop 2 text)
     ]
   where
@@ -44,8 +45,12 @@ over_none text e =
 -- a line has at most one list of tokens
 pub same_tokens : (text : List ℕ) (ts us : List Token) → HasTokens text ts → HasTokens text us → ts ≡ us
 same_tokens text [] [] h k = refl
-same_tokens text [] (u ∷ us) h k = absurd (none_front u k.0 (token_at (skip_blanks text)) (found (skip_blanks text) u k.0 k.1) (over_none (skip_blanks text) h))
-same_tokens text (t ∷ ts) [] h k = absurd (none_front t h.0 (token_at (skip_blanks text)) (found (skip_blanks text) t h.0 h.1) (over_none (skip_blanks text) k))
+same_tokens text [] (u ∷ us) h k =
+    absurd (none_front u k.0 (token_at (skip_blanks text)) (found (skip_blanks text) u k.0 k.1)
+    (over_none (skip_blanks text) h))
+same_tokens text (t ∷ ts) [] h k =
+    absurd (none_front t h.0 (token_at (skip_blanks text)) (found (skip_blanks text) t h.0 h.1)
+    (over_none (skip_blanks text) k))
 same_tokens text (t ∷ ts) (u ∷ us) h k =
     let f = same_begin (skip_blanks text) t u h.0 k.0 h.1 k.1 in
     let more = same_tokens h.0 ts us h.2 (subst (λ (r : List ℕ). HasTokens r us) (sym f.1) k.2) in

@@ -56,31 +56,40 @@ named_register _ _ fits = refl
 
 -- ---- parts of a line
 
-register_read : (wide : Bool) (r : ℕ) (ts : List Token) → r ≤ 10 → leading_register wide (name (register_name wide r) ∷ ts) ≡ Some (r, ts)
+register_read : (wide : Bool) (r : ℕ) (ts : List Token)
+    → r ≤ 10 → leading_register wide (name (register_name wide r) ∷ ts) ≡ Some (r, ts)
 unfolding leading_register
 register_read true r ts fits = rw (named_register true r fits) refl
 register_read false r ts fits = rw (named_register false r fits) refl
 
-constant_read : (negative : Bool) (m : Option ℕ) (rest : TokenLayout) → leading_constant (tokens_of (minus negative (Some (number m) ∷ rest))) ≡ Some (record { negative = negative; magnitude = m }, tokens_of rest)
+constant_read : (negative : Bool) (m : Option ℕ) (rest : TokenLayout)
+    → leading_constant (tokens_of (minus negative (Some (number m) ∷ rest)))
+    ≡ Some (record { negative = negative; magnitude = m }, tokens_of rest)
 unfolding leading_constant after_symbol
 constant_read true m rest = refl
 constant_read false m rest = refl
 
-signed_read : (negative : Bool) (m : Option ℕ) (ts : List Token) → leading_signed_number (symbol (sign_name negative) ∷ number m ∷ ts) ≡ Some (record { negative = negative; magnitude = m }, ts)
+signed_read : (negative : Bool) (m : Option ℕ) (ts : List Token)
+    → leading_signed_number (symbol (sign_name negative) ∷ number m ∷ ts)
+    ≡ Some (record { negative = negative; magnitude = m }, ts)
 unfolding leading_signed_number after_symbol
 signed_read true m ts = refl
 signed_read false m ts = refl
 
 -- a number is no register
-constant_no_register : (wide negative : Bool) (m : Option ℕ) (rest : TokenLayout) → leading_register wide (tokens_of (minus negative (Some (number m) ∷ rest))) ≡ None
+constant_no_register : (wide negative : Bool) (m : Option ℕ) (rest : TokenLayout)
+    → leading_register wide (tokens_of (minus negative (Some (number m) ∷ rest))) ≡ None
 unfolding leading_register
 constant_no_register wide true m rest = refl
 constant_no_register wide false m rest = refl
 
-operand_read : (wide : Bool) (s : SourceOperand) (rest : TokenLayout) → IsSource s → leading_operand wide (tokens_of (operand_layout wide s rest)) ≡ Some (s, tokens_of rest)
+operand_read : (wide : Bool) (s : SourceOperand) (rest : TokenLayout)
+    → IsSource s
+    → leading_operand wide (tokens_of (operand_layout wide s rest)) ≡ Some (s, tokens_of rest)
 unfolding leading_operand
 operand_read wide (source.Reg r) rest fits = rw (register_read wide r (tokens_of rest) fits) refl
-operand_read wide (source.Number n) rest fits = rw (constant_no_register wide n.negative n.magnitude rest, constant_read n.negative n.magnitude rest) refl
+operand_read wide (source.Number n) rest fits =
+    rw (constant_no_register wide n.negative n.magnitude rest, constant_read n.negative n.magnitude rest) refl
 
 signed_name : (n : List ℕ) (ts : List Token) → leading_signed_number (name n ∷ ts) ≡ None
 unfolding leading_signed_number after_symbol
@@ -89,20 +98,35 @@ signed_name n ts = refl
 abbrev destination_made : JumpTarget → List ℕ → JumpTarget × List ℕ
 destination_made to n = (to, n)
 
-destination_read : (to : JumpTarget) (n : List ℕ) → NoLabel (to_label to) n → parsed_destination (tokens_of (destination to n)) ≡ Some (to, n)
+destination_read : (to : JumpTarget) (n : List ℕ)
+    → NoLabel (to_label to) n → parsed_destination (tokens_of (destination to n)) ≡ Some (to, n)
 unfolding parsed_destination
-destination_read (target.Number m) n none = rw (signed_read m.negative m.magnitude []) (ap (λ (l : List ℕ). Some (destination_made (target.Number m) l)) (sym none))
+destination_read (target.Number m) n none =
+    rw (signed_read m.negative m.magnitude [])
+    (ap (λ (l : List ℕ). Some (destination_made (target.Number m) l)) (sym none))
 destination_read target.Label n none = rw (signed_name n []) refl
 
-address_read : (signed : Bool) (s : AccessSize) (at : Address) (rest : TokenLayout) → IsTrue (not (signed && is_double s)) → at.base ≤ 10 → leading_address (tokens_of (address (size_name signed s) at rest)) ≡ Some (((signed, s), at), tokens_of rest)
+address_read : (signed : Bool) (s : AccessSize) (at : Address) (rest : TokenLayout)
+    → IsTrue (not (signed && is_double s)) → at.base ≤ 10
+    → leading_address (tokens_of (address (size_name signed s) at rest)) ≡ Some (((signed, s), at), tokens_of rest)
 unfolding leading_address after_symbol
-address_read signed s at rest listed fits = rw (size_name_again signed s listed, register_read true at.base (symbol (sign_name at.offset.negative) ∷ number at.offset.magnitude ∷ symbol (codes ")") ∷ tokens_of rest) fits, signed_read at.offset.negative at.offset.magnitude (symbol (codes ")") ∷ tokens_of rest)) refl
+address_read signed s at rest listed fits =
+    rw (
+      size_name_again signed s listed,
+      register_read true at.base
+          (symbol (sign_name at.offset.negative) ∷ number at.offset.magnitude ∷ symbol (codes ")") ∷ tokens_of rest)
+          fits,
+      signed_read at.offset.negative at.offset.magnitude (symbol (codes ")") ∷ tokens_of rest),
+    )
+    refl
 
-value_read : (v : WideValue) (rest : TokenLayout) → leading_wide_value (tokens_of (value_layout v rest)) ≡ Some (v, tokens_of rest)
+value_read : (v : WideValue) (rest : TokenLayout)
+    → leading_wide_value (tokens_of (value_layout v rest)) ≡ Some (v, tokens_of rest)
 unfolding leading_wide_value after_symbol after_word
 value_read (value.Number n) rest = refl
 value_read (value.MapFd fd) rest = rw (constant_read fd.negative fd.magnitude rest) refl
-value_read (value.MapValue fd off) rest = rw (constant_read fd.negative fd.magnitude (space ∷ sign (codes "+") ∷ space ∷ Some (number off) ∷ rest)) refl
+value_read (value.MapValue fd off) rest =
+    rw (constant_read fd.negative fd.magnitude (space ∷ sign (codes "+") ∷ space ∷ Some (number off) ∷ rest)) refl
 
 -- ---- operations
 
@@ -111,73 +135,129 @@ no_binary_parenthesis : (wide : Bool) (ts : List Token) → parsed_binary wide M
 unfolding parsed_binary leading_operand leading_register leading_constant after_symbol
 no_binary_parenthesis wide ts = refl
 
-no_binary_minus : (wide : Bool) (n : List ℕ) (ts : List Token) → parsed_binary wide Mov (symbol (codes "-") ∷ name n ∷ ts) ≡ None
+no_binary_minus : (wide : Bool) (n : List ℕ) (ts : List Token)
+    → parsed_binary wide Mov (symbol (codes "-") ∷ name n ∷ ts) ≡ None
 unfolding parsed_binary leading_operand leading_register leading_constant after_symbol
 no_binary_minus wide n ts = refl
 
-no_binary_order : (how : ByteOrder) (b : KeptBits) (ts : List Token) → parsed_binary true Mov (name (order_name how b) ∷ ts) ≡ None
+no_binary_order : (how : ByteOrder) (b : KeptBits) (ts : List Token)
+    → parsed_binary true Mov (name (order_name how b) ∷ ts) ≡ None
 unfolding parsed_binary leading_operand leading_register leading_constant after_symbol
 no_binary_order Little bits.Bits16 ts = refl
 no_binary_order Big bits.Bits16 ts = refl
 no_binary_order Swap bits.Bits16 ts = refl
 no_binary_order _ _ ts = refl
 
-in_place_read : (wide : Bool) (dst : ℕ) (o : Operation) → dst ≤ 10 → parsed_in_place wide dst o (name (register_name wide dst) ∷ []) ≡ Some o
+in_place_read : (wide : Bool) (dst : ℕ) (o : Operation)
+    → dst ≤ 10 → parsed_in_place wide dst o (name (register_name wide dst) ∷ []) ≡ Some o
 unfolding parsed_in_place
 in_place_read wide dst o fits = rw (register_read wide dst [] fits, eq-eqb dst dst refl) refl
 
-unary_read : (wide : Bool) (dst : ℕ) (ts : List Token) {o : Operation} → dst ≤ 10 → parsed_binary wide Mov ts ≡ None → parsed_unary wide dst ts ≡ Some o → parsed_assigned (name (register_name wide dst) ∷ symbol (codes "=") ∷ ts) ≡ Some (form.Operation wide dst o)
+unary_read : (wide : Bool) (dst : ℕ) (ts : List Token) {o : Operation}
+    → dst ≤ 10 → parsed_binary wide Mov ts ≡ None
+    → parsed_unary wide dst ts ≡ Some o
+    → parsed_assigned (name (register_name wide dst) ∷ symbol (codes "=") ∷ ts) ≡ Some (form.Operation wide dst o)
 unfolding parsed_assigned parsed_operation
 unary_read wide dst ts fits none some = rw (named_register wide dst fits, none, some) refl
 
-operation_read : (wide : Bool) (dst : ℕ) (o : Operation) → dst ≤ 10 → IsOperation wide o → parsed_assigned (name (register_name wide dst) ∷ tokens_of (operation_layout wide dst o)) ≡ Some (form.Operation wide dst o)
+operation_read : (wide : Bool) (dst : ℕ) (o : Operation)
+    → dst ≤ 10 → IsOperation wide o
+    → parsed_assigned (name (register_name wide dst) ∷ tokens_of (operation_layout wide dst o))
+    ≡ Some (form.Operation wide dst o)
 unfolding parsed_assigned parsed_operation parsed_binary parsed_unary parsed_sign_extension after_symbol
-operation_read wide dst (operation.Binary op src) fits h = rw (named_register wide dst fits, alu_symbol_again op, operand_read wide src [] h) refl
-operation_read wide dst (operation.SignExtend from src) fits h = unary_read wide dst _ fits (no_binary_parenthesis wide (name (narrow_name from) ∷ symbol (codes ")") ∷ name (register_name wide src) ∷ [])) (rw (narrow_name_again from, register_read wide src [] h.0, h.1) refl)
-operation_read wide dst operation.Neg fits h = unary_read wide dst _ fits (no_binary_minus wide (register_name wide dst) []) (in_place_read wide dst operation.Neg fits)
-operation_read true dst (operation.End how b) fits h = unary_read true dst _ fits (no_binary_order how b (name (register_name true dst) ∷ [])) (rw (order_name_again how b) (in_place_read true dst (operation.End how b) fits))
+operation_read wide dst (operation.Binary op src) fits h =
+    rw (named_register wide dst fits, alu_symbol_again op, operand_read wide src [] h) refl
+operation_read wide dst (operation.SignExtend from src) fits h =
+    unary_read wide dst _ fits
+    (no_binary_parenthesis wide (name (narrow_name from) ∷ symbol (codes ")") ∷ name (register_name wide src) ∷ []))
+    (rw (narrow_name_again from, register_read wide src [] h.0, h.1) refl)
+operation_read wide dst operation.Neg fits h =
+    unary_read wide dst _ fits (no_binary_minus wide (register_name wide dst) [])
+    (in_place_read wide dst operation.Neg fits)
+operation_read true dst (operation.End how b) fits h =
+    unary_read true dst _ fits
+    (no_binary_order how b (name (register_name true dst) ∷ []))
+    (rw (order_name_again how b) (in_place_read true dst (operation.End how b) fits))
 operation_read false dst (operation.End how b) fits h = absurd (false≢true h)
 
 -- ---- accesses and wide loads
 
-loaded_read : (dst : ℕ) (ts : List Token) {f : Form} → dst ≤ 10 → parsed_operation true Mov dst ts ≡ None → parsed_loaded dst ts ≡ Some f → parsed_assigned (name (register_name true dst) ∷ symbol (codes "=") ∷ ts) ≡ Some f
+loaded_read : (dst : ℕ) (ts : List Token) {f : Form}
+    → dst ≤ 10 → parsed_operation true Mov dst ts ≡ None
+    → parsed_loaded dst ts ≡ Some f
+    → parsed_assigned (name (register_name true dst) ∷ symbol (codes "=") ∷ ts) ≡ Some f
 unfolding parsed_assigned
 loaded_read dst ts fits none some = rw (named_register true dst fits, none, some) refl
 
 -- a memory operand is no operation, and no value of a wide load
-no_operation_address : (dst : ℕ) (size : List ℕ) (at : Address) → parsed_operation true Mov dst (tokens_of (address size at [])) ≡ None
+no_operation_address : (dst : ℕ) (size : List ℕ) (at : Address)
+    → parsed_operation true Mov dst (tokens_of (address size at [])) ≡ None
 unfolding parsed_operation parsed_binary parsed_unary leading_operand leading_register leading_constant after_symbol
 no_operation_address dst size at = refl
 
-load_read : (size : AccessSize) (signed : Bool) (dst : ℕ) (at : Address) → at.base ≤ 10 → IsTrue (not (signed && is_double size)) → parsed_loaded dst (tokens_of (address (size_name signed size) at [])) ≡ Some (form.Access (access.Load size signed dst) at)
+load_read : (size : AccessSize) (signed : Bool) (dst : ℕ) (at : Address)
+    → at.base ≤ 10 → IsTrue (not (signed && is_double size))
+    → parsed_loaded dst (tokens_of (address (size_name signed size) at []))
+    ≡ Some (form.Access (access.Load size signed dst) at)
 unfolding parsed_wide_load leading_wide_value parsed_load after_symbol after_word
 load_read size signed dst at fits listed = rw (address_read signed size at [] listed fits) refl
 
-store_read : (size : AccessSize) (src : SourceOperand) (at : Address) → at.base ≤ 10 → IsSource src → parsed_store (tokens_of (layout (form.Access (access.Store size src) at) [])) ≡ Some (form.Access (access.Store size src) at)
+store_read : (size : AccessSize) (src : SourceOperand) (at : Address)
+    → at.base ≤ 10 → IsSource src
+    → parsed_store (tokens_of (layout (form.Access (access.Store size src) at) []))
+    ≡ Some (form.Access (access.Store size src) at)
 unfolding parsed_store after_symbol
-store_read size src at fits s = rw (address_read false size at (space ∷ sign (codes "=") ∷ space ∷ operand_layout true src []) refl fits, operand_read true src [] s) refl
+store_read size src at fits s =
+    rw (
+      address_read false size at (space ∷ sign (codes "=") ∷ space ∷ operand_layout true src []) refl fits,
+      operand_read true src [] s,
+    )
+    refl
 
-atomic_read : (z : AtomicSize) (op : AtomicOp) (src : ℕ) (at : Address) → at.base ≤ 10 → src ≤ 10
-    → parsed_atomic (tokens_of (address (size_name false (access_size z)) at (space ∷ sign (atomic_symbol op) ∷ space ∷ reg true src ∷ []))) ≡ Some (form.Access (access.Atomic z op src) at)
+atomic_read : (z : AtomicSize) (op : AtomicOp) (src : ℕ) (at : Address)
+    → at.base ≤ 10 → src ≤ 10
+    → parsed_atomic (tokens_of (address (size_name false (access_size z)) at
+    (space ∷ sign (atomic_symbol op) ∷ space ∷ reg true src ∷ [])))
+    ≡ Some (form.Access (access.Atomic z op src) at)
 unfolding parsed_atomic
 atomic_read z op src at fits src_fits =
-    rw (address_read false (access_size z) at (space ∷ sign (atomic_symbol op) ∷ space ∷ reg true src ∷ []) refl fits, size_of_access z, atomic_symbol_again op, register_read true src [] src_fits) refl
+    rw (
+      address_read false (access_size z) at (space ∷ sign (atomic_symbol op) ∷ space ∷ reg true src ∷ []) refl fits,
+      size_of_access z,
+      atomic_symbol_again op,
+      register_read true src [] src_fits,
+    )
+    refl
 
-no_operation_value : (dst : ℕ) (v : WideValue) → parsed_operation true Mov dst (tokens_of (value_layout v (space ∷ word (codes "ll") ∷ []))) ≡ None
+no_operation_value : (dst : ℕ) (v : WideValue)
+    → parsed_operation true Mov dst (tokens_of (value_layout v (space ∷ word (codes "ll") ∷ []))) ≡ None
 unfolding parsed_operation parsed_binary parsed_unary leading_operand leading_register leading_constant after_symbol
 no_operation_value dst (value.Number n) = refl
 no_operation_value dst _ = refl
 
-wide_load_read : (dst : ℕ) (v : WideValue) → parsed_loaded dst (tokens_of (value_layout v (space ∷ word (codes "ll") ∷ []))) ≡ Some (form.WideLoad dst v)
+wide_load_read : (dst : ℕ) (v : WideValue)
+    → parsed_loaded dst (tokens_of (value_layout v (space ∷ word (codes "ll") ∷ []))) ≡ Some (form.WideLoad dst v)
 unfolding parsed_wide_load after_word
 wide_load_read dst v = rw (value_read v (space ∷ word (codes "ll") ∷ [])) refl
 
 -- ---- jumps
 
-branch_read : (wide : Bool) (c : Condition) (dst : ℕ) (src : SourceOperand) (to : JumpTarget) (n : List ℕ) → dst ≤ 10 → IsSource src → NoLabel (to_label to) n
-    → parsed_branch (name (register_name wide dst) ∷ symbol (condition_symbol c) ∷ tokens_of (operand_layout wide src (space ∷ word (codes "goto") ∷ space ∷ destination to n))) ≡ Some (form.Branch wide c dst src to, n)
+branch_read : (wide : Bool) (c : Condition) (dst : ℕ) (src : SourceOperand) (to : JumpTarget) (n : List ℕ)
+    → dst ≤ 10 → IsSource src
+    → NoLabel (to_label to) n
+    → parsed_branch (name (register_name wide dst)
+    ∷ symbol (condition_symbol c)
+    ∷ tokens_of (operand_layout wide src (space ∷ word (codes "goto") ∷ space ∷ destination to n)))
+    ≡ Some (form.Branch wide c dst src to, n)
 unfolding parsed_branch after_word
-branch_read wide c dst src to n fits s none = rw (named_register wide dst fits, condition_symbol_again c, operand_read wide src (space ∷ word (codes "goto") ∷ space ∷ destination to n) s, destination_read to n none) refl
+branch_read wide c dst src to n fits s none =
+    rw (
+      named_register wide dst fits,
+      condition_symbol_again c,
+      operand_read wide src (space ∷ word (codes "goto") ∷ space ∷ destination to n) s,
+      destination_read to n none,
+    )
+    refl
 
 -- ---- whole lines
 
@@ -185,43 +265,67 @@ alu_no_colon : (op : AluOp) → bytes_eq (alu_symbol op) (codes ":") ≡ false
 alu_no_colon Add = refl
 alu_no_colon _ = refl
 
-no_colon : (wide : Bool) (dst : ℕ) (o : Operation) → after_symbol (codes ":") (tokens_of (operation_layout wide dst o)) ≡ None
+no_colon : (wide : Bool) (dst : ℕ) (o : Operation)
+    → after_symbol (codes ":") (tokens_of (operation_layout wide dst o)) ≡ None
 unfolding after_symbol
 no_colon wide dst (operation.Binary op src) = rw (alu_no_colon op) refl
 no_colon wide dst _ = refl
 
-no_label_constant : (w : List ℕ) (negative : Bool) (m : Option ℕ) → parsed_label (name w ∷ tokens_of (minus negative (Some (number m) ∷ []))) ≡ None
+no_label_constant : (w : List ℕ) (negative : Bool) (m : Option ℕ)
+    → parsed_label (name w ∷ tokens_of (minus negative (Some (number m) ∷ []))) ≡ None
 unfolding parsed_label after_symbol
 no_label_constant w true m = refl
 no_label_constant w false m = refl
 
-no_label_sign : (w : List ℕ) (negative : Bool) (ts : List Token) → parsed_label (name w ∷ symbol (sign_name negative) ∷ ts) ≡ None
+no_label_sign : (w : List ℕ) (negative : Bool) (ts : List Token)
+    → parsed_label (name w ∷ symbol (sign_name negative) ∷ ts) ≡ None
 unfolding parsed_label after_symbol
 no_label_sign w true ts = refl
 no_label_sign w false ts = refl
 
-no_label_destination : (w : List ℕ) (to : JumpTarget) (n : List ℕ) → parsed_label (name w ∷ tokens_of (destination to n)) ≡ None
+no_label_destination : (w : List ℕ) (to : JumpTarget) (n : List ℕ)
+    → parsed_label (name w ∷ tokens_of (destination to n)) ≡ None
 unfolding parsed_label after_symbol
 no_label_destination w (target.Number m) n = no_label_sign w m.negative (number m.magnitude ∷ [])
 no_label_destination w target.Label n = refl
 
 -- an assignment to a register
-line_from_register : (wide : Bool) (r : ℕ) (ts : List Token) {f : Form} {n : List ℕ} → after_symbol (codes ":") ts ≡ None → n ≡ [] → parsed_assigned (name (register_name wide r) ∷ ts) ≡ Some f → line_of (name (register_name wide r) ∷ ts) ≡ Some (code f n)
+line_from_register : (wide : Bool) (r : ℕ) (ts : List Token) {f : Form} {n : List ℕ}
+    → after_symbol (codes ":") ts ≡ None → n ≡ []
+    → parsed_assigned (name (register_name wide r) ∷ ts) ≡ Some f
+    → line_of (name (register_name wide r) ∷ ts) ≡ Some (code f n)
 unfolding line_of parsed_label parsed_form after_word
 line_from_register true r ts colon none e = rw (colon, e, none) refl
 line_from_register false r ts colon none e = rw (colon, e, none) refl
 
-code_read : (f : Form) (n : List ℕ) → IsForm f → NoLabel (names_label f) n → line_of (tokens_of (layout f n)) ≡ Some (code f n)
+code_read : (f : Form) (n : List ℕ)
+    → IsForm f → NoLabel (names_label f) n
+    → line_of (tokens_of (layout f n)) ≡ Some (code f n)
 unfolding line_of parsed_label parsed_form parsed_assigned after_symbol after_word
-code_read (form.Operation wide dst o) n fits none = line_from_register wide dst (tokens_of (operation_layout wide dst o)) (no_colon wide dst o) none (operation_read wide dst o fits.0 fits.1)
-code_read (form.Jump false to) n fits none = rw (no_label_destination (codes "goto") to n, destination_read to n none) refl
-code_read (form.Jump true to) n fits none = rw (no_label_destination (codes "gotol") to n, destination_read to n none) refl
+code_read (form.Operation wide dst o) n fits none =
+    line_from_register wide dst (tokens_of (operation_layout wide dst o)) (no_colon wide dst o) none
+    (operation_read wide dst o fits.0 fits.1)
+code_read (form.Jump false to) n fits none =
+    rw (no_label_destination (codes "goto") to n, destination_read to n none) refl
+code_read (form.Jump true to) n fits none =
+    rw (no_label_destination (codes "gotol") to n, destination_read to n none) refl
 code_read (form.Branch wide c dst src to) n fits none = rw (branch_read wide c dst src to n fits.0 fits.1 none) refl
-code_read (form.Access (access.Load size signed dst) at) n fits none = line_from_register true dst (symbol (codes "=") ∷ tokens_of (address (size_name signed size) at [])) refl none (loaded_read dst _ fits.1.0 (no_operation_address dst (size_name signed size) at) (load_read size signed dst at fits.0 fits.1.1))
+code_read (form.Access (access.Load size signed dst) at) n fits none =
+    line_from_register true dst
+    (symbol (codes "=") ∷ tokens_of (address (size_name signed size) at []))
+    refl none
+    (loaded_read dst _ fits.1.0
+    (no_operation_address dst (size_name signed size) at)
+    (load_read size signed dst at fits.0 fits.1.1))
 code_read (form.Access (access.Store size src) at) n fits none = rw (store_read size src at fits.0 fits.1, none) refl
 code_read (form.Access (access.Atomic z op src) at) n fits none = rw (atomic_read z op src at fits.0 fits.1, none) refl
-code_read (form.WideLoad dst v) n fits none = line_from_register true dst (symbol (codes "=") ∷ tokens_of (value_layout v (space ∷ word (codes "ll") ∷ []))) refl none (loaded_read dst _ fits (no_operation_value dst v) (wide_load_read dst v))
-code_read (form.Call id) n fits none = rw (no_label_constant (codes "call") id.negative id.magnitude, constant_read id.negative id.magnitude [], none) refl
+code_read (form.WideLoad dst v) n fits none =
+    line_from_register true dst
+    (symbol (codes "=") ∷ tokens_of (value_layout v (space ∷ word (codes "ll") ∷ [])))
+    refl none
+    (loaded_read dst _ fits (no_operation_value dst v) (wide_load_read dst v))
+code_read (form.Call id) n fits none =
+    rw (no_label_constant (codes "call") id.negative id.magnitude, constant_read id.negative id.magnitude [], none) refl
 code_read form.Exit n fits none = rw none refl
 
 -- the spelling of a well-formed line is read as this line

@@ -66,13 +66,17 @@ checked_again false f h = absurd cc
 
 insn_of : Form → Option Insn
 insn_of (form.Operation wide dst (operation.Binary op src)) = Some (Alu wide op dst (operand_of src))
-insn_of (form.Operation wide dst (operation.SignExtend from src)) = checked (wide || is_short from) (λ h. Movsx (record { wide = wide; bits = from; dst = dst; src = src; listed = h }))
+insn_of (form.Operation wide dst (operation.SignExtend from src)) =
+    checked (wide || is_short from) (λ h. Movsx (record { wide = wide; bits = from; dst = dst; src = src; listed = h }))
 insn_of (form.Operation wide dst operation.Neg) = Some (Neg wide dst)
 insn_of (form.Operation wide dst (operation.End how bits)) = Some (End how bits dst)
 insn_of (form.Jump false to) = Some (Ja (target_of to))
 insn_of (form.Jump true to) = Some (Jal (target_of to))
 insn_of (form.Branch wide cond dst src to) = Some (Jump wide cond dst (operand_of src) (target_of to))
-insn_of (form.Access (access.Load size signed dst) at) = checked (not (signed && is_double size)) (λ h. Load (record { size = size; signed = signed; dst = dst; src = at.base; off = integer_of at.offset; listed = h }))
+insn_of (form.Access (access.Load size signed dst) at) =
+    checked (not (signed && is_double size))
+    (λ h.
+    Load (record { size = size; signed = signed; dst = dst; src = at.base; off = integer_of at.offset; listed = h }))
 insn_of (form.Access (access.Store size src) at) = Some (Store size at.base (operand_of src) (integer_of at.offset))
 insn_of (form.Access (access.Atomic size op src) at) = Some (Atomic size op at.base src (integer_of at.offset))
 insn_of (form.WideLoad dst (value.Number n)) = option_map (λ n. Const dst n) n
@@ -84,12 +88,19 @@ insn_of form.Exit = Some Exit
 insn_again : (i : Insn) → insn_of (written i) ≡ Some i
 unfolding insn_of target_of
 insn_again (Alu wide op dst src) = rw (operand_again src) refl
-insn_again (Movsx m) = checked_again (m.wide || is_short m.bits) (λ h. Movsx (record { wide = m.wide; bits = m.bits; dst = m.dst; src = m.src; listed = h })) m.listed
+insn_again (Movsx m) =
+    checked_again (m.wide || is_short m.bits)
+    (λ h. Movsx (record { wide = m.wide; bits = m.bits; dst = m.dst; src = m.src; listed = h }))
+    m.listed
 insn_again (Ja off) = rw (integer_again off) refl
 insn_again (Jal off) = rw (integer_again off) refl
 insn_again (Jump wide cond dst src off) = rw (operand_again src, integer_again off) refl
 insn_again (Call id) = rw (integer_again id) refl
-insn_again (Load l) = rw (integer_again l.off) (checked_again (not (l.signed && is_double l.size)) (λ h. Load (record { size = l.size; signed = l.signed; dst = l.dst; src = l.src; off = l.off; listed = h })) l.listed)
+insn_again (Load l) =
+    rw (integer_again l.off)
+    (checked_again (not (l.signed && is_double l.size))
+    (λ h. Load (record { size = l.size; signed = l.signed; dst = l.dst; src = l.src; off = l.off; listed = h }))
+    l.listed)
 insn_again (Store size dst src off) = rw (operand_again src, integer_again off) refl
 insn_again (Atomic size op dst src off) = rw (integer_again off) refl
 insn_again (MapFd dst fd) = rw (integer_again fd) refl

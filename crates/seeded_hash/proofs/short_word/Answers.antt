@@ -5,12 +5,15 @@ use Rattle.seeded_hash.proofs.short_word.Goals as goal
 
 pub returns-then-len-ge4 : goal.returns-then-len-ge4
 unfolding short_word
-returns-then-len-ge4 c = rw (c.half_at.ensures, c.half_at-then-len-ge4.ensures, le-leb 4 (length c.args.bytes.now) c.if-len-ge4.true)
+returns-then-len-ge4 c =
+    rw (c.half_at.ensures, c.half_at-then-len-ge4.ensures, le-leb 4 (length c.args.bytes.now) c.if-len-ge4.true)
 
 pub returns-then-len-gt0 : goal.returns-then-len-gt0
 unfolding short_word
-returns-then-len-gt0 c = rw (lt-leb 4 (length c.args.bytes.now) c.if-len-ge4.false, lt-ltb 0 (length c.args.bytes.now) c.if-len-gt0.true)
+returns-then-len-gt0 c =
+    rw (lt-leb 4 (length c.args.bytes.now) c.if-len-ge4.false, lt-ltb 0 (length c.args.bytes.now) c.if-len-gt0.true)
 
 pub returns-else-len-gt0 : goal.returns-else-len-gt0
 unfolding short_word
-returns-else-len-gt0 c = rw (lt-leb 4 (length c.args.bytes.now) c.if-len-ge4.false, le-ltb 0 (length c.args.bytes.now) c.if-len-gt0.false)
+returns-else-len-gt0 c =
+    rw (lt-leb 4 (length c.args.bytes.now) c.if-len-ge4.false, le-ltb 0 (length c.args.bytes.now) c.if-len-gt0.false)

@@ -14,5 +14,8 @@ returns c =
     let to : c.address-start.result + c.args.to ≡ base + (part_start m t + c.args.to) = omega arith in
     subst (λ (after : Memory). IsWrittenAt m t c.args.to (bytes_at (part_bytes m t) c.args.from 8) after)
     (sym (c.copy.ensures.bytes
-    ∙ ap (λ (a : ℕ). copied m 8 (offset_of (size_of m) 8 a) (offset_of (size_of m) 8 (c.address-start.result + c.args.to))) from
-    ∙ ap (λ (a : ℕ). copied m 8 (asked_in m t 8 c.args.from) (offset_of (size_of m) 8 a)) to)) (has.copy c.args.to c.args.from 8 c.requires.to c.requires.from)
+    ∙ ap (λ (a : ℕ).
+    copied m 8 (offset_of (size_of m) 8 a) (offset_of (size_of m) 8 (c.address-start.result + c.args.to)))
+    from
+    ∙ ap (λ (a : ℕ). copied m 8 (asked_in m t 8 c.args.from) (offset_of (size_of m) 8 a)) to))
+    (has.copy c.args.to c.args.from 8 c.requires.to c.requires.from)

@@ -12,4 +12,5 @@ returns c =
     let value = c.address.ensures.value in
     let there : c.address.result + c.args.at ≡ base + (part_start m t + c.args.at) = omega arith in
     subst (λ (after : Memory). IsWrittenAt m t c.args.at (low_bytes 8 c.args.value) after)
-    (sym (c.store.ensures.bytes ∙ ap (λ (a : ℕ). stored m 8 c.args.value (offset_of (size_of m) 8 a)) there)) (has.store c.args.at 8 c.args.value c.requires.room)
+    (sym (c.store.ensures.bytes ∙ ap (λ (a : ℕ). stored m 8 c.args.value (offset_of (size_of m) 8 a)) there))
+    (has.store c.args.at 8 c.args.value c.requires.room)

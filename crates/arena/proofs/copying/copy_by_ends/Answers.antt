@@ -9,6 +9,7 @@ returns g c =
     let bytes = c.args.bytes.now in
     let last = length bytes - g.row.N in
     c.copy_piece-2.ensures
-    ∙ ap (λ (piece : List ℕ). written_at c.copy_piece.new.to (c.args.offset + last) piece) (take_all (length bytes - last) (drop last bytes) (omega (arith, length-drop last bytes)))
+    ∙ ap (λ (piece : List ℕ). written_at c.copy_piece.new.to (c.args.offset + last) piece)
+    (take_all (length bytes - last) (drop last bytes) (omega (arith, length-drop last bytes)))
     ∙ ap (λ (to : List ℕ). written_at to (c.args.offset + last) (drop last bytes)) c.copy_piece.ensures
     ∙ ends_written c.args.to.now bytes c.args.offset g.row.N last (omega arith) (omega arith) c.requires.room

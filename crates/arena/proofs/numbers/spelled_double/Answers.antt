@@ -10,4 +10,5 @@ returns c =
     let long : length source ≡ 8 = length-bytes_at bytes c.args.at 8 c.requires in
     let small : (i : ℕ) → i < length source → get_or source i 0 < 256 = λ i below.
     subst (λ b. b < 256) (sym (byte_of bytes c.args.at 8 i (omega arith))) (c.type_inv.bytes (c.args.at + i)).fits in
-    ap (low_bytes 8) c.read_double.ensures ∙ subst (λ n. low_bytes n (number_of source) ≡ source) long (low_bytes_of_number source small)
+    ap (low_bytes 8) c.read_double.ensures
+    ∙ subst (λ n. low_bytes n (number_of source) ≡ source) long (low_bytes_of_number source small)

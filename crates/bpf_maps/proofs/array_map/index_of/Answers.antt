@@ -2,4 +2,5 @@ use Rattle.bpf_maps.proofs.Arrays.{spelled}
 use Rattle.bpf_maps.proofs.array_map.index_of.Goals as goal
 
 pub returns : goal.returns
-returns c = spelled c.args.key.now c.from_le_bytes.result c.requires (λ i. (c.type_inv.key i).fits) c.from_le_bytes.ensures
+returns c =
+    spelled c.args.key.now c.from_le_bytes.result c.requires (λ i. (c.type_inv.key i).fits) c.from_le_bytes.ensures

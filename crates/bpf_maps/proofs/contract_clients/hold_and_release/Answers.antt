@@ -10,14 +10,19 @@ returns c = λ k live.
     let part = c.args.part.now in
     let held = c.hold.new.self in
     let along = c.live_maps_refine_values.ensures in
-    let more : 1 < holds_at held c.args.map = let holds = c.hold.ensures.holds in let some = c.requires.held in omega arith in
+    let more : 1 < holds_at held c.args.map =
+    let holds = c.hold.ensures.holds in let some = c.requires.held in omega arith in
     let one : KeepsMap c.args.map old part c.release.new.self c.release.new.part = λ was.
-    let (still, same) = keeps along part old held c.args.map c.hold.ensures.areas c.hold.ensures.live c.hold.ensures.keys was in
+    let (still, same) =
+    keeps along part old held c.args.map c.hold.ensures.areas c.hold.ensures.live c.hold.ensures.keys was in
     let (there, kept) = c.release.ensures.kept more still in
     (there, kept ∙ same) in
     same_or_other k c.args.map
-    (λ (e : k ≡ c.args.map). subst (λ (j : ℕ). KeepsMap j old part c.release.new.self c.release.new.part) (sym e) one live)
+    (λ (e : k ≡ c.args.map).
+    subst (λ (j : ℕ). KeepsMap j old part c.release.new.self c.release.new.part) (sym e) one live)
     (λ (other : k ≢ c.args.map).
-    let (still, same) = others_stay along part old held c.args.map c.hold.ensures.areas c.hold.ensures.live k (c.hold.ensures.others k other) live in
+    let (still, same) =
+    others_stay along part old held c.args.map c.hold.ensures.areas c.hold.ensures.live k
+    (c.hold.ensures.others k other) live in
     let (there, kept) = c.release.ensures.maps k other still in
     (there, kept ∙ same))

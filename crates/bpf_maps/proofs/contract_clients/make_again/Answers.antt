@@ -12,12 +12,18 @@ returns-clause-room c =
     let long = c.maps_are_laid.ensures.maps in
     let still = c.maps_are_laid-2.ensures.maps in
     let below : c.args.map < length mid.maps = omega arith in
-    let freed : areas c.args.maps.now ≡ areas mid + area_by c.shape-shape.result = c.release.ensures.freed c.requires.last ∙ ap (λ s. areas mid + area_by s) (sym c.shape-shape.ensures) in
+    let freed : areas c.args.maps.now ≡ areas mid + area_by c.shape-shape.result =
+    c.release.ensures.freed c.requires.last ∙ ap (λ s. areas mid + area_by s) (sym c.shape-shape.ensures) in
     let most = c.maps_are_laid.ensures.bytes in
     let fits : areas mid + area_by c.shape-shape.result ≤ LARGEST_SUM = omega arith in
     not_full mid c.create.new.self c.shape-shape.result c.create.result
-    (no_fault mid c.shape-shape.result (some_handle_free c.args.map mid below (c.release.ensures.gone c.requires.last)) fits)
+    (no_fault mid c.shape-shape.result
+    (some_handle_free c.args.map mid below (c.release.ensures.gone c.requires.last))
+    fits)
     c.create.ensures.created
 
 pub returns-clause-lowest : goal.returns-clause-lowest
-returns-clause-lowest c = made_low (create_fault c.release.new.self c.shape-shape.result) c.release.new.self c.create.new.self c.shape-shape.result c.args.map c.create.result (c.release.ensures.gone c.requires.last) c.create.ensures.created
+returns-clause-lowest c =
+    made_low (create_fault c.release.new.self c.shape-shape.result) c.release.new.self
+    c.create.new.self c.shape-shape.result c.args.map c.create.result
+    (c.release.ensures.gone c.requires.last) c.create.ensures.created

@@ -16,16 +16,25 @@ returns-in-Ok-clause-room c =
     let mid = c.create.new.self in
     let new = c.release.new.self in
     let map = c.in-Ok.map in
-    let made : IsCreated old c.args.shape map mid = created (create_fault old c.args.shape) old mid c.args.shape map c.in-Ok.ensures.created in
+    let made : IsCreated old c.args.shape map mid =
+    created (create_fault old c.args.shape) old mid c.args.shape map c.in-Ok.ensures.created in
     let last : holds_at mid map ≤ 1 = let one = made.holds in omega arith in
     let more : areas mid ≡ areas old + area_by c.args.shape = c.in-Ok.ensures.more in
-    let freed : areas mid ≡ areas new + area_by c.args.shape = c.release.ensures.freed last ∙ ap (λ (t : KeyTable). areas new + area_by t.shape) made.keys in
+    let freed : areas mid ≡ areas new + area_by c.args.shape =
+    c.release.ensures.freed last ∙ ap (λ (t : KeyTable). areas new + area_by t.shape) made.keys in
     let bytes : areas new ≡ areas old = omega arith in
     same_fault old new other
     (same_free_handle old new (c.maps_are_laid-in-Ok.ensures.maps ∙ sym c.maps_are_laid.ensures.maps)
     (λ k. same_or_other k map
-    (λ (s : k ≡ map). ap (λ (i : ℕ). is_some (live_at new i)) s ∙ ap is_some (c.release.ensures.gone last ∙ sym made.was) ∙ ap (λ (i : ℕ). is_some (live_at old i)) (sym s))
-    (λ (ne : k ≢ map). sym (some_held (live_at new k)) ∙ ap is_some (c.release.ensures.others k ne) ∙ some_held (live_at mid k) ∙ ap is_some (made.others k ne))))
+    (λ (s : k ≡ map).
+    ap (λ (i : ℕ). is_some (live_at new i)) s
+    ∙ ap is_some (c.release.ensures.gone last ∙ sym made.was)
+    ∙ ap (λ (i : ℕ). is_some (live_at old i)) (sym s))
+    (λ (ne : k ≢ map).
+    sym (some_held (live_at new k))
+    ∙ ap is_some (c.release.ensures.others k ne)
+    ∙ some_held (live_at mid k)
+    ∙ ap is_some (made.others k ne))))
     bytes
 
 pub returns-in_default-clause-room : goal.returns-in_default-clause-room
@@ -33,14 +42,18 @@ returns-in_default-clause-room c =
     λ other.
     let old = c.args.maps.now in
     let mid = c.create.new.self in
-    let same : mid.maps ≡ old.maps = maps_refused (create_fault old c.args.shape) old mid c.args.shape _ c.in_default.ensures.created in
+    let same : mid.maps ≡ old.maps =
+    maps_refused (create_fault old c.args.shape) old mid c.args.shape _ c.in_default.ensures.created in
     same_fault old mid other (ap (position is_none) same) (ap (total area_of) same)
 
 pub returns-in-Ok-clause-maps : goal.returns-in-Ok-clause-maps
 returns-in-Ok-clause-maps c =
     λ k live.
-    let made = created (create_fault c.args.maps.now c.args.shape) c.args.maps.now c.create.new.self c.args.shape c.in-Ok.map c.in-Ok.ensures.created in
-    let other : k ≢ c.in-Ok.map = λ e. true≢false (sym live ∙ ap (λ (j : ℕ). is_some (live_at c.args.maps.now j)) e ∙ ap is_some made.was) in
+    let made =
+    created (create_fault c.args.maps.now c.args.shape) c.args.maps.now c.create.new.self
+    c.args.shape c.in-Ok.map c.in-Ok.ensures.created in
+    let other : k ≢ c.in-Ok.map =
+    λ e. true≢false (sym live ∙ ap (λ (j : ℕ). is_some (live_at c.args.maps.now j)) e ∙ ap is_some made.was) in
     let (still, same) = c.create.ensures.maps k live in
     let (there, kept) = c.release.ensures.maps k other still in
     (there, kept ∙ same)

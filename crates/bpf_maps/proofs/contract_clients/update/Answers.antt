@@ -8,7 +8,8 @@ use Rattle.bpf_maps.proofs.contract_clients.update.Goals as goal
 pub returns-in_err-element-clause-refused : goal.returns-in_err-element-clause-refused
 returns-in_err-element-clause-refused c =
     on_err c.from_residual.result
-    (keeps c.live_maps_refine_values.ensures c.args.part.now c.args.maps.now c.claim.new.self c.args.map c.claim.ensures.rest.areas c.claim.ensures.rest.live
+    (keeps c.live_maps_refine_values.ensures c.args.part.now c.args.maps.now c.claim.new.self
+    c.args.map c.claim.ensures.rest.areas c.claim.ensures.rest.live
     (not_claimed _ c.args.key.now _ _ _ c.in_err-element.ensures.claimed))
 
 module _ (c : goal.After-slice_known-2-1) where
@@ -23,18 +24,31 @@ module _ (c : goal.After-slice_known-2-1) where
   }
 
   abbrev after : List ℕ
-  after = take c.value_at-start.result c.args.part.now ++ (c.copy_from_slice.new.self ++ drop (c.value_at-start.result + length c.args.value.now - c.value_at-start.result) (drop c.value_at-start.result c.args.part.now))
+  after =
+      take c.value_at-start.result c.args.part.now
+      ++ (c.copy_from_slice.new.self
+      ++ drop (c.value_at-start.result + length c.args.value.now - c.value_at-start.result)
+      (drop c.value_at-start.result c.args.part.now))
 
   written : after ≡ with_value c.args.part.now c.claim.new.self c.args.map c.in_ok-element.element c.args.value.now
-  written = copied_is c.args.part.now c.copy_from_slice.new.self c.args.value.now c.value_at-start.result _ c.copy_from_slice.ensures.after c.value_at-start.ensures.offset
+  written =
+      copied_is c.args.part.now c.copy_from_slice.new.self c.args.value.now c.value_at-start.result
+      _ c.copy_from_slice.ensures.after c.value_at-start.ensures.offset
 
 pub returns-clause-done : goal.returns-clause-done
 returns-clause-done c =
     ap (λ (part : List ℕ). map_in part c.claim.new.self c.args.map) (written c)
-    ∙ (c.live_maps_refine_values.ensures c.args.part.now c.args.maps.now c.claim.new.self c.args.map c.claim.ensures.rest.areas c.claim.ensures.rest.live).update c.args.flags c.in_ok-element.element c.args.key.now c.args.value.now (is_value c) c.in_ok-element.ensures.claimed
+    ∙ (c.live_maps_refine_values.ensures c.args.part.now c.args.maps.now c.claim.new.self c.args.map
+    c.claim.ensures.rest.areas c.claim.ensures.rest.live).update
+    c.args.flags c.in_ok-element.element c.args.key.now
+    c.args.value.now (is_value c) c.in_ok-element.ensures.claimed
 
 pub returns-clause-others : goal.returns-clause-others
 returns-clause-others c = λ other differ.
     subst (λ (part : List ℕ). KeepsMap other c.args.maps.now c.args.part.now c.claim.new.self part) (sym (written c))
-    (keeps_written c.values_are_written.ensures c.args.part.now c.args.maps.now c.claim.new.self c.args.map c.in_ok-element.element c.args.value.now other (is_value c) differ
-    (others_stay c.live_maps_refine_values.ensures c.args.part.now c.args.maps.now c.claim.new.self c.args.map c.claim.ensures.rest.areas c.claim.ensures.rest.live other (c.claim.ensures.rest.others other differ)))
+    (keeps_written c.values_are_written.ensures c.args.part.now c.args.maps.now c.claim.new.self
+    c.args.map c.in_ok-element.element c.args.value.now
+    other (is_value c) differ
+    (others_stay c.live_maps_refine_values.ensures c.args.part.now c.args.maps.now c.claim.new.self
+    c.args.map c.claim.ensures.rest.areas c.claim.ensures.rest.live
+    other (c.claim.ensures.rest.others other differ)))

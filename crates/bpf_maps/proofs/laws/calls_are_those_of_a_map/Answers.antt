@@ -6,6 +6,8 @@ pub returns : goal.returns
 returns c = record {
   new = λ shape. refl;
   update = λ t key element. refl;
-  delete = λ t key element. ap (λ (n : ℕ). let m : Table ℕ = record { shape = t.shape; entries = without key t.entries; deleted = n } in m) (length-append t.kept (element ∷ []));
+  delete = λ t key element.
+      ap (λ (n : ℕ). let m : Table ℕ = record { shape = t.shape; entries = without key t.entries; deleted = n } in m)
+      (length-append t.kept (element ∷ []));
   end = λ t. refl;
 }

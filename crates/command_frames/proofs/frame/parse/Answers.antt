@@ -7,4 +7,7 @@ use Rattle.command_frames.proofs.frame.parse.Goals as goal
 pub returns : goal.returns
 returns c =
     let frame = c.args.frame.now in
-    c.command_in.ensures ∙ parsed_as frame (take (length frame - 4) (drop 4 frame)) c.read_u16.result (omega arith) (c.read_u16.ensures ∙ ap (little_number 2) (take_rest frame 2)) (take_rest frame 4)
+    c.command_in.ensures
+    ∙ parsed_as frame (take (length frame - 4) (drop 4 frame)) c.read_u16.result (omega arith)
+    (c.read_u16.ensures ∙ ap (little_number 2) (take_rest frame 2))
+    (take_rest frame 4)

@@ -10,7 +10,11 @@ use Rattle.flat_machine.proofs.packets.are_plain.Goals as goal
 in_order : (start end : ℕ) → start < 2 ^ 63 → end < 2 ^ 63 → (end + (18446744073709551616 - start)) % 18446744073709551616 < 65536 → start ≤ end
 in_order start end low also short = omega arith
 
-short_too : (start end : ℕ) → start < 2 ^ 63 → end < 2 ^ 63 → start ≤ end → (end + (18446744073709551616 - start)) % 18446744073709551616 < 65536 → end - start ≤ 65536
+short_too : (start end : ℕ)
+    → start < 2 ^ 63 → end < 2 ^ 63
+    → start ≤ end
+    → (end + (18446744073709551616 - start)) % 18446744073709551616 < 65536
+    → end - start ≤ 65536
 short_too start end low also ordered short = omega arith
 
 pub loop-end-init : goal.loop-end-init

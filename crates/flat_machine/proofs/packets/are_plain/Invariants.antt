@@ -6,5 +6,7 @@ use Rattle.flat_machine.proofs.packets.are_plain.Given as goal
 abbrev pub invariant-loop-end : goal.invariant-loop-end
 invariant-loop-end l = record {
   last : l.start ≤ l.reach;
-  plain : l.lengths < longest_packet → l.reach < 2 ^ 63 → l.start ≤ l.many → packets_fault l.many l.start (drop l.end-index l.ends) ≡ packets_fault l.many 0 l.ends;
+  plain : l.lengths < longest_packet
+      → l.reach < 2 ^ 63 → l.start ≤ l.many
+      → packets_fault l.many l.start (drop l.end-index l.ends) ≡ packets_fault l.many 0 l.ends;
 }

@@ -24,7 +24,8 @@ returns-then-end-start c =
     let at = c.loop-end.end-index in
     let here : packets_fault many start (get_or ends at 0 ∷ drop (at + 1) ends) ≡ Some Outside = elim c.then-end-start.branch [
       | then-end-start-via-then-end-start w ↦ before_refused many start (get_or ends at 0) (drop (at + 1) ends) w.if-end-start.true
-      | then-end-start-via-else-end-start+then-many-end w ↦ after_refused many start (get_or ends at 0) (drop (at + 1) ends) (let later = w.if-many-end.true in omega arith)
+      | then-end-start-via-else-end-start+then-many-end w ↦ after_refused many start (get_or ends at 0) (drop (at + 1) ends)
+          (let later = w.if-many-end.true in omega arith)
     ] in
     sym (sym c.loop-end.invariant ∙ at_drop_more (packets_fault many start) ends at 0 c.loop-end-test.true ∙ here)
 

@@ -7,5 +7,6 @@ use Rattle.insn_codec.proofs.known_answers.read_program_of_an_exit.Goals as goal
 pub prove-unreachable-requires : goal.prove-unreachable-requires
 unfolding spelling
 prove-unreachable-requires c =
-    let same : c.in_ok-program.program ≡ Exit ∷ [] = c.in_ok-program.ensures.only (Exit ∷ []) (record { each = (tt, tt); some = lit≤ tt; room = lit≤ tt }) refl in
+    let same : c.in_ok-program.program ≡ Exit ∷ [] =
+    c.in_ok-program.ensures.only (Exit ∷ []) (record { each = (tt, tt); some = lit≤ tt; room = lit≤ tt }) refl in
     c.if-prove.true (c.slots-slots.ensures.count ∙ ap slot_count same)

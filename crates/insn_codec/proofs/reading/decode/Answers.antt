@@ -10,7 +10,8 @@ use Rattle.insn_codec.proofs.reading.decode.Goals as goal
 
 pub returns-in-Ok-clause-only : goal.returns-in-Ok-clause-only
 returns-in-Ok-clause-only c = λ insn fits begins.
-    let same : c.read_front.new.entry ≡ insn = same_insn c.read_front.new.entry insn c.args.bytes.now c.in-Ok.ensures.found.0 fits c.in-Ok.ensures.found.1 begins in
+    let same : c.read_front.new.entry ≡ insn =
+    same_insn c.read_front.new.entry insn c.args.bytes.now c.in-Ok.ensures.found.0 fits c.in-Ok.ensures.found.1 begins in
     let used : c.slots-slots.result ≡ length (slots insn) = c.slots-slots.ensures.count ∙ ap (λ (i : Insn). length (slots i)) same in
     cc
 

@@ -10,10 +10,18 @@ use Rattle.insn_codec.proofs.Slots.{spelled_by}
 use Rattle.insn_codec.proofs.writing.encode.Goals as goal
 
 one : (c : goal.After-out-in-None-1) → spelling c.args.insn.now ≡ slot_bytes (fields c.first-first.result)
-one c = spelled_by c.args.insn.now c.first-first.result None (ap (λ (x : SlotFields). x ∷ []) c.first-first.ensures ∙ ap (λ (ss : List SlotFields). first c.args.insn.now ∷ ss) (sym (c.second.ensures ∙ ap (λ (t : Option RawSlot). map fields (option_to_list t)) c.in-None.is)))
+one c =
+    spelled_by c.args.insn.now c.first-first.result None
+    (ap (λ (x : SlotFields). x ∷ []) c.first-first.ensures
+    ∙ ap (λ (ss : List SlotFields). first c.args.insn.now ∷ ss)
+    (sym (c.second.ensures ∙ ap (λ (t : Option RawSlot). map fields (option_to_list t)) c.in-None.is)))
 
 two : (c : goal.After-out-in-Some-2-1) → spelling c.args.insn.now ≡ slot_bytes (fields c.first-first.result) ++ slot_bytes (fields c.in-Some.next)
-two c = spelled_by c.args.insn.now c.first-first.result (Some c.in-Some.next) (ap (λ (x : SlotFields). x ∷ fields c.in-Some.next ∷ []) c.first-first.ensures ∙ ap (λ (ss : List SlotFields). first c.args.insn.now ∷ ss) (sym (c.second.ensures ∙ ap (λ (t : Option RawSlot). map fields (option_to_list t)) c.in-Some.is)))
+two c =
+    spelled_by c.args.insn.now c.first-first.result (Some c.in-Some.next)
+    (ap (λ (x : SlotFields). x ∷ fields c.in-Some.next ∷ []) c.first-first.ensures
+    ∙ ap (λ (ss : List SlotFields). first c.args.insn.now ∷ ss)
+    (sym (c.second.ensures ∙ ap (λ (t : Option RawSlot). map fields (option_to_list t)) c.in-Some.is)))
 
 pub returns-in-None-clause-length : goal.returns-in-None-clause-length
 returns-in-None-clause-length c = sym (ap length (one c))

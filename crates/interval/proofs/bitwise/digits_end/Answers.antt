@@ -12,7 +12,9 @@ returns-else-most-eq0-clause-value c =
     digits_shifted c.max-most.result ∙ ap (λ m. 2 ^ binary_digits m - 1) c.max-most.ensures
 
 pub returns-else-most-eq0-clause-first : goal.returns-else-most-eq0-clause-first
-returns-else-most-eq0-clause-first c = omega (arith, digits_shifted c.max-most.result, below_digits c.max-most.result (omega arith))
+returns-else-most-eq0-clause-first c =
+    omega (arith, digits_shifted c.max-most.result, below_digits c.max-most.result (omega arith))
 
 pub returns-else-most-eq0-clause-second : goal.returns-else-most-eq0-clause-second
-returns-else-most-eq0-clause-second c = omega (arith, digits_shifted c.max-most.result, below_digits c.max-most.result (omega arith))
+returns-else-most-eq0-clause-second c =
+    omega (arith, digits_shifted c.max-most.result, below_digits c.max-most.result (omega arith))

@@ -2,4 +2,9 @@ use Rattle.interval.proofs.HullLemmas.{hull_holds, hull_is_least, hull_commutes,
 use Rattle.interval.proofs.laws.hull_is_a_join.Goals as goal
 
 pub returns : goal.returns
-returns c = record { holds_both = hull_holds; least = hull_is_least; commutes = hull_commutes; associates = hull_associates }
+returns c = record {
+  holds_both = hull_holds;
+  least = hull_is_least;
+  commutes = hull_commutes;
+  associates = hull_associates;
+}

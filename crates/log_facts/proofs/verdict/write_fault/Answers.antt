@@ -4,5 +4,6 @@ use Rattle.log_facts.proofs.verdict.write_fault.Goals as goal
 
 pub returns : goal.returns
 returns c =
-    let same : refusal_text c.from-refusal.result ≡ refusal_text (refusal_of_program c.args.fault) = ap refusal_text c.from-refusal.ensures in
+    let same : refusal_text c.from-refusal.result ≡ refusal_text (refusal_of_program c.args.fault) =
+    ap refusal_text c.from-refusal.ensures in
     search rules

@@ -4,8 +4,10 @@ use Rattle.verifier.specs.declared.fault.VerifyFault.{VerifyFault}
 use Rattle.log_facts.proofs.verdict.write_refusal.Goals as goal
 
 -- a line of a refusal, and more after it, are a verdict
-adds : {A E : Type 0} (r : Result A E) (fault : VerifyFault) (old front why new : List ℕ) → front ≡ old ++ refusal_line fault
-    → new ≡ (if is_ok r then front ++ why else front) → OnOk r ((more : List ℕ) × (new ≡ old ++ refusal_line fault ++ more))
+adds : {A E : Type 0} (r : Result A E) (fault : VerifyFault) (old front why new : List ℕ)
+    → front ≡ old ++ refusal_line fault
+    → new ≡ (if is_ok r then front ++ why else front)
+    → OnOk r ((more : List ℕ) × (new ≡ old ++ refusal_line fault ++ more))
 adds (Ok _) fault old front why new line end = (why, end ∙ ap (λ bytes. bytes ++ why) line)
 adds (Err _) fault old front why new line end = tt
 

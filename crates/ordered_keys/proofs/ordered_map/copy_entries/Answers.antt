@@ -12,7 +12,8 @@ loop-at-preserved g c =
       items =
           c.push_reserved.ensures.items
           ∙ ap (λ (xs : List (g.row.K.Denot × ℕ)). xs ++ (c.in-Some.key.now, c.in-Some.element.now) ∷ []) h.items
-          ∙ take_next (drop c.args.start es) c.loop-at.at (c.in-Some.key.now, c.in-Some.element.now) (dropped c.args.start es c.loop-at.at ∙ sym c.in-Some.ensures.entry);
+          ∙ take_next (drop c.args.start es) c.loop-at.at (c.in-Some.key.now, c.in-Some.element.now)
+          (dropped c.args.start es c.loop-at.at ∙ sym c.in-Some.ensures.entry);
       length = let a = h.length in let b = c.push_reserved.ensures.len in omega arith;
       capacity = c.push_reserved.ensures.capacity ∙ h.capacity;
       buffer = let a = h.buffer in let b = c.push_reserved.ensures.capacity in omega arith;
@@ -21,4 +22,5 @@ loop-at-preserved g c =
 pub returns-clause-items : goal.returns-clause-items
 returns-clause-items g c =
     c.loop-at.invariant.items
-    ∙ take_all c.loop-at.at (drop c.args.start c.args.table.now.entries) (let d = length-drop c.args.start c.args.table.now.entries in omega arith)
+    ∙ take_all c.loop-at.at (drop c.args.start c.args.table.now.entries)
+    (let d = length-drop c.args.start c.args.table.now.entries in omega arith)

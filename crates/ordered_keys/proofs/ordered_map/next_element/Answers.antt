@@ -5,10 +5,14 @@ use Rattle.ordered_keys.proofs.ordered_map.next_element.Goals as goal
 
 pub after-requires : goal.after-requires
 after-requires g c =
-    has_entry c.args.table.now.entries c.args.indices.now c.args.order.now c.requires c.in-Some.element (sym c.has_element.ensures ∙ c.if-has_element.true)
+    has_entry c.args.table.now.entries c.args.indices.now c.args.order.now c.requires
+    c.in-Some.element
+    (sym c.has_element.ensures ∙ c.if-has_element.true)
 
 pub returns-else-has_element : goal.returns-else-has_element
 returns-else-has_element g c =
     sym
     (ap (λ (o : Option ℕ). next_of_elements o c.args.order.now.elements) c.in-Some.is
-    ∙ has_no_entry c.args.table.now.entries c.args.indices.now c.args.order.now c.requires c.in-Some.element (sym c.has_element.ensures ∙ c.if-has_element.false))
+    ∙ has_no_entry c.args.table.now.entries c.args.indices.now c.args.order.now c.requires
+    c.in-Some.element
+    (sym c.has_element.ensures ∙ c.if-has_element.false))

@@ -29,7 +29,10 @@ loop-index-preserved g c =
     let x_at = slice_get-get_or rows i c.index-rows-index.result c.loop-index-test.true in
     let y_at = slice_get-get_or rows i c.index-rows-index-in-loop-index.result c.loop-index-test.true in
     let same : y ≡ x = same_Some y x (sym y_at ∙ x_at) in
-    let at = x_at ∙ ap (λ (p : ℕ). let o : Option (g.row.K.Denot × ℕ) = Some (x.0, p) in o) (sym (ap (λ (e : g.row.K.Denot × ℕ). e.1) same)) in
+    let at =
+    x_at
+    ∙ ap (λ (p : ℕ). let o : Option (g.row.K.Denot × ℕ) = Some (x.0, p) in o)
+    (sym (ap (λ (e : g.row.K.Denot × ℕ). e.1) same)) in
     record {
       entries =
           c.put_last.ensures.entries
@@ -44,4 +47,5 @@ loop-index-preserved g c =
 pub returns-clause-entries : goal.returns-clause-entries
 returns-clause-entries g c =
     c.loop-index.invariant.entries
-    ∙ ap (λ (es : List (g.row.K.Denot × ℕ)). c.args.table.now.entries ++ es) (take_all c.loop-index.index c.args.rows.now (omega arith))
+    ∙ ap (λ (es : List (g.row.K.Denot × ℕ)). c.args.table.now.entries ++ es)
+    (take_all c.loop-index.index c.args.rows.now (omega arith))

@@ -31,25 +31,34 @@ module _ (g : Over) (c : After-as_slice g) where
   front = c.truncate.ensures.entries ∙ ap (λ (xs : List (g.row.K.Denot × ℕ)). take half xs) table
 
   left : c.as_slice.result.now ≡ take (length c.copy_entries.new.rows.items - 1) c.copy_entries.new.rows.items
-  left = c.as_slice.ensures.value ∙ c.pop.ensures.rest ∙ ap (λ (n : ℕ). take (n - 1) c.copy_entries.new.rows.items) c.copy_entries.new.rows.ok.0
+  left =
+      c.as_slice.ensures.value
+      ∙ c.pop.ensures.rest
+      ∙ ap (λ (n : ℕ). take (n - 1) c.copy_entries.new.rows.items) c.copy_entries.new.rows.ok.0
 
   rest : c.truncate.new.self.entries ++ c.as_slice.result.now ≡ swap_remove es c.args.index taken
   rest = rest_is es c.args.index half taken c.requires.within less front rows left
 
   some : 0 < length c.copy_entries.new.rows.items
-  some = subst (λ (xs : List (g.row.K.Denot × ℕ)). 0 < length xs) (sym rows) (some_second es c.args.index half taken c.requires.within less)
+  some =
+      subst (λ (xs : List (g.row.K.Denot × ℕ)). 0 < length xs) (sym rows)
+      (some_second es c.args.index half taken c.requires.within less)
 
   entry : slice_get es c.args.index ≡ Some taken
   entry =
       taken_is es c.args.index half taken c.requires.within less rows
       (same_Some taken (get_or c.copy_entries.new.rows.items (length c.copy_entries.new.rows.items - 1) taken)
-      (sym c.in-Some.is ∙ c.pop.ensures.value taken (let s = some in let ok = c.copy_entries.new.rows.ok.0 in omega arith) ∙ ap (λ (n : ℕ). Some (get_or c.copy_entries.new.rows.items (n - 1) taken)) c.copy_entries.new.rows.ok.0))
+      (sym c.in-Some.is
+      ∙ c.pop.ensures.value taken (let s = some in let ok = c.copy_entries.new.rows.ok.0 in omega arith)
+      ∙ ap (λ (n : ℕ). Some (get_or c.copy_entries.new.rows.items (n - 1) taken)) c.copy_entries.new.rows.ok.0))
 
 pub put_all-requires-clause-apart : goal.put_all-requires-clause-apart
 put_all-requires-clause-apart g c =
     let at = (goal.at.put_all-requires-clause-apart g c).After-as_slice in
     subst (AreApart g.K.PartialEq.eq) (sym (rest g at))
-    (apart_left g.K.PartialEq.eq g.met.K.Eq.laws c.args.table.now.entries c.args.index c.in-Some.taken (entry g at) (apart_in_table g.K.PartialEq.eq g.met.K.Eq.laws c.args.table.now.entries c.len-len.ensures.unique))
+    (apart_left g.K.PartialEq.eq g.met.K.Eq.laws c.args.table.now.entries c.args.index
+    c.in-Some.taken (entry g at)
+    (apart_in_table g.K.PartialEq.eq g.met.K.Eq.laws c.args.table.now.entries c.len-len.ensures.unique))
 
 pub returns-clause-entry : goal.returns-clause-entry
 returns-clause-entry g c = entry g (goal.at.returns-clause-entry g c).After-as_slice

@@ -10,14 +10,22 @@ use Rattle.reg_kinds.proofs.joins.join_part.Goals.{then-join_slot, else-join_slo
 use Rattle.reg_kinds.proofs.joins.join_part.Goals as goal
 
 -- a slot of the part, and one of another
-inside : (part : ℕ) (a b : Facts) (k : ℕ) → 8 * part ≤ k → k < 8 * part + 8 → part_joined part a b k ≡ slot_join (slot_at a k) (slot_at b k)
-inside part a b k low high = cond-true (part_of k == part) (slot_join (slot_at a k) (slot_at b k)) (slot_at a k) (eq-eqb (part_of k) part (omega (arith, low, high)))
+inside : (part : ℕ) (a b : Facts) (k : ℕ)
+    → 8 * part ≤ k → k < 8 * part + 8
+    → part_joined part a b k ≡ slot_join (slot_at a k) (slot_at b k)
+inside part a b k low high =
+    cond-true (part_of k == part) (slot_join (slot_at a k) (slot_at b k)) (slot_at a k)
+    (eq-eqb (part_of k) part (omega (arith, low, high)))
 
 below : (part : ℕ) (a b : Facts) (k : ℕ) → k < 8 * part → part_joined part a b k ≡ slot_at a k
-below part a b k lt = cond-false (part_of k == part) (slot_join (slot_at a k) (slot_at b k)) (slot_at a k) (ne_eqb (part_of k) part (λ e. omega (arith, lt, e)))
+below part a b k lt =
+    cond-false (part_of k == part) (slot_join (slot_at a k) (slot_at b k)) (slot_at a k)
+    (ne_eqb (part_of k) part (λ e. omega (arith, lt, e)))
 
 above : (part : ℕ) (a b : Facts) (k : ℕ) → 8 * part + 8 ≤ k → part_joined part a b k ≡ slot_at a k
-above part a b k le = cond-false (part_of k == part) (slot_join (slot_at a k) (slot_at b k)) (slot_at a k) (ne_eqb (part_of k) part (λ e. omega (arith, le, e)))
+above part a b k le =
+    cond-false (part_of k == part) (slot_join (slot_at a k) (slot_at b k)) (slot_at a k)
+    (ne_eqb (part_of k) part (λ e. omega (arith, le, e)))
 
 pub loop-i-init : goal.loop-i-init
 loop-i-init c =
@@ -34,9 +42,14 @@ loop-i-preserved c =
     record {
       long = length-set _ _ _ ∙ c.loop-i.invariant.long;
       kept = c.loop-i.invariant.kept;
-      done = fill_more (part_joined c.args.part.number c.args.facts.now c.args.edge.now) c.loop-i.facts.slots c.loop-i.i _ (Bytes 0) (omega arith)
+      done =
+          fill_more (part_joined c.args.part.number c.args.facts.now c.args.edge.now)
+          c.loop-i.facts.slots c.loop-i.i _ (Bytes 0) (omega arith)
           (c.join_slot.ensures.slot
-          ∙ ap₂ slot_join (get_or_default c.loop-i.facts.slots c.loop-i.i _ (Bytes 0) (omega arith) ∙ c.loop-i.invariant.rest c.loop-i.i (omega arith)) (get_or_default c.args.edge.now.slots c.loop-i.i _ (Bytes 0) (omega arith))
+          ∙ ap₂ slot_join
+          (get_or_default c.loop-i.facts.slots c.loop-i.i _ (Bytes 0) (omega arith)
+          ∙ c.loop-i.invariant.rest c.loop-i.i (omega arith))
+          (get_or_default c.args.edge.now.slots c.loop-i.i _ (Bytes 0) (omega arith))
           ∙ sym (inside c.args.part.number c.args.facts.now c.args.edge.now c.loop-i.i (omega arith) (omega arith)))
           c.loop-i.invariant.done;
       rest = rest_more c.loop-i.facts.slots c.args.facts.now.slots c.loop-i.i _ (Bytes 0) c.loop-i.invariant.rest;
@@ -58,7 +71,8 @@ returns-clause-facts c =
     (λ k h.
     elim (cases_lt k c.loop-i.i) [
       | inl lt ↦ c.loop-i.invariant.done k lt
-      | inr le ↦ c.loop-i.invariant.rest k le ∙ sym (above c.args.part.number c.args.facts.now c.args.edge.now k (omega (arith, le)))
+      | inr le ↦ c.loop-i.invariant.rest k le
+          ∙ sym (above c.args.part.number c.args.facts.now c.args.edge.now k (omega (arith, le)))
     ]) in
     same_facts _ after c.loop-i.invariant.kept table
 

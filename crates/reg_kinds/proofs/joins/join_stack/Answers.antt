@@ -12,13 +12,23 @@ loop-i-preserved c =
     record {
       long = length-set _ _ _ ∙ c.loop-i.invariant.long;
       kept = c.loop-i.invariant.kept;
-      done = fill_more (λ k. slot_join (slot_at c.args.facts.now k) (slot_at c.args.edge.now k)) c.loop-i.facts.slots c.loop-i.i _ (Bytes 0) (omega arith) (c.join_slot.ensures.slot ∙ ap₂ slot_join (get_or_default c.loop-i.facts.slots c.loop-i.i _ (Bytes 0) (omega arith) ∙ c.loop-i.invariant.rest c.loop-i.i (omega arith)) (get_or_default c.args.edge.now.slots c.loop-i.i _ (Bytes 0) (omega arith))) c.loop-i.invariant.done;
+      done =
+          fill_more (λ k. slot_join (slot_at c.args.facts.now k) (slot_at c.args.edge.now k))
+          c.loop-i.facts.slots c.loop-i.i _ (Bytes 0) (omega arith)
+          (c.join_slot.ensures.slot
+          ∙ ap₂ slot_join
+          (get_or_default c.loop-i.facts.slots c.loop-i.i _ (Bytes 0) (omega arith)
+          ∙ c.loop-i.invariant.rest c.loop-i.i (omega arith))
+          (get_or_default c.args.edge.now.slots c.loop-i.i _ (Bytes 0) (omega arith)))
+          c.loop-i.invariant.done;
       rest = rest_more c.loop-i.facts.slots c.args.facts.now.slots c.loop-i.i _ (Bytes 0) c.loop-i.invariant.rest;
     }
 
 pub returns : goal.returns
 returns c =
-    let after : Facts = with_slots c.args.facts.now (λ k. slot_join (slot_at c.args.facts.now k) (slot_at c.args.edge.now k)) in
+    let after : Facts =
+    with_slots c.args.facts.now (λ k. slot_join (slot_at c.args.facts.now k) (slot_at c.args.edge.now k)) in
     let table : c.loop-i.facts.slots ≡ after.slots =
-    filled _ c.loop-i.facts.slots 64 (Bytes 0) c.loop-i.invariant.long (λ k h. c.loop-i.invariant.done k (omega arith)) in
+    filled _ c.loop-i.facts.slots 64 (Bytes 0) c.loop-i.invariant.long
+    (λ k h. c.loop-i.invariant.done k (omega arith)) in
     same_facts _ after c.loop-i.invariant.kept table

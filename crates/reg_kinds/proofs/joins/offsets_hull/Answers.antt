@@ -10,4 +10,6 @@ returns c =
     let ql : FitsSigned w32 q.lo = search rules in
     let ph : FitsSigned w32 p.hi = search rules in
     let qh : FitsSigned w32 q.hi = search rules in
-    hull_is p q c.new.result c.min.result c.max.result pl ql ph qh (record { sfits = c.min.type_inv }) (record { sfits = c.max.type_inv }) c.min.ensures.value c.max.ensures.value c.new.ensures
+    hull_is p q c.new.result c.min.result c.max.result pl ql ph qh
+    (record { sfits = c.min.type_inv }) (record { sfits = c.max.type_inv })
+    c.min.ensures.value c.max.ensures.value c.new.ensures

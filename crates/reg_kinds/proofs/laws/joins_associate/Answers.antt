@@ -5,6 +5,7 @@ use Rattle.reg_kinds.proofs.laws.joins_associate.Goals as goal
 
 pub returns : goal.returns
 returns c =
-    let kinds : KindsAssociate = kinds_associate c.hull_is_a_join.ensures.commutes c.hull_is_a_join.ensures.associates in
+    let kinds : KindsAssociate =
+    kinds_associate c.hull_is_a_join.ensures.commutes c.hull_is_a_join.ensures.associates in
     let slots : SlotsAssociate = slots_associate kinds in
     record { kinds = kinds; slots = slots; facts = facts_associate kinds slots }

@@ -17,5 +17,7 @@ returns c =
     sym (none_below 64 _ (λ i lt.
     ⊎_elim
     (λ below. c.loop-index.invariant i below)
-    (λ past. lacks_apart c.args.facts.now c.args.start c.args.count i (inr (omega (arith, past, c.past_touched-index-end.ensures.bytes))))
+    (λ past.
+    lacks_apart c.args.facts.now c.args.start c.args.count i
+    (inr (omega (arith, past, c.past_touched-index-end.ensures.bytes))))
     (cases_lt i c.loop-index.index)))

@@ -13,13 +13,21 @@ loop-r-preserved c =
     record {
       long = length-set _ _ _ ∙ c.loop-r.invariant.long;
       kept = c.loop-r.invariant.kept;
-      done = fill_more (call_kind c.args.facts.now c.args.given) c.loop-r.facts.registers c.loop-r.r _ Unreadable (omega arith) (c.called_kind.ensures ∙ ap (λ (k : Kind). if c.loop-r.r == 0 then c.args.given else (if nat_le c.loop-r.r 5 then Unreadable else k)) (c.kind.ensures ∙ c.loop-r.invariant.rest c.loop-r.r (omega arith))) c.loop-r.invariant.done;
-      rest = rest_more c.loop-r.facts.registers c.args.facts.now.registers c.loop-r.r _ Unreadable c.loop-r.invariant.rest;
+      done =
+          fill_more (call_kind c.args.facts.now c.args.given) c.loop-r.facts.registers c.loop-r.r _
+          Unreadable (omega arith)
+          (c.called_kind.ensures
+          ∙ ap (λ (k : Kind). if c.loop-r.r == 0 then c.args.given else (if nat_le c.loop-r.r 5 then Unreadable else k))
+          (c.kind.ensures ∙ c.loop-r.invariant.rest c.loop-r.r (omega arith)))
+          c.loop-r.invariant.done;
+      rest =
+          rest_more c.loop-r.facts.registers c.args.facts.now.registers c.loop-r.r _ Unreadable c.loop-r.invariant.rest;
     }
 
 pub returns : goal.returns
 returns c =
     let after : Facts = with_registers c.args.facts.now (call_kind c.args.facts.now c.args.given) in
     let table : c.loop-r.facts.registers ≡ after.registers =
-    filled _ c.loop-r.facts.registers 11 Unreadable c.loop-r.invariant.long (λ k h. c.loop-r.invariant.done k (omega arith)) in
+    filled _ c.loop-r.facts.registers 11 Unreadable c.loop-r.invariant.long
+    (λ k h. c.loop-r.invariant.done k (omega arith)) in
     same_facts _ after table c.loop-r.invariant.kept

@@ -11,6 +11,11 @@ invariant-loop-i l =
     record {
       long : length l.facts.slots ≡ 64;
       kept : l.facts.registers ≡ l.fn.facts.registers;
-      done : (k : ℕ) → k < l.i → get_or l.facts.slots k (Bytes 0) ≡ (if touches l.start l.most k then bytes_over (slot_at l.fn.facts k) (bits_in l.start l.least k) else slot_at l.fn.facts k);
+      done : (k : ℕ)
+          → k < l.i
+          → get_or l.facts.slots k (Bytes 0)
+          ≡ (if touches l.start l.most k
+          then bytes_over (slot_at l.fn.facts k) (bits_in l.start l.least k)
+          else slot_at l.fn.facts k);
       rest : (k : ℕ) → l.i ≤ k → get_or l.facts.slots k (Bytes 0) ≡ slot_at l.fn.facts k;
     }

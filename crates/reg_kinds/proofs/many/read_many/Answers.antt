@@ -5,8 +5,16 @@ use Rattle.reg_kinds.proofs.many.read_many.Goals as goal
 
 pub returns-then-are_missing : goal.returns-then-are_missing
 returns-then-are_missing c =
-    input_is c.args.facts.now c.args.offset _ c.args.count c.in-Some.start _ _ (to_z-of_z {w = w32} {z = c.args.offset} c.ranges.offset) (sym c.start_of.ensures.value ∙ c.in-Some.is) (sym c.if-touch_a_spill.false ∙ c.touch_a_spill.ensures) (sym c.if-are_missing.true ∙ c.are_missing.ensures)
+    input_is c.args.facts.now c.args.offset _ c.args.count c.in-Some.start _ _
+    (to_z-of_z {w = w32} {z = c.args.offset} c.ranges.offset)
+    (sym c.start_of.ensures.value ∙ c.in-Some.is)
+    (sym c.if-touch_a_spill.false ∙ c.touch_a_spill.ensures)
+    (sym c.if-are_missing.true ∙ c.are_missing.ensures)
 
 pub returns-else-are_missing : goal.returns-else-are_missing
 returns-else-are_missing c =
-    input_is c.args.facts.now c.args.offset _ c.args.count c.in-Some.start _ _ (to_z-of_z {w = w32} {z = c.args.offset} c.ranges.offset) (sym c.start_of.ensures.value ∙ c.in-Some.is) (sym c.if-touch_a_spill.false ∙ c.touch_a_spill.ensures) (sym c.if-are_missing.false ∙ c.are_missing.ensures)
+    input_is c.args.facts.now c.args.offset _ c.args.count c.in-Some.start _ _
+    (to_z-of_z {w = w32} {z = c.args.offset} c.ranges.offset)
+    (sym c.start_of.ensures.value ∙ c.in-Some.is)
+    (sym c.if-touch_a_spill.false ∙ c.touch_a_spill.ensures)
+    (sym c.if-are_missing.false ∙ c.are_missing.ensures)

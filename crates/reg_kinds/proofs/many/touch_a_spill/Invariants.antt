@@ -5,4 +5,5 @@ use Rattle.reg_kinds.specs.Many.{is_touched_spill}
 use Rattle.reg_kinds.proofs.many.touch_a_spill.Given as goal
 
 abbrev pub invariant-loop-index : goal.invariant-loop-index
-invariant-loop-index l = (i : ℕ) → i < l.index → is_touched_spill (slot_at l.facts i) (touches l.start l.count i) ≡ false
+invariant-loop-index l =
+    (i : ℕ) → i < l.index → is_touched_spill (slot_at l.facts i) (touches l.start l.count i) ≡ false

@@ -10,10 +10,14 @@ invariant-loop-r l =
     record {
       long : length l.facts.registers ≡ 11;
       kept : l.facts.slots ≡ l.fn.facts.slots;
-      done : (k : ℕ) → k < l.r → get_or l.facts.registers k Unreadable ≡ kind_settled l.site (not l.null) (kind_at l.fn.facts k);
+      done : (k : ℕ)
+          → k < l.r
+          → get_or l.facts.registers k Unreadable ≡ kind_settled l.site (not l.null) (kind_at l.fn.facts k);
       rest : (k : ℕ) → l.r ≤ k → get_or l.facts.registers k Unreadable ≡ kind_at l.fn.facts k;
       taken_long : length l.taken.registers ≡ 11;
       taken_kept : l.taken.slots ≡ l.fn.taken.slots;
-      taken_done : (k : ℕ) → k < l.r → get_or l.taken.registers k Unreadable ≡ kind_settled l.site l.null (kind_at l.fn.facts k);
+      taken_done : (k : ℕ)
+          → k < l.r
+          → get_or l.taken.registers k Unreadable ≡ kind_settled l.site l.null (kind_at l.fn.facts k);
       taken_rest : (k : ℕ) → l.r ≤ k → get_or l.taken.registers k Unreadable ≡ kind_at l.fn.facts k;
     }

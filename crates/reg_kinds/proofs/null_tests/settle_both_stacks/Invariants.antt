@@ -10,10 +10,14 @@ invariant-loop-i l =
     record {
       long : length l.facts.slots ≡ 64;
       kept : l.facts.registers ≡ l.fn.facts.registers;
-      done : (k : ℕ) → k < l.i → get_or l.facts.slots k (Bytes 0) ≡ slot_settled l.site (not l.null) (slot_at l.fn.facts k);
+      done : (k : ℕ)
+          → k < l.i
+          → get_or l.facts.slots k (Bytes 0) ≡ slot_settled l.site (not l.null) (slot_at l.fn.facts k);
       rest : (k : ℕ) → l.i ≤ k → get_or l.facts.slots k (Bytes 0) ≡ slot_at l.fn.facts k;
       taken_long : length l.taken.slots ≡ 64;
       taken_kept : l.taken.registers ≡ l.fn.taken.registers;
-      taken_done : (k : ℕ) → k < l.i → get_or l.taken.slots k (Bytes 0) ≡ slot_settled l.site l.null (slot_at l.fn.facts k);
+      taken_done : (k : ℕ)
+          → k < l.i
+          → get_or l.taken.slots k (Bytes 0) ≡ slot_settled l.site l.null (slot_at l.fn.facts k);
       taken_rest : (k : ℕ) → l.i ≤ k → get_or l.taken.slots k (Bytes 0) ≡ slot_at l.fn.facts k;
     }

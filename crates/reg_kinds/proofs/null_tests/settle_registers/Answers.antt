@@ -12,13 +12,23 @@ loop-r-preserved c =
     record {
       long = length-set _ _ _ ∙ c.loop-r.invariant.long;
       kept = c.loop-r.invariant.kept;
-      done = fill_more (λ k. kind_settled c.args.site c.args.null (kind_at c.args.facts.now k)) c.loop-r.facts.registers c.loop-r.r _ Unreadable (omega arith) (c.settle_kind.ensures ∙ ap (kind_settled c.args.site c.args.null) (get_or_default c.loop-r.facts.registers c.loop-r.r _ Unreadable (omega arith) ∙ c.loop-r.invariant.rest c.loop-r.r (omega arith))) c.loop-r.invariant.done;
-      rest = rest_more c.loop-r.facts.registers c.args.facts.now.registers c.loop-r.r _ Unreadable c.loop-r.invariant.rest;
+      done =
+          fill_more (λ k. kind_settled c.args.site c.args.null (kind_at c.args.facts.now k))
+          c.loop-r.facts.registers c.loop-r.r _ Unreadable (omega arith)
+          (c.settle_kind.ensures
+          ∙ ap (kind_settled c.args.site c.args.null)
+          (get_or_default c.loop-r.facts.registers c.loop-r.r _ Unreadable (omega arith)
+          ∙ c.loop-r.invariant.rest c.loop-r.r (omega arith)))
+          c.loop-r.invariant.done;
+      rest =
+          rest_more c.loop-r.facts.registers c.args.facts.now.registers c.loop-r.r _ Unreadable c.loop-r.invariant.rest;
     }
 
 pub returns : goal.returns
 returns c =
-    let after : Facts = with_registers c.args.facts.now (λ k. kind_settled c.args.site c.args.null (kind_at c.args.facts.now k)) in
+    let after : Facts =
+    with_registers c.args.facts.now (λ k. kind_settled c.args.site c.args.null (kind_at c.args.facts.now k)) in
     let table : c.loop-r.facts.registers ≡ after.registers =
-    filled _ c.loop-r.facts.registers 11 Unreadable c.loop-r.invariant.long (λ k h. c.loop-r.invariant.done k (omega arith)) in
+    filled _ c.loop-r.facts.registers 11 Unreadable c.loop-r.invariant.long
+    (λ k h. c.loop-r.invariant.done k (omega arith)) in
     same_facts _ after table c.loop-r.invariant.kept

@@ -9,6 +9,8 @@ invariant-loop-r l =
     record {
       long : length l.facts.registers ≡ 11;
       kept : l.facts.slots ≡ l.fn.facts.slots;
-      done : (k : ℕ) → k < l.r → get_or l.facts.registers k Unreadable ≡ kind_settled l.site l.null (kind_at l.fn.facts k);
+      done : (k : ℕ)
+          → k < l.r
+          → get_or l.facts.registers k Unreadable ≡ kind_settled l.site l.null (kind_at l.fn.facts k);
       rest : (k : ℕ) → l.r ≤ k → get_or l.facts.registers k Unreadable ≡ kind_at l.fn.facts k;
     }

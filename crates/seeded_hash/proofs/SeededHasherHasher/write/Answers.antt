@@ -5,7 +5,13 @@ use Rattle.seeded_hash.proofs.SeededHasherHasher.write.Goals as goal
 
 pub returns-then-len-le8 : goal.returns-then-len-le8
 unfolding written
-returns-then-len-le8 c = rw (c.folded_product-self.ensures, c.rotate_left.ensures, c.short_word-word.ensures, le-leb (length c.args.bytes.now) 8 c.if-len-le8.true)
+returns-then-len-le8 c =
+    rw (
+      c.folded_product-self.ensures,
+      c.rotate_left.ensures,
+      c.short_word-word.ensures,
+      le-leb (length c.args.bytes.now) 8 c.if-len-le8.true,
+    )
 
 pub loop-at-init : goal.loop-at-init
 unfolding blocks_mixed
@@ -20,12 +26,30 @@ loop-at-preserved c =
     record {
       whole = omega arith;
       within = omega arith;
-      mixed = rw (more, c.folded_product-state.ensures, c.word_at.ensures, c.word_at-in-loop-at.ensures, ← c.loop-at.invariant.mixed, ← whole);
+      mixed =
+          rw (
+            more,
+            c.folded_product-state.ensures,
+            c.word_at.ensures,
+            c.word_at-in-loop-at.ensures,
+            ← c.loop-at.invariant.mixed,
+            ← whole,
+          );
     }
 
 pub returns : goal.returns
 unfolding written
 returns c =
     let n : ℕ = length c.args.bytes.now in
-    let count : (n - 1) / 16 ≡ c.loop-at.at / 16 = omega (arith, c.loop-at.invariant.whole, c.loop-at.invariant.within, c.loop-at-test.false) in
-    rw (lt-leb n 8 c.if-len-le8.false, count, ← c.loop-at.invariant.mixed, c.folded_product-self-2.ensures, c.folded_product-last.ensures, c.word_at-2.ensures, c.word_at-3.ensures, c.saturating_sub.ensures)
+    let count : (n - 1) / 16 ≡ c.loop-at.at / 16 =
+    omega (arith, c.loop-at.invariant.whole, c.loop-at.invariant.within, c.loop-at-test.false) in
+    rw (
+      lt-leb n 8 c.if-len-le8.false,
+      count,
+      ← c.loop-at.invariant.mixed,
+      c.folded_product-self-2.ensures,
+      c.folded_product-last.ensures,
+      c.word_at-2.ensures,
+      c.word_at-3.ensures,
+      c.saturating_sub.ensures,
+    )

@@ -8,7 +8,8 @@ use Rattle.tagged_model.proofs.laws.join_admits.Goals as goal
 
 both_sides : HullHoldsBoth → FactsCommute → JoinAdmits
 both_sides holds commute witness a b s (inl h) = first_joined witness holds a b s h
-both_sides holds commute witness a b s (inr h) = subst (λ f. AdmitsBy witness f s) (commute b a) (first_joined witness holds b a s h)
+both_sides holds commute witness a b s (inr h) =
+    subst (λ f. AdmitsBy witness f s) (commute b a) (first_joined witness holds b a s h)
 
 pub returns : goal.returns
 returns c = both_sides c.hull_is_a_join.ensures.holds_both c.joins_commute.ensures.facts

@@ -10,5 +10,7 @@ use Rattle.text_line.proofs.reader.read_line.Goals as goal
 pub returns-in-Some : goal.returns-in-Some
 returns-in-Some c =
     let found = rw c.in-Some.is at c.in_ok-tokens.ensures.found in
-    let tokens : IsTokens c.args.line.now (shown_tokens c.deref.result.now) = subst (λ (ts : List CodeToken). IsTokens c.args.line.now (shown_tokens ts)) (sym c.deref.ensures.value) found in
-    read_as c.args.line.now (shown_tokens c.deref.result.now) (option_map seen_line c.line_of.result) tokens c.line_of.ensures
+    let tokens : IsTokens c.args.line.now (shown_tokens c.deref.result.now) =
+    subst (λ (ts : List CodeToken). IsTokens c.args.line.now (shown_tokens ts)) (sym c.deref.ensures.value) found in
+    read_as c.args.line.now (shown_tokens c.deref.result.now)
+    (option_map seen_line c.line_of.result) tokens c.line_of.ensures

@@ -5,4 +5,6 @@ use Rattle.text_line.proofs.token.first_len.Given as goal
 
 -- none of the symbols so far
 abbrev pub invariant-loop-symbol : goal.invariant-loop-symbol
-invariant-loop-symbol l = find (λ s. starts_with nat_eq l.text s) (map (λ s. s.now) l.symbols) ≡ find (λ s. starts_with nat_eq l.text s) (map (λ s. s.now) (drop l.symbol-index l.symbols))
+invariant-loop-symbol l =
+    find (λ s. starts_with nat_eq l.text s) (map (λ s. s.now) l.symbols)
+    ≡ find (λ s. starts_with nat_eq l.text s) (map (λ s. s.now) (drop l.symbol-index l.symbols))

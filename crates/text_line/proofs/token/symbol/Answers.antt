@@ -9,10 +9,12 @@ pub returns-then-len-eq0-clause-value : goal.returns-then-len-eq0-clause-value
 returns-then-len-eq0-clause-value c =
     let text : List ℕ = c.args.text.now in
     let len : c.symbol_len-len.result ≡ option_map_or length (symbol_at text) 0 = cc in
-    sym (ap (λ (o : Option (List ℕ)). option_map (λ s. (symbol s, drop (length s) text)) o) (no_symbol text c.symbol_len-len.result len (omega arith)))
+    sym (ap (λ (o : Option (List ℕ)). option_map (λ s. (symbol s, drop (length s) text)) o)
+    (no_symbol text c.symbol_len-len.result len (omega arith)))
 
 pub returns-clause-value : goal.returns-clause-value
 returns-clause-value c =
     let text : List ℕ = c.args.text.now in
     let len : c.symbol_len-len.result ≡ option_map_or length (symbol_at text) 0 = cc in
-    symbol_found text c.symbol_len-len.result c.split_at.result.0.now c.split_at.result.1.now len (omega arith) c.split_at.ensures.front c.split_at.ensures.back
+    symbol_found text c.symbol_len-len.result c.split_at.result.0.now c.split_at.result.1.now len
+    (omega arith) c.split_at.ensures.front c.split_at.ensures.back

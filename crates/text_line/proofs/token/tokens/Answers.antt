@@ -10,15 +10,20 @@ use Rattle.text_line.proofs.token.tokens.Goals as goal
 pub returns-then-is_over-clause-found : goal.returns-then-is_over-clause-found
 returns-then-is_over-clause-found c =
     let l = c.loop-text in
-    let over : is_over (skip_blanks l.rest.now) ≡ true = cc in
-    (c.if-not-is_ascii.ensures.cases, subst (λ (ts : List Token). HasTokens c.args.line.now ts) (append-nil (shown_tokens l.tokens.items)) (l.invariant.whole [] over))
+    let over : is_over (skip_blanks l.rest.now) ≡ true = cc in (
+      c.if-not-is_ascii.ensures.cases,
+      subst (λ (ts : List Token). HasTokens c.args.line.now ts)
+          (append-nil (shown_tokens l.tokens.items)) (l.invariant.whole [] over),
+    )
 
 pub returns-in_default-clause-none : goal.returns-in_default-clause-none
 returns-in_default-clause-none c = λ ts h.
     let l = c.loop-text in
     let some : is_over (skip_blanks l.rest.now) ≡ false = cc in
     let u = l.invariant.only ts h.1 in
-    no_tokens l.rest.now u.0 some (sym (ap token_at c.after_blanks-text.ensures.value) ∙ sym c.in_default.ensures.value) u.2
+    no_tokens l.rest.now u.0 some
+    (sym (ap token_at c.after_blanks-text.ensures.value) ∙ sym c.in_default.ensures.value)
+    u.2
 
 pub loop-text-preserved : goal.loop-text-preserved
 loop-text-preserved c =
@@ -32,6 +37,12 @@ loop-text-preserved c =
     record {
       is_text = IsUtf8-from_ascii after c.in-Some.ensures.ascii;
       ascii = c.in-Some.ensures.ascii;
-      whole = whole_more line l.rest.now text after t (shown_tokens l.tokens.items) (shown_tokens c.push.new.self.items) c.after_blanks-text.ensures.value c.in-Some.ensures.value new l.invariant.whole;
-      only = only_more line l.rest.now text after t (shown_tokens l.tokens.items) (shown_tokens c.push.new.self.items) c.after_blanks-text.ensures.value some c.in-Some.ensures.value new l.invariant.only;
+      whole =
+          whole_more line l.rest.now text after t (shown_tokens l.tokens.items)
+          (shown_tokens c.push.new.self.items) c.after_blanks-text.ensures.value
+          c.in-Some.ensures.value new l.invariant.whole;
+      only =
+          only_more line l.rest.now text after t (shown_tokens l.tokens.items)
+          (shown_tokens c.push.new.self.items) c.after_blanks-text.ensures.value
+          some c.in-Some.ensures.value new l.invariant.only;
     }

@@ -12,7 +12,9 @@ invariant-loop-text l = record {
   is_text : shadow (Utf8 l.rest);
   ascii : IsAscii l.rest;
   whole : (ts : List Token) → HasTokens l.rest ts → HasTokens l.line (shown_tokens l.tokens.items ++ ts);
-  only : (ts : List Token) → HasTokens l.line ts → (us : List Token) × (ts ≡ shown_tokens l.tokens.items ++ us) × HasTokens l.rest us;
+  only : (ts : List Token)
+      → HasTokens l.line ts
+      → (us : List Token) × (ts ≡ shown_tokens l.tokens.items ++ us) × HasTokens l.rest us;
 }
 
 abbrev pub decreases-loop-text : goal.decreases-loop-text

@@ -9,5 +9,7 @@ pub returns-clause-value : goal.returns-clause-value
 returns-clause-value c =
     let text : List ℕ = c.args.text.now in
     let digits : c.split_at.result.0.now ≡ take (prefix_len (in_class c.args.class) text) text = cc in
-    let parsed = value_is c.args.class c.args.radix text c.split_at.result.0.now c.from_str_radix.result c.requires.digits c.requires.first digits c.from_str_radix.ensures.value in
+    let parsed =
+    value_is c.args.class c.args.radix text c.split_at.result.0.now c.from_str_radix.result
+    c.requires.digits c.requires.first digits c.from_str_radix.ensures.value in
     ap (λ (o : Option ℕ). number o) (c.ok.ensures.value ∙ parsed)

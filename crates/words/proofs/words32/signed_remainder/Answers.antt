@@ -8,5 +8,9 @@ returns-else-divisor-eq0 c =
     let a = c.low_word-else-divisor-eq0.result in
     let b = c.low_word-divisor.result in
     c.from-else-divisor-eq0.ensures
-    ∙ (rest_of_32 a b _ c.cast_signed.result c.cast_signed-else-divisor-eq0.result c.wrapping_rem.result c.if-divisor-eq0.false (omega arith) (omega arith) c.cast_signed.ensures c.cast_signed-else-divisor-eq0.ensures c.cast_signed.type_inv c.cast_signed-else-divisor-eq0.type_inv c.wrapping_rem.type_inv c.wrapping_rem.ensures c.cast_unsigned.ensures
+    ∙ (rest_of_32 a b _ c.cast_signed.result c.cast_signed-else-divisor-eq0.result
+    c.wrapping_rem.result c.if-divisor-eq0.false (omega arith)
+    (omega arith) c.cast_signed.ensures c.cast_signed-else-divisor-eq0.ensures
+    c.cast_signed.type_inv c.cast_signed-else-divisor-eq0.type_inv
+    c.wrapping_rem.type_inv c.wrapping_rem.ensures c.cast_unsigned.ensures
     ∙ ap₂ (signed_remainder 32) c.low_word-else-divisor-eq0.ensures c.low_word-divisor.ensures)

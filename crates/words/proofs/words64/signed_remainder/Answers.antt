@@ -4,4 +4,8 @@ use Rattle.words.proofs.words64.signed_remainder.Goals as goal
 
 pub returns-else-b-eq0 : goal.returns-else-b-eq0
 returns-else-b-eq0 c =
-    rest_of_64 c.args.a c.args.b _ c.cast_signed.result c.cast_signed-else-b-eq0.result c.wrapping_rem.result c.if-b-eq0.false (omega arith) (omega arith) c.cast_signed.ensures c.cast_signed-else-b-eq0.ensures c.cast_signed.type_inv c.cast_signed-else-b-eq0.type_inv c.wrapping_rem.type_inv c.wrapping_rem.ensures c.cast_unsigned.ensures
+    rest_of_64 c.args.a c.args.b _ c.cast_signed.result c.cast_signed-else-b-eq0.result
+    c.wrapping_rem.result c.if-b-eq0.false (omega arith)
+    (omega arith) c.cast_signed.ensures c.cast_signed-else-b-eq0.ensures
+    c.cast_signed.type_inv c.cast_signed-else-b-eq0.type_inv
+    c.wrapping_rem.type_inv c.wrapping_rem.ensures c.cast_unsigned.ensures

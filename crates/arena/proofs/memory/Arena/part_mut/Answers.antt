@@ -16,12 +16,20 @@ returns c =
       (
         refl,
         λ w.
-            ap (λ (l : List ℕ). let m : Memory = record { bytes = l; parts = parts; part = size } in m) (relent v.items v.len start w v.ok.0)
-            ∙ ap (λ (n : ℕ). let m : Memory = record { bytes = refilled v.items (written_at v.items n w); parts = parts; part = size } in m) start_is
+            ap (λ (l : List ℕ). let m : Memory = record { bytes = l; parts = parts; part = size } in m)
+            (relent v.items v.len start w v.ok.0)
+            ∙ ap (λ (n : ℕ).
+            let m : Memory = record { bytes = refilled v.items (written_at v.items n w); parts = parts; part = size } in
+            m)
+            start_is
             ∙ ap (λ (m : Memory). with_part m t w) c.self.view_is,
       ),
       record {
         lends = tt;
-        bytes = c.slice_mut.ensures.value ∙ range_is_bytes v.items start size ∙ ap (λ (n : ℕ). bytes_at v.items n size) start_is ∙ ap (λ (m : Memory). part_bytes m t) c.self.view_is;
+        bytes =
+            c.slice_mut.ensures.value
+            ∙ range_is_bytes v.items start size
+            ∙ ap (λ (n : ℕ). bytes_at v.items n size) start_is
+            ∙ ap (λ (m : Memory). part_bytes m t) c.self.view_is;
       },
     )

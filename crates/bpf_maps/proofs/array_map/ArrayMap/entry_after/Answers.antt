@@ -8,8 +8,11 @@ use Rattle.bpf_maps.proofs.NextEntries.{index_entry, next_index, no_index, some_
 use Rattle.bpf_maps.proofs.array_map.ArrayMap.entry_after.Goals as goal
 
 -- the next entry is that of the index
-next_is : (t : KeyTable) (n i : ℕ) (element : Option ℕ) → t.entries ≡ indexed (λ i. i) 0 n → i ≡ option_map_or (λ p. p + 1) element 0 → next_entry element t.entries ≡ index_entry i n
-next_is t n i element are is = ap (next_entry element) are ∙ next_index element n ∙ ap (λ (k : ℕ). index_entry k n) (sym is)
+next_is : (t : KeyTable) (n i : ℕ) (element : Option ℕ)
+    → t.entries ≡ indexed (λ i. i) 0 n → i ≡ option_map_or (λ p. p + 1) element 0
+    → next_entry element t.entries ≡ index_entry i n
+next_is t n i element are is =
+    ap (next_entry element) are ∙ next_index element n ∙ ap (λ (k : ℕ). index_entry k n) (sym is)
 
 pub returns-then-index-from : goal.returns-then-index-from
 returns-then-index-from c =

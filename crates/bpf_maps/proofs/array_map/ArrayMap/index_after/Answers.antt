@@ -7,11 +7,23 @@ pub returns-then-key-ne-INDEX_SIZE : goal.returns-then-key-ne-INDEX_SIZE
 returns-then-key-ne-INDEX_SIZE c =
     let law = c.keys_are_its_indices.ensures in
     let table = c.args.self.now in
-    let absent = absent_by_size table.shape.key_size c.args.key.now (λ same. c.if-key-ne-INDEX_SIZE.true (same ∙ law.key_size)) table.entries law.sound.sized in
+    let absent =
+    absent_by_size table.shape.key_size c.args.key.now
+    (λ same. c.if-key-ne-INDEX_SIZE.true (same ∙ law.key_size))
+    table.entries law.sound.sized in
     record { next = after_absent law.kind law.whole c.args.key.now absent }
 
 pub returns-in-Some : goal.returns-in-Some
-returns-in-Some c = record { next = after_present c.keys_are_its_indices.ensures.kind c.keys_are_its_indices.ensures.whole c.args.key.now c.in-Some.index c.in-Some.ensures.spelled c.in-Some.ensures.within }
+returns-in-Some c = record {
+  next =
+      after_present c.keys_are_its_indices.ensures.kind c.keys_are_its_indices.ensures.whole
+      c.args.key.now c.in-Some.index c.in-Some.ensures.spelled
+      c.in-Some.ensures.within;
+}
 
 pub returns-in-None : goal.returns-in-None
-returns-in-None c = record { next = after_absent c.keys_are_its_indices.ensures.kind c.keys_are_its_indices.ensures.whole c.args.key.now (sym c.element_of.ensures.element ∙ c.in-None.is) }
+returns-in-None c = record {
+  next =
+      after_absent c.keys_are_its_indices.ensures.kind c.keys_are_its_indices.ensures.whole
+      c.args.key.now (sym c.element_of.ensures.element ∙ c.in-None.is);
+}

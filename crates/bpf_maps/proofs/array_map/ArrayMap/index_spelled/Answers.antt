@@ -4,4 +4,7 @@ use Rattle.bpf_maps.proofs.array_map.ArrayMap.index_spelled.Goals as goal
 
 pub returns-clause-found : goal.returns-clause-found
 returns-clause-found c =
-    sym (found_array c.keys_are_its_indices.ensures.kind c.keys_are_its_indices.ensures.whole c.args.key.now c.index_of.result (nat_lt c.index_of.result c.args.self.now.shape.max_entries) c.index_of.ensures (omega arith) refl)
+    sym (found_array c.keys_are_its_indices.ensures.kind c.keys_are_its_indices.ensures.whole
+    c.args.key.now c.index_of.result
+    (nat_lt c.index_of.result c.args.self.now.shape.max_entries)
+    c.index_of.ensures (omega arith) refl)

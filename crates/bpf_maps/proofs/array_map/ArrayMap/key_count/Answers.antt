@@ -4,4 +4,5 @@ use Rattle.bpf_maps.proofs.Arrays.{length_new}
 use Rattle.bpf_maps.proofs.array_map.ArrayMap.key_count.Goals as goal
 
 pub returns : goal.returns
-returns c = sym (length_new c.self.inside.shape c.self.invariant) ∙ ap (λ (t : KeyTable). length t.entries) c.self.view_is
+returns c =
+    sym (length_new c.self.inside.shape c.self.invariant) ∙ ap (λ (t : KeyTable). length t.entries) c.self.view_is

@@ -11,7 +11,8 @@ pub returns-clause-whole : goal.returns-clause-whole
 returns-clause-whole c = sym c.self.view_is ∙ ap (λ (t : KeyTable). new_keys t.shape) c.self.view_is
 
 pub returns-clause-key_size : goal.returns-clause-key_size
-returns-clause-key_size c = ap (λ (t : KeyTable). t.shape.key_size) (sym c.self.view_is) ∙ array_key c.self.inside.shape c.self.invariant
+returns-clause-key_size c =
+    ap (λ (t : KeyTable). t.shape.key_size) (sym c.self.view_is) ∙ array_key c.self.inside.shape c.self.invariant
 
 pub returns-clause-sound : goal.returns-clause-sound
 returns-clause-sound c = subst IsSound c.self.view_is (sound_array c.self.inside.shape c.self.invariant)

@@ -8,9 +8,11 @@ use Rattle.bpf_maps.proofs.array_map.ArrayMapValueMap.key_after.Goals as goal
 
 pub returns-clause-given : goal.returns-clause-given
 returns-clause-given c =
-    let same : c.self.inside.shape.max_entries ≡ c.args.self.now.shape.max_entries = ap (λ (t : KeyTable). t.shape.max_entries) c.self.view_is in
+    let same : c.self.inside.shape.max_entries ≡ c.args.self.now.shape.max_entries =
+    ap (λ (t : KeyTable). t.shape.max_entries) c.self.view_is in
     let below : nat_lt c.index_after-index.result c.args.self.now.shape.max_entries ≡ true = lt-ltb _ _ (omega arith) in
-    let key : index_key c.index_after-index.result ≡ c.of_word.result = sym (c.of_word.ensures ∙ ap (low_bytes 4) c.from.ensures ∙ spells c.index_after-index.result) in
+    let key : index_key c.index_after-index.result ≡ c.of_word.result =
+    sym (c.of_word.ensures ∙ ap (low_bytes 4) c.from.ensures ∙ spells c.index_after-index.result) in
     sym
     (c.index_after-index.ensures.next
     ∙ ap (λ (b : Bool). if b then Some (index_key c.index_after-index.result) else None) below

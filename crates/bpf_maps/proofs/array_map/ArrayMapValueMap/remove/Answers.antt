@@ -7,4 +7,7 @@ use Rattle.bpf_maps.proofs.array_map.ArrayMapValueMap.remove.Goals as goal
 
 pub returns-clause-removed : goal.returns-clause-removed
 returns-clause-removed c =
-    subst (λ (k : MapKind). Removes (removal_of k (look_up (table_of c.args.self.now) c.args._key.now)) c.args._key.now c.args.self.now (Err Invalid) c.args.self.now) (sym c.keys_are_its_indices.ensures.kind) (refl, refl)
+    subst (λ (k : MapKind).
+    Removes (removal_of k (look_up (table_of c.args.self.now) c.args._key.now)) c.args._key.now
+    c.args.self.now (Err Invalid) c.args.self.now)
+    (sym c.keys_are_its_indices.ensures.kind) (refl, refl)

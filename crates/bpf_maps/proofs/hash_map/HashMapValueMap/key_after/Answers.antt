@@ -10,11 +10,14 @@ use Rattle.bpf_maps.proofs.hash_map.HashMapValueMap.key_after.Goals as goal
 pub returns-clause-size : goal.returns-clause-size
 returns-clause-size c =
     let a = c.self.inside in
-    subst (λ (t : KeyTable). IfSome c.key_after.result (λ given. length (key_bytes given) ≡ t.shape.key_size)) c.self.view_is
-    (given_sized a.shape.key_size c.args.key.now (entries_of a.index) c.key_after.result c.self.invariant.sized c.key_after.ensures)
+    subst (λ (t : KeyTable). IfSome c.key_after.result (λ given. length (key_bytes given) ≡ t.shape.key_size))
+    c.self.view_is
+    (given_sized a.shape.key_size c.args.key.now (entries_of a.index) c.key_after.result
+    c.self.invariant.sized c.key_after.ensures)
 
 pub returns-clause-short : goal.returns-clause-short
 returns-clause-short c =
     let a = c.self.inside in
     given_short a.shape.key_size KEY_ROOM c.key_after.result (key_fits_room a.shape)
-    (given_sized a.shape.key_size c.args.key.now (entries_of a.index) c.key_after.result c.self.invariant.sized c.key_after.ensures)
+    (given_sized a.shape.key_size c.args.key.now (entries_of a.index) c.key_after.result
+    c.self.invariant.sized c.key_after.ensures)

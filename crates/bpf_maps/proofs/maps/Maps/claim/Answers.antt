@@ -12,11 +12,15 @@ key-at-requires c = has_key c.self.inside c.self.view_is c.map.view_is c.require
 
 pub claim-requires : goal.claim-requires
 claim-requires c =
-    let here = live_under (is_under c.self.view_is c.self.invariant c.map.view_is c.key-at.ensures c.index_mut-stored.ensures.value) in
+    let here =
+    live_under (is_under c.self.view_is c.self.invariant c.map.view_is c.key-at.ensures
+    c.index_mut-stored.ensures.value) in
     record { size = c.requires.size ∙ told_of (λ l. l.keys.shape.key_size) here }
 
 -- the table of the map changes
-change : (c : After-claim) → IsKeyChange c.self.inside c.args.self.now c.map.inside.handle c.args.map c.key-at.result c.index_mut-stored.result.now c.claim.new.self
+change : (c : After-claim)
+    → IsKeyChange c.self.inside c.args.self.now c.map.inside.handle c.args.map c.key-at.result
+    c.index_mut-stored.result.now c.claim.new.self
 change c = record {
   under = is_under c.self.view_is c.self.invariant c.map.view_is c.key-at.ensures c.index_mut-stored.ensures.value;
   shape = claims_shape _ c.args.key.now _ _ c.claim.result c.claim.ensures.claimed;
@@ -33,7 +37,9 @@ returns-clause-claimed c =
 
 pub returns-clause-within : goal.returns-clause-within
 returns-clause-within c =
-    subst (λ (t : KeyTable). IfOk c.claim.result (λ p. p < t.shape.max_entries)) (keys_after (change (goal.at.returns-clause-within c).After-claim)) c.claim.ensures.within
+    subst (λ (t : KeyTable). IfOk c.claim.result (λ p. p < t.shape.max_entries))
+    (keys_after (change (goal.at.returns-clause-within c).After-claim))
+    c.claim.ensures.within
 
 pub returns-clause-rest : goal.returns-clause-rest
 returns-clause-rest c = only_keys (change (goal.at.returns-clause-rest c).After-claim)

@@ -28,7 +28,8 @@ returns-then-self-size-gt-LARGEST_SUM-clause-laid c = subst IsLaid c.self.view_i
 
 -- ---- there is room
 
-room : (c : Else-self-size-gt-LARGEST_SUM) → IsRoom c.self.inside c.args.self.now c.args.shape c.area-size.result c.in-Some.handle
+room : (c : Else-self-size-gt-LARGEST_SUM)
+    → IsRoom c.self.inside c.args.self.now c.args.shape c.area-size.result c.in-Some.handle
 room c = record {
   view = c.self.view_is;
   whole = c.self.invariant;
@@ -40,7 +41,8 @@ room c = record {
 -- memory was refused
 
 pub returns-in_default-with_spares-clause-created : goal.returns-in_default-with_spares-clause-created
-returns-in_default-with_spares-clause-created c = creates_none (room (goal.at.returns-in_default-with_spares-clause-created c).Else-self-size-gt-LARGEST_SUM)
+returns-in_default-with_spares-clause-created c =
+    creates_none (room (goal.at.returns-in_default-with_spares-clause-created c).Else-self-size-gt-LARGEST_SUM)
 
 pub returns-in_default-with_spares-clause-laid : goal.returns-in_default-with_spares-clause-laid
 returns-in_default-with_spares-clause-laid c = laid (whole_refused {spares = c.with_spares.new.spares} c.self.invariant)
@@ -55,7 +57,13 @@ module _ (c : goal.After-self-2-1) where
   has = room (goal.at.invariant_of-self-2 c).Else-self-size-gt-LARGEST_SUM
 
   abbrev stored : StoredMap
-  stored = record { map = c.in-Ok.map; start = STACK_AND_CONTEXT + c.self.inside.bytes; stride = c.next_multiple_of.result; elements = c.word.result; holds = 1 }
+  stored = record {
+    map = c.in-Ok.map;
+    start = STACK_AND_CONTEXT + c.self.inside.bytes;
+    stride = c.next_multiple_of.result;
+    elements = c.word.result;
+    holds = 1;
+  }
 
   stride : c.next_multiple_of.result ≡ (c.args.shape.value_size + 7) / 8 * 8
   stride =
@@ -64,7 +72,9 @@ module _ (c : goal.After-self-2-1) where
       let m = c.next_multiple_of.ensures.multiple in
       omega arith
 
-  added : IsAdded c.self.inside c.args.shape c.with_spares.new.spares c.put.new.self c.insert_reserved-key.new.self c.in-Some.handle c.insert_reserved-key.result stored
+  added : IsAdded c.self.inside c.args.shape c.with_spares.new.spares c.put.new.self
+      c.insert_reserved-key.new.self c.in-Some.handle c.insert_reserved-key.result
+      stored
   added = record {
     keys_are = c.put.ensures;
     was = c.insert_reserved-key.ensures.was_vacant;

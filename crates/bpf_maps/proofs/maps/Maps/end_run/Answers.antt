@@ -8,7 +8,9 @@ use Rattle.bpf_maps.proofs.maps.Maps.end_run.Goals as goal
 pub key-key-requires : goal.key-key-requires
 key-key-requires c = has_key c.self.inside c.self.view_is c.map.view_is c.requires
 
-change : (c : goal.After-self-1) → IsKeyChange c.self.inside c.args.self.now c.map.inside.handle c.args.map c.key-key.result c.index_mut-stored.result.now c.end_run.new.self
+change : (c : goal.After-self-1)
+    → IsKeyChange c.self.inside c.args.self.now c.map.inside.handle c.args.map c.key-key.result
+    c.index_mut-stored.result.now c.end_run.new.self
 change c = record {
   under = is_under c.self.view_is c.self.invariant c.map.view_is c.key-key.ensures c.index_mut-stored.ensures.value;
   shape = ap (λ (t : KeyTable). t.shape) c.end_run.ensures.ended;

@@ -10,7 +10,9 @@ pub returns : goal.returns
 returns c =
     let live = ap is_some c.stored.ensures in
     let same = sym (told_of (λ l. l.keys) c.stored.ensures) in
-    let entry = subst (λ (t : KeyTable). option_map shown_entry c.entry_after.result ≡ next_entry c.args.element t.entries) same c.entry_after.ensures in
+    let entry =
+    subst (λ (t : KeyTable). option_map shown_entry c.entry_after.result ≡ next_entry c.args.element t.entries)
+    same c.entry_after.ensures in
     let sound = c.maps_are_laid.ensures.sound c.args.map live in
     record {
       entry = entry;

@@ -13,13 +13,16 @@ first_is : (t : LiveMaps) (k : ℕ) (e : StoredMap) → live_at t k ≡ Some (li
 unfolding offset
 first_is t k e is = let at = ap (λ (o : Option LiveMap). (live_or o).start + 0 * (live_or o).stride) is in omega arith
 
-elements_are : (t : LiveMaps) (k : ℕ) (e : StoredMap) → live_at t k ≡ Some (live_of e) → word_of (elements_of (live_of e).keys.shape) ≡ word_of (elements_at t k)
+elements_are : (t : LiveMaps) (k : ℕ) (e : StoredMap)
+    → live_at t k ≡ Some (live_of e)
+    → word_of (elements_of (live_of e).keys.shape) ≡ word_of (elements_at t k)
 elements_are t k e is = sym (ap (λ (o : Option LiveMap). word_of (elements_of (live_or o).keys.shape)) is)
 
 pub key-key-requires : goal.key-key-requires
 key-key-requires c = has_key c.self.inside c.self.view_is c.map.view_is (sym c.is_live.ensures ∙ c.if-not-is_live.false)
 
-under_its_key : (c : After-index-stored) → IsUnder c.self.inside c.args.self.now c.map.inside.handle c.args.map c.key-key.result c.index-stored.result.now
+under_its_key : (c : After-index-stored)
+    → IsUnder c.self.inside c.args.self.now c.map.inside.handle c.args.map c.key-key.result c.index-stored.result.now
 under_its_key c = is_under c.self.view_is c.self.invariant c.map.view_is c.key-key.ensures c.index-stored.ensures
 
 pub returns-clause-inside : goal.returns-clause-inside

@@ -10,7 +10,10 @@ key-key-requires c = has_key c.self.inside c.self.view_is c.map.view_is c.requir
 
 pub overflow_add-stored : goal.overflow_add-stored
 overflow_add-stored c =
-    let held = told_of (λ l. l.holds) (live_under (is_under c.self.view_is c.self.invariant c.map.view_is c.key-key.ensures c.index_mut-stored.ensures.value)) in
+    let held =
+    told_of (λ l. l.holds)
+    (live_under (is_under c.self.view_is c.self.invariant c.map.view_is c.key-key.ensures
+    c.index_mut-stored.ensures.value)) in
     let few = c.requires.few in
     record { fits = omega arith }
 
@@ -21,8 +24,17 @@ module _ (c : goal.After-self-1) where
   under : IsUnder c.self.inside c.args.self.now c.map.inside.handle c.args.map c.key-key.result old
   under = is_under c.self.view_is c.self.invariant c.map.view_is c.key-key.ensures c.index_mut-stored.ensures.value
 
-  change : IsChange c.self.inside c.args.self.now c.map.inside.handle c.args.map c.key-key.result old (record { map = old.map; start = old.start; stride = old.stride; elements = old.elements; holds = old.holds + 1 })
-  change = record { under = under; start = refl; stride = refl; elements = refl; shape = refl; held = omega arith; sound = (placed_under under).sound }
+  change : IsChange c.self.inside c.args.self.now c.map.inside.handle c.args.map c.key-key.result old
+      (record { map = old.map; start = old.start; stride = old.stride; elements = old.elements; holds = old.holds + 1 })
+  change = record {
+    under = under;
+    start = refl;
+    stride = refl;
+    elements = refl;
+    shape = refl;
+    held = omega arith;
+    sound = (placed_under under).sound;
+  }
 
 pub invariant_of-self : goal.invariant_of-self
 invariant_of-self c = whole_stays (change c)
@@ -40,7 +52,9 @@ pub returns-clause-live : goal.returns-clause-live
 returns-clause-live c = ap is_some (live_new (change c))
 
 pub returns-clause-holds : goal.returns-clause-holds
-returns-clause-holds c = told_of (λ l. l.holds) (live_new (change c)) ∙ sym (ap (λ (n : ℕ). n + 1) (told_of (λ l. l.holds) (live_old (change c))))
+returns-clause-holds c =
+    told_of (λ l. l.holds) (live_new (change c))
+    ∙ sym (ap (λ (n : ℕ). n + 1) (told_of (λ l. l.holds) (live_old (change c))))
 
 pub returns-clause-shape : goal.returns-clause-shape
 returns-clause-shape c = part_stays (change c) (λ l. l.keys.shape) refl

@@ -10,6 +10,10 @@ returns c =
     let is = c.stored.ensures in
     let same = sym (told_of (λ l. l.keys) is) in
     record {
-      given = subst (λ (t : KeyTable). option_map key_bytes c.key_after.result ≡ next_of (table_of t) c.args.key.now) same c.key_after.ensures.given;
-      size = subst (λ (t : KeyTable). IfSome c.key_after.result (λ given. length (key_bytes given) ≡ t.shape.key_size)) same c.key_after.ensures.size;
+      given =
+          subst (λ (t : KeyTable). option_map key_bytes c.key_after.result ≡ next_of (table_of t) c.args.key.now)
+          same c.key_after.ensures.given;
+      size =
+          subst (λ (t : KeyTable). IfSome c.key_after.result (λ given. length (key_bytes given) ≡ t.shape.key_size))
+          same c.key_after.ensures.size;
     }

@@ -16,6 +16,8 @@ returns c =
       laid = subst IsLaid c.self.view_is (laid is);
       packed = subst IsPacked c.self.view_is (packed is);
       sound = subst AreSound c.self.view_is (sound_at is);
-      maps = subst (λ (t : LiveMaps). length t.maps ≡ MAPS) c.self.view_is (handles_are c.self.inside.keys c.self.inside.maps is.keys);
+      maps =
+          subst (λ (t : LiveMaps). length t.maps ≡ MAPS) c.self.view_is
+          (handles_are c.self.inside.keys c.self.inside.maps is.keys);
       bytes = subst (λ (t : LiveMaps). areas t ≤ LARGEST_SUM) c.self.view_is bytes;
     }

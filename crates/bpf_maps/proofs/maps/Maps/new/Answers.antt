@@ -41,7 +41,9 @@ invariant_of-result c =
         long = ap (λ (xs : List (Option ℕ)). length xs) none;
         there = λ k key at. absurd (unkeyed none maps k key at);
         own = λ k j key at bt. absurd (unkeyed none maps k key at);
-        all = ap (λ (xs : List (Option StoredMap)). count_by is_some xs) c.in_ok-maps.ensures.empty ∙ sym (ap (λ (xs : List (Option ℕ)). count_by is_some xs) none);
+        all =
+            ap (λ (xs : List (Option StoredMap)). count_by is_some xs) c.in_ok-maps.ensures.empty
+            ∙ sym (ap (λ (xs : List (Option ℕ)). count_by is_some xs) none);
       };
       room = c.in_ok-maps.ensures.capacity;
       placed = λ k e at. absurd (empty none maps k e at);
@@ -55,7 +57,9 @@ pub returns-clause-maps : goal.returns-clause-maps
 returns-clause-maps c = no_maps c.new.ensures c.in_ok-maps.maps
 
 pub returns-clause-none : goal.returns-clause-none
-returns-clause-none c = λ k. ap (λ (lives : List (Option LiveMap)). get_or lives k None) (no_maps c.new.ensures c.in_ok-maps.maps) ∙ none_at MAPS k
+returns-clause-none c = λ k.
+    ap (λ (lives : List (Option LiveMap)). get_or lives k None) (no_maps c.new.ensures c.in_ok-maps.maps)
+    ∙ none_at MAPS k
 
 pub returns-clause-bytes : goal.returns-clause-bytes
 returns-clause-bytes c = no_bytes c.new.ensures c.in_ok-maps.maps

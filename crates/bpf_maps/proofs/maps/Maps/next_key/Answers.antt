@@ -8,5 +8,8 @@ pub returns : goal.returns
 returns c =
     let is = c.stored.ensures in
     record {
-      given = subst (λ (t : KeyTable). GivesKey (next_of (table_of t) c.args.key.now) c.args.next.now c.next_key.result c.next_key.new.next) (sym (told_of (λ l. l.keys) is)) c.next_key.ensures.given;
+      given =
+          subst (λ (t : KeyTable).
+          GivesKey (next_of (table_of t) c.args.key.now) c.args.next.now c.next_key.result c.next_key.new.next)
+          (sym (told_of (λ l. l.keys) is)) c.next_key.ensures.given;
     }

@@ -8,15 +8,20 @@ use Rattle.bpf_maps.specs.InMaps.{live_of}
 use Rattle.bpf_maps.proofs.maps.Maps.offset_in.Goals as goal
 use Rattle.bpf_maps.proofs.maps.Maps.offset_in.Goals.{After-maps_are_laid}
 
-offset_is : (t : LiveMaps) (k p : ℕ) (e : StoredMap) → live_at t k ≡ Some (live_of e) → e.start + p * e.stride ≡ offset_at t k p
+offset_is : (t : LiveMaps) (k p : ℕ) (e : StoredMap)
+    → live_at t k ≡ Some (live_of e) → e.start + p * e.stride ≡ offset_at t k p
 unfolding offset
 offset_is t k p e is = ap (λ (o : Option LiveMap). (live_or o).start + p * (live_or o).stride) (sym is)
 
 module _ (c : After-maps_are_laid) where
-  lies : LiesInPart (offset_at c.args.self.now c.args.map c.args.element) (shape_at c.args.self.now c.args.map).value_size
-  lies = laid_inside c.args.self.now c.maps_are_laid.ensures.laid c.args.map c.args.element (subst IsSome (sym c.requires.stored) refl) c.requires.element
+  lies :
+      LiesInPart (offset_at c.args.self.now c.args.map c.args.element) (shape_at c.args.self.now c.args.map).value_size
+  lies =
+      laid_inside c.args.self.now c.maps_are_laid.ensures.laid c.args.map c.args.element
+      (subst IsSome (sym c.requires.stored) refl) c.requires.element
 
-  same : c.args.stored.now.start + c.args.element * c.args.stored.now.stride ≡ offset_at c.args.self.now c.args.map c.args.element
+  same : c.args.stored.now.start + c.args.element * c.args.stored.now.stride
+      ≡ offset_at c.args.self.now c.args.map c.args.element
   same = offset_is c.args.self.now c.args.map c.args.element c.args.stored.now c.requires.stored
 
   small : c.args.stored.now.start + c.args.element * c.args.stored.now.stride ≤ PART
@@ -31,7 +36,11 @@ returns-clause-inside c =
     subst (λ (o : ℕ). LiesInPart o (shape_at c.args.self.now c.args.map).value_size) (sym (same at)) (lies at)
 
 pub overflow_mul-result : goal.overflow_mul-result
-overflow_mul-result c = record { fits = let s = small (goal.at.overflow_mul-result c).After-maps_are_laid in omega arith }
+overflow_mul-result c = record {
+  fits = let s = small (goal.at.overflow_mul-result c).After-maps_are_laid in omega arith;
+}
 
 pub overflow_add-result : goal.overflow_add-result
-overflow_add-result c = record { fits = let s = small (goal.at.overflow_add-result c).After-maps_are_laid in omega arith }
+overflow_add-result c = record {
+  fits = let s = small (goal.at.overflow_add-result c).After-maps_are_laid in omega arith;
+}

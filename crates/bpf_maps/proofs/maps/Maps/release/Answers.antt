@@ -12,7 +12,9 @@ use Rattle.bpf_maps.proofs.maps.Maps.release.Goals.{After-index_mut-stored, Afte
 pub key-key-requires : goal.key-key-requires
 key-key-requires c = has_key c.self.inside c.self.view_is c.map.view_is c.requires.live
 
-under : (c : After-index_mut-stored) → IsUnder c.self.inside c.args.self.now c.map.inside.handle c.args.map c.key-key.result c.index_mut-stored.result.now
+under : (c : After-index_mut-stored)
+    → IsUnder c.self.inside c.args.self.now c.map.inside.handle c.args.map c.key-key.result
+    c.index_mut-stored.result.now
 under c = is_under c.self.view_is c.self.invariant c.map.view_is c.key-key.ensures c.index_mut-stored.ensures.value
 
 -- ---- one hold less
@@ -24,7 +26,8 @@ module _ (c : goal.After-self-1) where
   is : IsUnder c.self.inside c.args.self.now c.map.inside.handle c.args.map c.key-key.result old
   is = under (goal.at.invariant_of-self c).After-index_mut-stored
 
-  change : IsChange c.self.inside c.args.self.now c.map.inside.handle c.args.map c.key-key.result old (record { map = old.map; start = old.start; stride = old.stride; elements = old.elements; holds = old.holds - 1 })
+  change : IsChange c.self.inside c.args.self.now c.map.inside.handle c.args.map c.key-key.result old
+      (record { map = old.map; start = old.start; stride = old.stride; elements = old.elements; holds = old.holds - 1 })
   change = record {
     under = is;
     start = refl;
@@ -87,8 +90,12 @@ returns-then-stored-gt-LAST-clause-areas c = λ more. areas_stay (change c)
 -- ---- the last one
 
 module _ (c : After-area-size) where
-  taken : IsTaken c.self.inside c.args.self.now c.map.inside.handle c.args.map c.key-key.result c.index_mut-stored.result.now c.remove-gone.result
-  taken = record { under = is_under c.self.view_is c.self.invariant c.map.view_is c.key-key.ensures c.index_mut-stored.ensures.value; value = c.remove-gone.ensures.value }
+  taken : IsTaken c.self.inside c.args.self.now c.map.inside.handle c.args.map c.key-key.result
+      c.index_mut-stored.result.now c.remove-gone.result
+  taken = record {
+    under = is_under c.self.view_is c.self.invariant c.map.view_is c.key-key.ensures c.index_mut-stored.ensures.value;
+    value = c.remove-gone.ensures.value;
+  }
 
   size : c.area-size.result ≡ area_of (live_of c.remove-gone.result)
   size = c.area-size.ensures.value ∙ ap area_by c.shape.ensures
@@ -96,8 +103,15 @@ module _ (c : After-area-size) where
   ends : c.remove-gone.result.start + c.area-size.result ≤ STACK_AND_CONTEXT + c.self.inside.bytes
   ends = let within = gone_within taken in let s = size in omega arith
 
-  left : IsLeft c.self.inside c.map.inside.handle c.key-key.result c.index_mut-stored.result.now c.clear.new.self c.remove-gone.new.self
-  left = record { keys_are = c.clear.ensures; gap = c.remove-gone.ensures.updates.changed; others = c.remove-gone.ensures.updates.others; len = c.remove-gone.ensures.len; capacity = c.remove-gone.ensures.capacity }
+  left : IsLeft c.self.inside c.map.inside.handle c.key-key.result c.index_mut-stored.result.now
+      c.clear.new.self c.remove-gone.new.self
+  left = record {
+    keys_are = c.clear.ensures;
+    gap = c.remove-gone.ensures.updates.changed;
+    others = c.remove-gone.ensures.updates.others;
+    len = c.remove-gone.ensures.len;
+    capacity = c.remove-gone.ensures.capacity;
+  }
 
 pub overflow_add-end : goal.overflow_add-end
 overflow_add-end c =
@@ -119,13 +133,17 @@ pub overflow_sub-self : goal.overflow_sub-self
 overflow_sub-self c = let at = (goal.at.overflow_sub-self c).After-area-size in size_most (taken at) (size at)
 
 pub close_gap-requires-clause-keys : goal.close_gap-requires-clause-keys
-close_gap-requires-clause-keys c = let at = (goal.at.close_gap-requires-clause-keys c).After-area-size in left_keys (taken at) (left at)
+close_gap-requires-clause-keys c =
+    let at = (goal.at.close_gap-requires-clause-keys c).After-area-size in left_keys (taken at) (left at)
 
 module _ (c : goal.After-keep) where
   abbrev at : After-area-size
   at = (goal.at.invariant_of-self-2 c).After-area-size
 
-  goes : Goes c.self.inside c.args.self.now c.map.inside.handle c.args.map c.key-key.result c.area-size.result c.index_mut-stored.result.now c.remove-gone.result c.clear.new.self c.remove-gone.new.self c.close_gap.new.maps c.keep.new.self
+  goes : Goes c.self.inside c.args.self.now c.map.inside.handle c.args.map c.key-key.result
+      c.area-size.result c.index_mut-stored.result.now c.remove-gone.result
+      c.clear.new.self c.remove-gone.new.self c.close_gap.new.maps
+      c.keep.new.self
   goes = record {
     taken = taken at;
     size_is = size at;
@@ -138,7 +156,13 @@ module _ (c : goal.After-keep) where
   }
 
   -- the bytes after it have moved down
-  moved : c.copy_within.new.self ≡ take c.remove-gone.result.start c.args.part.now ++ (take (STACK_AND_CONTEXT + c.self.inside.bytes - (c.remove-gone.result.start + c.area-size.result)) (drop (c.remove-gone.result.start + c.area-size.result) c.args.part.now) ++ drop (c.remove-gone.result.start + (STACK_AND_CONTEXT + c.self.inside.bytes - (c.remove-gone.result.start + c.area-size.result))) c.args.part.now)
+  moved : c.copy_within.new.self
+      ≡ take c.remove-gone.result.start c.args.part.now
+      ++ (take (STACK_AND_CONTEXT + c.self.inside.bytes - (c.remove-gone.result.start + c.area-size.result))
+      (drop (c.remove-gone.result.start + c.area-size.result) c.args.part.now)
+      ++ drop (c.remove-gone.result.start
+      + (STACK_AND_CONTEXT + c.self.inside.bytes - (c.remove-gone.result.start + c.area-size.result)))
+      c.args.part.now)
   moved = c.copy_within.ensures.after ∙ append_assoc (take c.remove-gone.result.start c.args.part.now) _ _
 
   -- in this case the map had no second reference

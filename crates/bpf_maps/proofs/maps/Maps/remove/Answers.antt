@@ -10,10 +10,14 @@ key-at-requires c = has_key c.self.inside c.self.view_is c.map.view_is c.require
 
 pub remove-requires : goal.remove-requires
 remove-requires c =
-    let here = live_under (is_under c.self.view_is c.self.invariant c.map.view_is c.key-at.ensures c.index_mut-stored.ensures.value) in
+    let here =
+    live_under (is_under c.self.view_is c.self.invariant c.map.view_is c.key-at.ensures
+    c.index_mut-stored.ensures.value) in
     record { size = c.requires.size ∙ told_of (λ l. l.keys.shape.key_size) here }
 
-change : (c : goal.After-self-1) → IsKeyChange c.self.inside c.args.self.now c.map.inside.handle c.args.map c.key-at.result c.index_mut-stored.result.now c.remove.new.self
+change : (c : goal.After-self-1)
+    → IsKeyChange c.self.inside c.args.self.now c.map.inside.handle c.args.map c.key-at.result
+    c.index_mut-stored.result.now c.remove.new.self
 change c = record {
   under = is_under c.self.view_is c.self.invariant c.map.view_is c.key-at.ensures c.index_mut-stored.ensures.value;
   shape = removes_shape _ c.args.key.now _ _ c.remove.result c.remove.ensures.removed;
@@ -24,7 +28,9 @@ pub invariant_of-self : goal.invariant_of-self
 invariant_of-self c = keys_whole (change c)
 
 pub returns-clause-removed : goal.returns-clause-removed
-returns-clause-removed c = removes_along c.args.key.now c.remove.result (keys_before (change c)) (keys_after (change c)) c.remove.ensures.removed
+returns-clause-removed c =
+    removes_along c.args.key.now c.remove.result (keys_before (change c)) (keys_after (change c))
+    c.remove.ensures.removed
 
 pub returns-clause-rest : goal.returns-clause-rest
 returns-clause-rest c = only_keys (change c)

@@ -5,4 +5,6 @@ use Rattle.bpf_maps.specs.inside.SlabKeys.{key_in}
 use Rattle.bpf_maps.proofs.slab_keys.SlabKeys.clear.Goals as goal
 
 pub returns : goal.returns
-returns c = map-set key_in c.self.inside.words c.args.handle NO_KEY ∙ ap (λ (keys : List (Option ℕ)). set keys c.args.handle None) c.self.view_is
+returns c =
+    map-set key_in c.self.inside.words c.args.handle NO_KEY
+    ∙ ap (λ (keys : List (Option ℕ)). set keys c.args.handle None) c.self.view_is

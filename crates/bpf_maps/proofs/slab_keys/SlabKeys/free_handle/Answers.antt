@@ -14,4 +14,7 @@ module _ {A B : Type 0} (f : A → B) (test : B → Bool) where
   position_mapped xs = ap₂ (λ (n len : ℕ). cond (nat_lt n len) (Some n) None) (front_mapped xs) (length-map xs f)
 
 pub returns : goal.returns
-returns c = c.first_without_key.ensures ∙ sym (position_mapped key_in is_none c.self.inside.words) ∙ ap (position is_none) c.self.view_is
+returns c =
+    c.first_without_key.ensures
+    ∙ sym (position_mapped key_in is_none c.self.inside.words)
+    ∙ ap (position is_none) c.self.view_is

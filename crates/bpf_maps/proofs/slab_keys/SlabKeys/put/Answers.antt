@@ -10,4 +10,5 @@ is_key key less = grind arith
 pub returns : goal.returns
 returns c =
     map-set key_in c.self.inside.words c.args.handle c.args.key
-    ∙ ap₂ (λ (keys : List (Option ℕ)) (key : Option ℕ). set keys c.args.handle key) c.self.view_is (is_key c.args.key c.requires.key)
+    ∙ ap₂ (λ (keys : List (Option ℕ)) (key : Option ℕ). set keys c.args.handle key) c.self.view_is
+    (is_key c.args.key c.requires.key)

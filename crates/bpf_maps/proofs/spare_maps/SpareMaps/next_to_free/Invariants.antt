@@ -5,5 +5,8 @@ use Rattle.bpf_maps.proofs.spare_maps.SpareMaps.next_to_free.Given as goal
 abbrev pub invariant-loop-at : goal.invariant-loop-at
 invariant-loop-at l = record {
   within : l.chosen < vec_len l.self.maps;
-  suffices : (k : ℕ) → k < l.at → HasEntries l.excess (slice_get l.self.maps.items k) → HasEntries l.excess (slice_get l.self.maps.items l.chosen);
+  suffices : (k : ℕ)
+      → k < l.at
+      → HasEntries l.excess (slice_get l.self.maps.items k)
+      → HasEntries l.excess (slice_get l.self.maps.items l.chosen);
 }

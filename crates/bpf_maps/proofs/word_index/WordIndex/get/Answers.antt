@@ -11,5 +11,9 @@ returns c =
     let w = c.self.inside in
     let key = c.args.key.now in
     let long = c.requires ∙ ap (λ (t : SizedKeys). t.size) (sym c.self.view_is) in
-    let tests = word_tests w.size key (λ i _. (c.type_inv.key i).fits) long c.word_of.result w.map.entries c.word_of.ensures c.self.invariant.below in
-    c.get.ensures ∙ found_shown (low_bytes w.size) key (nat_eq c.word_of.result) w.map.entries tests ∙ ap (λ (t : SizedKeys). found key t.entries) c.self.view_is
+    let tests =
+    word_tests w.size key (λ i _. (c.type_inv.key i).fits) long c.word_of.result w.map.entries
+    c.word_of.ensures c.self.invariant.below in
+    c.get.ensures
+    ∙ found_shown (low_bytes w.size) key (nat_eq c.word_of.result) w.map.entries tests
+    ∙ ap (λ (t : SizedKeys). found key t.entries) c.self.view_is

@@ -18,7 +18,9 @@ pub returns-in_err-word-2 : goal.returns-in_err-word-2
 returns-in_err-word-2 c =
     let w = c.self.inside in
     let key = c.args.key.now in
-    let tests = word_tests w.size key (λ i _. (c.type_inv.key i).fits) c.if-key-self.false c.word_of.result w.map.entries c.word_of.ensures c.self.invariant.below in
+    let tests =
+    word_tests w.size key (λ i _. (c.type_inv.key i).fits) c.if-key-self.false c.word_of.result
+    w.map.entries c.word_of.ensures c.self.invariant.below in
     c.from_residual-in_err-word-2.ensures
     ∙ ap (option_map (low_bytes w.size)) c.in_err-word-2.ensures
     ∙ following_shown (low_bytes w.size) key (nat_eq c.word_of.result) w.map.entries tests
@@ -28,7 +30,9 @@ pub returns : goal.returns
 returns c =
     let w = c.self.inside in
     let key = c.args.key.now in
-    let tests = word_tests w.size key (λ i _. (c.type_inv.key i).fits) c.if-key-self.false c.word_of.result w.map.entries c.word_of.ensures c.self.invariant.below in
+    let tests =
+    word_tests w.size key (λ i _. (c.type_inv.key i).fits) c.if-key-self.false c.word_of.result
+    w.map.entries c.word_of.ensures c.self.invariant.below in
     ap (λ (key : List ℕ). let o : Option (List ℕ) = Some key in o) c.of_word-2.ensures
     ∙ ap (option_map (low_bytes w.size)) c.in_ok-word-2.ensures
     ∙ following_shown (low_bytes w.size) key (nat_eq c.word_of.result) w.map.entries tests

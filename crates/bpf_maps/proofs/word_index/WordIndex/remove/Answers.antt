@@ -12,22 +12,30 @@ module _ (c : goal.After-remove) where
   long = c.requires ∙ ap (λ (t : SizedKeys). t.size) (sym c.self.view_is)
 
   tests : Tests (low_bytes c.self.inside.size) c.args.key.now (nat_eq c.word_of.result) c.self.inside.map.entries
-  tests = word_tests c.self.inside.size c.args.key.now (λ i _. (c.type_inv.key i).fits) long c.word_of.result c.self.inside.map.entries c.word_of.ensures c.self.invariant.below
+  tests =
+      word_tests c.self.inside.size c.args.key.now (λ i _. (c.type_inv.key i).fits) long
+      c.word_of.result c.self.inside.map.entries c.word_of.ensures
+      c.self.invariant.below
 
 pub invariant_of-self : goal.invariant_of-self
 invariant_of-self c = record {
   short = c.self.invariant.short;
-  below = subst (AreBelow (256 ^ c.self.inside.size)) (sym c.remove.ensures.left) (below-remove (256 ^ c.self.inside.size) (nat_eq c.word_of.result) c.self.inside.map.entries c.self.invariant.below);
+  below =
+      subst (AreBelow (256 ^ c.self.inside.size)) (sym c.remove.ensures.left)
+      (below-remove (256 ^ c.self.inside.size) (nat_eq c.word_of.result) c.self.inside.map.entries
+      c.self.invariant.below);
 }
 
 pub returns-clause-element : goal.returns-clause-element
 returns-clause-element c =
     c.remove.ensures.element
-    ∙ found_shown (low_bytes c.self.inside.size) c.args.key.now (nat_eq c.word_of.result) c.self.inside.map.entries (tests c)
+    ∙ found_shown (low_bytes c.self.inside.size) c.args.key.now (nat_eq c.word_of.result)
+    c.self.inside.map.entries (tests c)
     ∙ ap (λ (t : SizedKeys). found c.args.key.now t.entries) c.self.view_is
 
 pub returns-clause-left : goal.returns-clause-left
 returns-clause-left c =
     ap (shown_by (low_bytes c.self.inside.size)) c.remove.ensures.left
-    ∙ without_shown (low_bytes c.self.inside.size) c.args.key.now (nat_eq c.word_of.result) c.self.inside.map.entries (tests c)
+    ∙ without_shown (low_bytes c.self.inside.size) c.args.key.now (nat_eq c.word_of.result)
+    c.self.inside.map.entries (tests c)
     ∙ ap (λ (t : SizedKeys). without c.args.key.now t.entries) c.self.view_is

@@ -5,9 +5,13 @@ use Rattle.fd_table.proofs.table.FdTable.free_index.Goals as goal
 pub returns-then-index-lt-MOST-clause-value : goal.returns-then-index-lt-MOST-clause-value
 returns-then-index-lt-MOST-clause-value g c =
     let table = c.self.inside in
-    some_free table.taken c.trailing_ones-index.result table.entries.items c.args.self.now c.self.view_is (omega arith) (omega arith) c.self.invariant.1 c.trailing_ones-index.ensures c.if-index-lt-MOST.true
+    some_free table.taken c.trailing_ones-index.result table.entries.items c.args.self.now
+    c.self.view_is (omega arith) (omega arith) c.self.invariant.1
+    c.trailing_ones-index.ensures c.if-index-lt-MOST.true
 
 pub returns-else-index-lt-MOST-clause-value : goal.returns-else-index-lt-MOST-clause-value
 returns-else-index-lt-MOST-clause-value g c =
     let table = c.self.inside in
-    none_free table.taken c.trailing_ones-index.result table.entries.items c.args.self.now c.self.view_is (omega arith) (omega arith) c.self.invariant.1 c.trailing_ones-index.ensures c.if-index-lt-MOST.false
+    none_free table.taken c.trailing_ones-index.result table.entries.items c.args.self.now
+    c.self.view_is (omega arith) (omega arith) c.self.invariant.1
+    c.trailing_ones-index.ensures c.if-index-lt-MOST.false

@@ -13,9 +13,14 @@ pub returns : goal.returns
 returns c =
     let o = c.self.inside in
     let ls = o.links.items in
-    let element_read : c.index.result.now ≡ link_at ls c.args.element = read o c.args.element c.index.result.now c.index.ensures (member_within o c.self.invariant c.args.self.now c.self.view_is c.args.element c.requires) in
+    let element_read : c.index.result.now ≡ link_at ls c.args.element =
+    read o c.args.element c.index.result.now c.index.ensures
+    (member_within o c.self.invariant c.args.self.now c.self.view_is c.args.element c.requires) in
     c.unless_end.ensures
-    ∙ ap (λ (b : ℕ). unless_end (after_in ls) (before_in ls) b c.index.result.now.after) (ap (λ (t : Order). t.bound) (sym c.self.view_is))
+    ∙ ap (λ (b : ℕ). unless_end (after_in ls) (before_in ls) b c.index.result.now.after)
+    (ap (λ (t : Order). t.bound) (sym c.self.view_is))
     ∙ ap (λ (l : Link). unless_end (after_in ls) (before_in ls) o.bound l.after) element_read
-    ∙ following_is (after_in ls) (before_in ls) o.bound (elements_in o) o.bound c.args.element c.self.invariant.linked c.self.invariant.within (member_here o c.self.invariant c.args.self.now c.self.view_is c.args.element c.requires)
+    ∙ following_is (after_in ls) (before_in ls) o.bound (elements_in o) o.bound c.args.element
+    c.self.invariant.linked c.self.invariant.within
+    (member_here o c.self.invariant c.args.self.now c.self.view_is c.args.element c.requires)
     ∙ ap (λ (t : Order). following c.args.element t.elements) c.self.view_is

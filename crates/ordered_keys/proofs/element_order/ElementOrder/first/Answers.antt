@@ -10,9 +10,13 @@ pub returns : goal.returns
 returns c =
     let o = c.self.inside in
     let within : o.bound < vec_len o.links = (let long = c.self.invariant.long in omega arith) in
-    let read : c.index.result.now ≡ link_at o.links.items o.bound = get_or_read_under o.links.items o.bound o.links.len c.index.result.now (lone_link 0) c.index.ensures within o.links.ok.0 in
+    let read : c.index.result.now ≡ link_at o.links.items o.bound =
+    get_or_read_under o.links.items o.bound o.links.len c.index.result.now (lone_link 0)
+    c.index.ensures within o.links.ok.0 in
     c.unless_end.ensures
-    ∙ ap (λ (b : ℕ). unless_end (after_in o.links.items) (before_in o.links.items) b c.index.result.now.after) (ap (λ (t : Order). t.bound) (sym c.self.view_is))
+    ∙ ap (λ (b : ℕ). unless_end (after_in o.links.items) (before_in o.links.items) b c.index.result.now.after)
+    (ap (λ (t : Order). t.bound) (sym c.self.view_is))
     ∙ ap (λ (l : Link). unless_end (after_in o.links.items) (before_in o.links.items) o.bound l.after) read
-    ∙ first_is (after_in o.links.items) (before_in o.links.items) o.bound (elements_in o) o.bound c.self.invariant.linked c.self.invariant.within
+    ∙ first_is (after_in o.links.items) (before_in o.links.items) o.bound (elements_in o) o.bound
+    c.self.invariant.linked c.self.invariant.within
     ∙ ap (λ (t : Order). first_element t.elements) c.self.view_is

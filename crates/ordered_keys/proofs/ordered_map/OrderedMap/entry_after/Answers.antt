@@ -17,17 +17,25 @@ pub key_at-requires : goal.key_at-requires
 key_at-requires g c =
     let m = c.self.inside in
     let next = c.in_ok-next.next in
-    let long : length c.deref-2.result.now ≡ m.order.bound = ap length c.deref-2.ensures.value ∙ c.self.invariant.indexed.long in
-    members_within (length c.deref-2.result.now) m.order.bound m.order.elements (Some next) long c.self.invariant.indexed.within
-    (next_member m.table.entries m.indices.items m.order c.self.invariant.indexed c.args.element next c.in_ok-next.ensures)
+    let long : length c.deref-2.result.now ≡ m.order.bound =
+    ap length c.deref-2.ensures.value ∙ c.self.invariant.indexed.long in
+    members_within (length c.deref-2.result.now) m.order.bound m.order.elements (Some next) long
+    c.self.invariant.indexed.within
+    (next_member m.table.entries m.indices.items m.order c.self.invariant.indexed c.args.element
+    next c.in_ok-next.ensures)
 
 pub returns-in_err-key : goal.returns-in_err-key
 returns-in_err-key g c =
     let m = c.self.inside in
     let next = c.in_ok-next.next in
-    let none = c.in_err-key.ensures ∙ ap (λ (is : List ℕ). key_of m.table.entries is (let o : Option ℕ = Some next in o)) c.deref-2.ensures.value in
+    let none =
+    c.in_err-key.ensures
+    ∙ ap (λ (is : List ℕ). key_of m.table.entries is (let o : Option ℕ = Some next in o)) c.deref-2.ensures.value in
     ap (option_map (lent_entry {K = g.row.K.Denot})) c.from_residual-in_err-key.ensures
-    ∙ sym (without_key m.table.entries m.indices.items m.order c.self.invariant.indexed next (next_member m.table.entries m.indices.items m.order c.self.invariant.indexed c.args.element next c.in_ok-next.ensures) (sym none))
+    ∙ sym (without_key m.table.entries m.indices.items m.order c.self.invariant.indexed next
+    (next_member m.table.entries m.indices.items m.order c.self.invariant.indexed c.args.element
+    next c.in_ok-next.ensures)
+    (sym none))
     ∙ ap (entry_or_none m.table.entries m.indices.items) c.in_ok-next.ensures
     ∙ next_in_order m.table.entries m.indices.items m.order c.self.invariant.indexed c.args.element
     ∙ ap (λ (b : BoundedKeys g.row.K.Denot). next_entry c.args.element b.entries) c.self.view_is
@@ -36,8 +44,14 @@ pub returns : goal.returns
 returns g c =
     let m = c.self.inside in
     let next = c.in_ok-next.next in
-    let some = c.in_ok-key.ensures ∙ ap (λ (is : List ℕ). key_of m.table.entries is (let o : Option ℕ = Some next in o)) c.deref-2.ensures.value in
-    sym (with_its_element m.table.entries m.indices.items m.order c.self.invariant.indexed next c.in_ok-key.key.now (next_member m.table.entries m.indices.items m.order c.self.invariant.indexed c.args.element next c.in_ok-next.ensures) (sym some))
+    let some =
+    c.in_ok-key.ensures
+    ∙ ap (λ (is : List ℕ). key_of m.table.entries is (let o : Option ℕ = Some next in o)) c.deref-2.ensures.value in
+    sym (with_its_element m.table.entries m.indices.items m.order c.self.invariant.indexed next
+    c.in_ok-key.key.now
+    (next_member m.table.entries m.indices.items m.order c.self.invariant.indexed c.args.element
+    next c.in_ok-next.ensures)
+    (sym some))
     ∙ ap (entry_or_none m.table.entries m.indices.items) c.in_ok-next.ensures
     ∙ next_in_order m.table.entries m.indices.items m.order c.self.invariant.indexed c.args.element
     ∙ ap (λ (b : BoundedKeys g.row.K.Denot). next_entry c.args.element b.entries) c.self.view_is

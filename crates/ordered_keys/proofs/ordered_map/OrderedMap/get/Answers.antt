@@ -9,5 +9,8 @@ returns g c =
     let m = c.self.inside in
     let test = g.Q.Equivalent.equivalent c.args.key in
     c.copied.ensures ∙ c.get.ensures.value
-    ∙ same_found m.table.entries m.indices.items m.order c.self.invariant.indexed test g.K.PartialEq.eq (sole_by g.K.PartialEq.eq test (g.met.Q.Equivalent.respects_eq c.args.key)) c.len-len.ensures.unique
+    ∙ same_found m.table.entries m.indices.items m.order c.self.invariant.indexed test
+    g.K.PartialEq.eq
+    (sole_by g.K.PartialEq.eq test (g.met.Q.Equivalent.respects_eq c.args.key))
+    c.len-len.ensures.unique
     ∙ ap (λ (b : BoundedKeys g.row.K.Denot). lookup test b.entries) c.self.view_is

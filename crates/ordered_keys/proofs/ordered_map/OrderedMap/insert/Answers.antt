@@ -9,13 +9,20 @@ use Rattle.ordered_keys.proofs.ordered_map.OrderedMap.insert.Given.{Over}
 use Rattle.ordered_keys.proofs.ordered_map.OrderedMap.insert.Goals as goal
 
 pub overflow_cast-index : goal.overflow_cast-index
-overflow_cast-index g c = let h = c.self.invariant.indexed in let m = h.many in let f = h.few in let s = h.small in let l = c.len-index.ensures.len in record { fits = omega arith }
+overflow_cast-index g c =
+    let h = c.self.invariant.indexed in
+    let m = h.many in
+    let f = h.few in
+    let s = h.small in
+    let l = c.len-index.ensures.len in
+    record { fits = omega arith }
 
 pub put_last-requires-clause-absent : goal.put_last-requires-clause-absent
 put_last-requires-clause-absent g c =
     let m = c.self.inside in
     absent_in_table m.table.entries m.indices.items m.order c.self.invariant.indexed (g.K.PartialEq.eq c.args.key)
-    (ap (λ (b : BoundedKeys g.row.K.Denot). lookup (g.K.PartialEq.eq c.args.key) b.entries) c.self.view_is ∙ c.requires.absent)
+    (ap (λ (b : BoundedKeys g.row.K.Denot). lookup (g.K.PartialEq.eq c.args.key) b.entries) c.self.view_is
+    ∙ c.requires.absent)
 
 -- there is room for one more
 pub put_last-requires-clause-room : goal.put_last-requires-clause-room
@@ -32,7 +39,8 @@ put_last-requires-clause-room g c =
 pub push-requires-clause-new : goal.push-requires-clause-new
 push-requires-clause-new g c =
     let m = c.self.inside in
-    ap (occurrences c.args.element) (sym (values_shown m.table.entries m.indices.items m.order.elements c.self.invariant.indexed.placed))
+    ap (occurrences c.args.element)
+    (sym (values_shown m.table.entries m.indices.items m.order.elements c.self.invariant.indexed.placed))
     ∙ ap (λ (b : BoundedKeys g.row.K.Denot). occurrences c.args.element (values_of b.entries)) c.self.view_is
     ∙ c.requires.free
 
@@ -49,7 +57,8 @@ module _ (g : Over) (c : goal.After-push g) where
   new : occurrences c.args.element c.self.inside.order.elements ≡ 0
   new =
       let m = c.self.inside in
-      ap (occurrences c.args.element) (sym (values_shown m.table.entries m.indices.items m.order.elements c.self.invariant.indexed.placed))
+      ap (occurrences c.args.element)
+      (sym (values_shown m.table.entries m.indices.items m.order.elements c.self.invariant.indexed.placed))
       ∙ ap (λ (b : BoundedKeys g.row.K.Denot). occurrences c.args.element (values_of b.entries)) c.self.view_is
       ∙ c.requires.free
 
@@ -63,7 +72,8 @@ module _ (g : Over) (c : goal.After-push g) where
       omega arith
 
   below : c.args.element < c.self.inside.order.bound
-  below = let b = ap (λ (b : BoundedKeys g.row.K.Denot). b.bound) c.self.view_is in let w = c.requires.within in omega arith
+  below =
+      let b = ap (λ (b : BoundedKeys g.row.K.Denot). b.bound) c.self.view_is in let w = c.requires.within in omega arith
 
   added : c.put_last.new.table.entries ≡ c.self.inside.table.entries ++ (c.args.key, c.args.element) ∷ []
   added = c.put_last.ensures.entries
@@ -72,12 +82,21 @@ module _ (g : Over) (c : goal.After-push g) where
   table = c.self.inside.table.entries ++ (c.args.key, c.args.element) ∷ []
 
 module _ (g : Over) (c : goal.After-push g) where
-  indexed : IsIndexed c.put_last.new.table.entries (set c.self.inside.indices.items c.args.element c.len-index.result) c.push.new.self
+  indexed : IsIndexed c.put_last.new.table.entries
+      (set c.self.inside.indices.items c.args.element c.len-index.result)
+      c.push.new.self
   indexed =
       let m = c.self.inside in
-      let whole = indexed_inserted m.table.entries m.indices.items m.order c.self.invariant.indexed c.args.key c.args.element (below g c) (new g c) (room g c) c.push.new.self c.push.ensures.bound c.push.ensures.elements in
-      let at_end : IsIndexed (table g c) (set m.indices.items c.args.element c.len-index.result) c.push.new.self = subst (λ (i : ℕ). IsIndexed (table g c) (set m.indices.items c.args.element i) c.push.new.self) (sym c.len-index.ensures.len) whole in
-      subst (λ (es : List (g.row.K.Denot × ℕ)). IsIndexed es (set m.indices.items c.args.element c.len-index.result) c.push.new.self) (sym (added g c)) at_end
+      let whole =
+      indexed_inserted m.table.entries m.indices.items m.order c.self.invariant.indexed c.args.key
+      c.args.element (below g c) (new g c) (room g c) c.push.new.self
+      c.push.ensures.bound c.push.ensures.elements in
+      let at_end : IsIndexed (table g c) (set m.indices.items c.args.element c.len-index.result) c.push.new.self =
+      subst (λ (i : ℕ). IsIndexed (table g c) (set m.indices.items c.args.element i) c.push.new.self)
+      (sym c.len-index.ensures.len) whole in
+      subst (λ (es : List (g.row.K.Denot × ℕ)).
+      IsIndexed es (set m.indices.items c.args.element c.len-index.result) c.push.new.self)
+      (sym (added g c)) at_end
 
 pub invariant_of-self : goal.invariant_of-self
 invariant_of-self g c = record {
@@ -96,8 +115,12 @@ invariant_of-self g c = record {
 pub returns-clause-added : goal.returns-clause-added
 returns-clause-added g c =
     let m = c.self.inside in
-    ap (λ (es : List (g.row.K.Denot × ℕ)). in_order es (set m.indices.items c.args.element c.len-index.result) c.push.new.self.elements) (added g c)
-    ∙ ap (λ (i : ℕ). in_order (table g c) (set m.indices.items c.args.element i) c.push.new.self.elements) c.len-index.ensures.len
+    ap (λ (es : List (g.row.K.Denot × ℕ)).
+    in_order es (set m.indices.items c.args.element c.len-index.result) c.push.new.self.elements)
+    (added g c)
+    ∙ ap (λ (i : ℕ). in_order (table g c) (set m.indices.items c.args.element i) c.push.new.self.elements)
+    c.len-index.ensures.len
     ∙ ap (in_order (table g c) (set m.indices.items c.args.element (length m.table.entries))) c.push.ensures.elements
-    ∙ shown_inserted m.table.entries m.indices.items m.order c.self.invariant.indexed c.args.key c.args.element (below g c) (new g c) (room g c)
+    ∙ shown_inserted m.table.entries m.indices.items m.order c.self.invariant.indexed c.args.key
+    c.args.element (below g c) (new g c) (room g c)
     ∙ ap (λ (b : BoundedKeys g.row.K.Denot). b.entries ++ (c.args.key, c.args.element) ∷ []) c.self.view_is

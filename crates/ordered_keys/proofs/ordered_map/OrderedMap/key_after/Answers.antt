@@ -12,14 +12,21 @@ returns-in_default g c =
     let test = g.Q.Equivalent.equivalent c.args.key in
     let none : lookup test m.table.entries ≡ None = sym c.get.ensures.value ∙ ap option_copied c.in_default.is in
     c.first.ensures
-    ∙ subst (λ (b : BoundedKeys g.row.K.Denot). first_key_of b.entries ≡ key_following test b.entries) c.self.view_is (sym (following_absent m.table.entries m.indices.items m.order c.self.invariant.indexed test none))
+    ∙ subst (λ (b : BoundedKeys g.row.K.Denot). first_key_of b.entries ≡ key_following test b.entries)
+    c.self.view_is
+    (sym (following_absent m.table.entries m.indices.items m.order c.self.invariant.indexed test none))
 
 pub after-requires : goal.after-requires
 after-requires g c =
     let m = c.self.inside in
     let test = g.Q.Equivalent.equivalent c.args.key in
-    let some : lookup test m.table.entries ≡ Some c.in-Some.element.now = sym c.get.ensures.value ∙ ap option_copied c.in-Some.is in
-    let one = found_member m.table.entries m.indices.items m.order c.self.invariant.indexed test g.K.PartialEq.eq (sole_by g.K.PartialEq.eq test (g.met.Q.Equivalent.respects_eq c.args.key)) c.len-len.ensures.unique c.in-Some.element.now some in
+    let some : lookup test m.table.entries ≡ Some c.in-Some.element.now =
+    sym c.get.ensures.value ∙ ap option_copied c.in-Some.is in
+    let one =
+    found_member m.table.entries m.indices.items m.order c.self.invariant.indexed test
+    g.K.PartialEq.eq
+    (sole_by g.K.PartialEq.eq test (g.met.Q.Equivalent.respects_eq c.args.key))
+    c.len-len.ensures.unique c.in-Some.element.now some in
     omega arith
 
 pub key_at-requires : goal.key_at-requires
@@ -28,15 +35,22 @@ key_at-requires g c =
     let h = c.self.invariant.indexed in
     let long : length c.deref.result.now ≡ m.order.bound = ap length c.deref.ensures.value ∙ h.long in
     subst (λ (o : Option ℕ). IfSome o (λ p. p < length c.deref.result.now)) (sym c.after.ensures)
-    (members_within (length c.deref.result.now) m.order.bound m.order.elements (following c.in-Some.element.now m.order.elements) long h.within (following_member c.in-Some.element.now m.order.elements))
+    (members_within (length c.deref.result.now) m.order.bound m.order.elements
+    (following c.in-Some.element.now m.order.elements) long
+    h.within
+    (following_member c.in-Some.element.now m.order.elements))
 
 pub returns : goal.returns
 returns g c =
     let m = c.self.inside in
     let test = g.Q.Equivalent.equivalent c.args.key in
-    let some : lookup test m.table.entries ≡ Some c.in-Some.element.now = sym c.get.ensures.value ∙ ap option_copied c.in-Some.is in
+    let some : lookup test m.table.entries ≡ Some c.in-Some.element.now =
+    sym c.get.ensures.value ∙ ap option_copied c.in-Some.is in
     c.key_at.ensures
     ∙ ap (λ (is : List ℕ). key_of m.table.entries is c.after.result) c.deref.ensures.value
     ∙ ap (key_of m.table.entries m.indices.items) c.after.ensures
-    ∙ sym (following_in_order m.table.entries m.indices.items m.order c.self.invariant.indexed test g.K.PartialEq.eq (sole_by g.K.PartialEq.eq test (g.met.Q.Equivalent.respects_eq c.args.key)) c.len-len.ensures.unique c.in-Some.element.now some)
+    ∙ sym (following_in_order m.table.entries m.indices.items m.order c.self.invariant.indexed test
+    g.K.PartialEq.eq
+    (sole_by g.K.PartialEq.eq test (g.met.Q.Equivalent.respects_eq c.args.key))
+    c.len-len.ensures.unique c.in-Some.element.now some)
     ∙ ap (λ (b : BoundedKeys g.row.K.Denot). key_following test b.entries) c.self.view_is

@@ -453,25 +453,42 @@ static int32_t copy_look_up(struct command *it)
 
 enum { BATCH = 64, SHORT = 20 };
 
-static int32_t run_batch(struct command *it, size_t packets)
+/* Runs packets with so many contexts: none, one for all or one for each. */
+static int32_t run_batch(struct command *it, size_t packets, size_t contexts)
 {
+    static const bpfhost_context given[BATCH];
     size_t ends[BATCH];
     uint32_t results[BATCH];
     int32_t status;
+    int code;
     for (size_t i = 0; i < packets; i++)
         ends[i] = SHORT * (i + 1);
-    must(bpfhost_run_packets(it->host, 0, PROG, NULL, it->packet, sizeof it->packet, ends, packets, results, &status) == BPFHOST_DONE, "no run");
+    if (contexts > 1)
+        code = bpfhost_run_packets_with(it->host, 0, PROG, given, contexts, it->packet, sizeof it->packet, ends, packets, results, &status);
+    else
+        code = bpfhost_run_packets(it->host, 0, PROG, contexts == 0 ? NULL : given, it->packet, sizeof it->packet, ends, packets, results, &status);
+    must(code == BPFHOST_DONE, "no run");
     return status;
 }
 
 static int32_t run_one(struct command *it)
 {
-    return run_batch(it, 1);
+    return run_batch(it, 1, 0);
 }
 
 static int32_t run_64(struct command *it)
 {
-    return run_batch(it, BATCH);
+    return run_batch(it, BATCH, 0);
+}
+
+static int32_t run_64_with_one(struct command *it)
+{
+    return run_batch(it, BATCH, 1);
+}
+
+static int32_t run_64_with_each(struct command *it)
+{
+    return run_batch(it, BATCH, BATCH);
 }
 
 static int32_t run_64_scattered(struct command *it)
@@ -551,6 +568,8 @@ static struct command commands[] = {
     {.name = "look-up, copied", .by_call = copy_look_up},
     {.name = "run_packets, 1", .by_call = run_one},
     {.name = "run_packets, 64", .by_call = run_64},
+    {.name = "64, one context", .by_call = run_64_with_one},
+    {.name = "64, a context each", .by_call = run_64_with_each},
     {.name = "run_scattered, 64", .by_call = run_64_scattered},
     {.name = "memory_refused", .by_call = ask_refused},
     {.name = "save_part of a map", .by_call = save_part},

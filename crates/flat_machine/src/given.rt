@@ -1,8 +1,19 @@
 //! What a program is run with.
 
 use crate::map_words::BoundMaps;
+use bpf_maps::MapKey;
 use insn_codec::RawSlot;
 use verifier::Verified;
+
+/// A program with its maps, and the part of the memory in which it runs.
+#[derive(Clone, Copy)]
+pub struct BoundProgram<'a> {
+    pub program: &'a Verified,
+    /// The handle of a live map for each descriptor that the program loads, in their order.
+    pub bind: &'a [MapKey],
+    /// The number of the part of its tenant.
+    pub tenant: usize,
+}
 
 /// What the runs of a program have in common.
 #[derive(Clone, Copy)]

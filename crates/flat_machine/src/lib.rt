@@ -78,6 +78,7 @@ mod packets;
 mod running;
 
 pub use batch::{context_words, run_packets};
+pub use given::BoundProgram;
 pub use map_words::TableRoom;
 pub use packets::{LONGEST_PACKET, PacketFault, Packets};
 pub use running::{run, run_with};

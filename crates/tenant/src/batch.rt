@@ -12,7 +12,7 @@ use crate::errno::Errno;
 use crate::object::program_at;
 use crate::tenant::Tenant;
 use arena::{Arena, Trace};
-use flat_machine::{GIVEN_WORDS, Packets, run_packets};
+use flat_machine::{BoundProgram, GIVEN_WORDS, Packets, run_packets};
 use verifier::{Cost, laws};
 
 /// What a call of a helper counts for in the bound of a batch, in instructions besides its own. The dearest calls copy a value of 4,095
@@ -99,10 +99,13 @@ impl Tenant {
             Ok(packets) => {
                 packets.packets_are_short();
                 let mut trace = Trace::new();
-                run_packets(
-                    program.program(),
-                    program.maps(),
+                let bound = BoundProgram {
+                    program: program.program(),
+                    bind: program.maps(),
                     tenant,
+                };
+                run_packets(
+                    bound,
                     arena,
                     &mut self.maps,
                     &packets,

@@ -13,7 +13,7 @@ use crate::object::program_at;
 use crate::reply::Reply;
 use crate::tenant::Tenant;
 use arena::{Arena, Trace};
-use flat_machine::{GIVEN_WORDS, LONGEST_PACKET, context_words, run_with};
+use flat_machine::{BoundProgram, GIVEN_WORDS, LONGEST_PACKET, context_words, run_with};
 use tagged_model::Outcome;
 use verifier::laws;
 
@@ -51,10 +51,13 @@ impl Tenant {
         }
         let context = context_words(packet.len() as u32, words);
         let mut trace = Trace::new();
-        let outcome = run_with(
-            program.program(),
-            program.maps(),
+        let bound = BoundProgram {
+            program: program.program(),
+            bind: program.maps(),
             tenant,
+        };
+        let outcome = run_with(
+            bound,
             arena,
             &mut self.maps,
             &context,

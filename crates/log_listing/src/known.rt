@@ -25,8 +25,8 @@ fn write_registers(
     new: &Facts,
 ) -> Result<(), AllocError> {
     for number in 0..REGISTERS {
-        let kind = new.kind(number);
-        if kind != Kind::Unreadable && kind != old.kind(number) {
+        let kind = new.registers[number];
+        if kind != Kind::Unreadable && kind != old.registers[number] {
             part(text, start)?;
             write!(text, "r{number} = ")?;
             write_kind(text, kind)?;
@@ -44,7 +44,7 @@ fn write_lost_registers(
 ) -> Result<(), AllocError> {
     let mut are_more = false;
     for number in 0..REGISTERS {
-        if new.kind(number) == Kind::Unreadable && old.kind(number) != Kind::Unreadable {
+        if new.registers[number] == Kind::Unreadable && old.registers[number] != Kind::Unreadable {
             if are_more {
                 text.push_str(", ")?;
             } else {

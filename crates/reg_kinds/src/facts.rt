@@ -1,6 +1,7 @@
 //! Facts: the abstract state before an instruction.
 
 use crate::kind::{Kind, Slot};
+use insn_set::Reg;
 use words::{REGISTERS, STACK_SLOTS};
 
 /// The kind of each register, and what is known of each stack slot. Slot i is the eight bytes from 8 * i bytes above the
@@ -13,7 +14,7 @@ pub struct Facts {
 
 impl Facts {
     ghost use Rattle.std.specs.Prelude.{◌≡◌, ◌<◌};
-    ghost use Rattle.words.specs.declared.stack.TheConstants.{REGISTERS, STACK_SLOTS};
+    ghost use Rattle.words.specs.declared.stack.TheConstants.{STACK_SLOTS};
     ghost use Rattle.reg_kinds.specs.Kinds.{entry, kind_at, slot_at, with_kind, with_slot};
 
     /// The facts at program entry: register 1 holds the context, register 10 the upper end of the stack; no other register
@@ -31,19 +32,17 @@ impl Facts {
     }
 
     /// The kind of a register.
-    pub fn kind(&self, register: usize) -> Kind
-        requires { register < REGISTERS }
-        ensures { result ≡ kind_at self.now register }
+    pub fn kind(&self, reg: Reg) -> Kind
+        ensures { result ≡ kind_at self.now reg }
     {
-        self.registers[register]
+        self.registers[usize::from(reg.number())]
     }
 
-    /// Sets the kind of register `number`.
-    pub fn set_kind(&mut self, number: usize, kind: Kind)
-        requires { number < REGISTERS }
-        ensures { self.new ≡ with_kind self.old number kind }
+    /// Sets the kind of a register.
+    pub fn set_kind(&mut self, reg: Reg, kind: Kind)
+        ensures { self.new ≡ with_kind self.old reg kind }
     {
-        self.registers[number] = kind;
+        self.registers[usize::from(reg.number())] = kind;
     }
 
     /// What is known of a stack slot.

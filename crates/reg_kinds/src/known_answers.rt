@@ -1,6 +1,7 @@
 //! Known answers, proved only from the contracts.
 
 use crate::{Facts, Kind, Reason, Slot, join, read_stack, settle, write_stack};
+use insn_set::Reg;
 use interval::Range;
 use std::mem::size_of;
 use words::AccessSize;
@@ -11,7 +12,7 @@ const _: () = prove!(size_of::<Facts>() <= 3072);
 #[tactic(auto, unfolding(crate::specs::Kinds::tabulate))]
 fn registers_at_entry() {
     let facts = Facts::at_entry();
-    let context = facts.kind(1);
+    let context = facts.kind(Reg::new(1));
     let is_context = matches!(context, Kind::Ctx);
     prove!(is_context);
 }
@@ -23,10 +24,10 @@ fn joins() {
     prove!(is_common);
     let mut a = Facts::at_entry();
     let mut b = a;
-    a.set_kind(2, Kind::Scalar(Range { lo: 0, hi: 3 }));
-    b.set_kind(2, Kind::Scalar(Range { lo: 5, hi: 9 }));
+    a.set_kind(Reg::new(2), Kind::Scalar(Range { lo: 0, hi: 3 }));
+    b.set_kind(Reg::new(2), Kind::Scalar(Range { lo: 5, hi: 9 }));
     let facts = join(&a, &b);
-    let either = facts.kind(2);
+    let either = facts.kind(Reg::new(2));
     let is_hull = matches!(either, Kind::Scalar(r) if r.lo == 0 && r.hi == 9);
     prove!(is_hull);
 }
@@ -44,9 +45,9 @@ fn a_pointer_is_spilled_whole() {
 #[tactic(auto, unfolding(crate::specs::Kinds::tabulate))]
 fn a_null_test_settles() {
     let mut facts = Facts::at_entry();
-    facts.set_kind(6, Kind::MaybeValue { map: 3, site: 5 });
+    facts.set_kind(Reg::new(6), Kind::MaybeValue { map: 3, site: 5 });
     settle(&mut facts, 5, false);
-    let settled = facts.kind(6);
+    let settled = facts.kind(Reg::new(6));
     let is_value = matches!(settled, Kind::Value(_));
     prove!(is_value);
 }

@@ -188,6 +188,6 @@ pub fn facts_after_call(facts: &mut Facts, given: Kind)
     ensures { facts.new ≡ called_facts facts.old given }
 {
     for r in 0..REGISTERS {
-        facts.registers[r] = called_kind(facts.kind(r), given, r);
+        facts.registers[r] = called_kind(facts.registers[r], given, r);
     }
 }

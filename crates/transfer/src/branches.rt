@@ -46,9 +46,9 @@ pub enum Flow {
 pub fn set_ranges(facts: &mut Facts, dst: Reg, src: &Operand, pair: (Range, Range))
     ensures { facts.new ≡ with_pair facts.old dst src.now pair }
 {
-    facts.set_kind(usize::from(dst.number()), Kind::Scalar(pair.0));
+    facts.set_kind(dst, Kind::Scalar(pair.0));
     if let Operand::Reg(source) = *src {
-        facts.set_kind(usize::from(source.number()), Kind::Scalar(pair.1));
+        facts.set_kind(source, Kind::Scalar(pair.1));
     }
 }
 

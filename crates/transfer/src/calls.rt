@@ -6,6 +6,7 @@ ghost use Rattle.reg_kinds.specs.declared.reason.Reason.TheVariants.{OutsideValu
 ghost use Rattle.transfer.specs.Calls.{map_kind, room_of, input_kind, output_facts, number_kind, lengths_end, length_kind, context_kind, any_number, call_facts};
 
 use crate::arithmetic::check_readable;
+use insn_set::Reg;
 use interval::Range;
 use reg_kinds::{Facts, Kind, Reason, ValuePointer, facts_after_call, fill_stack, read_many};
 use tagged_model::{Helper, MapShape, Named, shape_of};
@@ -155,8 +156,8 @@ pub(crate) fn call(
         facts.old ≡ Err reason) }
     ensures stays { OnErr result (facts.new ≡ facts.old) }
 {
-    let first = check_readable(facts.kind(1))?;
-    let second = check_readable(facts.kind(2))?;
+    let first = check_readable(facts.kind(Reg::new(1)))?;
+    let second = check_readable(facts.kind(Reg::new(2)))?;
     match helper {
         Helper::LookUp => {
             let map = map_kind(named, first)?;
@@ -168,8 +169,8 @@ pub(crate) fn call(
             facts_after_call(facts, found);
         }
         Helper::Update => {
-            let value = check_readable(facts.kind(3))?;
-            let flags = check_readable(facts.kind(4))?;
+            let value = check_readable(facts.kind(Reg::new(3)))?;
+            let flags = check_readable(facts.kind(Reg::new(4)))?;
             let map = map_kind(named, first)?;
             input(named, facts, map.shape.key_size, second)?;
             input(named, facts, map.shape.value_size, value)?;
@@ -182,8 +183,8 @@ pub(crate) fn call(
             facts_after_call(facts, any_number());
         }
         Helper::LoadBytes => {
-            let to = check_readable(facts.kind(3))?;
-            let count = check_readable(facts.kind(4))?;
+            let to = check_readable(facts.kind(Reg::new(3)))?;
+            let count = check_readable(facts.kind(Reg::new(4)))?;
             check_context(first)?;
             check_number(second)?;
             let length = check_length(count)?;

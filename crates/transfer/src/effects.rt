@@ -47,7 +47,7 @@ fn source(facts: &Facts, wide: bool, src: &Operand) -> Kind
     ensures { result ≡ source_kind facts.now wide src.now }
 {
     match src {
-        Operand::Reg(reg) => facts.kind(usize::from(reg.number())),
+        Operand::Reg(reg) => facts.kind(*reg),
         Operand::Imm(imm) => Kind::Scalar(Range::constant(constant_word(wide, *imm))),
     }
 }
@@ -278,7 +278,7 @@ fn assign(facts: &mut Facts, dst: Reg, kind: Kind) -> Flow
     ensures flow { result ≡ Falls }
     ensures facts { facts.new ≡ with_kind facts.old dst kind }
 {
-    facts.set_kind(usize::from(dst.number()), kind);
+    facts.set_kind(dst, kind);
     Flow::Falls
 }
 
@@ -300,11 +300,11 @@ fn numbers(facts: &Facts, wide: bool, dst: Reg, src: &Operand) -> Option<(Range,
     ensures numbers { IfSome result (λ p. (kind_at facts.now dst ≡ Scalar p.0)
         × (source_kind facts.now wide src.now ≡ Scalar p.1)) }
 {
-    let Kind::Scalar(a) = facts.kind(usize::from(dst.number())) else {
+    let Kind::Scalar(a) = facts.kind(dst) else {
         return None;
     };
     match src {
-        Operand::Reg(reg) => match facts.kind(usize::from(reg.number())) {
+        Operand::Reg(reg) => match facts.kind(*reg) {
             Kind::Scalar(b) => Some((a, b)),
             _ => None,
         },
@@ -327,10 +327,10 @@ fn operate_on_any(
         ≡ Err reason) }
     ensures stays { OnErr result (facts.new ≡ facts.old) }
 {
-    let a = first(op, facts.kind(usize::from(dst.number())))?;
+    let a = first(op, facts.kind(dst))?;
     let b = check_readable(source(facts, wide, &src))?;
     let kind = arithmetic(wide, op, a, b)?;
-    facts.set_kind(usize::from(dst.number()), kind);
+    facts.set_kind(dst, kind);
     Ok(())
 }
 
@@ -345,13 +345,13 @@ fn operate(facts: &mut Facts, wide: bool, op: AluOp, dst: Reg, src: Operand) -> 
 {
     if wide && op == AluOp::Mov {
         let kind = check_readable(source(facts, wide, &src))?;
-        facts.set_kind(usize::from(dst.number()), kind);
+        facts.set_kind(dst, kind);
         return Ok(());
     }
     match numbers(facts, wide, dst, &src) {
         Some((a, b)) if op != AluOp::Mov => {
             let kind = Kind::Scalar(result_range(wide, Operator::Binary(op), a, b));
-            facts.set_kind(usize::from(dst.number()), kind);
+            facts.set_kind(dst, kind);
             Ok(())
         }
         _ => operate_on_any(facts, wide, op, dst, src),
@@ -372,9 +372,9 @@ fn operate_on_one(
     ensures refused { IfErr result (λ reason. unary_edges wide op dst src facts.old ≡ Err reason) }
     ensures stays { OnErr result (facts.new ≡ facts.old) }
 {
-    let from = check_readable(facts.kind(usize::from(src.number())))?;
+    let from = check_readable(facts.kind(src))?;
     let kind = of_scalar(wide, op, from)?;
-    facts.set_kind(usize::from(dst.number()), kind);
+    facts.set_kind(dst, kind);
     Ok(())
 }
 
@@ -383,7 +383,7 @@ fn exit(facts: &Facts) -> Result<(), Reason>
     ensures ok { OnOk result (exit_edges facts.now ≡ ends) }
     ensures refused { IfErr result (λ reason. exit_edges facts.now ≡ Err reason) }
 {
-    match check_readable(facts.kind(0))? {
+    match check_readable(facts.kind(Reg::new(0)))? {
         Kind::Scalar(_) => Ok(()),
         _ => Err(Reason::ResultNotScalar),
     }
@@ -437,7 +437,7 @@ pub fn apply(facts: &mut Facts, named: &[Named], slot: usize, insn: &Insn) -> Re
             src,
             ..
         } => {
-            let a = check_readable(facts.kind(usize::from(dst.number())))?;
+            let a = check_readable(facts.kind(dst))?;
             let b = check_readable(source(facts, wide, &src))?;
             branch(wide, cond, dst, src, a, b)
         }
@@ -459,7 +459,7 @@ pub fn apply(facts: &mut Facts, named: &[Named], slot: usize, insn: &Insn) -> Re
                 off,
             },
         ) => {
-            let base = check_readable(facts.kind(usize::from(src.number())))?;
+            let base = check_readable(facts.kind(src))?;
             let kind = load(facts, named, size, signed, off, base)?;
             Ok(assign(facts, dst, kind))
         }
@@ -469,7 +469,7 @@ pub fn apply(facts: &mut Facts, named: &[Named], slot: usize, insn: &Insn) -> Re
             src,
             off,
         } => {
-            let base = check_readable(facts.kind(usize::from(dst.number())))?;
+            let base = check_readable(facts.kind(dst))?;
             let value = check_readable(source(facts, true, &src))?;
             Ok(written(store(facts, named, size, off, base, value)?))
         }
@@ -480,8 +480,8 @@ pub fn apply(facts: &mut Facts, named: &[Named], slot: usize, insn: &Insn) -> Re
             off,
             ..
         } => {
-            let base = check_readable(facts.kind(usize::from(dst.number())))?;
-            let value = check_readable(facts.kind(usize::from(src.number())))?;
+            let base = check_readable(facts.kind(dst))?;
+            let value = check_readable(facts.kind(src))?;
             Ok(written(change(facts, named, size, off, base, value)?))
         }
         Insn::Const { dst, value } => Ok(assign(facts, dst, Kind::Scalar(Range::constant(value)))),

@@ -14,7 +14,7 @@ use words::REGISTERS;
 pub(crate) fn kind_of(facts: &Facts, register: u8) -> Kind {
     let number = usize::from(register);
     if number < REGISTERS {
-        facts.kind(number)
+        facts.registers[number]
     } else {
         Kind::Unreadable
     }

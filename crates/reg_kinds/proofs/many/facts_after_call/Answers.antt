@@ -1,5 +1,6 @@
 use Rattle.std.proofs.Common.{◌≡◌, arith, length-set, ap, ◌∙◌, ◌==◌, if◌then◌else◌}
 use Rattle.std.specs.Prelude.{nat_le}
+use Rattle.std.proofs.lemmas.List.{get_or_default}
 use Rattle.reg_kinds.specs.declared.kind.Kind.{Kind}
 use Rattle.reg_kinds.specs.declared.kind.Kind.TheVariants.{Unreadable}
 use Rattle.reg_kinds.specs.declared.facts.Facts.{Facts}
@@ -18,7 +19,8 @@ loop-r-preserved c =
           Unreadable (omega arith)
           (c.called_kind.ensures
           ∙ ap (λ (k : Kind). if c.loop-r.r == 0 then c.args.given else (if nat_le c.loop-r.r 5 then Unreadable else k))
-          (c.kind.ensures ∙ c.loop-r.invariant.rest c.loop-r.r (omega arith)))
+          (get_or_default c.loop-r.facts.registers c.loop-r.r _ Unreadable (omega arith)
+          ∙ c.loop-r.invariant.rest c.loop-r.r (omega arith)))
           c.loop-r.invariant.done;
       rest =
           rest_more c.loop-r.facts.registers c.args.facts.now.registers c.loop-r.r _ Unreadable c.loop-r.invariant.rest;

@@ -1,8 +1,7 @@
 //! Accesses to the stack, to the context and to maps' values.
 
 use crate::needs::RefusedProgram;
-use crate::needs::arithmetic::write_maybe_null;
-use crate::needs::registers::{kind_of, register_of, write_register};
+use crate::needs::registers::{kind_of, register_of, write_maybe_null, write_register};
 use crate::ways::{Wanted, is_written, write_way};
 use insn_codec::{AccessSize, Insn, Reg};
 use log_facts::{write_bytes, write_kind};

@@ -1,7 +1,7 @@
 //! Arithmetic on pointers.
 
 use crate::needs::RefusedProgram;
-use crate::needs::registers::{kind_of, write_register};
+use crate::needs::registers::{kind_of, write_maybe_null, write_register};
 use insn_codec::{AluOp, Operand, Reg};
 use reg_kinds::{Kind, Reason};
 use std::alloc::AllocError;
@@ -33,11 +33,6 @@ fn maybe_null(refusal: &RefusedProgram<'_>, dst: Reg, src: Operand) -> u8 {
         (_, Operand::Reg(reg)) => reg.number(),
         _ => dst.number(),
     }
-}
-
-/// Writes that a register may be null.
-pub(crate) fn write_maybe_null(text: &mut String, register: u8) -> Result<(), AllocError> {
-    write!(text, "r{register} may be null: test it first")
 }
 
 /// The rule for arithmetic on a pointer.

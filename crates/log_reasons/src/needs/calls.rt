@@ -5,8 +5,7 @@ use crate::needs::access::{
     touched, value_size_of, write_outside_stack, write_outside_value, write_part_of_spill,
     write_unwritten,
 };
-use crate::needs::arithmetic::write_maybe_null;
-use crate::needs::registers::{kind_of, write_register};
+use crate::needs::registers::{kind_of, write_maybe_null, write_register};
 use log_facts::write_range;
 use reg_kinds::{Facts, Kind, Reason, read_many};
 use std::alloc::AllocError;

@@ -1,4 +1,4 @@
-//! Unreadable registers, results and comparisons.
+//! Registers that are unreadable or may be null, results and comparisons.
 
 use crate::needs::RefusedProgram;
 use crate::needs::calls::has_argument;
@@ -28,6 +28,11 @@ pub(crate) fn write_register(
 ) -> Result<(), AllocError> {
     write!(text, "r{register} is ")?;
     write_kind(text, kind_of(facts, register))
+}
+
+/// Writes that a register may be null.
+pub(crate) fn write_maybe_null(text: &mut String, register: u8) -> Result<(), AllocError> {
+    write!(text, "r{register} may be null: test it first")
 }
 
 /// The register of an operand, if it is one.

@@ -77,9 +77,9 @@ mod ops;
 mod packets;
 mod running;
 
-pub use batch::{context_words, run_packets};
+pub use batch::run_packets;
 pub use given::BoundProgram;
 pub use map_words::TableRoom;
 pub use packets::{LONGEST_PACKET, PacketFault, Packets};
-pub use running::{run, run_with};
+pub use running::{context_words, run, run_with};
 pub use words::GIVEN_WORDS;

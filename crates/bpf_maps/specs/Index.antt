@@ -7,7 +7,7 @@ use Rattle.bpf_maps.specs.declared.key_index.KeyIndex.{KeyIndex}
 use Rattle.bpf_maps.specs.declared.key_index.KeyIndex.TheVariants.{Words, Middle, Long}
 use Rattle.bpf_maps.specs.declared.hash_map.HashMap.TheInside.{Inside}
 
--- the bytes of each key, with its element
+-- the bytes of each key, with its element, in the order in which the keys were added
 abbrev pub entries_of : KeyIndex → List (List ℕ × ℕ)
 entries_of (Words keys) = keys.entries
 entries_of (Middle keys) = keys.entries
@@ -19,7 +19,8 @@ bound_of (Words keys) = keys.bound
 bound_of (Middle keys) = keys.bound
 bound_of (Long keys) = keys.bound
 
--- the index has room for keys of this size in bytes
+-- keys of this many bytes can be in the index: Words has keys of one size, the others of any up to
+-- a longest one
 abbrev pub TakesKeys : KeyIndex → ℕ → Type 0
 TakesKeys (Words keys) size = size ≡ keys.size
 TakesKeys (Middle keys) size = size ≤ 64

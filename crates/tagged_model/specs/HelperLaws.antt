@@ -98,6 +98,7 @@ entry_set s m t u there change k =
     (sym (ap s.maps (eqb-true k m b) ∙ there)) change)
     (λ _. entry_same (s.maps k))
 
+-- the state with the map of descriptor m replaced by that map after a call is one after a call
 map_changed : (s : RunState) (m : ℕ) (t u : RunMap)
     → s.maps m ≡ Some t
     → MapAfterCall t u
@@ -153,10 +154,12 @@ map_leaves s r f h = by (argument s r map_given)
     by None = tt
     by (Some m) = at m (s.maps m) refl
 
+-- these bytes, if there are any, are n
 abbrev HasLength : ℕ → Option (List ℕ) → Type 0
 HasLength n None = Unit {0}
 HasLength n (Some bs) = length bs ≡ n
 
+-- if each of the n bytes from index p on is present, n bytes are gathered
 gathered_long : (byte : ℕ → Option ℕ) (p n : ℕ) → HasLength n (gathered byte p n)
 unfolding gathered
 gathered_long byte p zero = refl

@@ -140,8 +140,8 @@ impl Host {
     /// that is not served.
     ///
     /// A new tenant of this number that is given the frames of all parts in their order, on this host or another one, then replies
-    /// as this one does. Between two parts the tenant must not change; others may be served. A part has the frames of one map or
-    /// program, or those that open or close descriptors, and is all that is held at once.
+    /// as this one does. Between two parts the tenant must not change; others may be served. A part creates one map or program, puts at
+    /// most 1,024 keys into a map, or opens or closes descriptors, and is all that is held at once.
     ///
     /// # Errors
     ///

@@ -31,5 +31,7 @@ mod FramesParts
 mod FramesReplies
 mod Recorded
 mod Installs
+mod Pieces
+mod PartAt
 mod Saves
 mod SaveSteps

@@ -1,7 +1,9 @@
 -- The loops that write a part of a save: the frames so far and the frames that are left.
-use Rattle.std.proofs.Common.{◌≡◌, ℕ, ◌<◌, ◌≤◌, List, [], ◌∷◌, ◌++◌, map, length, Option, Some, None, Result, Ok, Err, OnOk, refl, sym, ap, ◌∙◌, arith}
+use Rattle.std.proofs.Common.{◌≡◌, ℕ, suc, ◌+◌, ◌-◌, ◌≤◌, List, [], ◌∷◌, ◌++◌, map, take, drop, Option, Some, None, Result, Ok, Err, OnOk, refl, sym, ap, ap₂, ◌∙◌, arith}
 use Rattle.std.specs.Map.{values_of}
+use Rattle.std.proofs.Math.Seq.{take-nil, drop-nil}
 use Rattle.std.proofs.lemmas.Grind.{flat_map-append}
+use Rattle.std.proofs.lemmas.List.{append-nil, take-map, drop-map, drop-drop}
 use Rattle.command_frames.specs.Command.{Command}
 use Rattle.command_frames.specs.Frame.{framed}
 use Rattle.ordered_keys.specs.Orders.{occurrences, next_entry}
@@ -47,20 +49,49 @@ no_commands {all} {now} n left none was = nothing_left (frames_of n left) was (a
 
 -- ---- the keys of a map
 
-module _ (fd : ℕ) (es : List NumberedEntry) (once : (p : ℕ) → occurrences p (values_of es) ≤ 1) where
-  pub next_put : (element : Option ℕ) (e : NumberedEntry)
-      → Some e ≡ next_entry element es
-      → puts fd (rest_after element es) ≡ put_of fd e.0 ∷ puts fd (rest_after (Some e.1) es)
-  next_put element e is = ap (puts fd) (rest_of_next element e es once (sym is))
+-- one key is put, the first of those that are left, of which at most n are to be put
+pub next_put : (fd : ℕ) (es : List NumberedEntry) (element : Option ℕ) (e : NumberedEntry) (n m : ℕ)
+    → ((p : ℕ) → occurrences p (values_of es) ≤ 1)
+    → n ≡ suc m
+    → Some e ≡ next_entry element es
+    → puts fd (take n (rest_after element es)) ≡ put_of fd e.0 ∷ puts fd (take m (rest_after (Some e.1) es))
+next_put fd es element e n m once more is =
+    ap₂ (λ (k : ℕ) (xs : List NumberedEntry). puts fd (take k xs)) more (rest_of_next element e es once (sym is))
 
-  pub fewer_left : (element : Option ℕ) (e : NumberedEntry)
-      → Some e ≡ next_entry element es
-      → length (rest_after (Some e.1) es) < length (rest_after element es)
-  fewer_left element e is = let same = ap length (rest_of_next element e es once (sym is)) in omega (arith, same)
+-- no key is left
+pub no_key : (fd : ℕ) (es : List NumberedEntry) (element : Option ℕ) (n : ℕ)
+    → None ≡ next_entry element es
+    → puts fd (take n (rest_after element es)) ≡ []
+no_key fd es element n is =
+    ap (λ (xs : List NumberedEntry). puts fd (take n xs))
+    (none_first (rest_after element es) (sym (first_of_rest element es) ∙ sym is))
+    ∙ ap (puts fd) (take-nil n)
 
-pub no_put : (fd : ℕ) (es : List NumberedEntry) (element : Option ℕ)
-    → None ≡ next_entry element es → puts fd (rest_after element es) ≡ []
-no_put fd es element is = ap (puts fd) (none_first (rest_after element es) (sym (first_of_rest element es) ∙ sym is))
+-- no more keys are to be put
+pub no_put : (fd : ℕ) (es : List NumberedEntry) (n : ℕ) → n ≡ 0 → puts fd (take n es) ≡ []
+no_put fd es n none = ap (λ (k : ℕ). puts fd (take k es)) none
+
+-- one key is skipped
+pub skip_one : (es : List NumberedEntry) (element : Option ℕ) (e : NumberedEntry) (i : ℕ)
+    → ((p : ℕ) → occurrences p (values_of es) ≤ 1)
+    → Some e ≡ next_entry element es
+    → rest_after element es ≡ drop i es
+    → rest_after (Some e.1) es ≡ drop (i + 1) es
+skip_one es element e i once is so_far =
+    ap (drop 1) (sym (rest_of_next element e es once (sym is)) ∙ so_far) ∙ drop-drop 1 i es
+
+-- there are fewer keys than are to be skipped
+pub all_skipped : (es : List NumberedEntry) (element : Option ℕ) (i count : ℕ)
+    → None ≡ next_entry element es → i ≤ count
+    → rest_after element es ≡ drop i es
+    → rest_after element es ≡ drop count es
+all_skipped es element i count is le so_far =
+    let none = none_first (rest_after element es) (sym (first_of_rest element es) ∙ sym is) in
+    let same : i + (count - i) ≡ count = omega (arith, le) in
+    none
+    ∙ sym (ap (drop (count - i)) (sym so_far ∙ none) ∙ drop-nil (count - i))
+    ∙ drop-drop (count - i) i es
+    ∙ ap (λ (n : ℕ). drop n es) same
 
 -- ---- a map
 
@@ -73,6 +104,30 @@ same_puts fd v (e ∷ es) = ap (λ (cs : List Command). put_of fd (e.0, v e.1) �
 pub map_puts : (part : List ℕ) (t : LiveMaps) (k fd : ℕ)
     → map (put_of fd) (map_in part t k).entries ≡ puts fd (numbered_entries part t k)
 map_puts part t k fd = same_puts fd (value_in part t k) (keys_at t k).entries
+
+-- the commands that put the keys of a map from an index on, at most `count` of them
+pub some_puts : (part : List ℕ) (t : LiveMaps) (k fd first count : ℕ) (element : Option ℕ)
+    → rest_after element (numbered_entries part t k) ≡ drop first (numbered_entries part t k)
+    → take count (drop first (map (put_of fd) (map_in part t k).entries))
+    ≡ puts fd (take count (rest_after element (numbered_entries part t k)))
+some_puts part t k fd first count element skipped =
+    let es = numbered_entries part t k in
+    let put = λ (e : NumberedEntry). put_of fd e.0 in
+    ap (λ (cs : List Command). take count (drop first cs)) (map_puts part t k fd)
+    ∙ ap (take count) (drop-map put first es)
+    ∙ take-map put count (drop first es)
+    ∙ ap (λ (xs : List NumberedEntry). puts fd (take count xs)) (sym skipped)
+
+-- the frames of a result, if it is one frame
+pub ok_one : {U E : Type 0} (r : Result U E) (old new : List ℕ) (n : ℕ) (c : Command) (all : List Command)
+    → all ≡ c ∷ []
+    → OnOk r (new ≡ old ++ framed (frame_of n c))
+    → OnOk r (new ≡ old ++ frames_of n all)
+ok_one (Ok x) old new n c all is one =
+    one
+    ∙ ap (λ (bytes : List ℕ). old ++ bytes) (sym (append-nil (framed (frame_of n c))))
+    ∙ ap (λ (cs : List Command). old ++ frames_of n cs) (sym is)
+ok_one (Err e) old new n c all is one = tt
 
 -- the frames of a result, if a frame was written before
 pub ok_more : {U E : Type 0} (r : Result U E) (old : List ℕ) {mid : List ℕ} (new : List ℕ) (n m : ℕ)

@@ -1,25 +1,29 @@
--- The parts of a save, and the frames of a part so far.
-use Rattle.std.proofs.Common.{◌≡◌, ◌≢◌, ℕ, zero, suc, ◌+◌, ◌-◌, ◌<◌, ◌≤◌, Bool, true, false, List, [], ◌∷◌, ◌++◌, map, length, reverse, Option, Some, None, refl, sym, ap, ◌∙◌, nat_eq, if◌then◌else◌, arith, eq-eqb}
-use Rattle.std.specs.Prelude.{slice_get}
+-- The parts of a save together, and the frames of a part so far.
+use Rattle.std.proofs.Common.{◌≡◌, ℕ, suc, ◌+◌, ◌-◌, ◌<◌, ◌≤◌, Bool, true, false, List, [], ◌∷◌, ◌++◌, reverse, Option, Some, None, refl, sym, ap, ap₂, ◌∙◌, nat_eq, if◌then◌else◌, arith, eq-eqb}
 use Rattle.std.specs.List.{flat_map}
 use Rattle.std.specs.Map.{values_of}
 use Rattle.std.proofs.lemmas.Grind.{flat_map-append}
-use Rattle.std.proofs.lemmas.List.{append_assoc, append-nil, reverse-append, length-reverse}
+use Rattle.std.proofs.lemmas.List.{append_assoc, append-nil, reverse-append}
 use Rattle.std.proofs.lemmas.Option.{none-some, same_Some}
-use Rattle.command_frames.specs.Command.{Command}
+use Rattle.command_frames.specs.Command.{Command, close}
 use Rattle.fd_table.specs.Table.{first_descriptor, most, named}
 use Rattle.insn_set.specs.Program.{program_bytes}
 use Rattle.insn_set.specs.Spelling.{spelling}
 use Rattle.ordered_keys.specs.Orders.{occurrences, first_entry, entry_behind, next_entry}
 use Rattle.tenant.specs.declared.object.OpenObject.{OpenObject}
-use Rattle.tenant.specs.State.{TenantState}
-use Rattle.saving.specs.Births.{Birth}
+use Rattle.tenant.specs.State.{Map, TenantState, live}
+use Rattle.saving.specs.declared.save_parts.TheConstants.{KEYS_OF_PART}
+use Rattle.saving.specs.Births.{Birth, OfMap, OfProgram, number}
 use Rattle.saving.specs.Filler.{filler}
-use Rattle.saving.specs.Restored.{load_of, filled, born, closings}
-use Rattle.saving.specs.SaveParts.{birth_commands, parts, PartsAreWhole}
+use Rattle.saving.specs.Restored.{load_of, made_map, made_program, made, filled, born, closings}
+use Rattle.saving.specs.SaveParts.{made_empty, puts_of, creation, key_commands, birth_parts, PartsAreWhole}
 use Rattle.saving.specs.inside.Puts.{closing, rest_behind, rest_after}
+use Rattle.saving.proofs.Pieces.{joined}
 
 -- ---- all parts
+
+abbrev birth_commands : TenantState → Birth → List Command
+birth_commands s b = close (number b) ∷ made s b
 
 born_in_order : (s : TenantState) (births : List Birth) → born s births ≡ flat_map (birth_commands s) (reverse births)
 born_in_order s [] = refl
@@ -30,70 +34,39 @@ born_in_order s (b ∷ older) =
     ∙ sym (flat_map-append (birth_commands s) (reverse older) (b ∷ []))
     ∙ ap (flat_map (birth_commands s)) (sym (reverse-append (b ∷ []) older))
 
-collected : {A B : Type 0} (f : A → List B) (xs : List A) (last : List B)
-    → flat_map (λ (part : List B). part) (map f xs ++ last ∷ []) ≡ flat_map f xs ++ last
-collected f [] last = append-nil last
-collected {A} {B} f (x ∷ xs) last =
-    ap (λ (ys : List B). f x ++ ys) (collected f xs last) ∙ sym (append_assoc (f x) (flat_map f xs) last)
+-- the creation of an object and its keys are all commands of the birth
+with_keys : (s : TenantState) (b : Birth) → creation s b ++ key_commands s b ≡ birth_commands s b
+with_keys s (OfMap handle fd) = by (live s handle)
+  where
+    by : (m : Option Map) → (close fd ∷ made_empty m) ++ puts_of fd m ≡ close fd ∷ made_map fd m
+    by None = refl
+    by (Some t) = refl
+with_keys s (OfProgram fd) = append-nil (close fd ∷ made_program (named s.objects fd))
+
+joined_birth : (s : TenantState) (b : Birth)
+    → flat_map (λ (part : List Command). part) (birth_parts s b) ≡ birth_commands s b
+joined_birth s b =
+    ap (λ (cs : List Command). creation s b ++ cs) (joined KEYS_OF_PART (omega arith) (key_commands s b))
+    ∙ with_keys s b
+
+collected : {A B : Type 0} (f : A → List (List B)) (g : A → List B)
+    → ((x : A) → flat_map (λ (part : List B). part) (f x) ≡ g x)
+    → (xs : List A) (last : List B)
+    → flat_map (λ (part : List B). part) (flat_map f xs ++ last ∷ []) ≡ flat_map g xs ++ last
+collected f g each [] last = append-nil last
+collected {A} {B} f g each (x ∷ xs) last =
+    let all = λ (ps : List (List B)). flat_map (λ (part : List B). part) ps in
+    ap all (append_assoc (f x) (flat_map f xs) (last ∷ []))
+    ∙ flat_map-append (λ (part : List B). part) (f x) (flat_map f xs ++ last ∷ [])
+    ∙ ap₂ (λ (ys zs : List B). ys ++ zs) (each x) (collected f g each xs last)
+    ∙ sym (append_assoc (g x) (flat_map g xs) last)
 
 pub parts_are_whole : PartsAreWhole
 parts_are_whole s births =
     let last = closings s.objects first_descriptor most in
-    ap (λ (cs : List Command). filled most ++ cs) (collected (birth_commands s) (reverse births) last)
+    ap (λ (cs : List Command). filled most ++ cs)
+    (collected (birth_parts s) (birth_commands s) (joined_birth s) (reverse births) last)
     ∙ ap (λ (cs : List Command). filled most ++ (cs ++ last)) (sym (born_in_order s births))
-
--- ---- a part by its index
-
-there : {A B : Type 0} (f : A → B) (xs : List A) (last : B) (i : ℕ) (x : A)
-    → slice_get xs i ≡ Some x → slice_get (map f xs ++ last ∷ []) i ≡ Some (f x)
-there f [] last i x e = absurd (none-some x e)
-there {A} {B} f (y ∷ xs) last zero x e = ap (λ (z : A). let o : Option B = Some (f z) in o) (same_Some y x e)
-there f (y ∷ xs) last (suc i) x e = there f xs last i x e
-
-at_end : {A B : Type 0} (f : A → B) (xs : List A) (last : B) (i : ℕ)
-    → i ≡ length xs → slice_get (map f xs ++ last ∷ []) i ≡ Some last
-at_end f [] last zero e = refl
-at_end f [] last (suc i) e = let wrong : suc i ≡ 0 = e in absurd (omega arith)
-at_end f (y ∷ xs) last zero e = let wrong : 0 ≡ suc (length xs) = e in absurd (omega arith)
-at_end f (y ∷ xs) last (suc i) e = let more : suc i ≡ suc (length xs) = e in at_end f xs last i (omega arith)
-
-past_end : {A B : Type 0} (f : A → B) (xs : List A) (last : B) (i : ℕ)
-    → slice_get xs i ≡ None → i ≢ length xs
-    → slice_get (map f xs ++ last ∷ []) i ≡ None
-past_end f [] last zero e other = absurd (other refl)
-past_end f [] last (suc i) e other = refl
-past_end f (y ∷ xs) last zero e other = absurd (none-some y (sym e))
-past_end f (y ∷ xs) last (suc i) e other = past_end f xs last i e (λ same. other (ap suc same))
-
-module _ (s : TenantState) (births : List Birth) where
-  pub part_of_birth : (i : ℕ) (b : Birth)
-      → i ≢ 0
-      → slice_get (reverse births) (i - 1) ≡ Some b
-      → slice_get (parts s births) i ≡ Some (birth_commands s b)
-  part_of_birth zero b other e = absurd (other refl)
-  part_of_birth (suc i) b other e =
-      let less : suc i - 1 ≡ i = omega arith in
-      there (birth_commands s) (reverse births) (closings s.objects first_descriptor most) i b
-      (ap (slice_get (reverse births)) (sym less) ∙ e)
-
-  pub part_of_rest : (i : ℕ)
-      → i ≢ 0 → i - 1 ≡ length births
-      → slice_get (parts s births) i ≡ Some (closings s.objects first_descriptor most)
-  part_of_rest zero other e = absurd (other refl)
-  part_of_rest (suc i) other e =
-      let same : i ≡ length (reverse births) = omega (arith, e, length-reverse births) in
-      at_end (birth_commands s) (reverse births) (closings s.objects first_descriptor most) i same
-
-  pub no_part : (i : ℕ)
-      → i ≢ 0 → slice_get (reverse births) (i - 1) ≡ None
-      → i - 1 ≢ length births
-      → slice_get (parts s births) i ≡ None
-  no_part zero other e far = absurd (other refl)
-  no_part (suc i) other e far =
-      let less : suc i - 1 ≡ i = omega arith in
-      past_end (birth_commands s) (reverse births) (closings s.objects first_descriptor most) i
-      (ap (slice_get (reverse births)) (sym less) ∙ e)
-      (λ same. far (omega (arith, same, length-reverse births)))
 
 -- ---- frames
 

@@ -7,6 +7,7 @@ pub mod Frames
 pub mod Installs
 pub mod Laws
 pub mod Recorded
+pub mod Pieces
 pub mod SaveParts
 pub mod inside
 -- what public contracts cite of crates below

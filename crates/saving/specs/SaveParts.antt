@@ -1,24 +1,48 @@
 -- A tenant is saved in parts: the frames that open all descriptors, those that create each object
--- that was born, and those that close the descriptors that are not open. This project's own.
-use Rattle.std.specs.Prelude.{◌≡◌, ℕ, List, [], ◌∷◌, ◌++◌, map, reverse}
+-- that was born, a map with its keys in several parts, and those that close the descriptors that
+-- are not open. This project's own.
+use Rattle.std.specs.Prelude.{◌≡◌, ℕ, List, [], ◌∷◌, ◌++◌, map, reverse, Option, Some, None}
 use Rattle.std.specs.List.{flat_map}
 use Rattle.command_frames.specs.Command.{Command, close}
 use Rattle.command_frames.specs.Frame.{framed}
-use Rattle.fd_table.specs.Table.{first_descriptor, most}
-use Rattle.tenant.specs.State.{TenantState}
-use Rattle.saving.specs.Births.{Birth, number}
-use Rattle.saving.specs.Restored.{made, filled, closings, restored}
+use Rattle.fd_table.specs.Table.{first_descriptor, most, named}
+use Rattle.tenant.specs.State.{Map, TenantState, live}
+use Rattle.saving.specs.declared.save_parts.TheConstants.{KEYS_OF_PART}
+use Rattle.saving.specs.Births.{Birth, OfMap, OfProgram}
+use Rattle.saving.specs.Restored.{create_of, put_of, made_program, filled, closings, restored}
 use Rattle.saving.specs.Frames.{frame_of}
+use Rattle.saving.specs.Pieces.{pieces}
 
--- the commands that create the object of a birth at its descriptor
-abbrev pub birth_commands : TenantState → Birth → List Command
-birth_commands s b = close (number b) ∷ made s b
+-- the command that creates a live map without its keys
+abbrev pub made_empty : Option Map → List Command
+made_empty None = []
+made_empty (Some t) = create_of t.shape ∷ []
 
--- the parts, with the oldest birth first
+-- the commands that put its keys
+abbrev pub puts_of : ℕ → Option Map → List Command
+puts_of fd None = []
+puts_of fd (Some t) = map (put_of fd) t.entries
+
+-- the commands that close the descriptor of a birth and create its object, a map without its keys
+abbrev pub creation : TenantState → Birth → List Command
+creation s (OfMap handle fd) = close fd ∷ made_empty (live s handle)
+creation s (OfProgram fd) = close fd ∷ made_program (named s.objects fd)
+
+-- the commands that put the keys of this map; none for a program
+abbrev pub key_commands : TenantState → Birth → List Command
+key_commands s (OfMap handle fd) = puts_of fd (live s handle)
+key_commands s (OfProgram fd) = []
+
+-- the parts of a birth: one creates its object, each other one puts at most `KEYS_OF_PART` keys
+abbrev pub birth_parts : TenantState → Birth → List (List Command)
+birth_parts s b = creation s b ∷ pieces KEYS_OF_PART (key_commands s b)
+
+-- all parts, with the oldest birth first
 abbrev pub parts : TenantState → List Birth → List (List Command)
 parts s births =
     filled most
-    ∷ (map (birth_commands s) (reverse births) ++ closings s.objects first_descriptor most ∷ [])
+    ∷ (flat_map (birth_parts s) (reverse births)
+    ++ closings s.objects first_descriptor most ∷ [])
 
 -- the frames of commands to a tenant, each with its length before it
 abbrev pub frames_of : ℕ → List Command → List ℕ

@@ -1,3 +1,4 @@
 pub mod Frames
 pub mod Opened
+pub mod PartCommands
 pub mod Puts

@@ -1,6 +1,6 @@
 //! The order in which the objects of a tenant were created.
 
-ghost use Rattle.std.specs.Prelude.{◌≡◌, ◌<◌, ◌≤◌, ℕ, List, [], ◌∷◌, length, filter, reverse, slice_get, IfOk};
+ghost use Rattle.std.specs.Prelude.{◌≡◌, ◌<◌, ◌≤◌, ℕ, List, [], ◌∷◌, length, filter, reverse, IfOk};
 ghost use Rattle.tenant.specs.Kept.{state_in};
 ghost use Rattle.saving.specs.Births.{lives as lives_in};
 ghost use Rattle.saving.specs.inside.Opened.{with_told};
@@ -61,18 +61,11 @@ impl Births {
         })
     }
 
-    /// The number of births.
-    pub(crate) fn len(&self) -> usize
-        ensures { result ≡ length self.now }
+    /// The births with the oldest first.
+    pub(crate) fn oldest_first(&self) -> &[Birth]
+        ensures { result.now ≡ reverse self.now }
     {
-        self.oldest_first.len()
-    }
-
-    /// The birth at an index, with the oldest first; `None` if there are no more.
-    pub(crate) fn get(&self, index: usize) -> Option<Birth>
-        ensures { result ≡ slice_get (reverse self.now) index }
-    {
-        self.oldest_first.get(index).copied()
+        &self.oldest_first
     }
 
     /// Adds the latest birth. There is room for it.

@@ -1,6 +1,6 @@
-//! The frames that create the objects of births.
+//! The frames of a part of a save.
 
-ghost use Rattle.std.specs.Prelude.{◌≡◌, ◌++◌, [], length, OnOk};
+ghost use Rattle.std.specs.Prelude.{◌≡◌, ◌++◌, ℕ, List, [], length, take, drop, OnOk};
 ghost use Rattle.bpf_maps.specs.declared.part.TheConstants.{PART};
 ghost use Rattle.command_frames.specs.Command.{close, prog_load};
 ghost use Rattle.command_frames.specs.Frame.{framed};
@@ -9,12 +9,15 @@ ghost use Rattle.tenant.specs.Entry.{numbered_entries};
 ghost use Rattle.tenant.specs.Kept.{state_in};
 ghost use Rattle.tenant.specs.State.{live};
 ghost use Rattle.saving.specs.Frames.{frame_of};
-ghost use Rattle.saving.specs.Restored.{create_of, put_of, filled, closings, made_map, made_program};
-ghost use Rattle.saving.specs.SaveParts.{birth_commands, frames_of};
-ghost use Rattle.saving.specs.inside.Puts.{closing, puts};
+ghost use Rattle.saving.specs.Restored.{create_of, put_of, filled, closings, made_program};
+ghost use Rattle.saving.specs.SaveParts.{made_empty, puts_of, creation, frames_of};
+ghost use Rattle.saving.specs.declared.save_parts.TheConstants.{KEYS_OF_PART};
+ghost use Rattle.saving.specs.inside.PartCommands.{part_commands};
+ghost use Rattle.saving.specs.inside.Puts.{closing, puts, rest_after};
 
 use crate::birth::Birth;
 use crate::command_bytes::{write_close, write_create, write_load, write_put};
+use crate::save_parts::{KEYS_OF_PART, SavePart};
 use bpf_maps::MapKey;
 use fd_table::{FIRST, MOST};
 use insn_codec::write_program;
@@ -47,9 +50,25 @@ fn append_framed(frames: &mut Vec<u8>, frame: &[u8]) -> Result<(), AllocError>
 const PUT_HEAD: usize = 20;
 
 /// The bytes of the frames that put so many keys into a map of this shape.
-fn bytes_of_puts(shape: MapShape, keys: u32) -> usize {
+fn bytes_of_puts(shape: MapShape, keys: usize) -> usize {
     let each = PUT_HEAD + shape.key_size as usize + shape.value_size as usize;
-    each.saturating_mul(keys as usize)
+    each.saturating_mul(keys)
+}
+
+/// The element of the last of the first `count` keys of a map, in their order; `None` if they are none. The part has `PART` bytes.
+fn element_before(tenant: &Tenant, map: MapKey, count: usize, part: &[u8]) -> Option<u32>
+    requires whole { length part.now ≡ PART }
+    ensures { rest_after result (numbered_entries part.now tenant.now.live map)
+        ≡ drop count (numbered_entries part.now tenant.now.live map) }
+{
+    let mut before = None;
+    for _ in 0..count {
+        let Some(entry) = tenant.map_entry(map, before, part) else {
+            return before;
+        };
+        before = Some(entry.element);
+    }
+    before
 }
 
 impl FrameWriter {
@@ -107,7 +126,7 @@ impl FrameWriter {
     }
 
     /// Opens a program at each descriptor.
-    pub(crate) fn fill(&mut self) -> Result<(), AllocError>
+    fn fill(&mut self) -> Result<(), AllocError>
         ensures written { OnOk result (self.new.frames.items
             ≡ self.old.frames.items ++ frames_of self.old.number (filled most)) }
     {
@@ -131,7 +150,7 @@ impl FrameWriter {
     }
 
     /// Closes each descriptor that is not open.
-    pub(crate) fn close_rest(&mut self, tenant: &Tenant) -> Result<(), AllocError>
+    fn close_rest(&mut self, tenant: &Tenant) -> Result<(), AllocError>
         ensures written { OnOk result (self.new.frames.items
             ≡ self.old.frames.items ++ frames_of self.old.number
             (closings tenant.now.objects first_descriptor most)) }
@@ -142,48 +161,68 @@ impl FrameWriter {
         Ok(())
     }
 
-    /// Puts the keys of a map in their order. The part has `PART` bytes.
-    fn put_all(
+    /// Puts the keys of a map after the one of an element, or the first ones if none is given, in their order and at most `KEYS_OF_PART`.
+    /// The part has `PART` bytes.
+    fn put_after(
         &mut self,
         tenant: &Tenant,
         map: MapKey,
         fd: u32,
+        before: Option<u32>,
         part: &[u8],
     ) -> Result<(), AllocError>
         requires whole { length part.now ≡ PART }
         ensures written { OnOk result (self.new.frames.items
             ≡ self.old.frames.items ++ frames_of self.old.number
-            (puts fd (numbered_entries part.now tenant.now.live map))) }
+            (puts fd (take KEYS_OF_PART
+            (rest_after before (numbered_entries part.now tenant.now.live map))))) }
     {
-        let mut after = None;
-        while let Some(entry) = tenant.map_entry(map, after, part) {
+        let mut after = before;
+        for _ in 0..KEYS_OF_PART {
+            let Some(entry) = tenant.map_entry(map, after, part) else {
+                return Ok(());
+            };
             self.put(fd, entry.key.bytes(), entry.value)?;
             after = Some(entry.element);
         }
         Ok(())
     }
 
-    /// Creates a map with its keys, if it is live. The part has `PART` bytes.
-    fn make_map(
+    /// Puts the keys of a map from an index on, in their order and at most `KEYS_OF_PART`, if it is live. The part has `PART` bytes.
+    fn put_keys(
         &mut self,
         tenant: &Tenant,
         map: MapKey,
         fd: u32,
+        first: usize,
         part: &[u8],
     ) -> Result<(), AllocError>
         requires whole { length part.now ≡ PART }
         ensures written { OnOk result (self.new.frames.items
             ≡ self.old.frames.items ++ frames_of self.old.number
-            (made_map fd (live (state_in part.now tenant.now) map))) }
+            (take KEYS_OF_PART (drop first (puts_of fd (live (state_in part.now tenant.now) map))))) }
     {
         let Some(shape) = tenant.map_shape(map) else {
             return Ok(());
         };
-        self.create(shape)?;
+        let left = (tenant.key_count(map) as usize).saturating_sub(first);
         // The frames are not moved while they grow.
         self.frames
-            .reserve(bytes_of_puts(shape, tenant.key_count(map)))?;
-        self.put_all(tenant, map, fd, part)
+            .reserve(bytes_of_puts(shape, left.min(KEYS_OF_PART)))?;
+        let before = element_before(tenant, map, first, part);
+        self.put_after(tenant, map, fd, before, part)
+    }
+
+    /// Creates a map of the shape of this one, if it is live.
+    fn make_map(&mut self, tenant: &Tenant, map: MapKey) -> Result<(), AllocError>
+        ensures written { (part : List ℕ) → OnOk result (self.new.frames.items
+            ≡ self.old.frames.items ++ frames_of self.old.number
+            (made_empty (live (state_in part tenant.now) map))) }
+    {
+        match tenant.map_shape(map) {
+            Some(shape) => self.create(shape),
+            None => Ok(()),
+        }
     }
 
     /// Loads the program at a descriptor, if one is open there.
@@ -199,28 +238,42 @@ impl FrameWriter {
         self.load(&slots)
     }
 
-    /// Closes the descriptor of a birth, and creates its object there. The part has `PART` bytes.
-    pub(crate) fn make(
-        &mut self,
-        tenant: &Tenant,
-        alloc: Global,
-        birth: Birth,
-        part: &[u8],
-    ) -> Result<(), AllocError>
-        requires whole { length part.now ≡ PART }
-        ensures written { OnOk result (self.new.frames.items
+    /// Closes the descriptor of a birth, and creates its object there, a map without keys.
+    fn make(&mut self, tenant: &Tenant, alloc: Global, birth: Birth) -> Result<(), AllocError>
+        ensures written { (part : List ℕ) → OnOk result (self.new.frames.items
             ≡ self.old.frames.items ++ frames_of self.old.number
-            (birth_commands (state_in part.now tenant.now) birth)) }
+            (creation (state_in part tenant.now) birth)) }
     {
         match birth {
             Birth::OfMap(map, fd) => {
                 self.close(fd)?;
-                self.make_map(tenant, map, fd, part)
+                self.make_map(tenant, map)
             }
             Birth::OfProgram(fd) => {
                 self.close(fd)?;
                 self.make_program(tenant, alloc, fd)
             }
+        }
+    }
+
+    /// Writes the frames of a part of a save. The tenant's part of the memory has `PART` bytes.
+    pub(crate) fn write(
+        &mut self,
+        tenant: &Tenant,
+        alloc: Global,
+        wanted: SavePart,
+        part: &[u8],
+    ) -> Result<(), AllocError>
+        requires whole { length part.now ≡ PART }
+        ensures written { OnOk result (self.new.frames.items
+            ≡ self.old.frames.items ++ frames_of self.old.number
+            (part_commands (state_in part.now tenant.now) wanted)) }
+    {
+        match wanted {
+            SavePart::Filling => self.fill(),
+            SavePart::Creation(birth) => self.make(tenant, alloc, birth),
+            SavePart::Keys(map, fd, first) => self.put_keys(tenant, map, fd, first, part),
+            SavePart::Closing => self.close_rest(tenant),
         }
     }
 }

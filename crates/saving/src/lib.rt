@@ -26,9 +26,10 @@
 //!
 //! Saves:
 //!
-//! - A save has parts: the frames that fill all descriptors, those that make each map with its keys or each program, the oldest
-//!   first, and those that close the descriptors that are not open. The bytes of a part are exactly the frames of its commands,
-//!   each with its length before it; there is none after the last part. Nothing changes: `SavableTenant::save_part`.
+//! - A save has parts: the frames that fill all descriptors; for each birth, the oldest first, those that create the map or load the
+//!   program, and then those that put the keys of the map, at most 1,024 in each part (`KEYS_OF_PART`); and those that close the
+//!   descriptors that are not open. The bytes of a part are exactly the frames of its commands, each with its length before it; there is
+//!   none after the last part. Nothing changes: `SavableTenant::save_part`.
 //! - The parts together are the commands that restore the state: `parts_are_whole`.
 //!
 //! Laws of the machine:
@@ -56,8 +57,9 @@
 //! - Parts have numbers, and there is no cursor: `save_part` changes nothing, so a caller may ask for a part again, stop, and
 //!   serve other tenants in between. The caller has to see to it that the tenant does not change between its first part and its
 //!   last.
-//! - A part makes one map or one program, so the caller has the frames of one map at a time, and a part takes time for the keys
-//!   of one map. Smaller parts would begin at a key, and a change of the map could make that key wrong.
+//! - The keys of a map are put by several parts, so that a part takes less time than a frame may: in one part, 4,096 keys of 512 bytes
+//!   took more than a millisecond. A part finds its first key by the number of keys before it, which it passes one by one. This is cheap
+//!   next to the frames, and nothing has to be kept between two parts.
 //! - The births are kept in a layer above the tenant: the machine of a tenant has no order of births, and no reply shows one.
 //!   Only MAP_CREATE, PROG_LOAD and CLOSE touch the list. A creation or a load, with its close, takes 100 machine instructions
 //!   more for it, and other frames none (builds without proofs).
@@ -72,6 +74,7 @@ mod inspection;
 mod installing;
 pub mod laws;
 mod savable;
+mod save_parts;
 
 pub use birth::Birth;
 pub use savable::SavableTenant;

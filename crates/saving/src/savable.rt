@@ -14,6 +14,7 @@ ghost use Rattle.tenant.specs.State.{new_tenant};
 use crate::birth::Births;
 use crate::frame_writer::FrameWriter;
 use crate::laws::{births_are_kept, maps_are_held};
+use crate::save_parts::part_at;
 use arena::Arena;
 use bpf_maps::PART;
 use flat_machine::GIVEN_WORDS;
@@ -66,8 +67,9 @@ impl SavableTenant {
     /// last part, and if the tenant's part of the memory does not have `PART` bytes.
     ///
     /// A new tenant that is given the frames of all parts in their order then replies as this one does. Between two parts nothing may
-    /// change in this tenant, but other tenants may be served. Part 0 opens a program at each descriptor, the parts after it create one map
-    /// or program each, in the order of their births, and the last part closes the descriptors that are not open.
+    /// change in this tenant, but other tenants may be served. Part 0 opens a program at each descriptor. For each object, in the order of
+    /// their births, one part creates the map or loads the program, and the parts after it put the keys of the map, at most 1,024 each. The
+    /// last part closes the descriptors that are not open.
     ///
     /// # Errors
     ///
@@ -86,19 +88,11 @@ impl SavableTenant {
         if part.len() != PART {
             return Ok(None);
         }
-        let mut writer = FrameWriter::new(alloc, number);
-        if index == 0 {
-            writer.fill()?;
-            return Ok(Some(writer.frames));
-        }
-        if let Some(birth) = self.births.get(index - 1) {
-            writer.make(&self.tenant, alloc, birth, part)?;
-            return Ok(Some(writer.frames));
-        }
-        if index - 1 != self.births.len() {
+        let Some(wanted) = part_at(&self.tenant, self.births.oldest_first(), index) else {
             return Ok(None);
-        }
-        writer.close_rest(&self.tenant)?;
+        };
+        let mut writer = FrameWriter::new(alloc, number);
+        writer.write(&self.tenant, alloc, wanted, part)?;
         Ok(Some(writer.frames))
     }
 

@@ -1,12 +1,11 @@
-use Rattle.std.proofs.Common.{◌≡◌, ◌≢◌, ℕ, ◌-◌, List, [], ◌++◌, length, Option, Some, None, sym, ap, ap₂, subst, ◌∙◌, arith}
+use Rattle.std.proofs.Common.{◌≡◌, ℕ, List, [], ◌++◌, Option, Some, None, sym, ap, ap₂, subst, ◌∙◌}
 use Rattle.std.specs.Prelude.{slice_get, option_map}
 use Rattle.command_frames.specs.Command.{Command}
-use Rattle.fd_table.specs.Table.{first_descriptor, most}
 use Rattle.tenant.specs.Kept.{state_in}
+use Rattle.saving.specs.declared.birth.Birth.{Birth}
 use Rattle.saving.specs.Recorded.{RecordedTenant, tenant_state}
-use Rattle.saving.specs.Restored.{closings}
-use Rattle.saving.specs.SaveParts.{birth_commands, parts, frames_of}
-use Rattle.saving.proofs.Saves.{part_of_birth, part_of_rest, no_part}
+use Rattle.saving.specs.SaveParts.{parts, frames_of}
+use Rattle.saving.specs.inside.PartCommands.{part_commands, ordered_parts}
 use Rattle.saving.proofs.savable.SavableTenant.save_part.Goals as goal
 
 -- a new writer writes the frames of a part
@@ -23,39 +22,26 @@ abbrev as_saved : ℕ → List ℕ → ℕ → Option (List ℕ) → RecordedTen
 as_saved number part index saved t =
     saved ≡ option_map (frames_of number) (slice_get (parts (tenant_state part t) t.births) index)
 
-pub returns-in-Some : goal.returns-in-Some
-returns-in-Some c =
-    let s = state_in c.args.part.now c.self.inside.tenant in
-    let bs = c.self.inside.births in
-    let other : c.args.index ≢ 0 = λ e. absurd (omega (arith, e, c.if-index-eq0.false)) in
-    λ _. subst (as_saved c.args.number c.args.part.now c.args.index (Some c.make.new.self.frames.items)) c.self.view_is
-    (is_written c.args.number c.new-writer.result.number c.new-writer.result.frames.items
-    c.make.new.self.frames.items (slice_get (parts s bs) c.args.index)
-    (birth_commands s c.in-Some.birth)
-    (part_of_birth s bs c.args.index c.in-Some.birth other (sym c.get.ensures ∙ c.in-Some.is))
-    c.new-writer.ensures.frames c.new-writer.ensures.number
-    c.in_ok-make.ensures.written)
-
-pub returns-then-index-len : goal.returns-then-index-len
-returns-then-index-len c =
-    let s = state_in c.args.part.now c.self.inside.tenant in
-    let bs = c.self.inside.births in
-    let other : c.args.index ≢ 0 = λ e. absurd (omega (arith, e, c.if-index-eq0.false)) in
-    let far : c.args.index - 1 ≢ length bs = λ e. absurd (omega (arith, e, c.if-index-len.true, c.len.ensures)) in
-    λ _. subst (as_saved c.args.number c.args.part.now c.args.index None) c.self.view_is
-    (sym (ap (option_map (frames_of c.args.number))
-    (no_part s bs c.args.index other (sym c.get.ensures ∙ c.in_default.is) far)))
-
 pub returns : goal.returns
 returns c =
     let s = state_in c.args.part.now c.self.inside.tenant in
     let bs = c.self.inside.births in
-    let other : c.args.index ≢ 0 = λ e. absurd (omega (arith, e, c.if-index-eq0.false)) in
-    let last : c.args.index - 1 ≡ length bs = omega (arith, c.if-index-len.false, c.len.ensures) in
-    λ _.
-    subst (as_saved c.args.number c.args.part.now c.args.index (Some c.close_rest.new.self.frames.items)) c.self.view_is
+    let found : slice_get (parts s bs) c.args.index ≡ Some (part_commands s c.in-Some.wanted) =
+    ap (λ (births : List Birth). slice_get (ordered_parts s births) c.args.index) (sym c.oldest_first.ensures)
+    ∙ sym (ap (option_map (part_commands s)) (sym c.in-Some.is) ∙ c.part_at.ensures c.args.part.now) in
+    λ _. subst (as_saved c.args.number c.args.part.now c.args.index (Some c.write.new.self.frames.items)) c.self.view_is
     (is_written c.args.number c.new-writer.result.number c.new-writer.result.frames.items
-    c.close_rest.new.self.frames.items (slice_get (parts s bs) c.args.index)
-    (closings s.objects first_descriptor most)
-    (part_of_rest s bs c.args.index other last) c.new-writer.ensures.frames
-    c.new-writer.ensures.number c.in_ok-close_rest.ensures.written)
+    c.write.new.self.frames.items (slice_get (parts s bs) c.args.index)
+    (part_commands s c.in-Some.wanted) found
+    c.new-writer.ensures.frames c.new-writer.ensures.number
+    c.in_ok-write.ensures.written)
+
+pub returns-in_default : goal.returns-in_default
+returns-in_default c =
+    let s = state_in c.args.part.now c.self.inside.tenant in
+    let bs = c.self.inside.births in
+    let none : slice_get (parts s bs) c.args.index ≡ None =
+    ap (λ (births : List Birth). slice_get (ordered_parts s births) c.args.index) (sym c.oldest_first.ensures)
+    ∙ sym (ap (option_map (part_commands s)) (sym c.in_default.is) ∙ c.part_at.ensures c.args.part.now) in
+    λ _. subst (as_saved c.args.number c.args.part.now c.args.index None) c.self.view_is
+    (sym (ap (option_map (frames_of c.args.number)) none))

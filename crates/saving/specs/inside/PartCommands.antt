@@ -1,0 +1,28 @@
+-- The commands of a part of a save. This project's own.
+use Rattle.std.specs.Prelude.{List, [], ◌∷◌, ◌++◌, take, drop}
+use Rattle.std.specs.List.{flat_map}
+use Rattle.command_frames.specs.Command.{Command}
+use Rattle.fd_table.specs.Table.{first_descriptor, most}
+use Rattle.tenant.specs.State.{TenantState, live}
+use Rattle.saving.specs.declared.save_parts.SavePart.{SavePart}
+use Rattle.saving.specs.declared.save_parts.SavePart.TheVariants.{Filling, Creation, Keys, Closing}
+use Rattle.saving.specs.declared.save_parts.TheConstants.{KEYS_OF_PART}
+use Rattle.saving.specs.Births.{Birth}
+use Rattle.saving.specs.Restored.{filled, closings}
+use Rattle.saving.specs.SaveParts.{puts_of, creation, birth_parts}
+
+abbrev pub part_commands : TenantState → SavePart → List Command
+part_commands s Filling = filled most
+part_commands s (Creation b) = creation s b
+part_commands s (Keys handle fd first) =
+    take KEYS_OF_PART (drop first (puts_of fd (live s handle)))
+part_commands s Closing = closings s.objects first_descriptor most
+
+-- the parts after the first one, of births with the oldest first
+abbrev pub later_parts : TenantState → List Birth → List (List Command)
+later_parts s births =
+    flat_map (birth_parts s) births ++ closings s.objects first_descriptor most ∷ []
+
+-- all parts of these births
+abbrev pub ordered_parts : TenantState → List Birth → List (List Command)
+ordered_parts s births = filled most ∷ later_parts s births

@@ -1,0 +1,88 @@
+//! The parts of a save: what each one does, and which part has an index.
+
+ghost use Rattle.std.specs.Prelude.{◌≡◌, ◌<◌, ◌^◌, ℕ, List, length, option_map, slice_get};
+ghost use Rattle.tenant.specs.Kept.{state_in};
+ghost use Rattle.saving.specs.SaveParts.{birth_parts, key_commands};
+ghost use Rattle.saving.specs.inside.PartCommands.{ordered_parts, part_commands};
+
+use crate::birth::Birth;
+use bpf_maps::MapKey;
+use tenant::Tenant;
+
+/// The most keys that one part of a save puts into a map.
+pub(crate) const KEYS_OF_PART: usize = 1_024;
+
+/// What a part of a save does.
+#[derive(Clone, Copy)]
+pub(crate) enum SavePart {
+    /// Opens a program at each descriptor.
+    Filling,
+    /// Closes the descriptor of a birth and creates its object there, a map without keys.
+    Creation(Birth),
+    /// Puts keys of a map into the map at a descriptor: at most `KEYS_OF_PART`, from the key with this index on.
+    Keys(MapKey, u32, usize),
+    /// Closes the descriptors that are not open.
+    Closing,
+}
+
+/// The number of keys that the object of a birth has; a program has none.
+fn key_count(tenant: &Tenant, birth: Birth) -> usize
+    ensures count { (part : List ℕ)
+        → result ≡ length (key_commands (state_in part tenant.now) birth) }
+    ensures small { result < 2 ^ 32 }
+{
+    let Birth::OfMap(map, _) = birth else {
+        return 0;
+    };
+    match tenant.map_shape(map) {
+        Some(_) => tenant.key_count(map) as usize,
+        None => 0,
+    }
+}
+
+/// The number of parts of a birth.
+fn count_of_parts(tenant: &Tenant, birth: Birth) -> usize
+    ensures { (part : List ℕ) → result ≡ length (birth_parts (state_in part tenant.now) birth) }
+{
+    1 + key_count(tenant, birth).div_ceil(KEYS_OF_PART)
+}
+
+/// The part of a birth at an index among the parts of this birth; `None` if it has no more.
+fn part_of_birth(tenant: &Tenant, birth: Birth, index: usize) -> Option<SavePart>
+    ensures { (part : List ℕ) → option_map (part_commands (state_in part tenant.now)) result
+        ≡ slice_get (birth_parts (state_in part tenant.now) birth) index }
+{
+    let Some(piece) = index.checked_sub(1) else {
+        return Some(SavePart::Creation(birth));
+    };
+    let Birth::OfMap(map, fd) = birth else {
+        return None;
+    };
+    let first = piece.saturating_mul(KEYS_OF_PART);
+    if first < key_count(tenant, birth) {
+        Some(SavePart::Keys(map, fd, first))
+    } else {
+        None
+    }
+}
+
+/// The part of a save with an index, of a tenant with these births, the oldest first; `None` after the last part.
+pub(crate) fn part_at(tenant: &Tenant, births: &[Birth], index: usize) -> Option<SavePart>
+    ensures { (part : List ℕ) → option_map (part_commands (state_in part tenant.now)) result
+        ≡ slice_get (ordered_parts (state_in part tenant.now) births.now) index }
+{
+    let Some(mut left) = index.checked_sub(1) else {
+        return Some(SavePart::Filling);
+    };
+    for birth in births {
+        match part_of_birth(tenant, *birth, left) {
+            Some(part) => return Some(part),
+            None => left -= count_of_parts(tenant, *birth),
+        }
+    }
+    if left == 0 {
+        Some(SavePart::Closing)
+    } else {
+        None
+    }
+}

@@ -513,7 +513,7 @@ static int32_t ask_refused(struct command *it)
 static int32_t save_part(struct command *it)
 {
     bpfhost_bytes part;
-    must(bpfhost_save_part(it->host, 0, 1, &part) == BPFHOST_DONE, "no part");
+    must(bpfhost_save_part(it->host, 0, 2, &part) == BPFHOST_DONE, "no part");
     return 0;
 }
 
@@ -572,7 +572,7 @@ static struct command commands[] = {
     {.name = "64, a context each", .by_call = run_64_with_each},
     {.name = "run_scattered, 64", .by_call = run_64_scattered},
     {.name = "memory_refused", .by_call = ask_refused},
-    {.name = "save_part of a map", .by_call = save_part},
+    {.name = "save_part of a key", .by_call = save_part},
     {.name = "save", .by_call = save_all},
     {.name = "and restore_as", .by_call = save_and_restore_as},
     {.name = "close_all of nothing", .by_call = close_nothing},

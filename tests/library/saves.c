@@ -6,6 +6,7 @@
 #define TENANTS 3
 #define FIRST 3
 #define MOST 64
+#define KEYS_OF_PART 1024
 #define LONGEST_KEY 12
 #define LONGEST_VALUE 16
 
@@ -219,7 +220,7 @@ static size_t moves(bpfhost *from, bpfhost *to, uint16_t tenant, uint16_t other)
     struct target target = {below(2) == 0 ? to : NULL, from, tenant, other, NULL, 0, 0, 0};
     bpfhost_bytes none;
     CHECK(bpfhost_save(from, tenant, takes, &target) == BPFHOST_DONE);
-    CHECK(target.parts >= 2 && target.parts <= 2 + MOST + 16);
+    CHECK(target.parts >= 2 && target.parts <= 2 + MOST + 16 + 47);
     CHECK(bpfhost_save_part(from, tenant, target.parts, &none) == BPFHOST_ERR_NO_PART);
     if (target.host == NULL)
         restores(to, tenant, other, target.bytes, target.length);
@@ -301,8 +302,63 @@ static void checks_codes(void)
     checks_renumbering(second, target.bytes, target.length);
     free(target.bytes);
     target = (struct target){second, first, 1, 1, NULL, 0, 0, 0};
-    CHECK(bpfhost_save(first, 1, takes, &target) == BPFHOST_DONE && target.parts == 4);
+    CHECK(bpfhost_save(first, 1, takes, &target) == BPFHOST_DONE && target.parts == 5);
     CHECK(count_once(first, 1) == 1 && count_once(second, 1) == 1 && count_once(second, 1) == 2);
+    bpfhost_free(first);
+    bpfhost_free(second);
+}
+
+static size_t frames_in(bpfhost_bytes part)
+{
+    size_t at = 0, count = 0;
+    for (; at < part.length; count++)
+        at += 4 + bpfhost_get32(part.at + at);
+    CHECK(at == part.length);
+    return count;
+}
+
+/* How many frames a part has of a tenant with one map, if so many of its keys are in no part yet. */
+static size_t frames_of_part(size_t part, uint32_t keys)
+{
+    if (part == 0)
+        return MOST;
+    if (part == 1)
+        return 2;
+    return keys == 0 ? MOST - 1 : keys < KEYS_OF_PART ? keys : KEYS_OF_PART;
+}
+
+static void puts_keys(bpfhost *host, uint32_t keys)
+{
+    const bpfhost_map_attr attr = {BPFHOST_HASH, 4, 8, 4096, 0};
+    bpfhost_result result;
+    CHECK(bpfhost_map_create(host, 1, &attr, &result) == BPFHOST_DONE && result.status == FIRST);
+    for (uint32_t key = 0; key < keys; key++) {
+        uint64_t value = 3 * key + 1;
+        CHECK(bpfhost_map_update(host, 1, FIRST, &key, sizeof key, &value, sizeof value, BPFHOST_ANY, &result) == BPFHOST_DONE);
+        CHECK(result.status == 0);
+    }
+}
+
+/* The keys of a map are in parts of at most 1,024, in no more parts than they need, and the restored map has them in their order. */
+static void checks_parts_of_keys(uint32_t keys, size_t parts)
+{
+    bpfhost *first = NULL, *second = NULL;
+    bpfhost_bytes one, two;
+    uint32_t left = keys;
+    int32_t status;
+    CHECK(bpfhost_new(&first, TENANTS, &test_seed) == BPFHOST_DONE && bpfhost_new(&second, TENANTS, &test_seed) == BPFHOST_DONE);
+    puts_keys(first, keys);
+    for (size_t part = 0; part < parts; part++) {
+        CHECK(bpfhost_save_part(first, 1, part, &one) == BPFHOST_DONE && frames_in(one) == frames_of_part(part, left));
+        CHECK(bpfhost_restore(second, 1, one.at, one.length, &status) == BPFHOST_DONE && status >= 0);
+        if (part >= 2 && left > 0)
+            left -= (uint32_t)frames_in(one);
+    }
+    CHECK(left == 0 && bpfhost_save_part(first, 1, parts, &one) == BPFHOST_ERR_NO_PART);
+    for (size_t part = 0; part < parts; part++) {
+        CHECK(bpfhost_save_part(first, 1, part, &one) == BPFHOST_DONE && bpfhost_save_part(second, 1, part, &two) == BPFHOST_DONE);
+        CHECK(one.length == two.length && memcmp(one.at, two.at, one.length) == 0);
+    }
     bpfhost_free(first);
     bpfhost_free(second);
 }
@@ -313,6 +369,11 @@ int main(int argc, char **argv)
     size_t bytes = 0;
     state = argc > 2 ? strtoull(argv[2], NULL, 10) | 1 : 88172645463325252u;
     checks_codes();
+    checks_parts_of_keys(0, 3);
+    checks_parts_of_keys(1, 4);
+    checks_parts_of_keys(KEYS_OF_PART, 4);
+    checks_parts_of_keys(KEYS_OF_PART + 1, 5);
+    checks_parts_of_keys(4096, 7);
     for (long i = 0; i < histories; i++) {
         bpfhost *first = NULL, *second = NULL;
         uint16_t tenant = (uint16_t)below(TENANTS), other = (uint16_t)below(TENANTS);

@@ -101,7 +101,7 @@ static inline uint32_t bpfhost_library_version(void)
 #define BPFHOST_LONGEST_REPLY 4108 /* the most bytes of a reply, its length field included */
 #define BPFHOST_LONGEST_PAYLOAD 4096 /* the most bytes of a reply's payload */
 #define BPFHOST_TEST_RUN_HEAD 48 /* the bytes of a PROG_TEST_RUN frame before its packet */
-#define BPFHOST_LONGEST_PART 2244648 /* the most bytes of a part of a save: a full map with the longest keys */
+#define BPFHOST_LONGEST_PART 610304 /* the most bytes of a part of a save: 1,024 of the longest keys */
 #define BPFHOST_CALL_WEIGHT 128 /* what a call of a helper counts for in the bound of a batch, in instructions besides its own */
 #define BPFHOST_ABI 3 /* the number of the library's binary interface, which changes with its soname */
 /* end of limits */
@@ -1043,13 +1043,14 @@ static inline int bpfhost_run_bounded_scattered(bpfhost *host, uint16_t tenant, 
 }
 
 /* Saves one part of a tenant: `frames` gets the frames of this part, each with its length field before it as in a stream, lent
- * until the next call on this host. Parts are numbered from 0, and a tenant has 2 to 82 of them: the first opens a program at each
- * descriptor, each part after it makes one map with its keys or one program, in the order in which they were made, and the last
- * closes what is not open. A new tenant of this number, of any host, that is given the frames of all parts in their order
- * (bpfhost_restore, or bpfhost_restore_as for another number) then replies to each frame as the saved tenant does. Until the last part is
- * taken, the tenant must not be given a frame or packets; other tenants may be. A part has at most BPFHOST_LONGEST_PART bytes, which the
- * host keeps until the next call of bpfhost_save_part or bpfhost_save on it. ERR_NO_PART: there are no more parts, or the tenant is not
- * served. ERR_NO_MEMORY, ERR_NO_PART, ERR_NULL, ERR_OVERLAP: nothing is written. No tenant's state changes. */
+ * until the next call on this host. Parts are numbered from 0, and a tenant has 2 to 129 of them: the first opens a program at each
+ * descriptor; for each map and program, in the order in which they were made, one part creates it, and the parts after it put the keys of
+ * the map, at most 1,024 each; the last closes what is not open. A new tenant of this number, of any host, that is given the frames of
+ * all parts in their order (bpfhost_restore, or bpfhost_restore_as for another number) then replies to each frame as the saved tenant
+ * does. Until the last part is taken, the tenant must not be given a frame or packets; other tenants may be. A part has at most
+ * BPFHOST_LONGEST_PART bytes, which the host keeps until the next call of bpfhost_save_part or bpfhost_save on it. ERR_NO_PART: there are
+ * no more parts, or the tenant is not served. ERR_NO_MEMORY, ERR_NO_PART, ERR_NULL, ERR_OVERLAP: nothing is written. No tenant's state
+ * changes. */
 static inline int bpfhost_save_part(bpfhost *host, uint16_t tenant, size_t part, bpfhost_bytes *frames)
 {
     const bpfhost_bytes none = {NULL, 0};

@@ -243,8 +243,8 @@ class Calls(TimedTest):
             ask(frames.map_update_elem(1, 3, key, bytes(8))).done()
         ask(frames.map_delete_elem(1, 3, b"my")).done()
         parts = list(tenant.save_parts())
-        self.assertEqual((len(parts), b"".join(parts)), (5, tenant.save()))
-        self.assertEqual((self.host.save_part(1, 5), self.host.save_part(3, 0), self.host.tenant(0).save()), (None, None, EMPTY))
+        self.assertEqual((len(parts), b"".join(parts)), (7, tenant.save()))
+        self.assertEqual((self.host.save_part(1, 7), self.host.save_part(3, 0), self.host.tenant(0).save()), (None, None, EMPTY))
         with self.library.host(3) as other:
             for part in parts:
                 other.restore(1, part)

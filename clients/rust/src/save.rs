@@ -10,11 +10,13 @@ impl Tenant<'_> {
     /// The frames of one part of this tenant, each with its length before it, lent until the host's next call; `None` after the last
     /// part, and if the tenant is not served.
     ///
-    /// The first part, of number 0, opens a program at each descriptor; each part after it makes one map with its keys or one
-    /// program, in the order in which they were made; the last part closes what is not open. A new tenant of the same number, of any
-    /// host, that is given the frames of all parts in their order ([`restore`](Tenant::restore)) replies to each frame as this tenant
-    /// does. Other tenants may be served between two parts; this one must not change before its last part is taken. A part has at
-    /// most [`LONGEST_PART`](crate::LONGEST_PART) bytes, which the host keeps until its next save.
+    /// The first part, of number 0, opens a program at each descriptor. For each map and program, in the order in which they were made,
+    /// one part creates it, and the parts after it put the keys of the map, at most 1,024 each. The last part closes what is not open.
+    ///
+    /// A new tenant of the same number, of any host, that is given the frames of all parts in their order
+    /// ([`restore`](Tenant::restore)) replies to each frame as this tenant does. Other tenants may be served between two parts; this
+    /// one must not change before its last part is taken. A part has at most [`LONGEST_PART`](crate::LONGEST_PART) bytes, which the
+    /// host keeps until its next save.
     ///
     /// ```
     /// # use bpfhost::{Error, Host};

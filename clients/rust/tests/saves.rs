@@ -47,8 +47,8 @@ fn other_tenants_are_served_between_parts() {
         first.tenant(0).map_create(HASH).expect("a descriptor is free");
         part += 1;
     }
-    // The fillers, three births and the closings.
-    assert_eq!(part, 5);
+    // The fillers, three births, the keys of two maps and the closings.
+    assert_eq!(part, 7);
     is_as_it_was(&mut second, map, counter, 2);
 }
 

@@ -68,7 +68,7 @@ class HostHere(LibraryHost):
         self.close()
 
     def save(self, tenant: int) -> Steps[bytes]:
-        """The frames that restore a tenant, which name tenant 0, in steps: one for each map and each program (docs/EMBEDDING.md).
+        """The frames that restore a tenant, which name tenant 0, in steps: one for each part of the save (docs/EMBEDDING.md).
 
         The tenant must get no frame meanwhile. Raises MemoryRefused if the library has no memory for them.
         """

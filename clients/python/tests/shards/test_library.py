@@ -151,8 +151,8 @@ class Answers(HostTest):
                     steps.send(None)
                     parts += 1
                     list(serving.play([call_of(b"2-0", 62, [CREATE])]))
-            # All descriptors, the map, the program, and what is closed.
-            self.assertEqual(parts, 4)
+            # All descriptors, the map, its key, the program, and what is closed.
+            self.assertEqual(parts, 5)
             at_once(serving.make(61, ended.exception.value))
             ((written, _),) = serving.play([call_of(b"3-0", 61, [frames.prog_test_run(0, 4, b"key1"), LOOK_UP])])
             self.assertEqual([reply[8:] for reply in split(written.value)], [bytes(4) + b"\5\0\0\0", (-Errno.EBADF & 0xFFFFFFFF).to_bytes(4, "little")])
@@ -202,10 +202,10 @@ class RefusedStates(test_snapshot.RefusedStates):
 
 @unittest.skipIf(_FILE is None, _WHY)
 class InSteps(test_stalls.InSteps):
-    """A state of eight full maps is saved in ten parts, and restored in steps."""
+    """A state of eight full maps is saved in 42 parts, five for each map, and restored in steps."""
 
     library = loaded() if _FILE else None
-    parts = 10
+    parts = 42
 
 
 @unittest.skipIf(_FILE is None, _WHY)

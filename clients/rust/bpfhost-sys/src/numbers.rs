@@ -17,8 +17,8 @@ pub const LONGEST_REPLY: usize = 4108;
 pub const LONGEST_PAYLOAD: usize = 4096;
 /// The bytes of a PROG_TEST_RUN frame before its packet.
 pub const TEST_RUN_HEAD: usize = 48;
-/// The most bytes of a part of a save: a full map with the longest keys.
-pub const LONGEST_PART: usize = 2_244_648;
+/// The most bytes of a part of a save: 1,024 of the longest keys.
+pub const LONGEST_PART: usize = 610_304;
 /// What a call of a helper counts for in the bound of a batch, in instructions besides its own.
 pub const CALL_WEIGHT: usize = 128;
 /// The number of the library's binary interface, which changes with its soname.

@@ -1,7 +1,7 @@
 /* The functions of bpfhost.h that may write something: their objects, how they are called, and what a call has to do.
  *
  * Not here, since they write nothing: bpfhost_pair_code, bpfhost_memory_of, bpfhost_lent_code, bpfhost_bytes_at, bpfhost_frame_code, bpfhost_may_empty,
- * bpfhost_word_of, bpfhost_are_beside, bpfhost_is_beside_lent, bpfhost_is_frame_right, bpfhost_are_packets_beside, bpfhost_are_written_beside,
+ * bpfhost_word_of, bpfhost_are_beside, bpfhost_are_disjoint, bpfhost_is_beside_lent, bpfhost_is_frame_right, bpfhost_are_packets_beside, bpfhost_are_written_beside,
  * bpfhost_is_run_right, bpfhost_are_scattered_beside, bpfhost_is_scattered_right, bpfhost_scattered_by_pairs,
  * bpfhost_context_at, bpfhost_contexts_code, bpfhost_packets_code, bpfhost_written_code, bpfhost_run_code, bpfhost_run_up_to,
  * bpfhost_scattered_run_code, bpfhost_scattered_code, bpfhost_span_code, bpfhost_scattered_status, bpfhost_may_copy,

@@ -326,7 +326,9 @@ static void try_are_apart(uintptr_t around)
         CHECK(bpfhost_are_apart((const void *)a, a_length, (const void *)b, b_length) == is_apart);
         if ((bpfhost_word_of((const void *)a, a_length) | bpfhost_word_of((const void *)b, b_length)) <= PTRDIFF_MAX) {
             bool is_beside = bpfhost_are_beside((const void *)a, a_length, (const void *)b, b_length);
+            bool is_disjoint = bpfhost_are_disjoint((const void *)a, a_length, (const void *)b, b_length);
             CHECK(is_beside == is_apart || (is_apart && a_length * b_length == 0));
+            CHECK(is_disjoint == is_apart || (is_apart && a_length * b_length == 0));
         } else {
             CHECK(around > PTRDIFF_MAX - 16);
         }

@@ -12,8 +12,8 @@ from man_pages import roff
 PARTS = frozenset("""
     bpfhost_are_apart bpfhost_pair_code bpfhost_bytes_at bpfhost_frame_code bpfhost_may_empty bpfhost_context_at bpfhost_context_words
     bpfhost_packets_code bpfhost_run_code bpfhost_frame_begin bpfhost_may_copy bpfhost_frame_of_key bpfhost_word_of bpfhost_are_beside
-    bpfhost_is_beside_lent bpfhost_is_frame_right bpfhost_copy bpfhost_handle_by_pairs bpfhost_handle_lent_by_pairs bpfhost_ask_by_pairs
-    bpfhost_are_packets_beside bpfhost_are_written_beside bpfhost_is_run_right bpfhost_run_by_pairs bpfhost_are_scattered_beside
+    bpfhost_are_disjoint bpfhost_is_beside_lent bpfhost_is_frame_right bpfhost_copy bpfhost_handle_by_pairs bpfhost_handle_lent_by_pairs
+    bpfhost_ask_by_pairs bpfhost_are_packets_beside bpfhost_are_written_beside bpfhost_is_run_right bpfhost_run_by_pairs bpfhost_are_scattered_beside
     bpfhost_is_scattered_right bpfhost_scattered_by_pairs
 """.split())
 COMMENT = re.compile(r"/\* (.*?)\s*\*/", re.S)

@@ -269,27 +269,37 @@ static inline bool bpfhost_are_apart(const void *a, size_t a_length, const void 
     return a_length == 0 || b_length == 0;
 }
 
-/* What is wrong with two objects of a call that may write one of them, or DONE. */
-static inline int bpfhost_pair_code(const void *a, size_t a_length, const void *b, size_t b_length)
-{
-    if (a == NULL || b == NULL)
-        return BPFHOST_ERR_NULL;
-    if (a_length > PTRDIFF_MAX || b_length > PTRDIFF_MAX)
-        return BPFHOST_ERR_LENGTH;
-    return bpfhost_are_apart(a, a_length, b, b_length) ? BPFHOST_DONE : BPFHOST_ERR_OVERLAP;
-}
-
-/* A word of an object that is not above PTRDIFF_MAX if the object begins in the lower half of the addresses and is not longer than any object:
- * then it ends before the last address. The words of several objects, joined by `|`, say whether this is so for all of them. */
+/* A word of an object that is not above PTRDIFF_MAX if the object is not null, begins in the lower half of the addresses and is not longer than
+ * any object: then it ends before the last address. The words of several objects, joined by `|`, say whether this is so for all of them. */
 static inline uintptr_t bpfhost_word_of(const void *at, size_t length)
 {
-    return (uintptr_t)at | length;
+    return ((uintptr_t)at - 1) | length;
 }
 
 /* Whether one of two such objects ends before the other begins. */
 static inline bool bpfhost_are_beside(const void *a, size_t a_length, const void *b, size_t b_length)
 {
     return BPFHOST_MOSTLY((uintptr_t)a + a_length <= (uintptr_t)b) || (uintptr_t)b + b_length <= (uintptr_t)a;
+}
+
+/* The same by one comparison, for two such objects of which one has bytes: how far it is from the end of the second to the first, round all
+ * addresses. It is less than bpfhost_are_beside where the lengths are constant, or the objects are parts of one. */
+static inline bool bpfhost_are_disjoint(const void *a, size_t a_length, const void *b, size_t b_length)
+{
+    return (uintptr_t)a - ((uintptr_t)b + b_length) <= (uintptr_t)0 - (a_length + b_length);
+}
+
+/* What is wrong with two objects of a call that may write one of them, or DONE. */
+static inline int bpfhost_pair_code(const void *a, size_t a_length, const void *b, size_t b_length)
+{
+    if ((a_length | b_length) <= PTRDIFF_MAX && BPFHOST_MOSTLY(bpfhost_are_disjoint(a, a_length, b, b_length))
+        && (bpfhost_word_of(a, 0) | bpfhost_word_of(b, 0)) <= PTRDIFF_MAX)
+        return BPFHOST_DONE;
+    if (a == NULL || b == NULL)
+        return BPFHOST_ERR_NULL;
+    if (a_length > PTRDIFF_MAX || b_length > PTRDIFF_MAX)
+        return BPFHOST_ERR_LENGTH;
+    return bpfhost_are_apart(a, a_length, b, b_length) ? BPFHOST_DONE : BPFHOST_ERR_OVERLAP;
 }
 
 /* What a host has in its memory. */
@@ -369,11 +379,12 @@ static inline int bpfhost_lent_code(const bpfhost *host, const void *at, size_t 
                                                                                                           : BPFHOST_ERR_LENT;
 }
 
-/* Whether such an object ends before the host's buffer for replies begins, or begins after it, and the host has lent no part of a save. */
+/* Whether such an object ends before the host's buffer for replies begins, or begins after it, and has no byte of the last part of a save. */
 static inline bool bpfhost_is_beside_lent(const bpfhost *host, const void *at, size_t length)
 {
     const bpfhost_memory *memory = bpfhost_memory_of(host);
-    return bpfhost_are_beside(at, length, memory->replies, BPFHOST_LONGEST_REPLY) && memory->part.length == 0;
+    return bpfhost_are_beside(at, length, memory->replies, BPFHOST_LONGEST_REPLY)
+        && (BPFHOST_MOSTLY(memory->part.length == 0) || bpfhost_are_beside(at, length, memory->part.at, memory->part.length));
 }
 
 /* The address of bytes; if there are none, it may be null. */
@@ -445,12 +456,11 @@ static inline int bpfhost_frame_code(const bpfhost *host, const uint8_t *frame, 
  * another in any order. Then bpfhost_is_.._right is true, and the proved function is called. Else bpfhost_.._by_pairs tests each pair of objects,
  * says what is wrong, if anything is, and replaces what may be null. */
 static inline bool bpfhost_is_frame_right(const bpfhost *host, const uint8_t *frame, size_t frame_length, const void *out,
-                                          size_t out_length)
+                                          size_t out_length, uintptr_t more)
 {
-    const uintptr_t words = bpfhost_word_of(host, 0) | bpfhost_word_of(frame, frame_length) | bpfhost_word_of(out, out_length);
-    return host != NULL && frame != NULL && out != NULL && words <= PTRDIFF_MAX
-        && bpfhost_are_beside(frame, frame_length, host, sizeof(bpfhost_memory)) && bpfhost_are_beside(frame, frame_length, out, out_length)
-        && bpfhost_are_beside(host, sizeof(bpfhost_memory), out, out_length) && bpfhost_is_beside_lent(host, frame, frame_length);
+    const uintptr_t words = bpfhost_word_of(host, 0) | bpfhost_word_of(frame, frame_length) | bpfhost_word_of(out, out_length) | more;
+    return words <= PTRDIFF_MAX && bpfhost_are_beside(frame, frame_length, host, sizeof(bpfhost_memory))
+        && bpfhost_are_beside(frame, frame_length, out, out_length) && bpfhost_are_beside(host, sizeof(bpfhost_memory), out, out_length) && bpfhost_is_beside_lent(host, frame, frame_length);
 }
 
 /* The proved function that copies a reply, with objects that were tested. */
@@ -484,7 +494,7 @@ static inline int bpfhost_handle(bpfhost *host, const void *frame, size_t frame_
                                  size_t *written)
 {
     const uint8_t *at = (const uint8_t *)frame;
-    if (bpfhost_is_frame_right(host, at, frame_length, room, room_length) && written != NULL && bpfhost_word_of(written, 0) <= PTRDIFF_MAX
+    if (bpfhost_is_frame_right(host, at, frame_length, room, room_length, bpfhost_word_of(written, 0))
         && bpfhost_are_beside(at, frame_length, written, sizeof *written)
         && bpfhost_are_beside(host, sizeof(bpfhost_memory), written, sizeof *written)
         && bpfhost_are_beside(room, room_length, written, sizeof *written))
@@ -530,7 +540,7 @@ static inline int bpfhost_handle_lent(bpfhost *host, const void *frame, size_t f
 {
     const bpfhost_bytes none = {bpfhost_bytes_at(NULL, 0), 0};
     const uint8_t *at = (const uint8_t *)frame;
-    if (!bpfhost_is_frame_right(host, at, frame_length, reply, sizeof *reply))
+    if (!bpfhost_is_frame_right(host, at, frame_length, reply, sizeof *reply, 0))
         return bpfhost_handle_lent_by_pairs(host, frame, frame_length, reply);
     *reply = none;
     return bpfhost_lend(host, at, frame_length, reply);
@@ -660,16 +670,17 @@ static inline bool bpfhost_are_written_beside(const bpfhost *host, const uint32_
                 && bpfhost_are_beside(ran, sizeof *ran, results, packets * sizeof *results)));
 }
 
-/* As bpfhost_is_frame_right, of a run of many packets. No context of more than 64 bytes is seen to be right, nor are more contexts or packets
- * than have 64 bytes each. */
+/* As bpfhost_is_frame_right, of a run of many packets. No context of more than 64 bytes is seen to be right, nor are no contexts, or more contexts or
+ * packets than have 128 bytes each. */
 static inline BPFHOST_BY_FORCE bool bpfhost_is_run_right(const bpfhost *host, bpfhost_contexts contexts, const uint8_t *bytes, size_t byte_count,
                                                          const size_t *ends, size_t packets, const uint32_t *results, const int32_t *status,
                                                          const size_t *ran)
 {
     const uintptr_t words = bpfhost_word_of(host, 0) | bpfhost_word_of(contexts.at, 0) | bpfhost_word_of(bytes, byte_count)
-                            | bpfhost_word_of(ends, 0) | bpfhost_word_of(results, 0) | bpfhost_word_of(status, 0) | bpfhost_word_of(ran, 0);
-    return host != NULL && contexts.at != NULL && bytes != NULL && ends != NULL && results != NULL && status != NULL && words <= PTRDIFF_MAX
-        && contexts.size - 1 < 64 && contexts.size % sizeof(uint32_t) == 0 && contexts.count != 0 && (contexts.count | packets) <= PTRDIFF_MAX / 64
+                            | bpfhost_word_of(ends, 0) | bpfhost_word_of(results, 0) | bpfhost_word_of(status, 0)
+                            | (ran == NULL ? 0 : bpfhost_word_of(ran, 0));
+    return words <= PTRDIFF_MAX && contexts.size - 1 < 64 && contexts.size % sizeof(uint32_t) == 0
+        && ((contexts.count - 1) | packets) <= PTRDIFF_MAX / 128
         && bpfhost_are_packets_beside(host, sizeof(bpfhost_memory), contexts, bytes, byte_count, ends, packets)
         && bpfhost_are_packets_beside(results, packets * sizeof *results, contexts, bytes, byte_count, ends, packets)
         && bpfhost_are_packets_beside(status, sizeof *status, contexts, bytes, byte_count, ends, packets)
@@ -690,7 +701,9 @@ static inline BPFHOST_SELDOM int bpfhost_run_by_pairs(bpfhost *host, uint16_t te
     const uint8_t *at = bpfhost_bytes_at(bytes, byte_count);
     const size_t *stops = packets == 0 ? no_ends : ends;
     uint32_t *room = packets == 0 ? no_results : results;
-    int code = bpfhost_run_code(host, given, at, byte_count, stops, packets, room, status, ran);
+    int code = BPFHOST_DONE;
+    if (!bpfhost_is_run_right(host, given, at, byte_count, stops, packets, room, status, ran))
+        code = bpfhost_run_code(host, given, at, byte_count, stops, packets, room, status, ran);
     if (code == BPFHOST_DONE)
         code = bpfhost_run_given(host, tenant, fd, bound, given, at, byte_count, stops, packets, room, status, ran == NULL ? &unused : ran);
     return code;
@@ -734,8 +747,9 @@ static inline BPFHOST_BY_FORCE int bpfhost_run_packets_with(bpfhost *host, uint1
                                                             size_t context_count, const void *bytes, size_t byte_count, const size_t *ends,
                                                             size_t packets, uint32_t *results, int32_t *status)
 {
-    return bpfhost_run_packets_sized(host, tenant, fd, contexts, sizeof *contexts, context_count, bytes, byte_count, ends, packets,
-                                     results, status);
+    const bpfhost_context *given = context_count == 0 ? bpfhost_context_at(NULL) : contexts;
+    return bpfhost_run_packets_sized(host, tenant, fd, given, sizeof *given, context_count == 0 ? 1 : context_count, bytes, byte_count, ends,
+                                     packets, results, status);
 }
 
 /* The same with one context for all packets, which may be null for zeros. */
@@ -819,7 +833,7 @@ static inline int bpfhost_span_code(const bpfhost_packet *packets, size_t count,
             from = 0, to = UINTPTR_MAX; /* no object lies so; it counts as all bytes */
         to = at + length > to ? at + length : to;
     }
-    span->at = (const uint8_t *)from;
+    span->at = to > from ? (const uint8_t *)from : bpfhost_bytes_at(NULL, 0);
     span->length = to > from ? to - from : 0;
     return BPFHOST_DONE;
 }
@@ -855,9 +869,8 @@ static inline bool bpfhost_is_scattered_right(const bpfhost *host, const bpfhost
     const uintptr_t words = bpfhost_word_of(host, 0) | bpfhost_word_of(contexts, context_count * sizeof *contexts)
                             | bpfhost_word_of(packets, count * sizeof *packets) | bpfhost_word_of(span.at, span.length)
                             | bpfhost_word_of(buffer, buffer_length) | bpfhost_word_of(results, 0) | bpfhost_word_of(status, 0)
-                            | bpfhost_word_of(ran, 0);
-    return host != NULL && contexts != NULL && packets != NULL && buffer != NULL && results != NULL && status != NULL && words <= PTRDIFF_MAX
-        && bpfhost_are_scattered_beside(host, sizeof(bpfhost_memory), contexts, context_count, packets, count, span)
+                            | (ran == NULL ? 0 : bpfhost_word_of(ran, 0));
+    return words <= PTRDIFF_MAX && bpfhost_are_scattered_beside(host, sizeof(bpfhost_memory), contexts, context_count, packets, count, span)
         && bpfhost_are_scattered_beside(buffer, buffer_length, contexts, context_count, packets, count, span)
         && bpfhost_are_scattered_beside(results, count * sizeof *results, contexts, context_count, packets, count, span)
         && bpfhost_are_scattered_beside(status, sizeof *status, contexts, context_count, packets, count, span)
@@ -1053,18 +1066,20 @@ static inline int bpfhost_run_bounded_scattered(bpfhost *host, uint16_t tenant, 
  * changes. */
 static inline int bpfhost_save_part(bpfhost *host, uint16_t tenant, size_t part, bpfhost_bytes *frames)
 {
-    const bpfhost_bytes none = {NULL, 0};
-    bpfhost_bytes found = {bpfhost_bytes_at(NULL, 0), 0};
+    bpfhost_bytes *found = &bpfhost_memory_of(host)->part; /* after the handle, which is all that the library has of this memory */
     int code = bpfhost_pair_code(host, sizeof(bpfhost_memory), frames, sizeof *frames);
     if (code != BPFHOST_DONE)
         return code;
+    found->at = bpfhost_bytes_at(NULL, 0); /* the part before is freed in any case */
+    found->length = 0;
     bpfhost_enter(host);
-    code = (int)bpfhost_c_save(host, tenant, part, &found);
+    code = (int)bpfhost_c_save(host, tenant, part, found);
     bpfhost_leave(host);
-    bpfhost_memory_of(host)->part = code == BPFHOST_DONE ? found : none; /* the part before is freed in any case */
     if (code == BPFHOST_DONE) {
-        frames->at = bpfhost_bytes_at(found.at, found.length);
-        frames->length = found.length;
+        frames->at = bpfhost_bytes_at(found->at, found->length);
+        frames->length = found->length;
+    } else {
+        found->at = NULL;
     }
     return code;
 }
@@ -1308,7 +1323,12 @@ enum bpfhost_prog_type { BPFHOST_SOCKET_FILTER = 1 };
 enum bpfhost_update_flags { BPFHOST_ANY = 0, BPFHOST_NOEXIST = 1, BPFHOST_EXIST = 2 };
 /* end of types */
 
-/* Numbers and bytes of frames and replies. These test nothing: there is room, and each `put` returns where it ends. */
+/* Numbers and bytes of frames and replies. These test nothing: there is room, and each `put` returns where it ends. A little-endian machine
+ * has numbers as they are in frames: not every compiler makes one store of the stores of their bytes. */
+#if defined __BYTE_ORDER__ && __BYTE_ORDER__ == __ORDER_LITTLE_ENDIAN__
+#define BPFHOST_LITTLE_ENDIAN
+#endif
+
 static inline uint8_t *bpfhost_put16(uint8_t *at, uint16_t number)
 {
     at[0] = (uint8_t)number;
@@ -1318,13 +1338,17 @@ static inline uint8_t *bpfhost_put16(uint8_t *at, uint16_t number)
 
 static inline uint8_t *bpfhost_put32(uint8_t *at, uint32_t number)
 {
+#ifdef BPFHOST_LITTLE_ENDIAN
+    memcpy(at, &number, sizeof number);
+    return at + sizeof number;
+#else
     return bpfhost_put16(bpfhost_put16(at, (uint16_t)number), (uint16_t)(number >> 16));
+#endif
 }
 
-/* Not every compiler makes one store of eight. */
 static inline uint8_t *bpfhost_put64(uint8_t *at, uint64_t number)
 {
-#if defined __BYTE_ORDER__ && __BYTE_ORDER__ == __ORDER_LITTLE_ENDIAN__
+#ifdef BPFHOST_LITTLE_ENDIAN
     memcpy(at, &number, sizeof number);
     return at + sizeof number;
 #else
@@ -1335,7 +1359,7 @@ static inline uint8_t *bpfhost_put64(uint8_t *at, uint64_t number)
 /* The head of a frame, and the number after it. */
 static inline uint8_t *bpfhost_put_head(uint8_t *at, uint16_t tenant, enum bpfhost_command command, uint32_t number)
 {
-    return bpfhost_put64(at, tenant | (uint64_t)command << 16 | (uint64_t)number << 32);
+    return bpfhost_put32(bpfhost_put32(at, tenant | (uint32_t)command << 16), number);
 }
 
 static inline uint8_t *bpfhost_put_bytes(uint8_t *at, const void *bytes, size_t length)
@@ -1376,10 +1400,15 @@ static inline size_t bpfhost_frame_map_create(void *frame, size_t room, uint16_t
     return 24;
 }
 
-/* Whether bytes may be copied into a room: there may be none. */
+/* Whether bytes may be copied into a room, if there is one and it is no longer than any object: there may be no bytes. */
 static inline bool bpfhost_may_copy(const void *room, size_t room_length, const void *bytes, size_t length)
 {
-    return bpfhost_pair_code(room, room_length, bpfhost_bytes_at(bytes, length), length) == BPFHOST_DONE;
+    if (length == 0)
+        return true;
+    if (room == NULL || bytes == NULL || (room_length | length) > PTRDIFF_MAX)
+        return false;
+    return ((uintptr_t)room | (uintptr_t)bytes) <= PTRDIFF_MAX ? bpfhost_are_disjoint(room, room_length, bytes, length)
+                                                               : bpfhost_are_apart(room, room_length, bytes, length);
 }
 
 /* A frame of a descriptor and bytes: 8 and the bytes'. */
@@ -1453,10 +1482,14 @@ static inline size_t bpfhost_frame_test_run_head(void *head, size_t room, uint16
     at = bpfhost_frame_begin(head, room, BPFHOST_TEST_RUN_HEAD, 0, tenant, BPFHOST_PROG_TEST_RUN, fd);
     if (at == NULL)
         return 0;
+#ifdef BPFHOST_LITTLE_ENDIAN
+    memcpy(at, c, sizeof *c);
+#else
     at = bpfhost_put32(bpfhost_put32(bpfhost_put32(at, c->pkt_type), c->mark), c->queue_mapping);
     at = bpfhost_put32(bpfhost_put32(bpfhost_put32(at, c->protocol), c->vlan_present), c->vlan_tci);
     at = bpfhost_put32(bpfhost_put32(bpfhost_put32(at, c->vlan_proto), c->priority), c->ingress_ifindex);
     bpfhost_put32(at, c->ifindex);
+#endif
     return BPFHOST_TEST_RUN_HEAD;
 }
 
@@ -1559,7 +1592,7 @@ static inline int bpfhost_ask(bpfhost *host, const void *frame, size_t frame_len
     const uint8_t *at = (const uint8_t *)frame;
     bpfhost_bytes lent = {bpfhost_bytes_at(NULL, 0), 0};
     int code;
-    if (!bpfhost_is_frame_right(host, at, frame_length, reply, sizeof *reply))
+    if (!bpfhost_is_frame_right(host, at, frame_length, reply, sizeof *reply, 0))
         return bpfhost_ask_by_pairs(host, frame, frame_length, reply);
     code = bpfhost_lend(host, at, frame_length, &lent);
     if (code == BPFHOST_DONE)

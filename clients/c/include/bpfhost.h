@@ -460,7 +460,8 @@ static inline bool bpfhost_is_frame_right(const bpfhost *host, const uint8_t *fr
 {
     const uintptr_t words = bpfhost_word_of(host, 0) | bpfhost_word_of(frame, frame_length) | bpfhost_word_of(out, out_length) | more;
     return words <= PTRDIFF_MAX && bpfhost_are_beside(frame, frame_length, host, sizeof(bpfhost_memory))
-        && bpfhost_are_beside(frame, frame_length, out, out_length) && bpfhost_are_beside(host, sizeof(bpfhost_memory), out, out_length) && bpfhost_is_beside_lent(host, frame, frame_length);
+        && bpfhost_are_beside(frame, frame_length, out, out_length) && bpfhost_are_beside(host, sizeof(bpfhost_memory), out, out_length)
+        && bpfhost_is_beside_lent(host, frame, frame_length);
 }
 
 /* The proved function that copies a reply, with objects that were tested. */
@@ -1066,10 +1067,11 @@ static inline int bpfhost_run_bounded_scattered(bpfhost *host, uint16_t tenant, 
  * changes. */
 static inline int bpfhost_save_part(bpfhost *host, uint16_t tenant, size_t part, bpfhost_bytes *frames)
 {
-    bpfhost_bytes *found = &bpfhost_memory_of(host)->part; /* after the handle, which is all that the library has of this memory */
+    bpfhost_bytes *found;
     int code = bpfhost_pair_code(host, sizeof(bpfhost_memory), frames, sizeof *frames);
     if (code != BPFHOST_DONE)
         return code;
+    found = &bpfhost_memory_of(host)->part; /* after the handle, which is all that the library has of this memory */
     found->at = bpfhost_bytes_at(NULL, 0); /* the part before is freed in any case */
     found->length = 0;
     bpfhost_enter(host);

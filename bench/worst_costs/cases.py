@@ -38,7 +38,7 @@ KINDS = {
     "delete, sweep": 2_500_000,
     "look-up": 1_200_000,
     "next key": 1_200_000,
-    "save part": 2_500_000,
+    "save part": 1_200_000,
     "batch": 0,
     "bounded batch": 1_200_000,
 }

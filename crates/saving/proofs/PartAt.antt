@@ -13,7 +13,7 @@ use Rattle.saving.specs.Pieces.{first_pieces, pieces}
 use Rattle.saving.specs.Restored.{closings}
 use Rattle.saving.specs.SaveParts.{key_commands, birth_parts}
 use Rattle.saving.specs.inside.PartCommands.{later_parts}
-use Rattle.saving.proofs.Pieces.{get_none, get_front, get_behind, piece_there, no_piece, piece_count}
+use Rattle.saving.proofs.Pieces.{get_none, get_front, get_after, piece_there, no_piece, piece_count}
 
 -- an index from 1 on follows the one before it
 pub after_one : (index before : ℕ) → (1 ≤ index) × (before ≡ index - 1) → index ≡ suc before
@@ -100,7 +100,7 @@ module _ (s : TenantState) where
   birth_passed births older b left count are is none =
       ap (λ (bs : List Birth). slice_get (later_parts s bs) left) are
       ∙ ap (λ (ps : List (List Command)). slice_get ps left) (later_more b older)
-      ∙ get_behind (birth_parts s b) (later_parts s older) left (get_none (birth_parts s b) left none)
+      ∙ get_after (birth_parts s b) (later_parts s older) left (get_none (birth_parts s b) left none)
       ∙ ap (λ (n : ℕ). slice_get (later_parts s older) (left - n)) (sym is)
 
   -- no birth is left

@@ -20,13 +20,13 @@ get_front [] ys i lt = absurd (omega (arith, lt))
 get_front (x ∷ xs) ys zero lt = refl
 get_front (x ∷ xs) ys (suc i) lt = get_front xs ys i (omega (arith, lt))
 
-pub get_behind : {A : Type 0} (xs ys : List A) (i : ℕ)
+pub get_after : {A : Type 0} (xs ys : List A) (i : ℕ)
     → length xs ≤ i → slice_get (xs ++ ys) i ≡ slice_get ys (i - length xs)
-get_behind [] ys i le = let same : i ≡ i - 0 = omega arith in ap (slice_get ys) same
-get_behind (x ∷ xs) ys zero le = absurd (omega (arith, le))
-get_behind (x ∷ xs) ys (suc i) le =
+get_after [] ys i le = let same : i ≡ i - 0 = omega arith in ap (slice_get ys) same
+get_after (x ∷ xs) ys zero le = absurd (omega (arith, le))
+get_after (x ∷ xs) ys (suc i) le =
     let same : i - length xs ≡ suc i - suc (length xs) = omega arith in
-    get_behind xs ys i (omega (arith, le)) ∙ ap (slice_get ys) same
+    get_after xs ys i (omega (arith, le)) ∙ ap (slice_get ys) same
 
 -- ---- pieces
 

@@ -59,7 +59,7 @@
 //!   last.
 //! - The keys of a map are put by several parts, so that a part takes less time than a frame may: in one part, 4,096 keys of 512 bytes
 //!   took more than a millisecond. A part finds its first key by the number of keys before it, which it passes one by one: some 80 machine
-//!   instructions each, where a frame takes 500. So nothing has to be kept between two parts.
+//!   instructions each; a frame takes 500. So nothing has to be kept between two parts.
 //! - The births are kept in a layer above the tenant: the machine of a tenant has no order of births, and no reply shows one.
 //!   Only MAP_CREATE, PROG_LOAD and CLOSE touch the list. A creation or a load, with its close, takes 100 machine instructions
 //!   more for it, and other frames none (builds without proofs).

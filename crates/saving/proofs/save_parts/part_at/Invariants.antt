@@ -1,4 +1,4 @@
--- The part that is left to find, among those of the births that are left, is the part that is wanted.
+-- The part that is left to find, among those of the births that are left, is the part with the index.
 use Rattle.std.proofs.Common.{◌≡◌, ℕ, List, drop}
 use Rattle.std.specs.Prelude.{slice_get}
 use Rattle.tenant.specs.Kept.{state_in}

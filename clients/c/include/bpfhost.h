@@ -283,7 +283,7 @@ static inline bool bpfhost_are_beside(const void *a, size_t a_length, const void
 }
 
 /* The same by one comparison, for two such objects of which one has bytes: how far it is from the end of the second to the first, round all
- * addresses. It is less than bpfhost_are_beside where the lengths are constant, or the objects are parts of one. */
+ * addresses. It is less than bpfhost_are_beside if the lengths are constant, or the objects are parts of one. */
 static inline bool bpfhost_are_disjoint(const void *a, size_t a_length, const void *b, size_t b_length)
 {
     return (uintptr_t)a - ((uintptr_t)b + b_length) <= (uintptr_t)0 - (a_length + b_length);

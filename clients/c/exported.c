@@ -14,10 +14,10 @@
 EXPORT(bpfhost_version);
 EXPORT(bpfhost_library_version);
 EXPORT(bpfhost_are_apart);
-EXPORT(bpfhost_pair_code);
 EXPORT(bpfhost_word_of);
 EXPORT(bpfhost_are_beside);
 EXPORT(bpfhost_are_disjoint);
+EXPORT(bpfhost_pair_code);
 EXPORT(bpfhost_memory_of);
 EXPORT(bpfhost_enter);
 EXPORT(bpfhost_leave);

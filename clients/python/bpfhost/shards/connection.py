@@ -13,7 +13,7 @@ from typing import Any
 
 from bpfhost.shards.cluster import Line, Nodes
 from bpfhost.shards.errors import Away, NoScript, NotAllowed, RedisError
-from bpfhost.shards.link import Word, library
+from bpfhost.shards.link import Word, connections, library
 from bpfhost.shards.names import START, before
 from bpfhost.shards.system import MACHINE, System
 
@@ -67,8 +67,6 @@ class _Lines:
         self._idle: deque[tuple[float, Line]] = deque()
         self.all: set[Line] = set()
         self._timer: asyncio.TimerHandle | None = None
-        # A URL that is none is refused at once.
-        system.link(nodes.at(nodes.seeds[0]))
 
     def taken(self) -> Line:
         line = self._idle.pop()[1] if self._idle else Line(self._nodes, self._system.link)
@@ -90,8 +88,6 @@ class _Lines:
 
     async def close(self) -> None:
         self._idle.clear()
-        if self._timer:
-            self._timer.cancel()
         while self.all:
             self.all.pop().cut()
         # The event loop ends them in its next round.
@@ -111,6 +107,8 @@ class Redis:
         """The server of a URL (`redis_url`), to which a connection is made when it is first called."""
         self.url, self.system = redis_url(url), system
         self.nodes = Nodes.of(self.url)
+        # A URL that is none is refused at once.
+        connections(self.nodes.url)
         self.lines = _Lines(self.nodes, system)
         self._slot = -1
         self._line: Line | None = None

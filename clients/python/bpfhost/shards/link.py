@@ -9,7 +9,7 @@ import math
 import re
 import socket
 from collections import deque
-from collections.abc import Iterable, Sequence
+from collections.abc import Callable, Iterable, Sequence
 from typing import Any, cast
 
 from bpfhost.errors import PACKAGES, MissingPackage
@@ -77,35 +77,34 @@ _name = functools.lru_cache(4096)(_bulk)
 class RedisLink(asyncio.BufferedProtocol):
     """What a class of connections of the library is mixed with: bytes go straight to hiredis, and each reply to who waits for it, in order.
 
-    It connects when the first command begins. After its end it is over, and another one has to be made.
+    It connects at once. After its end it is over, and another one has to be made.
     """
 
     transport: asyncio.Transport | None = None
-    _opening: asyncio.Task[None] | None = None
     _timer: asyncio.TimerHandle | None = None
     is_over = False
 
-    def begin(self, words: Sequence[Word], seconds: float) -> asyncio.Future[Any]:
-        """Sends a command. Its reply comes within so many seconds, or the connection ends, and so no reply comes for another command."""
-        if self._opening is None:
-            self._open()
-        reply, until = self._loop.create_future(), self._loop.time() + seconds
-        self._waiting.append((reply, until))
-        if self._unsent is None:
-            cast(asyncio.Transport, self.transport).write(packed(words))
-        else:
-            self._unsent.append(packed(words))
-        if self._timer is None or until < self._timer.when():
-            self._look_at(until)
-        return reply
-
-    def _open(self) -> None:
+    def __init__(self, **words: Any) -> None:
+        """The arguments are those of the library's class."""
+        super().__init__(**words)
         self._replies, self._read = library("hiredis").Reader(protocolError=RedisError, replyError=_error), bytearray(_READ_AT_ONCE)
-        # Who waits, and until when; and what is sent when the library has logged in.
+        # Who waits, and until when; and until when the first of them does.
         self._waiting: deque[tuple[asyncio.Future[Any], float]] = deque()
-        self._unsent: list[bytes] | None = []
+        self._due = math.inf
+        # What is written before the library has logged in is sent then.
+        self._unsent: list[bytes] = []
+        self._write: Callable[[bytes], object] = self._unsent.append
         self._loop = asyncio.get_running_loop()
         self._opening = asyncio.create_task(self._log_in())
+
+    def begin(self, words: Sequence[Word], seconds: float) -> asyncio.Future[Any]:
+        """Sends a command. Its reply comes within so many seconds, or the connection ends, and so no reply comes for another command."""
+        reply, until = self._loop.create_future(), self._loop.time() + seconds
+        self._waiting.append((reply, until))
+        self._write(packed(words))
+        if until < self._due:
+            self._look()
+        return reply
 
     async def _log_in(self: Any) -> None:
         try:
@@ -118,8 +117,8 @@ class RedisLink(asyncio.BufferedProtocol):
         except Exception as error:
             self.cut(error)
         else:
-            self.transport.write(b"".join(self._unsent))
-            self._unsent = None
+            self._write = self.transport.write
+            self._write(b"".join(self._unsent))
 
     async def send_packed_command(self, command: Iterable[bytes], **_options: object) -> None:
         """Sends what the library sends to log in."""
@@ -131,25 +130,24 @@ class RedisLink(asyncio.BufferedProtocol):
         self._waiting.appendleft((reply, math.inf))
         return await reply
 
-    def _look_at(self, when: float) -> None:
+    def _look(self) -> None:
+        """Ends the connection if a reply is overdue, and looks again when the next one is."""
         if self._timer:
             self._timer.cancel()
-        self._timer = self._loop.call_at(when, self._look) if when < math.inf else None
-
-    def _look(self) -> None:
-        first = min((until for reply, until in self._waiting if not reply.done()), default=math.inf)
-        if first <= self._loop.time():
+        self._due = min((until for reply, until in self._waiting if not reply.done()), default=math.inf)
+        if self._due <= self._loop.time():
             self.cut(TimeoutError())
-        else:
-            self._look_at(first)
+        elif self._due < math.inf:
+            self._timer = self._loop.call_at(self._due, self._look)
 
     def cut(self, error: Exception = OSError("the connection was cut")) -> None:
         """Ends the connection: no more replies come to what was sent."""
-        if self.is_over or self._opening is None:
+        if self.is_over:
             return
         self.is_over = True
-        self._look_at(math.inf)
         self._opening.cancel()
+        if self._timer:
+            self._timer.cancel()
         if self.transport:
             self.transport.abort()
         for reply, _ in self._waiting:
@@ -189,8 +187,11 @@ class RedisLink(asyncio.BufferedProtocol):
 
 
 @functools.cache
-def _connections(url: str) -> tuple[type[RedisLink], dict[str, Any]]:
-    """The class of connections to a URL, and its arguments. With TLS, the name in the server's certificate is checked."""
+def connections(url: str) -> tuple[type[RedisLink], dict[str, Any]]:
+    """The class of connections to a URL, and its arguments; raises RedisError if it is no URL.
+
+    With TLS, the name in the server's certificate is checked.
+    """
     try:
         named = {"ssl_check_hostname": True} if url.startswith("rediss:") else {}
         pool = library("redis.asyncio").ConnectionPool.from_url(url, **named)
@@ -200,6 +201,6 @@ def _connections(url: str) -> tuple[type[RedisLink], dict[str, Any]]:
 
 
 def link(url: str) -> RedisLink:
-    """A connection to a URL, which connects when it is used; raises RedisError if it is no URL."""
-    kind, words = _connections(url)
+    """A connection to a URL."""
+    kind, words = connections(url)
     return kind(**words)

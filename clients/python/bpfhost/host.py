@@ -231,6 +231,10 @@ class Host:
         """Puts back bytes of replies that were read too early; they are read next."""
         self._stream.unread(replies)
 
+    def read_many(self, count: int) -> list[bytes]:
+        """Waits for so many replies, as bytes."""
+        return self._stream.read_many(count)
+
     def read_reply(self) -> Reply:
         """Waits for a reply."""
         return self._stream.read_reply()
@@ -245,7 +249,7 @@ class Host:
         return replies
 
     def _bytes_of_replies(self, frames: list[bytes]) -> list[bytes]:
-        replies = self._stream.read_many(len(frames))
+        replies = self.read_many(len(frames))
         self._ledger.note_all(frames, replies)
         return replies
 

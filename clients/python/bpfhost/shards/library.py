@@ -86,8 +86,7 @@ class HostHere(LibraryHost):
 
     def ask_bytes(self, frames: Iterable[bytes]) -> Iterator[bytes]:
         """The replies to frames, one by one."""
-        for frame in frames:
-            yield self._answered(bytearray(frame), None)
+        return (self.handle(frame[4:]) for frame in frames)
 
     def answer(self, call: Call) -> bytes:
         """The replies to a call. The tenant's number replaces the one in each frame, and the replies name tenant 0."""
@@ -99,21 +98,19 @@ class HostHere(LibraryHost):
         """The replies to frames, as those to a call."""
         return split(self._answered(bytearray().join(frames), tenant))
 
-    def _answered(self, stream: bytearray, tenant: int | None) -> bytes:
+    def _answered(self, stream: bytearray, tenant: int) -> bytes:
         """The replies to frames, each handled in place."""
         library, host, written, room, out = self.library, self._at, self._written, self._answers, 0
         handle, begin, at, place, answers = library.functions.handle, _address_of(stream), 0, ctypes.byref(written), list[bytes]()
-        named = None if tenant is None else tenant.to_bytes(2, "little")
+        named = tenant.to_bytes(2, "little")
         while at < len(stream):
             length = int.from_bytes(stream[at : at + 4], "little")
-            if named:
-                stream[at + 4 : at + 6] = named
+            stream[at + 4 : at + 6] = named
             if out > _ROOM - LONGEST_REPLY:
                 answers.append(bytes(room[:out]))
                 out = 0
             library.demand_done(handle(host, begin + at + 4, length, self._answers_at + out, _ROOM - out, place))
-            if named:
-                room[out + 4 : out + 6] = b"\0\0"
+            room[out + 4 : out + 6] = b"\0\0"
             out += written.value
             at += 4 + length
         answers.append(bytes(room[:out]))

@@ -11,10 +11,9 @@ from typing import NamedTuple, cast
 
 from bpfhost import frames as make
 from bpfhost.alike import size_of_alike, statuses_are_zero, with_tenant_in_place
-from bpfhost.errors import ReplyError
-from bpfhost.host import LONGEST_REPLY, Host
+from bpfhost.host import Host
 from bpfhost.library import Library
-from bpfhost.numbers import MOST_TENANTS, REPLY_HEAD, Command, Errno
+from bpfhost.numbers import MOST_TENANTS, Command, Errno
 from bpfhost.parts import in_parts
 from bpfhost.program import Program
 from bpfhost.replies import Reply
@@ -280,22 +279,11 @@ def ask_alike(host: Host, calls: Sequence[Call]) -> Iterator[bytes]:
 
 def _so_many(host: Host, count: int) -> bytes:
     """So many replies; raises ReplyError if what comes is no reply."""
-    held = bytearray()
-    at = found = 0
-    while True:
-        held += host.read(_READ_AT_ONCE)
-        if not at and (size := size_of_alike(held)) and len(held) == count * size:
-            return bytes(held)
-        while found < count and len(held) - at >= 4:
-            size = 4 + int.from_bytes(held[at : at + 4], "little")
-            if not REPLY_HEAD <= size <= LONGEST_REPLY:
-                raise ReplyError(f"the host answers {held[at : at + 4].hex()}, with which no reply begins")
-            if len(held) - at < size:
-                break
-            found, at = found + 1, at + size
-        if found == count:
-            host.unread(bytes(held[at:]))
-            return bytes(held[:at])
+    held = host.read(_READ_AT_ONCE)
+    if (size := size_of_alike(held)) and len(held) == count * size:
+        return held
+    host.unread(held)
+    return b"".join(host.read_many(count))
 
 
 def _of_tenant_zero(replies: bytes, size: int) -> bytes:

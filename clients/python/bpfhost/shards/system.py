@@ -8,13 +8,14 @@ from __future__ import annotations
 import asyncio
 import time
 import uuid
-from collections.abc import Coroutine, Iterable, Iterator, Sequence
+from collections.abc import Coroutine, Sequence
 from typing import Any, Protocol, TypeVar
 
 from bpfhost.host import Host
 from bpfhost.program import Program
 from bpfhost.shards import link
 from bpfhost.shards.link import Word
+from bpfhost.state import AsksBytes
 
 Answer = TypeVar("Answer")
 # Work in an event loop.
@@ -34,10 +35,9 @@ class Link(Protocol):
         """Ends the connection, which is over then: no more replies come to what was sent."""
 
 
-class Asked(Protocol):
-    """A host that takes many frames at once, and yields the bytes of the replies in order."""
+class Asked(AsksBytes, Protocol):
+    """A host that takes many frames at once, and can be ended."""
 
-    def ask_bytes(self, frames: Iterable[bytes]) -> Iterator[bytes]: ...
     def kill(self) -> None: ...
 
 

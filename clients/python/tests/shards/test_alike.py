@@ -17,6 +17,7 @@ from bpfhost.shards.names import RUNS
 from bpfhost.shards.serving import Serving, _so_many
 from bpfhost.state import split
 from bpfhost.shards.system import MACHINE
+from bpfhost.stream import Stream
 from tests.common import PROGRAM, HostTest
 from tests.shards.common import CREATE, LOOK_UP, call_of, put
 from tests.shards.streams import slots_of
@@ -59,6 +60,9 @@ class Alike(HostTest):
             def read(self, _most: int) -> bytes:
                 return self.replies
 
+            def read_many(self, count: int) -> list[bytes]:
+                return split(self.replies)[:count]
+
             def unread(self, _rest: bytes) -> None: ...
             def kill(self) -> None: ...
 
@@ -81,7 +85,11 @@ class Alike(HostTest):
             stream = b"".join(draw.choices(replies, k=30))
             rest = [stream]
 
-            class Pieces:
+            class Pieces(Stream):
+                _program = "the host"
+
+                def __init__(self) -> None: ...
+
                 def read(self, _most: int) -> bytes:
                     at = draw.randrange(1, 60)
                     read, rest[0] = rest[0][:at], rest[0][at:]

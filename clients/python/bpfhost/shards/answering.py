@@ -8,7 +8,6 @@ what is played meanwhile goes into the next batch.
 from __future__ import annotations
 
 import asyncio
-import contextlib
 from collections import deque
 from collections.abc import Callable, Sequence
 from typing import NamedTuple
@@ -60,29 +59,26 @@ class Answering:
         self._batches: deque[_Batch] = deque()
         # The id of each tenant's last reply that is being written.
         self._last: dict[int, bytes] = {}
-        # What waits to be sent, and its size in bytes.
+        # What waits to be sent.
         self._waiting: list[Played] = []
-        self._size = 0
 
     async def begin(self, played: Sequence[Played]) -> None:
         """Begins to write replies, now or when there is room for them."""
         self._waiting += played
-        self._size += sum(len(one.written.value) for one in played)
         self._send()
-        while self._size > _MOST_WAITING:
+        while sum(map(_size, self._waiting)) > _MOST_WAITING:
             await self._end_first()
             self._send()
 
     def _send(self) -> None:
         """Sends what waits, as far as there is room."""
         while self._waiting and len(self._batches) < _MOST_ON_THEIR_WAY:
-            some = _parts(self._waiting)[0]
+            some = next(in_parts(self._waiting, _size, WRITTEN_AT_ONCE))
             task = self._writing.begin(self._line, [one.written for one in some], self._last)
             task.add_done_callback(self._wake)
             self._batches.append(_Batch(some, task))
             self._last.update((one.written.tenant, one.written.entry) for one in some)
             del self._waiting[: len(some)]
-            self._size -= sum(len(one.written.value) for one in some)
 
     def is_full(self) -> bool:
         """Whether no more batches can be sent at the moment."""
@@ -111,18 +107,11 @@ class Answering:
         self._batches.clear()
         self._last.clear()
         self._waiting.clear()
-        self._size = 0
 
     def end(self) -> None:
         """Ends its connection."""
         self.forget()
         self._line.cut()
-
-    async def write(self, played: Sequence[Played]) -> None:
-        """Writes replies; each is stored once, even if it is not known whether they were written and they are written again."""
-        for some in _parts(played):
-            await self._write([one.written for one in some])
-            self._note(some)
 
     async def _write(self, written: Sequence[Written]) -> None:
         while True:
@@ -132,24 +121,15 @@ class Answering:
                 await self._make_room(error)
 
     async def _end_first(self) -> None:
-        """Waits for the batch that was begun first."""
-        is_written = False
-        with contextlib.suppress(OutOfMemory):
-            is_written = await self._writing.end(self._batches[0].task)
-        if is_written:
+        """Waits for the batch that was begun first; if it is not written, writes all batches in progress once more."""
+        if await self._writing.end(self._batches[0].task):
             self._note(self._batches.popleft().played)
-        else:
-            await self._write_again()
-
-    async def _write_again(self) -> None:
-        """Writes all batches in progress once more."""
+            return
         for batch in list(self._batches)[1:]:
-            with contextlib.suppress(OutOfMemory):
-                await self._writing.end(batch.task)
-        for batch in list(self._batches):
-            await self._write([one.written for one in batch.played])
-            self._batches.popleft()
-            self._note(batch.played)
+            await self._writing.end(batch.task)
+        while self._batches:
+            await self._write([one.written for one in self._batches[0].played])
+            self._note(self._batches.popleft().played)
 
     def _note(self, played: Sequence[Played]) -> None:
         for _, written, _ in played:
@@ -158,6 +138,5 @@ class Answering:
         self._written(played)
 
 
-def _parts(played: Sequence[Played]) -> list[list[Played]]:
-    """Splits replies into parts, each for one call of the script."""
-    return list(in_parts(played, lambda one: len(one.written.value), WRITTEN_AT_ONCE))
+def _size(played: Played) -> int:
+    return len(played.written.value)

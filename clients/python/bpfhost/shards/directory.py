@@ -9,6 +9,7 @@ from bpfhost.shards import directory_scripts as scripts
 from bpfhost.shards.connection import Redis
 from bpfhost.shards.errors import MoveError, NotServed, NotTaken, OtherShard, ShardError
 from bpfhost.shards.names import PREFIX, DirectoryKeys
+from bpfhost.shards.scripts import FORGET
 
 # The highest number of a shard.
 MOST_SHARD = (1 << 31) - 1
@@ -64,7 +65,8 @@ class Directory:
 
         Raises ShardError if it is no number of a shard, and OtherShard if the directory knows it by another name.
         """
-        demand_shard(shard)
+        if not 0 <= shard <= MOST_SHARD:
+            raise ShardError(f"a shard's number is 0 to {MOST_SHARD}, and not {shard}")
         keys = [self.keys.loads, self.keys.incarnations, self.keys.servers]
         known = await scripts.REGISTER(self.redis, keys, [shard, incarnation, server])
         if known != incarnation:
@@ -81,7 +83,7 @@ class Directory:
 
     async def withdraw(self, shard: int, count: bytes = b"") -> None:
         """Records that a shard is not served any more, if its count is still the one that was seen."""
-        await scripts.WITHDRAW(self.redis, [self.keys.beats], [shard, count])
+        await FORGET(self.redis, [self.keys.beats], [shard, count])
 
     async def beats(self) -> dict[int, bytes]:
         """The shards that are served, with the counts that their workers raise."""
@@ -185,10 +187,3 @@ def demand_name(name: str) -> str:
     if not name or len(name) > 255 or any(letter.isspace() or not letter.isprintable() for letter in name):
         raise ValueError(f"a customer's name has 1 to 255 printable characters without spaces, and is not {name!r}")
     return name
-
-
-def demand_shard(shard: int) -> int:
-    """The number of a shard; raises ShardError if it is none."""
-    if not 0 <= shard <= MOST_SHARD:
-        raise ShardError(f"a shard's number is 0 to {MOST_SHARD}, and not {shard}")
-    return shard

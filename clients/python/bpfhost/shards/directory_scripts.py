@@ -113,13 +113,6 @@ if redis.call('HGET', KEYS[1], ARGV[1]) ~= ARGV[2] then return 0 end
 return redis.call('HINCRBY', KEYS[2], ARGV[1], 1)
 """, without_memory=True)
 
-# Records that a shard is not served any more, if its count is still the one that was seen, or none is named.
-# KEYS: beats. ARGV: shard, count or nothing.
-WITHDRAW = Script("""
-if ARGV[2] ~= '' and redis.call('HGET', KEYS[1], ARGV[1]) ~= ARGV[2] then return 0 end
-return redis.call('HDEL', KEYS[1], ARGV[1])
-""", without_memory=True)
-
 # Removes a shard that has no customers and is not served; lost customers are removed with it.
 # KEYS: those of the directory, incarnations, servers. ARGV: shard, `lost` or nothing.
 REMOVE_SHARD = Script(_GIVE + """
@@ -141,9 +134,6 @@ for at = 1, #customers, 2 do
   if string.match(customers[at + 1], mine) then redis.call('HDEL', KEYS[1], customers[at]) end
 end
 redis.call('ZREM', KEYS[2], ARGV[1])
-redis.call('HDEL', KEYS[3], ARGV[1])
-redis.call('HDEL', KEYS[7], ARGV[1])
-redis.call('HDEL', KEYS[8], ARGV[1])
-redis.call('HDEL', KEYS[9], ARGV[1])
+for _, at in ipairs({3, 7, 8, 9}) do redis.call('HDEL', KEYS[at], ARGV[1]) end
 return 'removed'
 """)

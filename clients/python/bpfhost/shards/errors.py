@@ -4,7 +4,7 @@ from __future__ import annotations
 
 from typing import TYPE_CHECKING
 
-from bpfhost.errors import BpfhostError
+from bpfhost.errors import BpfhostError, HostError, ReplyError
 
 if TYPE_CHECKING:
     from bpfhost.shards.tickets import Ticket
@@ -68,6 +68,10 @@ class RepliesDiffer(ShardError):
 
 class MemoryRefused(ShardError):
     """The host replied -12 to a frame, whose reply is not written; or it has no memory for a snapshot."""
+
+
+# After any of these another host takes the place of the one that was asked.
+HOST_ENDED = (HostError, ReplyError, MemoryRefused)
 
 
 class SnapshotDamaged(ShardError):

@@ -2,16 +2,16 @@
 
 from __future__ import annotations
 
-from bpfhost.errors import HostError, ReplyError, StateError
+from bpfhost.errors import StateError
 from bpfhost.shards.agenda import Agenda
 from bpfhost.shards.aside import ENTRY, STATE, Aside
 from bpfhost.shards.calls import Arrives, Leaves
 from bpfhost.shards.errors import (
+    HOST_ENDED,
     Away,
     CopyDiffers,
     LeaseLost,
     LogChanged,
-    MemoryRefused,
     OutOfMemory,
     RedisError,
     ShardError,
@@ -57,7 +57,7 @@ class Jobs:
                 patience.tell_now_and_then(f"shard {patience.shard} waits: {error}")
                 if not await self._made_again(tenant):
                     return
-            except (HostError, ReplyError, MemoryRefused) as error:
+            except HOST_ENDED as error:
                 await self._suspects.job_ended_host(tenant, error)
                 return
             except (LeaseLost, LogChanged, RedisError, Stopped):
@@ -73,7 +73,7 @@ class Jobs:
         """Restores a tenant whose job broke off; False if the host ended meanwhile and all tenants are restored."""
         try:
             await self._patience.waiting(lambda: self._states.make_again(tenant))
-        except (HostError, ReplyError, MemoryRefused) as error:
+        except HOST_ENDED as error:
             await self._suspects.job_ended_host(tenant, error)
             return False
         return True

@@ -64,10 +64,8 @@ class Keeping:
 
     def note(self, calls: int, frames: int, asked: int, replied: int) -> None:
         """Notes calls that have their replies: how many they are, their frames, and the bytes of these and of the replies."""
-        settings = self._settings
         self.came += replied
-        self._share += calls / settings.snapshot_entries + frames / settings.snapshot_frames
-        self._share += (asked + replied) / settings.snapshot_bytes
+        self._share += sum(self._settings.shares(calls, frames, asked + replied))
 
     def empty(self, entry: bytes) -> Manifest:
         """The snapshot of a new tenant."""
@@ -79,7 +77,7 @@ class Keeping:
         name, digest = self._redis.system.fresh(), hashlib.sha256()
         for at, piece in enumerate(pieces_of(stream)):
             digest.update(piece)
-            await self._writing.keep_piece(f"{name}:{at}", piece)
+            await self._writing.note(self._keys.pieces, f"{name}:{at}", piece)
             await step()
         return Manifest(log.place.decode(), self._build, name, len(stream), digest.hexdigest()).summed()
 
@@ -87,17 +85,9 @@ class Keeping:
 
     def due(self, logs: Sequence[Log], busy: set[int]) -> Log | None:
         """The tenant that has most to play again, if all tenants together have more than a starting worker should play."""
-        settings = self._settings
         if self._share < 1:
             return None
-        shares = [
-            max(
-                log.since.entries / settings.snapshot_entries,
-                log.since.frames / settings.snapshot_frames,
-                log.since.size / settings.snapshot_bytes,
-            )
-            for log in logs
-        ]
+        shares = [max(self._settings.shares(log.since.entries, log.since.frames, log.since.size)) for log in logs]
         self._share = sum(shares)
         if self._share < 1:
             return None
@@ -131,15 +121,12 @@ class Keeping:
 
     async def drop_before(self, log: Log) -> None:
         """Drops the snapshot before the last one, and the entries that the last one covers, if there is no memory for more."""
-        if log.before and log.snapshot:
-            names = set(log.before.names()) - set(log.snapshot.names())
-            await self._writing.note(self._keys.snapshots, f"{log.tenant}:before", b"")
-            log.before = None
-            await self._writing.drop_pieces(sorted(names))
         if log.snapshot:
-            log.is_cut = True
-            await self._writing.drop(log.frames, after(log.snapshot.place.encode()))
-            await self.drop_old(log)
+            old = log.before
+            if old:
+                await self._writing.note(self._keys.snapshots, f"{log.tenant}:before", b"")
+            log.before, log.is_cut = None, True
+            await self.forget_old(log, old)
 
     async def make_room(self, serving: Serving, log: Log) -> None:
         """Drops all that can be dropped of a tenant: what is not needed to restore its state, and old replies."""
@@ -229,5 +216,5 @@ class Keeping:
         name, served = self._keys.sessions(int(said)), await self._writing.lease.served()
         for session, record in (await self._redis.hgetall(name)).items():
             if session.startswith(NAMELESS.encode()) and served_at(record) < served - SECONDS_OF_SESSIONS:
-                await scripts.FORGET_SESSION(self._redis, [name], [session, record])
+                await scripts.FORGET(self._redis, [name], [session, record])
                 await step()

@@ -10,10 +10,9 @@ import asyncio
 from collections.abc import Callable, Sequence
 from typing import Any
 
-from bpfhost.errors import HostError, ReplyError
 from bpfhost.shards.answering import Answering, Played
 from bpfhost.shards.calls import Arrives, Call, Leaves, NoCall
-from bpfhost.shards.errors import MemoryRefused
+from bpfhost.shards.errors import HOST_ENDED
 from bpfhost.shards.metrics import Told
 from bpfhost.shards.reading import Reading
 from bpfhost.shards.serving import Serving
@@ -112,9 +111,9 @@ class Playing:
                 if self._system.now() > pause:
                     await asyncio.sleep(0)
                     pause = self._system.now() + _SECONDS_AT_ONCE
-        except (HostError, ReplyError, MemoryRefused) as error:
+        except HOST_ENDED as error:
+            await self._answering.begin(played)
             await self.settle()
-            await self._answering.write(played)
             await self._suspects.host_has_ended(calls[len(played) :], error)
             return False
         await self._answering.begin(played)

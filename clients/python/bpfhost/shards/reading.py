@@ -9,7 +9,6 @@ from __future__ import annotations
 
 import asyncio
 from collections.abc import Callable, Iterator, Sequence
-from dataclasses import dataclass
 from typing import Any
 
 from bpfhost.numbers import MOST_TENANTS
@@ -28,23 +27,16 @@ _MOST_READ = 64
 _SECONDS_TO_WAIT, _SECONDS_BESIDE = 1.0, 0.02
 
 
-@dataclass
-class _Asked:
-    """What a lane reads: its streams with the ids after which they are read, and the pending reply."""
-
-    places: dict[str, bytes]
-    task: asyncio.Future[Any]
-
-
 class _Lane:
-    """One lane."""
+    """One lane: its tenants, the ids after which their streams are read, and the pending reply."""
 
     def __init__(self, line: Redis, keys: ShardKeys, tenants: range) -> None:
         self.line, self.names = line, {tenant: keys.frames(tenant) for tenant in tenants}
         self.tenants = {name: tenant for tenant, name in self.names.items()}
         self.of = slice(tenants.start, None, tenants.step)
-        self.asked: _Asked | None = None
         self.at_once = _MOST_READ
+        self.places: dict[str, bytes] = {}
+        self.task: asyncio.Future[Any] | None = None
 
 
 class Reading:
@@ -71,9 +63,9 @@ class Reading:
         """Begins anew, with tenants that were just restored."""
         self._read_to.clear()
         for lane in self._lanes:
-            if lane.asked:
-                forgotten(lane.asked.task)
-                lane.asked = None
+            if lane.task:
+                forgotten(lane.task)
+                lane.task = None
 
     def end(self) -> None:
         """Ends its connections."""
@@ -101,44 +93,44 @@ class Reading:
     def ask(self) -> list[asyncio.Future[Any]]:
         """Lets all lanes wait for entries, and returns the pending replies."""
         for lane in self._lanes:
-            if not lane.asked:
+            if not lane.task:
                 self._ask(lane)
-        return [lane.asked.task for lane in self._lanes if lane.asked]
+        return [lane.task for lane in self._lanes if lane.task]
 
     def _ask(self, lane: _Lane) -> None:
         busy, read_to = self._busy, self._read_to
         logs = [log for log in self._tenants.logs[lane.of] if not log.aside and log.tenant not in busy]
-        places = {lane.names[log.tenant]: read_to.get(log.tenant) or log.place for log in logs}
+        lane.places = places = {lane.names[log.tenant]: read_to.get(log.tenant) or log.place for log in logs}
         if places:
             wait = min(self._settings.lease_seconds / 4, _SECONDS_TO_WAIT if len(places) == len(lane.names) else _SECONDS_BESIDE)
-            lane.asked = _Asked(places, lane.line.begin_xread(places, lane.at_once, wait))
-            lane.asked.task.add_done_callback(self._wake)
+            lane.task = lane.line.begin_xread(places, lane.at_once, wait)
+            lane.task.add_done_callback(self._wake)
 
     async def shares(self) -> list[list[Item]]:
         """What each tenant has in this turn: calls, or one entry that is no call."""
         found: list[list[Item]] = []
         for lane in self._lanes:
-            if lane.asked and lane.asked.task.done():
-                asked, lane.asked = lane.asked, None
-                found += self._shares(lane, asked, await self._found(asked))
+            if lane.task and lane.task.done():
+                task, lane.task = lane.task, None
+                found += self._shares(lane, await self._found(task))
         return found
 
-    def _shares(self, lane: _Lane, asked: _Asked, found: dict[str, list[Entry]]) -> Iterator[list[Item]]:
+    def _shares(self, lane: _Lane, found: dict[str, list[Entry]]) -> Iterator[list[Item]]:
         most = 1
         for name, entries in found.items():
             log = self._tenants.logs[lane.tenants[name]]
             # Other work may have been done for the tenant since the read began.
-            if log.aside or log.tenant in self._busy or (self._read_to.get(log.tenant) or log.place) != asked.places[name]:
+            if log.aside or log.tenant in self._busy or (self._read_to.get(log.tenant) or log.place) != lane.places[name]:
                 continue
             items = [item_of(log.tenant, entry) for entry in entries]
             most = max([most, *(item.count for item in items if isinstance(item, Call))])
             yield share_of(items)
         lane.at_once = max(1, min(_MOST_READ, TURN_FRAMES // most))
 
-    async def _found(self, asked: _Asked) -> dict[str, list[Entry]]:
+    async def _found(self, task: asyncio.Future[Any]) -> dict[str, list[Entry]]:
         """The entries that have come; empty if Redis is away, and then the worker waits for it."""
         try:
-            return entries_of(await asked.task)
+            return entries_of(await task)
         except Away as away:
             await self._patience.wait_for_redis(away)
             return {}

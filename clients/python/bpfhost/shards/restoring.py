@@ -2,8 +2,6 @@
 
 from __future__ import annotations
 
-from dataclasses import dataclass, field
-
 from bpfhost.shards.aside import DIFFERS, LOST, STATE, Aside
 from bpfhost.shards.calls import Arrives, Call, Item, Leaves, NoCall, item_of, size_of
 from bpfhost.shards.errors import RepliesDiffer, SnapshotDamaged, StateRefused
@@ -14,39 +12,29 @@ from bpfhost.shards.serving import Serving
 from bpfhost.shards.steps import in_steps, step
 
 
-@dataclass
-class Restored:
-    """The outcome: sentences to log, and what has to be set aside."""
-
-    told: list[str] = field(default_factory=list)
-    aside: Aside | None = None
-
-
-async def restored(serving: Serving, log: Log, accepts: bool = False) -> Restored:
-    """Restores the state of a tenant that is empty, in steps.
+async def restored(serving: Serving, log: Log, accepts: bool = False) -> tuple[str, Aside | None]:
+    """Restores the state of a tenant that is empty, in steps; returns a sentence to log, or an empty one, and what has to be set aside.
 
     With `accepts`, an operator accepts what this build makes of it: programs that it refuses are closed, and replies that differ from the
     written ones are ignored.
     """
-    found = Restored()
     await log.read_marks()
     last = await log.last()
     try:
-        await _from_best(serving, log, last, found, accepts)
+        return await _from_best(serving, log, last, accepts), None
     except RepliesDiffer as error:
-        found.aside = Aside(DIFFERS, after(log.place).decode(), str(error))
+        aside = Aside(DIFFERS, after(log.place).decode(), str(error))
     except StateRefused as error:
-        found.aside = Aside(STATE, after(last).decode(), str(error))
+        aside = Aside(STATE, after(last).decode(), str(error))
     except SnapshotDamaged as error:
-        found.aside = Aside(LOST, after(last).decode(), str(error))
-    if found.aside:
-        serving.empty(log.tenant)
-        log.place = last
-    return found
+        aside = Aside(LOST, after(last).decode(), str(error))
+    serving.empty(log.tenant)
+    log.place = last
+    return "", aside
 
 
-async def _from_best(serving: Serving, log: Log, last: bytes, found: Restored, accepts: bool) -> None:
-    """Restores from the last snapshot that is whole, or the whole stream."""
+async def _from_best(serving: Serving, log: Log, last: bytes, accepts: bool) -> str:
+    """Restores from the last snapshot that is whole, or the whole stream; returns a sentence if a later snapshot is damaged."""
     kept = await log.redis.hget(log.keys.snapshots, f"{log.tenant}")
     manifests = await log.manifests()
     damaged = SnapshotDamaged("what a snapshot says of itself is damaged") if kept and (not manifests or kept != manifests[0].to_bytes()) else None
@@ -67,9 +55,10 @@ async def _from_best(serving: Serving, log: Log, last: bytes, found: Restored, a
         if not await log.reaches(START, last):
             raise SnapshotDamaged(f"{damaged or 'there is no snapshot'}, and the stream does not reach to what came before it")
         await _played(serving, log, START, last, accepts)
-    if damaged:
-        found.told.append(f"{damaged}; the state was made of {'the snapshot before it' if log.snapshot else 'the stream'}")
-        await _mend(log)
+    if not damaged:
+        return ""
+    await _mend(log)
+    return f"{damaged}; the state was made of {'the snapshot before it' if log.snapshot else 'the stream'}"
 
 
 async def _mend(log: Log) -> None:

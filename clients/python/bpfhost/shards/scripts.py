@@ -78,9 +78,9 @@ keep(session, KEYS[2], KEYS[3])
 return {{'resumed', session.number, session.given_up, session.shard, session.tenant, session.entry}}
 """, without_memory=True)
 
-# Drops the record of a session, if it is still this one. KEYS: sessions. ARGV: session, record.
-FORGET_SESSION = Script("""
-if redis.call('HGET', KEYS[1], ARGV[1]) ~= ARGV[2] then return 0 end
+# Deletes a field of a hash, if it still has the value that was seen, or none is named. KEYS: hash. ARGV: field, value or nothing.
+FORGET = Script("""
+if ARGV[2] ~= '' and redis.call('HGET', KEYS[1], ARGV[1]) ~= ARGV[2] then return 0 end
 return redis.call('HDEL', KEYS[1], ARGV[1])
 """, without_memory=True)
 
@@ -154,6 +154,9 @@ redis.call('DEL', KEYS[2])
 return 1
 """)
 
+# A worker's writes, which succeed only while it holds the lease.
+_UNDER_LEASE = "if redis.call('HGET', KEYS[1], 'token') ~= ARGV[1] then return 0 end\n"
+
 # The lease: `token` of the worker that has it, `count` that it raises, `milliseconds` without a raise after which another one may take
 # it, and for how many milliseconds the shard was `served`. None of this uses the server's clock.
 
@@ -171,20 +174,15 @@ return {ARGV[1], count, ARGV[2]}
 
 # Raises the count of a lease that is still held, and adds to the time for which the shard was served.
 # KEYS: lease. ARGV: token, milliseconds since the last time.
-KEEP = Script("""
-if redis.call('HGET', KEYS[1], 'token') ~= ARGV[1] then return 0 end
+KEEP = Script(_UNDER_LEASE + """
 redis.call('HINCRBY', KEYS[1], 'served', ARGV[2])
 return redis.call('HINCRBY', KEYS[1], 'count', 1)
 """, without_memory=True)
 
 # Releases a lease. KEYS: lease. ARGV: token.
-RELEASE = Script("""
-if redis.call('HGET', KEYS[1], 'token') ~= ARGV[1] then return 0 end
+RELEASE = Script(_UNDER_LEASE + """
 return redis.call('HDEL', KEYS[1], 'token')
 """, without_memory=True)
-
-# A worker's writes, which succeed only while it holds the lease.
-_UNDER_LEASE = "if redis.call('HGET', KEYS[1], 'token') ~= ARGV[1] then return 0 end\n"
 
 # Writes replies of some tenants under the ids of their frames; once, even if it is called twice. If earlier replies are still being
 # written, the arguments name them: if they are missing, nothing is written, so that no reply is stored before an earlier one.
@@ -233,13 +231,6 @@ redis.call('HSET', KEYS[3], ARGV[3], ARGV[4])
 return 1
 """)
 
-# Stores pieces of a snapshot, which no manifest names yet. A snapshot makes room, so the script also runs without memory.
-# KEYS: lease, pieces. ARGV: token, then names with their bytes.
-KEEP_PIECES = Script(_UNDER_LEASE + """
-for at = 2, #ARGV, 2 do redis.call('HSET', KEYS[2], ARGV[at], ARGV[at + 1]) end
-return 1
-""", without_memory=True)
-
 # Replaces the last snapshot of a tenant by a new one; the last one becomes the one before it.
 # KEYS: lease, snapshots. ARGV: token, tenant, manifest, manifest of the last snapshot or nothing.
 KEEP_SNAPSHOT = Script(_UNDER_LEASE + """
@@ -251,12 +242,11 @@ redis.call('HSET', KEYS[2], ARGV[2], ARGV[3])
 return 1
 """, without_memory=True)
 
-# Drops some of the entries of a stream that are below an id; returns how many. KEYS: lease, stream. ARGV: token, id.
-DROP = Script("""
-if redis.call('HGET', KEYS[1], 'token') ~= ARGV[1] then return -1 end
+# Drops some of the entries of a stream that are below an id; returns 1 more than how many. KEYS: lease, stream. ARGV: token, id.
+DROP = Script(_UNDER_LEASE + """
 local dropped = redis.call('XTRIM', KEYS[2], 'MINID', '~', ARGV[2], 'LIMIT', 1000)
 if dropped == 0 then redis.call('XTRIM', KEYS[2], 'MINID', '=', ARGV[2]) end
-return dropped
+return dropped + 1
 """, without_memory=True)
 
 # Drops pieces. KEYS: lease, pieces. ARGV: token, names.
@@ -265,7 +255,8 @@ for at = 2, #ARGV do redis.call('HDEL', KEYS[2], ARGV[at]) end
 return 1
 """, without_memory=True)
 
-# Writes a field of a hash, or deletes it if no bytes are given. KEYS: lease, hash. ARGV: token, field, bytes.
+# Writes a field of a hash, or deletes it if no bytes are given. A snapshot makes room, so its pieces are written also without memory.
+# KEYS: lease, hash. ARGV: token, field, bytes.
 NOTE = Script(_UNDER_LEASE + """
 if ARGV[3] == '' then redis.call('HDEL', KEYS[2], ARGV[2]) else redis.call('HSET', KEYS[2], ARGV[2], ARGV[3]) end
 return 1

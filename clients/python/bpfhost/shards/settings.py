@@ -34,6 +34,10 @@ class Settings:
     drain_seconds: float = 0.0
     lanes: int = 8
 
+    def shares(self, entries: int, frames: int, size: int) -> tuple[float, float, float]:
+        """What part of what may be played again so many calls, frames, and bytes of frames and replies are."""
+        return entries / self.snapshot_entries, frames / self.snapshot_frames, size / self.snapshot_bytes
+
     def __post_init__(self) -> None:
         if min(self.reply_bytes, self.reply_bytes_of_customer) < LEAST_REPLY_BYTES:
             raise ValueError(f"replies stay of at least {LEAST_REPLY_BYTES} bytes")

@@ -5,10 +5,9 @@ from __future__ import annotations
 import contextlib
 from collections import Counter
 
-from bpfhost.errors import HostError, ReplyError
 from bpfhost.shards.agenda import Agenda
 from bpfhost.shards.aside import ENTRY, MOST_TRIES, SKIP, STATE, Aside
-from bpfhost.shards.errors import LogChanged, MemoryRefused, Stopped
+from bpfhost.shards.errors import HOST_ENDED, LogChanged, Stopped
 from bpfhost.shards.keeping import Keeping
 from bpfhost.shards.log import Log
 from bpfhost.shards.metrics import Told
@@ -46,7 +45,10 @@ class States:
             if not self._serving.is_new:
                 self._serving.restart()
                 self._metrics.add("bpfhost_worker_hosts_total")
-            self._begin_anew()
+            self._agenda.under_way.forget()
+            self._agenda.drop()
+            self._keeping.begin()
+            self._tenants.begin_anew()
             at = 0
             try:
                 for at in await self._tenants.with_a_log():
@@ -54,16 +56,9 @@ class States:
                 await self._tenants.drop_strays()
                 self._metrics.set("bpfhost_worker_restore_seconds", redis.system.now() - began)
                 return
-            except (HostError, ReplyError, MemoryRefused) as error:
+            except HOST_ENDED as error:
                 ended[at] += 1
                 self._patience.tell_of_host(error)
-
-    def _begin_anew(self) -> None:
-        """Forgets all tenants, and drops all jobs."""
-        self._agenda.under_way.forget()
-        self._agenda.drop()
-        self._keeping.begin()
-        self._tenants.begin_anew()
 
     async def _make_or_set_aside(self, log: Log, ended: int) -> None:
         self._serving.alive()
@@ -79,13 +74,13 @@ class States:
     async def make(self, log: Log, word: str = "") -> None:
         """Restores a tenant's state; if that fails, sets it aside. An operator may have decided on it."""
         kept = await self._tenants.kept_aside(log.tenant)
-        found = await restored(self._serving, log, accepts=word == SKIP)
+        told, aside = await restored(self._serving, log, accepts=word == SKIP)
         self._keeping.reckon()
         self._metrics.add("bpfhost_worker_replayed_frames_total", log.since.frames)
-        for sentence in found.told:
-            self._patience.tell(f"shard {self._patience.shard}, tenant {log.tenant}: {sentence}")
-        if found.aside:
-            await self._tenants.set_aside(log, found.aside)
+        if told:
+            self._patience.tell(f"shard {self._patience.shard}, tenant {log.tenant}: {told}")
+        if aside:
+            await self._tenants.set_aside(log, aside)
         elif kept and kept.kind == ENTRY:
             log.aside = kept
         elif kept:

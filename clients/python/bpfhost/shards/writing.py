@@ -9,7 +9,7 @@ from bpfhost.parts import in_parts
 from bpfhost.shards import scripts
 from bpfhost.shards.calls import Arrives, Leaves
 from bpfhost.shards.connection import Redis, Script, told_by
-from bpfhost.shards.errors import Away, NoScript, ShardError, SnapshotDamaged
+from bpfhost.shards.errors import Away, NoScript, OutOfMemory, ShardError, SnapshotDamaged
 from bpfhost.shards.lease import Lease
 from bpfhost.shards.log import Log
 from bpfhost.shards.manifest import Manifest
@@ -33,7 +33,7 @@ class Writing:
     async def _do(self, script: Script, keys: Sequence[str], words: Iterable[Word]) -> int:
         deadline = self.redis.system.now() + _SECONDS_FOR_REDIS
         done = await script(self.redis.patient(deadline), [self.keys.lease, *keys], [self.lease.token, *words])
-        if done == (-1 if script is scripts.DROP else 0):
+        if not done:
             raise await self.lease.lost()
         return int(done)
 
@@ -49,10 +49,10 @@ class Writing:
         return scripts.WRITE.begin(line, [self.keys.lease, *keys], [self.lease.token, *words])
 
     async def end(self, task: asyncio.Future[int]) -> bool:
-        """Whether replies whose write was begun are written; if not, write them again. Raises OutOfMemory if they have no room."""
+        """Whether replies whose write was begun are written; if not, write them again."""
         try:
             done = await task
-        except (Away, NoScript):
+        except (Away, NoScript, OutOfMemory):
             return False
         if not done:
             raise await self.lease.lost()
@@ -85,10 +85,6 @@ class Writing:
 
     # Snapshots.
 
-    async def keep_piece(self, name: str, piece: bytes) -> None:
-        """Stores a piece of a snapshot."""
-        await self._do(scripts.KEEP_PIECES, [self.keys.pieces], [name, piece])
-
     async def keep_snapshot(self, log: Log, manifest: Manifest) -> None:
         """Replaces the last snapshot by a new one; the last one becomes the one before it."""
         last = log.snapshot.to_bytes() if log.snapshot else b""
@@ -97,7 +93,7 @@ class Writing:
 
     async def drop(self, stream: str, least: bytes) -> None:
         """Drops the entries of a stream below an id, some in each step."""
-        while await self._do(scripts.DROP, [stream], [least]):
+        while await self._do(scripts.DROP, [stream], [least]) > 1:
             await step()
 
     async def drop_pieces(self, dropped: Sequence[str]) -> None:

@@ -6,6 +6,7 @@ It records that the shard is served, watches whether other workers do the same, 
 from __future__ import annotations
 
 import asyncio
+import contextlib
 from collections.abc import Callable
 from typing import TypeVar
 
@@ -84,7 +85,5 @@ class Attending:
 
     async def end(self) -> None:
         """Records that the shard is not served any more."""
-        try:
+        with contextlib.suppress(RedisError):
             await self._directory.withdraw(self._shard)
-        except RedisError:
-            pass

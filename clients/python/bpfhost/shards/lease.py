@@ -50,31 +50,24 @@ class Lease:
 
         Raises LeaseHeld if the count was raised meanwhile, and Stopped if this worker is asked to stop.
         """
-        first: _Seen | None = None
-        seen, since = (b"", b""), 0.0
+        seen: _Seen | None = None
+        since = 0.0
         while True:
-            expected = seen if first and self._system.now() >= since else (b"", b"")
-            try:
-                token, count, milliseconds = await scripts.TAKE(self._redis, [self._keys.lease], [self.token, self._milliseconds(), *expected])
-            except Away:
-                # Its holder may not have reached Redis either.
-                first = None
-                raise
+            expected = seen if seen and self._system.now() >= since else (b"", b"")
+            words = [self.token, int(self.seconds * 1000), *expected]
+            token, count, milliseconds = await scripts.TAKE(self._redis, [self._keys.lease], words)
             if token == self.token.encode():
                 self.was_left = bool(expected[0])
                 break
-            if first and (token == first[0] and count != first[1]):
-                raise LeaseHeld(f"shard {self._keys.number} is served by another worker, {_who(token)}, who raises its lease")
-            if not first or token != seen[0]:
-                first = seen = (token, count)
+            if seen and token == seen[0] and count != seen[1]:
+                raise LeaseHeld(f"shard {self._keys.number} is served by another worker, {holder_of(token)}, who raises its lease")
+            if not seen or token != seen[0]:
+                seen = (token, count)
                 since = self._system.now() + max(self.seconds, int(milliseconds) / 1000) + _PAUSE
             if is_stopped():
                 raise Stopped(f"shard {self._keys.number} was not served: its lease was waited for")
             await asyncio.sleep(_PAUSE)
         self._raised = self._tried = self._system.now()
-
-    def _milliseconds(self) -> int:
-        return int(self.seconds * 1000)
 
     async def keep(self) -> None:
         """Raises the count, if a third of the lease's time is gone; raises LeaseLost if the lease is another worker's."""
@@ -130,15 +123,10 @@ class Lease:
     async def lost(self) -> LeaseLost:
         """The error to raise if the lease is not this worker's any more."""
         holder = await self._redis.hget(self._keys.lease, "token")
-        now = f"; it is now {_who(holder)}'s" if holder else ""
+        now = f"; it is now {holder_of(holder)}'s" if holder else ""
         return LeaseLost(f"the lease on shard {self._keys.number} is lost{now}: this worker writes nothing more")
 
 
-def _who(token: bytes) -> str:
-    """The machine and the process in a token."""
-    return token.decode(errors="replace").partition(" ")[2] or "a worker that tells no name"
-
-
 def holder_of(token: bytes | None) -> str:
-    """The holder of a lease, in words, or an empty string."""
-    return _who(token) if token else ""
+    """The machine and the process of the worker with a token; empty if nobody has the lease."""
+    return token.decode(errors="replace").partition(" ")[2] or "a worker that tells no name" if token else ""

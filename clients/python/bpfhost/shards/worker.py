@@ -47,14 +47,6 @@ from bpfhost.shards.writing import Writing
 _SECONDS_TO_END = 2.0
 
 
-async def ended(*tasks: asyncio.Task[None] | None) -> None:
-    """Ends tasks, and waits a little until they have ended."""
-    running = [task for task in tasks if task]
-    for task in running:
-        forgotten(task)
-    await asyncio.wait(running, timeout=_SECONDS_TO_END)
-
-
 class Worker:
     """The worker of one shard."""
 
@@ -142,9 +134,8 @@ class Worker:
 
     async def _serve_under_lease(self) -> None:
         patience, number = self._patience, self._keys.number
-        keeping = asyncio.create_task(self._lease.keep_beside())
+        tasks = [asyncio.create_task(self._lease.keep_beside())]
         attending: Attending | None = None
-        attended: asyncio.Task[None] | None = None
         try:
             self._lease.at_work()
             incarnation = await patience.waiting(lambda: register(self._redis, self._keys, self._directory, self._server))
@@ -155,7 +146,7 @@ class Worker:
             if is_careful:
                 patience.tell(f"shard {number}: the worker before ended without a word, so the host is a process of its own at first")
             attending = Attending(self._directory, number, incarnation, self._settings.lease_seconds, patience.tell)
-            attended = asyncio.create_task(attending.run())
+            tasks.append(asyncio.create_task(attending.run()))
             self._serves = True
             while not patience.is_stopped():
                 await self._turn_or_begin_anew()
@@ -171,7 +162,9 @@ class Worker:
             self._serves = False
             # Nothing is written any more, so the next worker need not wait.
             with contextlib.suppress(RedisError):
-                await ended(keeping, attended)
+                for task in tasks:
+                    forgotten(task)
+                await asyncio.wait(tasks, timeout=_SECONDS_TO_END)
                 await self._lease.release()
                 if attending and not await self._redis.hget(self._keys.lease, "token"):
                     await attending.end()

@@ -182,15 +182,9 @@ class Customer(Asking, Blocking[AsyncCustomer]):
     flush = waits(AsyncCustomer.flush)
     settle = waits(AsyncCustomer.settle)
 
-    @property
-    def name(self) -> str:
-        """The customer's name."""
-        return self.aio.name
-
-    @property
-    def session(self) -> str:
-        """The name of the session."""
-        return self.aio.session
+    def __init__(self, aio: AsyncCustomer, loop: Loop) -> None:
+        super().__init__(aio, loop)
+        self.name, self.session = aio.name, aio.session
 
     @property
     def seconds(self) -> float:

@@ -130,26 +130,23 @@ class AsyncCustomer:
         return last.number if last else 0
 
     async def last(self) -> Ticket | None:
-        """The last call of this session that was taken, also by an earlier process, so that the caller can wait for it; or None."""
-        deadline = self._deadline(None)
-        seat, number, given_up, place = await self._resumed(deadline)
-        self._number, self._given_up = max(self._number, number), given_up
-        return Ticket(b"", self.session, number, given_up, seat=seat, place=place) if place else None
+        """The last call of this session that was taken, also by an earlier process, so that the caller can wait for it; or None.
 
-    async def _resumed(self, deadline: float) -> tuple[Seat, int, int, Place | None]:
-        """The customer's seat, and the session's record there; from then on no calls of earlier processes are taken."""
-        given_up = b"0"
+        From then on no calls of earlier processes are taken.
+        """
+        deadline, known = self._deadline(None), b"0"
         while True:
             seat = self._seat or await self._take_seat(deadline, None)
             redis, keys = await self._shard(seat.shard, deadline)
             used = [keys.seats, keys.sessions(seat.generation), keys.lease]
-            words = [self.session, given_up, seat.tenant, seat.owned_by(self.name), names.MOST_SESSIONS]
+            words = [self.session, known, seat.tenant, seat.owned_by(self.name), names.MOST_SESSIONS]
             what, *said = await scripts.RESUME(redis.patient(deadline), used, words)
             if what == b"resumed":
                 number, given_up, *place = said
-                return seat, int(number), int(given_up), Place.of(*place) if place else None
+                self._number, self._given_up = max(self._number, int(number)), int(given_up)
+                return Ticket(b"", self.session, int(number), int(given_up), seat=seat, place=Place.of(*place)) if place else None
             if what == b"passed":
-                given_up = bytes(said[0])
+                known = bytes(said[0])
             elif what == b"sessions":
                 raise NotTaken(_SESSIONS.format(name=self.name), None)
             else:

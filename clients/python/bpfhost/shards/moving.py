@@ -43,7 +43,6 @@ async def remove(client: AsyncClient, name: str, seconds: float = SECONDS) -> No
     seat, _ = await client.directory.patient(deadline).begin_move(name, removed=True)
     moved = await _Move.of(client, name, seat, deadline)
     await moved.leave()
-    await moved.forget()
     await moved.end(None)
 
 
@@ -101,8 +100,8 @@ class _Move:
                 raise MoveError(f"customer {self._name} is refused by both shards: {turned}; and {refused.why}") from None
             await self._turn(next_seat, refused)
             raise MoveError(f"customer {self._name} stays on shard {self._seat.shard}: {refused.why}") from None
-        await self._give(next_seat)
-        await self.forget()
+        redis, keys = await self._shard(next_seat.shard)
+        await scripts.SEAT(redis, [keys.seats], [next_seat.tenant, next_seat.generation, next_seat.owned_by(self._name)])
         await self.end(next_seat)
         return next_seat
 
@@ -189,22 +188,15 @@ class _Move:
         if FAULT in reply:
             raise _Refused(entry, reply[FAULT].decode(errors="replace"))
 
-    async def _give(self, seat: Seat) -> None:
-        redis, keys = await self._shard(seat.shard)
-        await scripts.SEAT(redis, [keys.seats], [seat.tenant, seat.generation, seat.owned_by(self._name)])
-
     # The end of a move.
 
-    async def forget(self) -> None:
-        """Drops the state that the old shard has kept."""
+    async def end(self, next_seat: Seat | None) -> None:
+        """Drops the state that the old shard has kept, and records the end in the directory."""
         kept = await self._redis.hget(self._keys.left, self._seat.generation)
         if kept is not None:
             await _drop(self._redis, self._keys, Manifest.read(kept).names())
         await self._redis.call("DEL", self._keys.sessions(self._seat.generation))
         await self._redis.call("HDEL", self._keys.left, self._seat.generation)
-
-    async def end(self, next_seat: Seat | None) -> None:
-        """Records the end in the directory."""
         await self._directory.end_move(self._name, self._seat, next_seat)
 
     # Back.

@@ -15,7 +15,6 @@ import uuid
 from collections.abc import Iterable, Iterator, Sequence
 from dataclasses import dataclass, field
 from pathlib import Path
-from types import TracebackType
 from typing import Any
 
 from bpfhost.shards.calls import LONGEST_CALL, MOST_FRAMES, whole_frames
@@ -101,7 +100,7 @@ class GatewayCustomer(Asking):
     def __enter__(self) -> GatewayCustomer:
         return self
 
-    def __exit__(self, _kind: type[BaseException] | None, _error: BaseException | None, _trace: TracebackType | None) -> None:
+    def __exit__(self, *_error: object) -> None:
         self.close()
 
     def close(self) -> None:

@@ -5,14 +5,14 @@ from __future__ import annotations
 import argparse
 import os
 import sys
-from collections.abc import Mapping, Sequence
+from collections.abc import Callable, Mapping, Sequence
 from pathlib import Path
+from typing import Any
 
 from bpfhost.shards.client import SECONDS
 from bpfhost.shards.configuration import configure
 from bpfhost.shards.directory import MOST_SHARD, demand_name
 from bpfhost.shards.gateway.limits import GatewayLimits
-from bpfhost.shards.lease import SECONDS as LEASE_SECONDS
 from bpfhost.shards.names import PREFIX
 from bpfhost.shards.settings import LEAST_REPLY_BYTES, MOST_ENTRIES, Settings
 from bpfhost.telling import WRONG_WORDS, Parser, Version, add_program, called, complete, in_range, named
@@ -26,6 +26,22 @@ _bytes = in_range(int, f"number of bytes from {LEAST_REPLY_BYTES} on", LEAST_REP
 _drain = in_range(float, "number of seconds from 0 on", 0.0, 1e6)
 _rate = in_range(float, "number from 0.1 on", 0.1)
 _name = named(demand_name, "name of 1 to 255 printable characters without spaces")
+# An option: its word, what its value is called, how that is parsed, and what it does.
+_Option = tuple[str, str, Callable[[str], object], str]
+# The options of a worker that are fields of its settings, and those of a gateway that are fields of its limits.
+OF_SETTINGS: dict[str, _Option] = {
+    "lease_seconds": ("--lease", "S", _seconds, "the seconds of the lease (5)"),
+    "snapshot_entries": ("--snapshot-entries", "N", _many, "calls that are played again at most (50000)"),
+    "reply_seconds": ("--keep-replies", "S", _seconds, "how long replies stay that nobody has read (3600)"),
+    "reply_bytes": ("--keep-bytes", "N", _bytes, "of so many bytes replies stay at most (1073741824)"),
+    "reply_bytes_of_customer": ("--keep-bytes-of-customer", "N", _bytes, "the same of one customer (268435456)"),
+    "drain_seconds": ("--drain", "S", _drain, "how long snapshots are taken at the end (10)"),
+}
+OF_LIMITS: dict[str, _Option] = {
+    "connections": ("--connections", "N", _many, "connections at once (1000)"),
+    "new": ("--new-connections", "N", _rate, "new connections a second (200)"),
+    "seconds": ("--seconds", "S", _seconds, "how long a call waits for a worker (60)"),
+}
 # Subcommands for one customer, and for one shard, with what they do.
 _OF_CUSTOMERS = {
     "client": "send the frames on standard input for a customer, and write their replies",
@@ -67,7 +83,9 @@ def _parser() -> tuple[Parser, Mapping[str, Parser]]:
     for word, one in words.choices.items():
         if word == "token":
             continue
-        _add_redis(one, "the shard's Redis" if word == "worker" else "the directory's Redis")
+        whose = "the shard's Redis" if word == "worker" else "the directory's Redis"
+        one.add_argument("--redis", metavar="URL", help=f"{whose}; else that of the variable BPFHOST_REDIS, or of this machine")
+        one.add_argument("--prefix", metavar="WORD", default=PREFIX, help="with which all keys begin (bpfhost)")
         one.add_argument("--config", metavar="FILE", type=Path, help="what is not said here; else that of the variable BPFHOST_SHARDS_CONFIG")
         if word in ("worker", "gateway"):
             one.add_argument("--log", choices=("text", "json"), default="text", help="how lines on standard error are written (text)")
@@ -76,50 +94,39 @@ def _parser() -> tuple[Parser, Mapping[str, Parser]]:
 
 
 def _add_worker(words: argparse._SubParsersAction[Parser]) -> None:
-    usual = Settings()
     parser = words.add_parser("worker", help="serve a shard until SIGTERM")
     parser.add_argument("shard", metavar="SHARD", type=_shard)
     parser.add_argument("--directory", metavar="URL", help="the directory's Redis, where it is another one")
     add_program(parser)
-    parser.add_argument(
-        "--library", metavar="PATH", help="the library, for a host in the worker; else that of BPFHOST_LIBRARY or beside the program; or none"
-    )
-    parser.add_argument("--lease", metavar="S", type=_seconds, default=LEASE_SECONDS, help="the seconds of the lease (5)")
-    parser.add_argument(
-        "--snapshot-entries", metavar="N", type=_many, default=usual.snapshot_entries, help="calls that are played again at most (50000)"
-    )
-    parser.add_argument(
-        "--keep-replies", metavar="S", type=_seconds, default=usual.reply_seconds, help="how long replies stay that nobody has read (3600)"
-    )
-    parser.add_argument(
-        "--keep-bytes", metavar="N", type=_bytes, default=usual.reply_bytes, help="of so many bytes replies stay at most (1073741824)"
-    )
-    own = usual.reply_bytes_of_customer
-    parser.add_argument("--keep-bytes-of-customer", metavar="N", type=_bytes, default=own, help="the same of one customer (268435456)")
-    parser.add_argument("--drain", metavar="S", type=_drain, default=10.0, help="how long snapshots are taken at the end (10)")
+    library = "the library, for a host in the worker; else that of BPFHOST_LIBRARY or beside the program; or none"
+    parser.add_argument("--library", metavar="PATH", help=library)
+    _add_fields(parser, Settings(drain_seconds=10.0), OF_SETTINGS)
     parser.add_argument("--volatile", action="store_true", help="also on a Redis that may lose what it has answered")
 
 
 def _add_gateway(words: argparse._SubParsersAction[Parser]) -> None:
-    usual = GatewayLimits()
     parser = words.add_parser("gateway", help="let customers in until SIGTERM; SIGHUP reads the file of customers again")
     parser.add_argument("--listen", metavar="ADDRESS", action="append", help="host:port or unix:PATH; more than once (127.0.0.1:7443)")
     parser.add_argument("--customers", metavar="FILE", type=Path, required=True, help="who the customers are")
     parser.add_argument("--certificate", metavar="FILE", type=Path, help="the gateway's certificate, for TLS")
     parser.add_argument("--key", metavar="FILE", type=Path, help="its key")
     parser.add_argument("--clients", metavar="FILE", type=Path, help="the certificate of who signs the customers' certificates")
-    parser.add_argument("--connections", metavar="N", type=_many, default=usual.connections, help="connections at once (1000)")
-    parser.add_argument("--new-connections", metavar="N", type=_rate, default=usual.new, help="new connections a second (200)")
-    parser.add_argument("--seconds", metavar="S", type=_seconds, default=usual.seconds, help="how long a call waits for a worker (60)")
+    _add_fields(parser, GatewayLimits(), OF_LIMITS)
+
+
+def _add_fields(parser: argparse.ArgumentParser, usual: Settings | GatewayLimits, options: Mapping[str, _Option]) -> None:
+    """Options that are fields of settings, whose defaults they have."""
+    for field, (word, metavar, kind, does) in options.items():
+        parser.add_argument(word, metavar=metavar, type=kind, dest=field, default=getattr(usual, field), help=does)
+
+
+def given(said: argparse.Namespace, options: Mapping[str, _Option]) -> dict[str, Any]:
+    """The values of such options, by the names of their fields."""
+    return {field: getattr(said, field) for field in options}
 
 
 def _add_seconds(parser: argparse.ArgumentParser) -> None:
     parser.add_argument("--seconds", metavar="S", type=_seconds, default=SECONDS, help="how long to wait for a worker (30)")
-
-
-def _add_redis(parser: argparse.ArgumentParser, whose: str) -> None:
-    parser.add_argument("--redis", metavar="URL", help=f"{whose}; else that of the variable BPFHOST_REDIS, or of this machine")
-    parser.add_argument("--prefix", metavar="WORD", default=PREFIX, help="with which all keys begin (bpfhost)")
 
 
 def parse(words: Sequence[str] | None) -> argparse.Namespace:

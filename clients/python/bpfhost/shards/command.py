@@ -10,7 +10,6 @@ from __future__ import annotations
 
 import asyncio
 import json
-import signal
 import sys
 from argparse import Namespace
 from collections.abc import Callable, Sequence
@@ -19,7 +18,7 @@ from typing import TextIO, cast
 
 from bpfhost.program import find_program
 from bpfhost.shards import moving, operating
-from bpfhost.shards.arguments import parse
+from bpfhost.shards.arguments import OF_SETTINGS, given, parse
 from bpfhost.shards.client import AsyncClient
 from bpfhost.shards.connection import Redis
 from bpfhost.shards.errors import LeaseHeld, LeaseLost, MemoryRefused, NoReply, OtherShard, RedisError, SetAside, ShardError
@@ -34,6 +33,7 @@ from bpfhost.shards.settings import Settings
 from bpfhost.shards.system import Work
 from bpfhost.shards.worker import Worker
 from bpfhost.state import split
+from bpfhost.stopping import Stopping
 from bpfhost.telling import FAILED, GOOD, REFUSED, status_of
 
 NO_LEASE, OTHER = 4, 5
@@ -73,30 +73,14 @@ async def _run(said: Namespace) -> None:
 
 def run_worker(said: Namespace) -> None:
     """Serves a shard until SIGTERM or SIGINT; the shard is in the directory from then on."""
-    stopped = [False]
-
-    def stop(_number: int, _frame: object) -> None:
-        if stopped[0]:
-            # A second signal ends the worker without the wait for snapshots.
-            raise KeyboardInterrupt
-        stopped[0] = True
-
-    for number in (signal.SIGTERM, signal.SIGINT):
-        signal.signal(number, stop)
-    settings = Settings(
-        lease_seconds=said.lease,
-        snapshot_entries=said.snapshot_entries,
-        reply_seconds=said.keep_replies,
-        reply_bytes=said.keep_bytes,
-        reply_bytes_of_customer=said.keep_bytes_of_customer,
-        demand_durable=not said.volatile,
-        drain_seconds=said.drain,
-    )
-    _log(said, shard=said.shard)
-    keys, program, directory = ShardKeys(said.shard, said.prefix), find_program(said.bpfhost), Redis(said.directory) if said.directory else None
-    worker = Worker(Redis(said.redis), keys, program, settings, _say, directory, find_library(said.library, program))
-    with _page(said, worker):
-        worker.run(lambda: stopped[0])
+    # A second signal ends the worker without the wait for snapshots.
+    with Stopping() as stopping:
+        settings = Settings(demand_durable=not said.volatile, **given(said, OF_SETTINGS))
+        _log(said, shard=said.shard)
+        keys, program, directory = ShardKeys(said.shard, said.prefix), find_program(said.bpfhost), Redis(said.directory) if said.directory else None
+        worker = Worker(Redis(said.redis), keys, program, settings, _say, directory, find_library(said.library, program))
+        with _page(said, worker):
+            worker.run(lambda: stopping.signal is not None)
 
 
 def _page(said: Namespace, worker: Worker) -> AbstractContextManager[object]:
@@ -151,11 +135,6 @@ async def run_move(client: AsyncClient, said: Namespace) -> None:
     print(operating.place(said.name, await moving.move(client, said.name, said.to, said.seconds)))
 
 
-async def run_remove(client: AsyncClient, said: Namespace) -> None:
-    """Removes a customer."""
-    await moving.remove(client, said.name, said.seconds)
-
-
 async def run_abort(client: AsyncClient, said: Namespace) -> None:
     """Takes a move back, and prints the customer's seat."""
     print(operating.place(said.name, await moving.abort_move(client, said.name, said.seconds)))
@@ -175,11 +154,6 @@ async def run_drain(client: AsyncClient, said: Namespace) -> None:
         print(operating.place(name, seat))
 
 
-async def run_remove_shard(client: AsyncClient, said: Namespace) -> None:
-    """Removes a shard."""
-    await operating.remove_shard(client, said.shard, said.lost)
-
-
 async def run_show(client: AsyncClient, said: Namespace) -> None:
     """Prints the state of the shards, moves and customers."""
     seen = await operating.look(client)
@@ -193,11 +167,11 @@ async def run_show(client: AsyncClient, said: Namespace) -> None:
 _RUNS: dict[str, Callable[[AsyncClient, Namespace], Work[None]]] = {
     "client": run_client,
     "move": run_move,
-    "remove": run_remove,
+    "remove": lambda client, said: moving.remove(client, said.name, said.seconds),
     "abort-move": run_abort,
     "skip": run_word,
     "retry": run_word,
     "drain": run_drain,
-    "remove-shard": run_remove_shard,
+    "remove-shard": lambda client, said: operating.remove_shard(client, said.shard, said.lost),
     "show": run_show,
 }

@@ -18,7 +18,7 @@ from __future__ import annotations
 
 import argparse
 import tomllib
-from collections.abc import Mapping
+from collections.abc import Iterable, Mapping
 from pathlib import Path
 
 
@@ -28,43 +28,36 @@ def configure(file: Path, words: Mapping[str, argparse.ArgumentParser]) -> None:
         said = tomllib.loads(file.read_text())
     except (OSError, ValueError) as error:
         raise ValueError(f"{file}, the configuration: {error}") from None
-    tables = {name: what for name, what in said.items() if isinstance(what, dict)}
     for name, value in said.items():
-        if name in tables:
-            continue
-        if not [_set(file, parser, name, value) for parser in words.values() if _option(parser, name)]:
-            raise ValueError(f"{file}: {name} is no word of the command")
-    for word, table in tables.items():
-        if word not in words:
-            raise ValueError(f"{file}: the table {word} is for no word of the command")
-        for name, value in table.items():
-            if not _option(words[word], name):
-                raise ValueError(f"{file}: {name} is no word of {word}")
-            _set(file, words[word], name, value)
+        if not isinstance(value, dict):
+            _set(file, words.values(), "the command", name, value)
+        elif name not in words:
+            raise ValueError(f"{file}: the table {name} is for no word of the command")
+        else:
+            for own, given in value.items():
+                _set(file, [words[name]], name, own, given)
 
 
-def _option(parser: argparse.ArgumentParser, name: str) -> argparse.Action | None:
-    return next((one for one in parser._actions if f"--{name}" in one.option_strings and one.dest not in ("help", "config")), None)
-
-
-def _set(file: Path, parser: argparse.ArgumentParser, name: str, value: object) -> bool:
-    action = _option(parser, name)
-    assert action
-    given: object
-    if isinstance(action, argparse._StoreTrueAction):
-        if not isinstance(value, bool):
-            raise ValueError(f"{file}: {name} is true or false, and not {value}")
-        given = value
-    elif isinstance(action, argparse._AppendAction):
-        given = [_read(file, action, name, one) for one in (value if isinstance(value, list) else [value])]
-    else:
-        given = _read(file, action, name, value)
-    action.default, action.required = given, False
-    return True
+def _set(file: Path, parsers: Iterable[argparse.ArgumentParser], whose: str, name: str, value: object) -> None:
+    """Makes a value the default of an option of some subcommands."""
+    options = [one for parser in parsers for one in parser._actions if one.dest not in ("help", "config")]
+    actions = [one for one in options if f"--{name}" in one.option_strings]
+    if not actions:
+        raise ValueError(f"{file}: {name} is no word of {whose}")
+    for action in actions:
+        if isinstance(action, argparse._AppendAction):
+            action.default = [_read(file, action, name, one) for one in (value if isinstance(value, list) else [value])]
+        else:
+            action.default = _read(file, action, name, value)
+        action.required = False
 
 
 def _read(file: Path, action: argparse.Action, name: str, value: object) -> object:
     """A value in the form in which the command parses it."""
+    if isinstance(action, argparse._StoreTrueAction):
+        if not isinstance(value, bool):
+            raise ValueError(f"{file}: {name} is true or false, and not {value}")
+        return value
     if isinstance(value, bool) or not isinstance(value, (str, int, float)):
         raise ValueError(f"{file}: {name} is a text or a number, and not {value}")
     if action.choices is not None and value not in action.choices:

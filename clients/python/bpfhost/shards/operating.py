@@ -5,7 +5,6 @@ from __future__ import annotations
 import asyncio
 from collections.abc import AsyncIterator, Callable, Iterator
 from dataclasses import asdict, dataclass
-from typing import TypeVar
 
 from bpfhost.shards import moving, scripts
 from bpfhost.shards.aside import LOST, SKIP, Aside
@@ -19,9 +18,6 @@ from bpfhost.shards.system import Answer, Work
 
 _SECONDS_TO_ANSWER = 5.0
 _PAUSE = 0.1
-
-Other = TypeVar("Other")
-
 
 async def drain(client: AsyncClient, shard: int, seconds: float) -> AsyncIterator[tuple[str, Seat]]:
     """Stops offering a shard, and moves its customers away; yields each with its new seat. The same call goes on later."""
@@ -108,19 +104,22 @@ class Seen:
 async def look(client: AsyncClient) -> Seen:
     """Reads the whole state; reads the leases twice, to see whether they are raised."""
     loads, drained, beats = await client.directory.loads(), await client.directory.drained(), await client.directory.beats()
-    first = {shard: await _told(client, shard, _lease, str) for shard in loads}
+    first = {shard: await _told(client, shard, _lease) for shard in loads}
     held = [lease.seconds for lease in first.values() if isinstance(lease, _Lease) and lease.token]
     if held:
         await asyncio.sleep(min(_SECONDS_TO_ANSWER, max(held) * 0.7))
     customers, shards = await client.directory.customers(), []
     for shard, load in sorted(loads.items()):
-        second = await _told(client, shard, _lease, str)
-        told, raises = ("", False) if isinstance(second, str) else (holder_of(second.token), _is_raised(first[shard], second))
-        seen = SeenShard(
-            shard, load, await _told(client, shard, _waiting, lambda _: None), told, raises, shard in beats, shard in drained,
-            second if isinstance(second, str) else "", await _told(client, shard, _durability, _wrong),
-        )  # fmt: skip
-        shards.append(seen)
+        second, waits = await _told(client, shard, _lease), await _told(client, shard, _waiting)
+        wrong = await _told(client, shard, lambda redis, _keys: demand_durable(redis))
+        if isinstance(second, RedisError):
+            served_by, raises, unreachable = "", False, str(second)
+        else:
+            served_by, raises, unreachable = holder_of(second.token), _is_raised(first[shard], second), ""
+        waiting = None if isinstance(waits, RedisError) else waits
+        # If it can't be reached, the shard's lease shows that.
+        why = "" if isinstance(wrong, Away) else str(wrong)
+        shards.append(SeenShard(shard, load, waiting, served_by, raises, shard in beats, shard in drained, unreachable, why))
     return Seen(shards, await client.directory.moves(), [one async for one in _asides(client, customers)], customers)
 
 
@@ -159,15 +158,13 @@ def place(name: str, seat: Seat) -> str:
     return f"{name}: shard {seat.shard}, tenant {seat.tenant}"
 
 
-async def _told(
-    client: AsyncClient, shard: int, ask: Callable[[Redis, ShardKeys], Work[Answer]], otherwise: Callable[[RedisError], Other]
-) -> Answer | Other:
-    """What the Redis of a shard reports, or what is taken in its place if it does not."""
+async def _told(client: AsyncClient, shard: int, ask: Callable[[Redis, ShardKeys], Work[Answer]]) -> Answer | RedisError:
+    """What the Redis of a shard reports, or why it does not."""
     try:
         redis, keys = await client.shard(shard)
         return await ask(redis.until(client.system.now() + _SECONDS_TO_ANSWER), keys)
     except RedisError as error:
-        return otherwise(error)
+        return error
 
 
 async def _lease(redis: Redis, keys: ShardKeys) -> _Lease:
@@ -179,16 +176,7 @@ async def _waiting(redis: Redis, keys: ShardKeys) -> int:
     return sum(map(int, (await redis.hgetall(keys.waiting)).values()))
 
 
-async def _durability(redis: Redis, _keys: ShardKeys) -> str:
-    return await demand_durable(redis)
-
-
-def _wrong(error: RedisError) -> str:
-    """What is wrong with a Redis; if it can't be reached, the shard's lease shows that."""
-    return "" if isinstance(error, Away) else str(error)
-
-
-def _is_raised(first: _Lease | str, second: _Lease) -> bool:
+def _is_raised(first: _Lease | RedisError, second: _Lease) -> bool:
     """Whether a lease was raised between two reads, or is another worker's."""
     return bool(second.token) and (not isinstance(first, _Lease) or (first.token, first.count) != (second.token, second.count))
 
@@ -204,6 +192,6 @@ def _health(seen: SeenShard) -> str:
 async def _asides(client: AsyncClient, customers: dict[str, Seat]) -> AsyncIterator[tuple[str, str]]:
     names = {(seat.shard, seat.tenant): name for name, seat in customers.items()}
     for shard in sorted(await client.directory.loads()):
-        found = await _told(client, shard, lambda redis, keys: redis.hgetall(keys.aside), lambda _: dict[bytes, bytes]())
-        for tenant, kept in sorted(found.items()):
+        found = await _told(client, shard, lambda redis, keys: redis.hgetall(keys.aside))
+        for tenant, kept in sorted(found.items()) if isinstance(found, dict) else ():
             yield names.get((shard, int(tenant)), f"tenant {int(tenant)} of shard {shard}"), Aside.read(kept).why

@@ -7,6 +7,7 @@ import signal
 from argparse import Namespace
 from collections.abc import Callable
 
+from bpfhost.shards.arguments import OF_LIMITS, given
 from bpfhost.shards.errors import ShardError
 from bpfhost.shards.gateway.limits import GatewayLimits
 from bpfhost.shards.gateway.server import Gateway, Tls
@@ -23,8 +24,7 @@ def tls_of(said: Namespace) -> Tls | None:
 async def serve(said: Namespace, tell: Callable[[str], None]) -> None:
     """Serves until SIGTERM or SIGINT; SIGHUP reads the file of customers again. A TCP address that other machines reach needs TLS."""
     tls = tls_of(said)
-    limits = GatewayLimits(connections=said.connections, new=said.new_connections, seconds=said.seconds)
-    gateway = Gateway(said.redis, said.customers, limits, said.prefix, tell)
+    gateway = Gateway(said.redis, said.customers, GatewayLimits(**given(said, OF_LIMITS)), said.prefix, tell)
     page: Page | None = None
     ended, loop = asyncio.Event(), asyncio.get_running_loop()
     for number in (signal.SIGTERM, signal.SIGINT):

@@ -12,6 +12,7 @@ MEBI = 1 << 20
 _MOST_ADDRESSES = 4096
 
 Holder = TypeVar("Holder", bound=Hashable)
+Key = TypeVar("Key", bound=Hashable)
 
 
 @dataclass(frozen=True)
@@ -53,30 +54,20 @@ class Rate:
     def __init__(self, a_second: float, now: float) -> None:
         self.a_second, self._free, self._then = a_second, a_second, now
 
-    def _flow(self, now: float) -> None:
+    def free(self, now: float) -> float:
+        """How many may come now."""
         self._free = min(self.a_second, self._free + (now - self._then) * self.a_second)
         self._then = now
+        return self._free
 
     def change(self, a_second: float, now: float) -> None:
         """Makes it another rate from now on; what was taken before is still taken."""
-        self._flow(now)
-        self._free, self.a_second = min(self._free, a_second), a_second
-
-    def has_room(self, now: float) -> bool:
-        """Whether another one may come now."""
-        self._flow(now)
-        return self._free >= 1.0
-
-    def is_full(self, now: float) -> bool:
-        """Whether nothing of the last second was taken."""
-        self._flow(now)
-        return self._free >= self.a_second
+        self._free, self.a_second = min(self.free(now), a_second), a_second
 
     def take(self, many: float, now: float) -> float:
         """Takes so many, and returns the seconds after which they may come."""
-        self._flow(now)
         # A number above that of one second may come when all of a second is free.
-        delay = max(0.0, (min(many, self.a_second) - self._free) / self.a_second)
+        delay = max(0.0, (min(many, self.a_second) - self.free(now)) / self.a_second)
         self._free -= many
         return delay
 
@@ -109,9 +100,7 @@ class Unread(Generic[Holder]):
         """Gives them back, if that was not done before."""
         keys, size = self._held.pop(holder, (("", -1), 0))
         for sums, key in zip(self._sums, keys):
-            sums[key] -= size
-            if not sums[key]:
-                del sums[key]
+            subtract(sums, key, size)
 
     def total(self) -> int:
         """The bytes of all."""
@@ -132,11 +121,11 @@ class Addresses:
             return True
         if len(self._rates) >= _MOST_ADDRESSES and address not in self._rates:
             # Those whose rate is not in use are forgotten; or else the oldest.
-            self._rates = {one: rate for one, rate in self._rates.items() if not rate.is_full(now)} or self._rates
+            self._rates = {one: rate for one, rate in self._rates.items() if rate.free(now) < rate.a_second} or self._rates
             if len(self._rates) >= _MOST_ADDRESSES:
                 del self._rates[next(iter(self._rates))]
         rate = self._rates.setdefault(address, Rate(self._limits.new_of_address, now))
-        if self.unknown[address] >= self._limits.unknown_of_address or not rate.has_room(now):
+        if self.unknown[address] >= self._limits.unknown_of_address or rate.free(now) < 1.0:
             return False
         rate.take(1, now)
         return True
@@ -147,9 +136,14 @@ class Addresses:
 
     def known(self, address: str) -> None:
         """Notes that its customer is known, or it has ended."""
-        self.unknown[address] -= 1
-        if not self.unknown[address]:
-            del self.unknown[address]
+        subtract(self.unknown, address)
+
+
+def subtract(counts: collections.Counter[Key], key: Key, many: int = 1) -> None:
+    """Makes a count smaller; one of nothing is forgotten."""
+    counts[key] -= many
+    if not counts[key]:
+        del counts[key]
 
 
 def network_of(peer: object) -> str:

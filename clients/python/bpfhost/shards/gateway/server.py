@@ -9,6 +9,7 @@ import os
 import socket
 import ssl
 import stat
+from collections import Counter
 from collections.abc import Callable, Coroutine, Mapping
 from dataclasses import dataclass
 from pathlib import Path
@@ -19,7 +20,7 @@ from bpfhost.shards.client import AsyncClient
 from bpfhost.shards.errors import ShardError
 from bpfhost.shards.gateway.connection import Connection
 from bpfhost.shards.gateway.customers import Customers, Known
-from bpfhost.shards.gateway.limits import Addresses, GatewayLimits, Rate, Unread, network_of
+from bpfhost.shards.gateway.limits import Addresses, GatewayLimits, Rate, Unread, network_of, subtract
 from bpfhost.shards.gateway.protocol import Refusal, Why
 from bpfhost.shards.gateway.sharing import SECONDS, Sharing
 from bpfhost.shards.metrics import Numbers, Told
@@ -77,7 +78,7 @@ class Gateway:
         self.unread: Unread[Connection] = Unread(limits.bytes_of_customer, limits.bytes_of_shard, self._end_unread)
         self.addresses, self.sharing = Addresses(limits), Sharing(self.client)
         self.connections: dict[Connection, str] = {}
-        self._of: dict[str, int] = {}
+        self._of: Counter[str] = Counter()
         self._sessions: dict[tuple[str, str], Connection] = {}
         # The rates of frames and of bytes of each customer, whichever connections it has.
         self._rates: dict[str, tuple[Rate, Rate]] = {}
@@ -87,7 +88,7 @@ class Gateway:
         self._unknown: dict[asyncio.Task[None], str] = {}
         self._tasks: set[asyncio.Task[None]] = set()
         self._listening: list[asyncio.Task[None]] = []
-        self._new: Rate | None = None
+        self._new = Rate(limits.new, system.now())
         self.is_ending = False
         self._has_left = False
         self._redis_says = "was not asked yet"
@@ -108,7 +109,6 @@ class Gateway:
 
     async def _accept(self, listening: socket.socket, tls: ssl.SSLContext | None) -> None:
         loop = asyncio.get_running_loop()
-        self._new = self._new or Rate(self.limits.new, loop.time())
         with listening:
             while True:
                 try:
@@ -123,7 +123,7 @@ class Gateway:
                     made.close()
                     continue
                 self.begin(self._serve(made, tls, address), address)
-                await asyncio.sleep(self._new.take(1, loop.time()))
+                await asyncio.sleep(self._new.take(1, self.client.system.now()))
 
     def admit(self, address: str) -> bool:
         """Whether another connection may come from an address."""
@@ -197,10 +197,10 @@ class Gateway:
             # The one before counts until it is closed: that is now, if there is no room for both.
             is_full = self._of[known.name] + self.sharing.connections[known.name] >= known.limits.connections
             before.end(Refusal(Why.PASSED, f"another connection goes on with session {session}"), at_once=is_full)
-        if self._of.get(known.name, 0) + self.sharing.connections[known.name] >= known.limits.connections:
+        if self._of[known.name] + self.sharing.connections[known.name] >= known.limits.connections:
             raise Refusal(Why.AGAIN, f"customer {known.name} has {known.limits.connections} connections, and may have no more")
         self.connections[connection] = known.name
-        self._of[known.name] = self._of.get(known.name, 0) + 1
+        self._of[known.name] += 1
         if session:
             self._sessions[known.name, session] = connection
         self._is_known(asyncio.current_task())
@@ -209,9 +209,7 @@ class Gateway:
         """Notes that a connection has ended."""
         self._has_left = True
         del self.connections[connection]
-        self._of[known.name] -= 1
-        if not self._of[known.name]:
-            del self._of[known.name]
+        subtract(self._of, known.name)
         if session and self._sessions.get((known.name, session)) is connection:
             del self._sessions[known.name, session]
 

@@ -280,8 +280,10 @@ def ask_alike(host: Host, calls: Sequence[Call]) -> Iterator[bytes]:
 def _so_many(host: Host, count: int) -> bytes:
     """So many replies; raises ReplyError if what comes is no reply."""
     held = host.read(_READ_AT_ONCE)
-    if (size := size_of_alike(held)) and len(held) == count * size:
-        return held
+    size = count * (4 + int.from_bytes(held[:4], "little"))
+    if len(held) >= size and size_of_alike(held[:size]):
+        host.unread(held[size:])
+        return held[:size]
     host.unread(held)
     return b"".join(host.read_many(count))
 

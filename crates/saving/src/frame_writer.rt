@@ -200,7 +200,8 @@ impl FrameWriter {
         requires whole { length part.now ≡ PART }
         ensures written { OnOk result (self.new.frames.items
             ≡ self.old.frames.items ++ frames_of self.old.number
-            (take KEYS_OF_PART (drop first (puts_of fd (live (state_in part.now tenant.now) map))))) }
+            (take KEYS_OF_PART (drop first
+            (puts_of fd (live (state_in part.now tenant.now) map))))) }
     {
         let Some(shape) = tenant.map_shape(map) else {
             return Ok(());
